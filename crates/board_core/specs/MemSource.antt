@@ -1,0 +1,22 @@
+-- What a source in memory is: the bytes left, and which calls fail.
+use Rattle.std.specs.Prelude.{ℕ, ◌+◌, ◌-◌, ◌^◌, min, Bool, List, nat_eq}
+use Rattle.std.specs.List.{list_any}
+
+pub record Reading : Type 0 where
+  pub left : List ℕ
+  pub piece : ℕ
+  pub fails : List ℕ
+  pub made : ℕ
+  pub faults : ℕ
+
+-- a number of calls or faults, one greater, which ends at 2^64 - 1
+abbrev pub counted : ℕ → ℕ
+counted n = min (n + 1) (2 ^ 64 - 1)
+
+-- whether a call of this number is one of the chosen
+abbrev pub is_chosen : ℕ → List ℕ → Bool
+is_chosen call fails = list_any (λ fail. nat_eq fail call) fails
+
+-- whether the next call was chosen to fail
+abbrev pub fails_next : Reading → Bool
+fails_next s = is_chosen (counted s.made) s.fails

@@ -1,0 +1,79 @@
+// Two files and an output, which one stop hits together.
+ghost use Rattle.std.specs.Prelude.{◌≡◌, ℕ, ◌≤◌, length, Option, IfSome, IfOk, OnOk, OnErr};
+ghost use Rattle.board_core.specs.declared.board.DiskCall.TheVariants.{Size, ReadAt, WriteAt, Sync};
+ghost use Rattle.board_core.specs.Cause.{HasCause};
+ghost use Rattle.board_core.specs.Told.{Told, Steps, Relates, file_of, called, written, printed, Reads, MayList, FailsWrite, FailsPrint};
+
+use crate::Failed;
+
+/// Which of a board's two files.
+#[derive(Clone, Copy, Debug, PartialEq, Eq)]
+pub enum FileNo {
+    Zero,
+    One,
+}
+
+/// A disk call that a board lists: of which file, and with place and length in bytes.
+#[derive(Clone, Copy, Debug, PartialEq, Eq)]
+pub enum DiskCall {
+    Size(FileNo),
+    ReadAt(FileNo, u64, u64),
+    WriteAt(FileNo, u64, u64),
+    Sync(FileNo),
+}
+
+/// Two files and an output.
+///
+/// A call answers `Failed` only where its own count of faults rose, and no call raises a count of another kind.
+pub trait Board {
+    /// What the board tells of itself, if anything.
+    ghost told: { Self → Option Told };
+
+    /// How often `size`, `read_at`, `write_at` or `sync` has failed.
+    ghost disk_faults: { Self → ℕ };
+
+    /// How often `print` has failed.
+    ghost print_faults: { Self → ℕ };
+
+    /// The file's length in bytes.
+    fn size(&mut self, file: FileNo) -> Result<u64, Failed>
+        ensures length { IfOk result (λ n. IfSome (told self.old) (λ t. n ≡ length (file_of file t))) }
+        ensures told { OnOk result (Steps (called (Size file)) (told self.old) (told self.new)) }
+        ensures failed { OnErr result (Relates (MayList (Size file)) (told self.old) (told self.new)) }
+        ensures cause { HasCause (disk_faults self.old) (disk_faults self.new) result }
+        ensures print { print_faults self.new ≡ print_faults self.old };
+
+    /// Reads the bytes from `place` on into the front of `buf` and answers their number: fewer than `buf` has room
+    /// for only where the file ends.
+    fn read_at(&mut self, file: FileNo, place: u64, buf: &mut [u8]) -> Result<usize, Failed>
+        ensures within { IfOk result (λ n. n ≤ length buf.old) }
+        ensures read { IfOk result (λ n. IfSome (told self.old) (λ t. Reads place n buf.new (file_of file t))) }
+        ensures told { OnOk result (Steps (called (ReadAt file place (length buf.old))) (told self.old) (told self.new)) }
+        ensures failed { OnErr result (Relates (MayList (ReadAt file place (length buf.old))) (told self.old) (told self.new)) }
+        ensures cause { HasCause (disk_faults self.old) (disk_faults self.new) result }
+        ensures print { print_faults self.new ≡ print_faults self.old };
+
+    /// Writes `bytes` at `place`, which is at most the file's length, over what is there and past the file's end.
+    ///
+    /// After `Failed` any of the bytes may have been written.
+    fn write_at(&mut self, file: FileNo, place: u64, bytes: &[u8]) -> Result<(), Failed>
+        requires { IfSome (told self.old) (λ t. place ≤ length (file_of file t)) }
+        ensures told { OnOk result (Steps (written file place bytes.now) (told self.old) (told self.new)) }
+        ensures failed { OnErr result (Relates (FailsWrite file place (length bytes.now)) (told self.old) (told self.new)) }
+        ensures cause { HasCause (disk_faults self.old) (disk_faults self.new) result }
+        ensures print { print_faults self.new ≡ print_faults self.old };
+
+    /// Makes the file durable as a read gives it. After `Failed` it is not known to be.
+    fn sync(&mut self, file: FileNo) -> Result<(), Failed>
+        ensures told { OnOk result (Steps (called (Sync file)) (told self.old) (told self.new)) }
+        ensures failed { OnErr result (Relates (MayList (Sync file)) (told self.old) (told self.new)) }
+        ensures cause { HasCause (disk_faults self.old) (disk_faults self.new) result }
+        ensures print { print_faults self.new ≡ print_faults self.old };
+
+    /// Appends `bytes` to the output. After `Failed` a beginning of them, maybe nothing, was appended.
+    fn print(&mut self, bytes: &[u8]) -> Result<(), Failed>
+        ensures told { OnOk result (Steps (printed bytes.now) (told self.old) (told self.new)) }
+        ensures failed { OnErr result (Relates (FailsPrint bytes.now) (told self.old) (told self.new)) }
+        ensures cause { HasCause (print_faults self.old) (print_faults self.new) result }
+        ensures disk { disk_faults self.new ≡ disk_faults self.old };
+}

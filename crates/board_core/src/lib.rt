@@ -1,0 +1,16 @@
+//! What the daemon stands on: a source of script bytes, and a board with two files and an output.
+//!
+//! Both are traits. Their clauses say what each call does to what a source or board tells of itself, and when it may
+//! fail. A real file or pipe tells nothing, so a clause on contents binds it to nothing, while the versions in memory
+//! tell everything. Code that is generic over the traits can't find out which it was given.
+#![tactic(auto)]
+
+mod board;
+mod mem_board;
+mod mem_source;
+mod source;
+
+pub use board::{Board, DiskCall, FileNo};
+pub use mem_board::MemBoard;
+pub use mem_source::MemSource;
+pub use source::{Failed, Source};
