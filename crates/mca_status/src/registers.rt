@@ -1,0 +1,145 @@
+//! The registers, each a number as read, and their single bits.
+
+ghost use Rattle.std.specs.Prelude.{◌≡◌, ◌<◌};
+ghost use Rattle.mca_status.specs.Registers.{is_bit_set};
+
+/// IA32_MCi_STATUS of a bank, as read.
+#[derive(Clone, Copy, Debug, PartialEq, Eq)]
+pub struct Status(pub u64);
+
+/// IA32_MCG_CAP, as read: what the processor's banks can do.
+#[derive(Clone, Copy, Debug, PartialEq, Eq)]
+pub struct Cap(pub u64);
+
+/// IA32_MCi_MISC of a bank, as read.
+#[derive(Clone, Copy, Debug, PartialEq, Eq)]
+pub struct Misc(pub u64);
+
+/// IA32_MCG_STATUS, as read: the processor's state at the machine check.
+#[derive(Clone, Copy, Debug, PartialEq, Eq)]
+pub struct GlobalStatus(pub u64);
+
+// Whether the bit at a place of a register is 1.
+fn is_set(register: u64, place: u32) -> bool
+    requires { place < 64 }
+    ensures { result ≡ is_bit_set register place }
+{
+    register >> place & 1 == 1
+}
+
+impl Cap {
+    ghost use Rattle.mca_status.specs.Registers.{counts_corrected, tells_threshold, recovers_in_software};
+
+    /// MCG_CMCI_P: the banks count corrected errors.
+    pub fn counts_corrected(self) -> bool
+        ensures { result ≡ counts_corrected self }
+    {
+        is_set(self.0, 10)
+    }
+
+    /// MCG_TES_P: the banks tell a threshold status.
+    pub fn tells_threshold(self) -> bool
+        ensures { result ≡ tells_threshold self }
+    {
+        is_set(self.0, 11)
+    }
+
+    /// MCG_SER_P: the processor has software error recovery.
+    pub fn recovers_in_software(self) -> bool
+        ensures { result ≡ recovers_in_software self }
+    {
+        is_set(self.0, 24)
+    }
+}
+
+impl GlobalStatus {
+    ghost use Rattle.mca_status.specs.Registers.{restart_valid, error_pointer_valid, in_progress};
+
+    /// RIPV: the interrupted program can be restarted.
+    pub fn is_restart_valid(self) -> bool
+        ensures { result ≡ restart_valid self }
+    {
+        is_set(self.0, 0)
+    }
+
+    /// EIPV: the instruction pointer belongs to the error.
+    pub fn is_error_pointer_valid(self) -> bool
+        ensures { result ≡ error_pointer_valid self }
+    {
+        is_set(self.0, 1)
+    }
+
+    /// MCIP: a machine check is in progress.
+    pub fn is_in_progress(self) -> bool
+        ensures { result ≡ in_progress self }
+    {
+        is_set(self.0, 2)
+    }
+}
+
+impl Status {
+    ghost use Rattle.mca_status.specs.Registers.{valid, overflow, uncorrected, enabled, misc_valid, address_valid, context_corrupt, signaled, action_required};
+
+    /// VAL: the bank holds an error.
+    pub fn is_valid(self) -> bool
+        ensures { result ≡ valid self }
+    {
+        is_set(self.0, 63)
+    }
+
+    /// OVER: an earlier error of the bank was lost.
+    pub fn overflow(self) -> bool
+        ensures { result ≡ overflow self }
+    {
+        is_set(self.0, 62)
+    }
+
+    /// UC: the hardware did not correct the error.
+    pub fn is_uncorrected(self) -> bool
+        ensures { result ≡ uncorrected self }
+    {
+        is_set(self.0, 61)
+    }
+
+    /// EN: the error was enabled in IA32_MCi_CTL.
+    pub fn is_enabled(self) -> bool
+        ensures { result ≡ enabled self }
+    {
+        is_set(self.0, 60)
+    }
+
+    /// MISCV: IA32_MCi_MISC holds more of the error.
+    pub fn is_misc_valid(self) -> bool
+        ensures { result ≡ misc_valid self }
+    {
+        is_set(self.0, 59)
+    }
+
+    /// ADDRV: IA32_MCi_ADDR holds an address.
+    pub fn is_address_valid(self) -> bool
+        ensures { result ≡ address_valid self }
+    {
+        is_set(self.0, 58)
+    }
+
+    /// PCC: the processor's context is corrupt.
+    pub fn is_context_corrupt(self) -> bool
+        ensures { result ≡ context_corrupt self }
+    {
+        is_set(self.0, 57)
+    }
+
+    /// S, where MCG_SER_P is 1: the error was signaled by a machine-check exception.
+    pub fn is_signaled(self) -> bool
+        ensures { result ≡ signaled self }
+    {
+        is_set(self.0, 56)
+    }
+
+    /// AR, where MCG_SER_P is 1: software has to act before the program goes on.
+    pub fn is_action_required(self) -> bool
+        ensures { result ≡ action_required self }
+    {
+        is_set(self.0, 55)
+    }
+}
