@@ -1,0 +1,4 @@
+pub mod Fresh
+pub mod Account
+pub mod View
+pub mod Growth
