@@ -1,15 +1,22 @@
 -- How entries continue an account.
-use Rattle.std.proofs.Common.{◌≡◌, ℕ, ◌+◌, ◌≤◌, Bool, true, false, not, cond, if◌then◌else◌, List, [], ◌∷◌, ◌++◌, length, fold, ◌||◌, refl, sym, ap, subst, ◌∙◌, length-append, append_assoc, append-nil, true≢false}
-use Rattle.std.specs.List.{list_any, IsDistinct}
+use Rattle.std.proofs.Common.{◌≡◌, ℕ, ◌+◌, ◌≤◌, Bool, true, false, not, if◌then◌else◌, List, [], ◌∷◌, ◌++◌, length, ◌||◌, refl, sym, ap, subst, ◌∙◌, length-append, add-zero, append_assoc, append-nil, true≢false, Some, take, get_or, add-one, ◌<◌, arith, ◌&&◌, drop, zero, suc}
+use Rattle.std.specs.List.{list_any, cons_option, IsDistinct}
 use Rattle.std.proofs.lemmas.Map.Keys.{IsDistinct-push}
+use Rattle.std.proofs.lemmas.List.Sums.{fold-append}
+use Rattle.std.proofs.lemmas.List.Folds.{list_any-append}
+use Rattle.std.proofs.Math.Bool.{or-false}
+use Rattle.std.proofs.lemmas.List.{length-take-le}
+use Rattle.std.proofs.Math.Seq.{take-suc, take-append_seam, drop-append_seam}
 use Rattle.indexmap.specs.IndexSet.{insert_key, insert_all}
 use Rattle.ras_account.specs.declared.name.Name.{Name}
 use Rattle.ras_account.specs.declared.entry.Entry.{Entry}
 use Rattle.ras_account.specs.declared.entry.Entry.TheVariants.{Fact}
-use Rattle.ras_account.specs.declared.entry.Fact.{Fact as Report}
-use Rattle.ras_account.specs.Fresh.{names_in, same_name}
-use Rattle.ras_account.specs.Account.{State, is_fresh_in, counts, continued, continued_all}
+use Rattle.ras_account.specs.Fresh.{name_in, names_in, same_name}
+use Rattle.ras_account.specs.Account.{State, is_fresh_in, counts, continued, continued_all, added_by}
+use Rattle.ras_account.specs.View.{View}
+use Rattle.ras_base.specs.Prefix.{IsPrefixOf}
 use Rattle.ras_account.specs.Growth.{brings, GrowsBy}
+use Rattle.ras_account.proofs.FreshLemmas.{names_in-append}
 use Rattle.ras_account.proofs.NameLemmas.{same_name-exact, same_name-laws}
 
 -- the names of an account are those inserted in turn
@@ -33,3 +40,166 @@ once-continued a (Fact fact) once = by (list_any (same_name fact.name) a.names) 
 pub once-continued_all : (a : State) (entries : List Entry) → IsDistinct same_name a.names → IsDistinct same_name (continued_all a entries).names
 once-continued_all a [] once = once
 once-continued_all a (e ∷ entries) once = once-continued_all (continued a e) entries (once-continued a e once)
+
+-- one entry more inserts its name behind those of the entries before it
+pub insert_all-more : (keys : List Name) (entries : List Entry) (i : ℕ) (d : Entry) (name : Name) → i < length entries → name_in (get_or entries i d) ≡ Some name
+    → insert_all same_name keys (names_in (take (i + 1) entries)) ≡ insert_key same_name (insert_all same_name keys (names_in (take i entries))) name
+insert_all-more keys entries i d name within is =
+    ap (λ es. insert_all same_name keys (names_in es)) (ap (λ n. take n entries) (add-one i) ∙ take-suc entries i d within)
+    ∙ ap (insert_all same_name keys) (names_in-append (take i entries) (get_or entries i d ∷ []) ∙ ap (λ n. names_in (take i entries) ++ cons_option n []) is)
+    ∙ fold-append (insert_key same_name) keys (names_in (take i entries)) (name ∷ [])
+
+-- what is inserted stands behind what was there before
+pub insert_all-behind : (keys names : List Name) → (rest : List Name) × (insert_all same_name keys names ≡ keys ++ rest)
+insert_all-behind keys [] = ([], sym (append-nil keys))
+insert_all-behind keys (name ∷ names) = by (list_any (same_name name) keys) (insert_all-behind keys names) (insert_all-behind (keys ++ name ∷ []) names)
+  where
+    by : (b : Bool) → (rest : List Name) × (insert_all same_name keys names ≡ keys ++ rest)
+        → (rest : List Name) × (insert_all same_name (keys ++ name ∷ []) names ≡ keys ++ name ∷ [] ++ rest)
+        → (rest : List Name) × (insert_all same_name (if b then keys else keys ++ name ∷ []) names ≡ keys ++ rest)
+    by true there added = there
+    by false there added = (name ∷ added.0, added.1 ∙ append_assoc keys (name ∷ []) added.0)
+
+pub take-insert_all : (keys names : List Name) → take (length keys) (insert_all same_name keys names) ≡ keys
+take-insert_all keys names =
+    let behind : (rest : List Name) × (insert_all same_name keys names ≡ keys ++ rest) = insert_all-behind keys names in
+    ap (take (length keys)) behind.1 ∙ take-append_seam keys behind.0
+
+known_or : (b t r : Bool) → (t ≡ true → b ≡ true) → (b || r) ≡ (b || (t || r))
+known_or true t r known = refl
+known_or false true r known = absurd (true≢false (sym (known refl)))
+known_or false false r known = refl
+
+new_or : (b t r : Bool) → ((b || (t || false)) || r) ≡ (b || (t || r))
+new_or true t r = refl
+new_or false true r = refl
+new_or false false r = refl
+
+-- a name is held after entries where it was held before or one of them brings it
+pub list_any-continued_all : (name : Name) (a : State) (entries : List Entry)
+    → list_any (same_name name) (continued_all a entries).names ≡ (list_any (same_name name) a.names || list_any (brings name) entries)
+list_any-continued_all name a [] = sym (or-false _)
+list_any-continued_all name a (Fact fact ∷ entries) =
+    list_any-continued_all name (continued a (Fact fact)) entries
+    ∙ by (list_any (same_name fact.name) a.names) refl
+  where
+    by : (b : Bool) → list_any (same_name fact.name) a.names ≡ b
+        → (list_any (same_name name) (if not b then counts a (Fact fact) else a).names || list_any (brings name) entries) ≡ (list_any (same_name name) a.names || (same_name name fact.name || list_any (brings name) entries))
+    by true is = known_or (list_any (same_name name) a.names) (same_name name fact.name) _
+        (λ same. subst (λ n. list_any (same_name n) a.names ≡ true) (sym (same_name-exact name fact.name same)) is)
+    by false is = ap (λ b. b || list_any (brings name) entries) (list_any-append (same_name name) a.names (fact.name ∷ []))
+        ∙ new_or (list_any (same_name name) a.names) (same_name name fact.name) _
+
+not_or : (b r : Bool) → not (b || r) ≡ (not b && not r)
+not_or true r = refl
+not_or false r = refl
+
+pub is_fresh_in-continued_all : (a : State) (entries : List Entry) (e : Entry) (name : Name) → name_in e ≡ Some name
+    → is_fresh_in (continued_all a entries) e ≡ (is_fresh_in a e && not (list_any (brings name) entries))
+is_fresh_in-continued_all a entries (Fact fact) name is =
+    ap not (list_any-continued_all fact.name a entries) ∙ not_or _ _ ∙ ap (λ n. not (list_any (same_name fact.name) a.names) && not (list_any (brings n) entries)) named
+  where
+    named : fact.name ≡ name
+    named = cc
+
+-- one entry more is counted where it is fresh
+pub grows_more : (n : ℕ) (old a : State) (e : Entry) → is_fresh_in a e ≡ true → GrowsBy n old a → GrowsBy (n + 1) old (continued a e)
+grows_more n old a (Fact fact) fresh grown = subst (λ b. GrowsBy (n + 1) old (if b then counts a (Fact fact) else a)) (sym fresh) (record {
+  names = omega (arith, grown.names, length-append a.names (fact.name ∷ []));
+  entries = omega (arith, grown.entries);
+})
+
+pub grows_same : (n : ℕ) (old a : State) (e : Entry) → is_fresh_in a e ≡ false → GrowsBy n old a → GrowsBy n old (continued a e)
+grows_same n old a e repeat grown = subst (λ b. GrowsBy n old (if b then counts a e else a)) (sym repeat) grown
+
+-- so by at most as many as there are
+pub growth : (a : State) (entries : List Entry) → (n : ℕ) × (n ≤ length entries) × GrowsBy n a (continued_all a entries)
+growth a [] = (0, omega arith, record { names = sym (add-zero (length a.names)); entries = sym (add-zero a.entries) })
+growth a (e ∷ entries) = by (is_fresh_in a e) refl (growth (continued a e) entries)
+  where
+    Grown : Type 0
+    Grown = (n : ℕ) × (n ≤ length (e ∷ entries)) × GrowsBy n a (continued_all (continued a e) entries)
+
+    by : (b : Bool) → is_fresh_in a e ≡ b → (n : ℕ) × (n ≤ length entries) × GrowsBy n (continued a e) (continued_all (continued a e) entries) → Grown
+    by true fresh rest =
+        let one : GrowsBy (0 + 1) a (continued a e) = grows_more 0 a a e fresh (record { names = sym (add-zero (length a.names)); entries = sym (add-zero a.entries) }) in
+        (rest.0 + 1, omega arith, record { names = omega (arith, one.names, rest.2.names); entries = omega (arith, one.entries, rest.2.entries) })
+    by false repeat rest =
+        let none : GrowsBy 0 a (continued a e) = grows_same 0 a a e repeat (record { names = sym (add-zero (length a.names)); entries = sym (add-zero a.entries) }) in
+        (rest.0, omega arith, record { names = omega (arith, none.names, rest.2.names); entries = omega (arith, none.entries, rest.2.entries) })
+
+-- the entries up to a place, and the one there
+pub continued_all-more : (a : State) (entries : List Entry) (i : ℕ) (d : Entry) → i < length entries
+    → continued_all a (take (i + 1) entries) ≡ continued (continued_all a (take i entries)) (get_or entries i d)
+continued_all-more a entries i d within =
+    ap (λ es. continued_all a es) (ap (λ n. take n entries) (add-one i) ∙ take-suc entries i d within)
+    ∙ fold-append continued a (take i entries) (get_or entries i d ∷ [])
+
+-- what isn't fresh isn't fresh later
+pub stays_known : (a : State) (entries : List Entry) (e : Entry) → is_fresh_in a e ≡ false → is_fresh_in (continued_all a entries) e ≡ false
+stays_known a entries (Fact fact) known =
+    is_fresh_in-continued_all a entries (Fact fact) fact.name refl
+    ∙ ap (λ b. b && not (list_any (brings fact.name) entries)) known
+
+-- a step of the count: m is the count with the entry at a place, n without it
+module _ (a : State) (entries : List Entry) (i n m : ℕ) (d : Entry) (within : i < length entries) (small : n ≤ i) (grown : GrowsBy n a (continued_all a (take i entries))) where
+  pub counted_fresh : is_fresh_in (continued_all a (take i entries)) (get_or entries i d) ≡ true → m ≡ n + 1 → (m ≤ i + 1) × GrowsBy m a (continued_all a (take (i + 1) entries))
+  counted_fresh fresh more = (omega arith, rw (more, continued_all-more a entries i d within) (grows_more n a _ _ fresh grown))
+
+  pub counted_same : is_fresh_in (continued_all a (take i entries)) (get_or entries i d) ≡ false → m ≡ n → (m ≤ i + 1) × GrowsBy m a (continued_all a (take (i + 1) entries))
+  counted_same repeat same = (omega arith, rw (same, continued_all-more a entries i d within) (grows_same n a _ _ repeat grown))
+
+-- what an account's fields show
+abbrev pub viewed : ℕ → List Name → ℕ → View
+viewed counted keys entries = record { state = record { names = take counted keys; entries = entries }; waiting = drop counted keys }
+
+-- the next name that waits, if the first of what waits is known
+split_next : {X : Type 0} (n : ℕ) (xs : List X) (y : X) (rest : List X) → drop n xs ≡ y ∷ rest → (take (suc n) xs ≡ take n xs ++ y ∷ []) × (drop (suc n) xs ≡ rest)
+split_next zero [] y rest is = cc
+split_next zero (x ∷ xs) y rest is = (cc, cc)
+split_next (suc n) [] y rest is = cc
+split_next {X} (suc n) (x ∷ xs) y rest is =
+    let next : (take (suc n) xs ≡ take n xs ++ y ∷ []) × (drop (suc n) xs ≡ rest) = split_next n xs y rest is in
+    (ap (λ (ys : List X). x ∷ ys) next.0, next.1)
+
+-- a fresh entry whose name waits first is counted by counting that name
+takes_here : (counted : ℕ) (keys : List Name) (entries : ℕ) (e : Entry)
+    → is_fresh_in (viewed counted keys entries).state e ≡ true → IsPrefixOf (added_by (viewed counted keys entries).state (e ∷ [])) (drop counted keys)
+    → ((viewed (counted + 1) keys (entries + 1)).state ≡ continued (viewed counted keys entries).state e)
+    × (drop counted keys ≡ added_by (viewed counted keys entries).state (e ∷ []) ++ drop (counted + 1) keys)
+takes_here counted keys entries (Fact fact) fresh (rest, starts) =
+    let a : State = (viewed counted keys entries).state in
+    let goes : continued a (Fact fact) ≡ counts a (Fact fact) = ap (λ b. if b then counts a (Fact fact) else a) fresh in
+    let adds : added_by a (Fact fact ∷ []) ≡ fact.name ∷ [] = ap (λ (s : State). drop (length a.names) s.names) goes ∙ drop-append_seam a.names (fact.name ∷ []) in
+    let next : (take (suc counted) keys ≡ take counted keys ++ fact.name ∷ []) × (drop (suc counted) keys ≡ rest) = split_next counted keys fact.name rest (sym starts ∙ ap (λ names. names ++ rest) adds) in
+    let names : take (counted + 1) keys ≡ take counted keys ++ fact.name ∷ [] = ap (λ n. take n keys) (add-one counted) ∙ next.0 in
+    let waits : drop (counted + 1) keys ≡ rest = ap (λ n. drop n keys) (add-one counted) ∙ next.1 in
+    ((λ i. record { names = names i; entries = entries + 1 }) ∙ sym goes, sym starts ∙ ap (λ behind. added_by a (Fact fact ∷ []) ++ behind) (sym waits))
+
+pub takes : (counted : ℕ) (keys : List Name) (entries : ℕ) (e : Entry) (v : View) → viewed counted keys entries ≡ v
+    → is_fresh_in v.state e ≡ true → IsPrefixOf (added_by v.state (e ∷ [])) v.waiting
+    → ((viewed (counted + 1) keys (entries + 1)).state ≡ continued v.state e) × (v.waiting ≡ added_by v.state (e ∷ []) ++ drop (counted + 1) keys)
+takes counted keys entries e v is = subst Takes is (takes_here counted keys entries e)
+  where
+    Takes : View → Type 0
+    Takes w = is_fresh_in w.state e ≡ true → IsPrefixOf (added_by w.state (e ∷ [])) w.waiting
+        → ((viewed (counted + 1) keys (entries + 1)).state ≡ continued w.state e) × (w.waiting ≡ added_by w.state (e ∷ []) ++ drop (counted + 1) keys)
+
+-- what is counted stays where names are inserted behind, and what waits is what the entries add
+pub record Reserves (counted : ℕ) (after : List Name) (a : State) (entries : List Entry) : Type 0 where
+  pub first : counted ≤ length after
+  pub names : take counted after ≡ a.names
+  pub waiting : drop counted after ≡ added_by a entries
+
+pub reserves : (counted : ℕ) (keys before after : List Name) (a : State) (entries : List Entry) → counted ≤ length keys → take counted keys ≡ a.names
+    → before ≡ take counted keys → after ≡ insert_all same_name before (names_in entries) → Reserves counted after a entries
+reserves counted keys before after a entries first are cut inserted =
+    let added : after ≡ insert_all same_name a.names (names_in entries) = inserted ∙ ap (λ names. insert_all same_name names (names_in entries)) (cut ∙ are) in
+    let behind : (rest : List Name) × (insert_all same_name a.names (names_in entries) ≡ a.names ++ rest) = insert_all-behind a.names (names_in entries) in
+    let count : counted ≡ length a.names = sym (length-take-le counted keys first) ∙ ap length are in
+    let joined : after ≡ a.names ++ behind.0 = added ∙ behind.1 in
+    record {
+      first = omega (arith, count, ap length joined, length-append a.names behind.0);
+      names = ap (λ n. take n after) count ∙ ap (take (length a.names)) joined ∙ take-append_seam a.names behind.0;
+      waiting = ap (λ n. drop n after) count ∙ ap (drop (length a.names)) (added ∙ sym (names-continued_all a entries));
+    }

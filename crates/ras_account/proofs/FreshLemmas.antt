@@ -1,11 +1,11 @@
 -- The fresh entries of a list that grows, and the account of it.
-use Rattle.std.proofs.Common.{◌≡◌, ℕ, ◌+◌, Bool, true, false, not, cond, if◌then◌else◌, List, [], ◌∷◌, ◌++◌, length, fold, filter, map, ◌||◌, refl, sym, ap, subst, ◌∙◌, length-append, append_assoc, append-nil, true≢false}
+use Rattle.std.proofs.Common.{◌≡◌, Bool, true, false, not, cond, if◌then◌else◌, List, [], ◌∷◌, ◌++◌, length, filter, map, ◌||◌, refl, sym, ap, subst, ◌∙◌, length-append, append_assoc, append-nil, true≢false}
 use Rattle.std.proofs.lemmas.List.Elements.{filter-append, filter_map-append}
 use Rattle.std.proofs.lemmas.List.Folds.{list_any-append}
 use Rattle.std.proofs.lemmas.List.{map-append}
-use Rattle.std.specs.List.{list_any, filter_map}
+use Rattle.std.specs.List.{list_any}
 use Rattle.ras_base.specs.Places.{places_behind, places}
-use Rattle.ras_base.specs.PlacesLaws.{places_behind-append, places-snoc}
+use Rattle.ras_base.specs.PlacesLaws.{places-snoc}
 use Rattle.ras_account.specs.declared.name.Name.{Name}
 use Rattle.ras_account.specs.declared.entry.Entry.{Entry}
 use Rattle.ras_account.specs.declared.entry.Entry.TheVariants.{Fact}
@@ -75,6 +75,7 @@ module _ (name : Name) where
     where
       later : List Entry
       later = fresh_from (before ++ Fact fact ∷ []) entries
+
       by : (f : Bool) → is_fresh_behind before (Fact fact) ≡ f
           → ((is_among before || (same_name name fact.name || false)) || is_among later) ≡ ((is_among before || (same_name name fact.name || false)) || is_among entries)
           → (is_among before || is_among (map entry_of (cond f ((before, Fact fact) ∷ filter is_fresh_at (places_behind (before ++ Fact fact ∷ []) entries)) (filter is_fresh_at (places_behind (before ++ Fact fact ∷ []) entries))))) ≡ (is_among before || (same_name name fact.name || is_among entries))
@@ -93,10 +94,13 @@ account_of-snoc h e = by (is_fresh_behind h e) refl
   where
     summed : List Entry → State
     summed es = record { names = names_in es; entries = length es }
+
     grown : (b : Bool) → is_fresh_behind h e ≡ b → fresh (h ++ e ∷ []) ≡ fresh h ++ (if b then e ∷ [] else [])
     grown b is = fresh-snoc h e ∙ ap (λ c. fresh h ++ (if c then e ∷ [] else [])) is
+
     goes_on : (b : Bool) → is_fresh_behind h e ≡ b → continued (account_of h) e ≡ (if b then counts (account_of h) e else account_of h)
     goes_on b is = ap (λ c. if c then counts (account_of h) e else account_of h) (is_fresh_in-account_of h e ∙ is)
+
     by : (b : Bool) → is_fresh_behind h e ≡ b → account_of (h ++ e ∷ []) ≡ continued (account_of h) e
     by true is = ap summed (grown true is) ∙ (λ i. record { names = names_in-append (fresh h) (e ∷ []) i; entries = length-append (fresh h) (e ∷ []) i }) ∙ sym (goes_on true is)
     by false is = ap summed (grown false is ∙ append-nil (fresh h)) ∙ sym (goes_on false is)

@@ -1,5 +1,5 @@
 -- Names that are the same are equal, and what that says of lists of names.
-use Rattle.std.proofs.Common.{◌≡◌, ℕ, Bool, true, List, [], refl, ap, arith, Contains, ◌↔◌}
+use Rattle.std.proofs.Common.{◌≡◌, true, List, [], refl, ap, arith, Contains, ◌↔◌}
 use Rattle.std.specs.Cmp.{IsEquivalence}
 use Rattle.std.specs.List.{list_any, IsDistinct}
 use Rattle.std.proofs.lemmas.Bool.Decides.{nat_tests}
@@ -7,6 +7,7 @@ use Rattle.std.proofs.lemmas.Map.Views.{list_any-from_Contains}
 use Rattle.indexmap.proofs.CallerLemmas.{Contains-list_any}
 use Rattle.ras_account.specs.declared.name.Name.{Name}
 use Rattle.ras_account.specs.declared.name.Name.TheVariants.{Bank}
+use Rattle.ras_account.specs.contracts.name.NamePartialEq.TheImpl.{eq-value}
 use Rattle.ras_account.specs.Fresh.{same_name}
 
 pub same_name-exact : (x y : Name) → same_name x y ≡ true → x ≡ y
@@ -37,3 +38,10 @@ found names name = (list_any-from_Contains same_name-laws name names, Contains-l
 pub IsDistinct-nil : IsDistinct same_name []
 unfolding IsDistinct
 IsDistinct-nil = tt
+
+-- the derived `==` is this test
+tied : (x y : Name) → eq-value.it x y ≡ same_name x y
+tied (Bank boot cpu bank tsc) (Bank boot' cpu' bank' tsc') = refl
+
+pub eq-same_name : eq-value.it ≡ same_name
+eq-same_name = λ i x y. tied x y i

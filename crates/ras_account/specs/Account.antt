@@ -1,5 +1,5 @@
 -- What an account of a list of entries is, and how one entry more continues it.
-use Rattle.std.specs.Prelude.{◌≡◌, ℕ, ◌+◌, ◌*◌, ◌^◌, ◌<◌, ◌≤◌, ◌⊎◌, Bool, not, List, [], ◌∷◌, ◌++◌, if◌then◌else◌, length, drop, fold}
+use Rattle.std.specs.Prelude.{ℕ, ◌+◌, ◌^◌, ◌<◌, ◌≤◌, ◌⊎◌, Bool, not, List, [], ◌∷◌, ◌++◌, if◌then◌else◌, length, drop, fold}
 use Rattle.std.specs.List.{list_any}
 use Rattle.ras_account.specs.declared.name.Name.{Name}
 use Rattle.ras_account.specs.declared.entry.Entry.{Entry}

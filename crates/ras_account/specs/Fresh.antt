@@ -1,5 +1,5 @@
 -- Which entries of a list are fresh at their place.
-use Rattle.std.specs.Prelude.{ℕ, Bool, ◌&&◌, ◌==◌, not, List, Option, Some, filter, map}
+use Rattle.std.specs.Prelude.{Bool, ◌&&◌, ◌==◌, not, List, Option, Some, filter, map}
 use Rattle.std.specs.List.{filter_map, list_any}
 use Rattle.ras_base.specs.Places.{places}
 use Rattle.ras_account.specs.declared.name.Name.{Name}

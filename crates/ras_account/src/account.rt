@@ -1,15 +1,17 @@
 // The account.
 ghost use Rattle.std.specs.Prelude.{◌≡◌, ◌↔◌, ◌<◌, ◌++◌, List, [], ◌∷◌, length, Some, slice_get, Err, OnOk, OnErr};
 ghost use Rattle.std.specs.Bool.{IsFalse, OnTrue};
+ghost use Rattle.std.specs.List.{list_any};
 ghost use Rattle.ras_base.specs.Prefix.{IsPrefixOf};
 ghost use Rattle.ras_account.specs.declared.entry.Entry.{Entry};
-ghost use Rattle.ras_account.specs.Fresh.{is_fresh_behind};
+ghost use Rattle.ras_account.specs.Fresh.{same_name, is_fresh_behind};
 ghost use Rattle.ras_account.specs.Account.{account_of, is_fresh_in, continued, continued_all, added_by, IsWithin, IsPast};
 ghost use Rattle.ras_account.specs.Growth.{GrowsBy};
 
 use crate::reserve::{add_names, some_brings};
 use crate::{Entry, Name, ReserveRefused};
 use indexmap::IndexSet;
+use ras_base::NoMemory;
 use std::alloc::Global;
 use std::marker::Model;
 
@@ -63,10 +65,7 @@ impl Account {
         ensures history { (history : List Entry) → self.now.state ≡ account_of history → result ≡ is_fresh_behind history entry.now }
     {
         match entry {
-            Entry::Fact(fact) => match self.names.get_index_of(&fact.name) {
-                Some(place) => place >= self.counted,
-                None => true,
-            },
+            Entry::Fact(fact) => !self.holds(&fact.name),
         }
     }
 
@@ -85,11 +84,13 @@ impl Account {
         if !self.has_room_for(entries) {
             return Err(ReserveRefused::Full);
         }
-        if add_names(&mut self.names, entries).is_err() {
-            self.names.truncate(self.counted);
-            return Err(ReserveRefused::NoMemory);
+        match add_names(&mut self.names, entries) {
+            Ok(()) => Ok(()),
+            Err(NoMemory) => {
+                self.names.truncate(self.counted);
+                Err(ReserveRefused::NoMemory)
+            }
         }
-        Ok(())
     }
 
     /// Counts the entry, if it is fresh.
@@ -130,6 +131,16 @@ impl Account {
         &self.names.as_slice()[i]
     }
 
+    // Whether a name is counted.
+    fn holds(&self, name: &Name) -> bool
+        ensures { result ≡ list_any (same_name name.now) self.now.state.names }
+    {
+        match self.names.get_index_of(name) {
+            Some(place) => place < self.counted,
+            None => false,
+        }
+    }
+
     // Whether taking these entries in turn would keep within the limits. No memory is asked for, so that a full account
     // is known as such even where memory is out.
     fn has_room_for(&self, entries: &[Entry]) -> bool
@@ -146,10 +157,17 @@ impl Account {
     {
         let mut count = 0;
         for (i, entry) in entries.iter().enumerate() {
-            if self.is_fresh(entry) && !some_brings(&entries[..i], entry.name()) {
+            if self.is_fresh_after(&entries[..i], entry) {
                 count += 1;
             }
         }
         count
+    }
+
+    // Whether an entry would be counted if it were taken after these.
+    fn is_fresh_after(&self, before: &[Entry], entry: &Entry) -> bool
+        ensures { result ≡ is_fresh_in (continued_all self.now.state before.now) entry.now }
+    {
+        self.is_fresh(entry) && !some_brings(before, entry.name())
     }
 }

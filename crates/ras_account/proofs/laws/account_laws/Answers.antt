@@ -1,5 +1,5 @@
-use Rattle.std.proofs.Common.{◌≡◌, ◌++◌, List, [], ap, sym, subst, ◌∙◌}
-use Rattle.ras_account.specs.Account.{State, account_of, continued_all}
+use Rattle.std.proofs.Common.{[], ap, sym, subst, ◌∙◌}
+use Rattle.ras_account.specs.Account.{account_of, continued_all}
 use Rattle.ras_account.specs.Fresh.{names_in, fresh, same_name}
 use Rattle.std.specs.List.{IsDistinct}
 use Rattle.ras_account.proofs.FreshLemmas.{account_of-snoc, account_of-append, among_fresh}
@@ -11,9 +11,10 @@ pub returns-clause-appended : goal.returns-clause-appended
 returns-clause-appended c = account_of-snoc
 
 pub returns-clause-held : goal.returns-clause-held
-returns-clause-held c = λ history name.
-    (λ there. (found (names_in history) name).1 (sym (among_fresh name history) ∙ (found (names_in (fresh history)) name).0 there),
-     λ there. (found (names_in (fresh history)) name).1 (among_fresh name history ∙ (found (names_in history) name).0 there))
+returns-clause-held c = λ history name. (
+  λ there. (found (names_in history) name).1 (sym (among_fresh name history) ∙ (found (names_in (fresh history)) name).0 there),
+  λ there. (found (names_in (fresh history)) name).1 (among_fresh name history ∙ (found (names_in history) name).0 there),
+)
 
 pub returns-clause-once : goal.returns-clause-once
 returns-clause-once c = λ history.

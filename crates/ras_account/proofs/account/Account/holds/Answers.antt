@@ -1,0 +1,18 @@
+use Rattle.std.proofs.Common.{◌∙◌, sym, ap}
+use Rattle.std.specs.List.{list_any, position}
+use Rattle.ras_account.specs.Fresh.{same_name}
+use Rattle.ras_account.proofs.NameLemmas.{eq-same_name}
+use Rattle.ras_account.proofs.PlaceLemmas.{list_any-take-Some, list_any-take-None}
+use Rattle.ras_account.proofs.account.Account.holds.Goals as goal
+
+pub returns-in-Some : goal.returns-in-Some
+returns-in-Some c =
+    sym (list_any-take-Some (same_name c.args.name.now) c.self.inside.names.keys c.self.inside.counted c.in-Some.place c.self.invariant.first
+    (c.in-Some.ensures.index ∙ ap (λ eq. position (eq c.args.name.now) c.self.inside.names.keys) eq-same_name))
+    ∙ ap (λ v. list_any (same_name c.args.name.now) v.state.names) c.self.view_is
+
+pub returns-in-None : goal.returns-in-None
+returns-in-None c =
+    sym (list_any-take-None (same_name c.args.name.now) c.self.inside.names.keys c.self.inside.counted c.self.invariant.first
+    (c.in-None.ensures.index ∙ ap (λ eq. position (eq c.args.name.now) c.self.inside.names.keys) eq-same_name))
+    ∙ ap (λ v. list_any (same_name c.args.name.now) v.state.names) c.self.view_is
