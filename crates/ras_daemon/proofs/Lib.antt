@@ -1,0 +1,9 @@
+pub mod NumberLemmas
+pub mod SplittingLemmas
+pub mod SplittingLaws
+pub mod LineLaws
+pub mod ScriptLemmas
+pub mod StepLemmas
+pub mod EventLemmas
+pub mod RunLemmas
+pub mod DaemonLemmas

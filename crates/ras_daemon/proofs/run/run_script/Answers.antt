@@ -1,0 +1,14 @@
+use Rattle.std.proofs.Common.{ap, ◌∙◌}
+use Rattle.ras_daemon.specs.Reports.{reads_of}
+use Rattle.ras_daemon.specs.Text.{end_text}
+use Rattle.ras_daemon.proofs.RunLemmas.{run_ends}
+use Rattle.ras_daemon.proofs.run.run_script.Goals as goal
+
+pub returns-in-Ok-clause-takes : goal.returns-in-Ok-clause-takes
+returns-in-Ok-clause-takes g c =
+    run_ends (reads_of c.args.script.now) _ _ _ c.take_lines.new.account.state c.deref.result.now c.last_line.result c.in_default.ensures.takes
+    (c.deref.ensures.value
+    ∙ c.in-Ok.ensures
+    ∙ ap (λ n. end_text n c.names_len.result) c.entries.ensures
+    ∙ ap (λ n. end_text c.take_lines.new.account.state.entries n) c.names_len.ensures)
+    c.last_line.ensures.takes

@@ -1,0 +1,40 @@
+-- What a run prints.
+use Rattle.std.specs.Prelude.{ℕ, List, [], ◌++◌, Option, None, Some, Result, Ok, Err}
+use Rattle.std.specs.List.{flat_map}
+use Rattle.ras_base.specs.Places.{places}
+use Rattle.ras_account.specs.Account.{account_of}
+use Rattle.ras_daemon.specs.declared.exit.Exit.{Exit}
+use Rattle.ras_daemon.specs.declared.line.Line.{Line}
+use Rattle.ras_daemon.specs.declared.line.Line.TheVariants.{Empty, Comment, Bank}
+use Rattle.ras_daemon.specs.Command.{command_of}
+use Rattle.ras_daemon.specs.Reports.{Read, reads_of, made, reports}
+use Rattle.ras_daemon.specs.Status.{Place, unrefused, refusal_among, start_refusal}
+use Rattle.ras_daemon.specs.Text.{event_text, done_line, end_line, stop_line}
+
+-- What a line has printed at its place: an event the text of what it makes and its done line, any other line nothing.
+abbrev pub line_output : List Read → ℕ → Line → List ℕ
+line_output before number Empty = []
+line_output before number Comment = []
+line_output before number (Bank boot seconds cpu bank tsc cap mcg status addr misc) =
+    event_text (reports before) (made (Bank boot seconds cpu bank tsc cap mcg status addr misc)) ++ done_line number
+
+abbrev pub output_at : Place → List ℕ
+output_at (before, (number, Ok line)) = line_output before number line
+output_at (before, (number, Err refused)) = []
+
+-- the last line: the stop line of the first refusal, or the end line of all that was reported
+abbrev pub last_line : List Read → Option Exit → List ℕ
+last_line reads (Some exit) = stop_line exit
+last_line reads None = end_line (account_of (reports reads))
+
+-- what lines have printed up to the first refused one, and the last line
+abbrev pub lines_output : List Read → List ℕ
+lines_output reads = flat_map output_at (unrefused (places reads)) ++ last_line reads (refusal_among (places reads))
+
+abbrev pub output_after : Option Exit → List ℕ → List ℕ
+output_after (Some exit) script = stop_line exit
+output_after None script = lines_output (reads_of script)
+
+-- what a call with these words prints over a script and a file 0
+abbrev pub output_of : List (List ℕ) → List ℕ → List ℕ → List ℕ
+output_of words script file = output_after (start_refusal (command_of words) script file) script

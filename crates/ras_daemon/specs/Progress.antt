@@ -1,0 +1,157 @@
+-- How far a run has come on its board. This file only carries proofs: what a run prints, keeps and answers is said by
+-- Output, Stored and Status.
+use Rattle.std.specs.Prelude.{◌≡◌, ℕ, ◌*◌, ◌==◌, List, [], ◌∷◌, ◌++◌, length, Option, None, Some, Result, Ok, Err, if◌then◌else◌}
+use Rattle.std.specs.List.{flat_map}
+use Rattle.std.specs.Option.{option_map}
+use Rattle.board_core.specs.declared.board.DiskCall.TheVariants.{Size, Sync}
+use Rattle.board_core.specs.declared.board.FileNo.{FileNo}
+use Rattle.board_core.specs.declared.board.FileNo.TheVariants.{Zero}
+use Rattle.board_core.specs.Told.{Told, Relates, called, written, printed, MayList, FailsWrite, FailsPrint}
+use Rattle.ras_base.specs.Places.{places_behind}
+use Rattle.ras_account.specs.declared.entry.Entry.{Entry}
+use Rattle.ras_account.specs.Account.{account_of}
+use Rattle.ras_account.specs.Fresh.{fresh, is_fresh_behind}
+use Rattle.ras_daemon.specs.declared.exit.Exit.{Exit}
+use Rattle.ras_daemon.specs.declared.exit.Exit.TheVariants.{Done, Usage, BadLine, SourceFault, DiskFault, PrintFault, Damaged, Full, NoMemory, TooLong}
+use Rattle.ras_daemon.specs.declared.line.Line.{Line}
+use Rattle.ras_daemon.specs.declared.line.Line.TheVariants.{Empty, Comment, Bank}
+use Rattle.ras_daemon.specs.declared.word.Command.{Command}
+use Rattle.ras_daemon.specs.declared.word.Command.TheVariants.{Run}
+use Rattle.ras_daemon.specs.PlainFile.{entry_length, entry_bytes}
+use Rattle.ras_daemon.specs.Reports.{Read, reads_of, made, reports}
+use Rattle.ras_daemon.specs.Status.{Place, refusal_at, start_refusal}
+use Rattle.ras_daemon.specs.Text.{event_text, done_line, end_line, stop_line}
+
+-- one call on a board that went well
+pub data Step : Type 0 where
+  asks_size : FileNo → Step
+  writes : FileNo → ℕ → List ℕ → Step
+  syncs : FileNo → Step
+  prints : List ℕ → Step
+
+-- what a call, and what calls in order, leave
+abbrev pub after : Step → Told → Told
+after (asks_size file) told = called (Size file) told
+after (writes file place bytes) told = written file place bytes told
+after (syncs file) told = called (Sync file) told
+after (prints bytes) told = printed bytes told
+
+abbrev pub after_all : List Step → Told → Told
+after_all [] told = told
+after_all (step ∷ steps) told = after_all steps (after step told)
+
+-- what a failed call may leave
+abbrev pub Fails : Step → Told → Told → Type 0
+Fails (asks_size file) old new = MayList (Size file) old new
+Fails (writes file place bytes) old new = FailsWrite file place (length bytes) old new
+Fails (syncs file) old new = MayList (Sync file) old new
+Fails (prints bytes) old new = FailsPrint bytes old new
+
+abbrev pub IsDisk : Step → Type 0
+IsDisk (asks_size file) = Unit {0}
+IsDisk (writes file place bytes) = Unit {0}
+IsDisk (syncs file) = Unit {0}
+IsDisk (prints bytes) = ⊥
+
+abbrev pub IsPrint : Step → Type 0
+IsPrint (asks_size file) = ⊥
+IsPrint (writes file place bytes) = ⊥
+IsPrint (syncs file) = ⊥
+IsPrint (prints bytes) = Unit {0}
+
+-- calls in order, of which one failed: those before it went well
+pub record Cut (Kind : Step → Type 0) (steps : List Step) (old new : Option Told) : Type 0 where
+  pub done : List Step
+  pub step : Step
+  pub rest : List Step
+  pub splits : done ++ step ∷ rest ≡ steps
+  pub kind : Kind step
+  pub leaves : Relates (Fails step) (option_map (after_all done) old) new
+
+-- calls in order, of which only the first ones were made
+pub record Paused (steps : List Step) (old new : Option Told) : Type 0 where
+  pub done : List Step
+  pub rest : List Step
+  pub splits : done ++ rest ≡ steps
+  pub leaves : new ≡ option_map (after_all done) old
+
+-- the calls of a part of a run that goes on after them, or of which one failed
+abbrev pub Performs : List Step → Result (Unit {0}) Exit → Option Told → Option Told → Type 0
+Performs steps (Ok done) old new = new ≡ option_map (after_all steps) old
+Performs steps (Err DiskFault) old new = Cut IsDisk steps old new
+Performs steps (Err PrintFault) old new = Cut IsPrint steps old new
+Performs steps (Err exit) old new = ⊥
+
+-- the calls of a run, and how it ends
+pub record Course : Type 0 where
+  pub steps : List Step
+  pub exit : Exit
+
+-- A run that ended so has taken its course: to its end, or to the call that failed, or as far as memory allowed. It
+-- doesn't read its source any more.
+abbrev pub Takes : Course → Exit → Option Told → Option Told → Type 0
+Takes course DiskFault old new = Cut IsDisk course.steps old new
+Takes course PrintFault old new = Cut IsPrint course.steps old new
+Takes course NoMemory old new = Paused course.steps old new
+Takes course SourceFault old new = ⊥
+Takes course exit old new = (course.exit ≡ exit) × (new ≡ option_map (after_all course.steps) old)
+
+-- The same of a call that reads its source.
+abbrev pub TakesCall : Course → Exit → Option Told → Option Told → Type 0
+TakesCall course SourceFault old new = Paused course.steps old new
+TakesCall course exit old new = Takes course exit old new
+
+-- the calls of an entry behind those that were reported before it: a fresh one is written and synced
+abbrev pub entry_steps : List Entry → Entry → List Step
+entry_steps before entry =
+    if is_fresh_behind before entry then writes Zero (entry_length * length (fresh before)) (entry_bytes entry) ∷ syncs Zero ∷ [] else []
+
+abbrev pub entries_steps : List Entry → List Entry → List Step
+entries_steps before entries = flat_map (λ p. entry_steps p.0 p.1) (places_behind before entries)
+
+-- a text is printed where there is one
+abbrev pub text_steps : List ℕ → List Step
+text_steps text = if length text == 0 then [] else prints text ∷ []
+
+-- the calls of an event that makes these entries
+abbrev pub event_steps : List Entry → ℕ → List Entry → List Step
+event_steps before number entries =
+    entries_steps before entries ++ (text_steps (event_text before entries) ++ prints (done_line number) ∷ [])
+
+abbrev pub line_steps : List Read → ℕ → Line → List Step
+line_steps before number Empty = []
+line_steps before number Comment = []
+line_steps before number (Bank boot seconds cpu bank tsc cap mcg status addr misc) =
+    event_steps (reports before) number (made (Bank boot seconds cpu bank tsc cap mcg status addr misc))
+
+abbrev pub read_steps : List Read → Read → List Step
+read_steps before (number, Ok line) = line_steps before number line
+read_steps before (number, Err refused) = []
+
+-- a course that prints a last line and ends
+abbrev pub ends : List ℕ → Exit → Course
+ends text exit = record { steps = prints text ∷ []; exit = exit }
+
+-- a course behind calls that come before it
+abbrev pub behind : List Step → Course → Course
+behind steps course = record { steps = steps ++ course.steps; exit = course.exit }
+
+-- a line that is refused ends the course, and any other line's calls come before what follows
+abbrev pub line_course : Option Exit → List Step → Course → Course
+line_course (Some exit) steps course = ends (stop_line exit) exit
+line_course None steps course = behind steps course
+
+-- the course of lines that follow others
+abbrev pub lines_course : List Read → List Read → Course
+lines_course before [] = ends (end_line (account_of (reports before))) Done
+lines_course before (read ∷ reads) =
+    line_course (refusal_at (before, read)) (read_steps before read) (lines_course (before ++ read ∷ []) reads)
+
+abbrev pub start_course : Option Exit → List ℕ → Course
+start_course (Some exit) script = ends (stop_line exit) exit
+start_course None script = lines_course [] (reads_of script)
+
+-- the course of a call
+abbrev pub call_course : Option Command → List ℕ → List ℕ → Course
+call_course None script file = ends (stop_line Usage) Usage
+call_course (Some Run) script file = behind (asks_size Zero ∷ []) (start_course (start_refusal (Some Run) script file) script)

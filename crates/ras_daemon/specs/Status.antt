@@ -1,0 +1,78 @@
+-- How a run ends: with its first refusal in order, or at its script's end.
+use Rattle.std.specs.Prelude.{ℕ, ◌||◌, ◌++◌, Bool, not, List, [], ◌∷◌, length, map, nat_lt, Option, None, Some, Result, Ok, Err, is_some, unwrap_or, if◌then◌else◌}
+use Rattle.std.specs.List.{filter_map}
+use Rattle.ras_base.specs.Places.{places}
+use Rattle.ras_account.specs.declared.entry.Entry.{Entry}
+use Rattle.ras_account.specs.Account.{State, account_of, most_names, most_entries}
+use Rattle.ras_daemon.specs.declared.exit.Exit.{Exit}
+use Rattle.ras_daemon.specs.declared.exit.Exit.TheVariants.{Done, Usage, BadLine, Damaged, Full, TooLong}
+use Rattle.ras_daemon.specs.declared.exit.Reason.TheVariants.{Line as LineReason}
+use Rattle.ras_daemon.specs.declared.word.Command.{Command}
+use Rattle.ras_daemon.specs.declared.word.Command.TheVariants.{Run}
+use Rattle.ras_daemon.specs.declared.line.Line.{Line}
+use Rattle.ras_daemon.specs.declared.line.Line.TheVariants.{Empty, Comment, Bank}
+use Rattle.ras_daemon.specs.Command.{command_of}
+use Rattle.ras_daemon.specs.Reports.{Read, reads_of, made, reports}
+
+-- a line with all the lines before it
+abbrev pub Place : Type 0
+Place = List Read × Read
+
+-- whether an account is past its limits
+abbrev pub is_past : State → Bool
+is_past account = nat_lt most_names (length account.names) || nat_lt most_entries account.entries
+
+-- an event is refused where there is no room in the account for what it makes
+abbrev pub room_refusal : List Entry → List Entry → Option Exit
+room_refusal before entries = if is_past (account_of (before ++ entries)) then Some Full else None
+
+abbrev pub line_refusal : List Read → Line → Option Exit
+line_refusal before Empty = None
+line_refusal before Comment = None
+line_refusal before (Bank boot seconds cpu bank tsc cap mcg status addr misc) =
+    room_refusal (reports before) (made (Bank boot seconds cpu bank tsc cap mcg status addr misc))
+
+-- why a line is refused at its place, if it is: it can't be read, or it is an event for which there is no room
+abbrev pub refusal_at : Place → Option Exit
+refusal_at (before, (number, Err refused)) = Some (BadLine number (LineReason refused))
+refusal_at (before, (number, Ok line)) = line_refusal before line
+
+-- the places that stand before the first refused one
+abbrev pub unrefused : List Place → List Place
+unrefused [] = []
+unrefused (place ∷ places) = if is_some (refusal_at place) then [] else place ∷ unrefused places
+
+-- the first of a list
+abbrev pub first_of : {X : Type 0} → List X → Option X
+first_of [] = None
+first_of (x ∷ xs) = Some x
+
+-- the first refusal of lines that follow others, if there is one
+abbrev pub refusal_among : List Place → Option Exit
+refusal_among places = first_of (filter_map refusal_at places)
+
+-- the lines before the first refused one
+abbrev pub taken_of : List Read → List Read
+taken_of reads = map (λ (place : Place). place.1) (unrefused (places reads))
+
+-- how many bytes a script has at most
+abbrev pub longest_script : ℕ
+longest_script = 40000
+
+abbrev pub script_refusal : List ℕ → Option Exit
+script_refusal script = if nat_lt longest_script (length script) then Some TooLong else None
+
+-- Why a call ends before its first line, if it does: the words are no form of a call, the file isn't empty, or the script
+-- is too long.
+abbrev pub start_refusal : Option Command → List ℕ → List ℕ → Option Exit
+start_refusal None script file = Some Usage
+start_refusal (Some Run) script file =
+    if nat_lt 0 (length file) then Some (Damaged 0 0) else script_refusal script
+
+-- how lines end: with the first refusal among them, or with the script's end
+abbrev pub lines_status : List Read → Exit
+lines_status reads = unwrap_or (refusal_among (places reads)) Done
+
+-- how a call with these words ends over a script and a file 0
+abbrev pub status_of : List (List ℕ) → List ℕ → List ℕ → Exit
+status_of words script file = unwrap_or (start_refusal (command_of words) script file) (lines_status (reads_of script))

@@ -1,0 +1,144 @@
+// The lines of a script.
+ghost use Rattle.std.specs.Prelude.{◌≡◌, ℕ, ◌<◌, ◌≤◌, List, length, map, IfOk, IsErr};
+ghost use Rattle.ras_daemon.specs.Line.{ReadsLine, InRange, line_of, line_of_words, bank_of, decimal_at, hexadecimal_at};
+ghost use Rattle.ras_daemon.specs.Splitting.{words_of};
+ghost use Rattle.ras_daemon.specs.declared.line.LineRefused.TheVariants as RefusedFor;
+
+use crate::number::{decimal, hexadecimal};
+use crate::splitting::words;
+use ras_base::NoMemory;
+use std::alloc::Global;
+
+/// A line of a script.
+#[derive(Clone, Copy, Debug, PartialEq, Eq)]
+pub enum Line {
+    /// A line without words.
+    Empty,
+    /// A line whose first word begins with `#`.
+    Comment,
+    /// A snapshot of a machine-check bank: the boot's number, seconds, the CPU, the bank, the time-stamp counter, and
+    /// the registers IA32_MCG_CAP, IA32_MCG_STATUS, IA32_MCi_STATUS, IA32_MCi_ADDR and IA32_MCi_MISC.
+    Bank {
+        boot: u64,
+        seconds: u64,
+        cpu: u16,
+        bank: u8,
+        tsc: u64,
+        cap: u64,
+        mcg: u64,
+        status: u64,
+        addr: u64,
+        misc: u64,
+    },
+}
+
+/// Why a line is refused: the first that applies, and of its numbers from left to right.
+#[derive(Clone, Copy, Debug, PartialEq, Eq)]
+pub enum LineRefused {
+    /// 1: the first word is no kind of line.
+    Kind,
+    /// 2: the number of words isn't that of the kind.
+    Words,
+    /// 3: a decimal or hexadecimal word is no number, or isn't in its range.
+    Number,
+    /// Memory ran out.
+    NoMemory,
+}
+
+// How many words stand after `bank`.
+const BANK_WORDS: usize = 10;
+
+/// What a line says. `bytes` are the line without its line feed, at most 40,000 of them.
+///
+/// # Errors
+///
+/// The first that applies of `Kind`, `Words` and `Number`; `NoMemory` for want of memory alone.
+pub fn read_line(alloc: Global, bytes: &[u8]) -> Result<Line, LineRefused>
+    ensures { ReadsLine result bytes.now }
+{
+    let words = words(alloc, bytes)?;
+    line_of_words(&words)
+}
+
+/// The numbers of a line that is read are within their ranges: those of a bank's snapshot below 2^64, its CPU's below
+/// 2^16 and its bank's below 2^8.
+pub fn numbers_are_in_range()
+    ensures { (bytes : List ℕ) → IfOk (line_of bytes) InRange }
+{}
+
+/// A line is refused only for a word: a line without words never is.
+pub fn refused_lines_have_words()
+    ensures { (bytes : List ℕ) → IsErr (line_of bytes) → 0 < length (words_of bytes) }
+{}
+
+impl From<NoMemory> for LineRefused {
+    ghost from_gives = { λ _ e. e ≡ RefusedFor.NoMemory };
+
+    fn from(_: NoMemory) -> Self {
+        LineRefused::NoMemory
+    }
+}
+
+// What a line says whose words these are.
+fn line_of_words(words: &[&[u8]]) -> Result<Line, LineRefused>
+    ensures { result ≡ line_of_words (map (λ word. word.now) words.now) }
+{
+    let [kind, rest @ ..] = words else {
+        return Ok(Line::Empty);
+    };
+    if kind.first() == Some(&b'#') {
+        return Ok(Line::Comment);
+    }
+    match *kind {
+        b"bank" => bank_of(rest),
+        _ => Err(LineRefused::Kind),
+    }
+}
+
+// The snapshot of a bank, from the words after `bank`.
+fn bank_of(words: &[&[u8]]) -> Result<Line, LineRefused>
+    ensures { result ≡ bank_of (map (λ word. word.now) words.now) }
+{
+    if words.len() != BANK_WORDS {
+        return Err(LineRefused::Words);
+    }
+    let boot = decimal_at(words, 0, u64::MAX)?;
+    let seconds = decimal_at(words, 1, u64::MAX)?;
+    let cpu = decimal_at(words, 2, u64::from(u16::MAX))? as u16;
+    let bank = decimal_at(words, 3, u64::from(u8::MAX))? as u8;
+    let tsc = decimal_at(words, 4, u64::MAX)?;
+    let cap = hexadecimal_at(words, 5)?;
+    let mcg = hexadecimal_at(words, 6)?;
+    let status = hexadecimal_at(words, 7)?;
+    let addr = hexadecimal_at(words, 8)?;
+    let misc = hexadecimal_at(words, 9)?;
+    Ok(Line::Bank {
+        boot,
+        seconds,
+        cpu,
+        bank,
+        tsc,
+        cap,
+        mcg,
+        status,
+        addr,
+        misc,
+    })
+}
+
+// The word at a place as a decimal number of at most `most`.
+fn decimal_at(words: &[&[u8]], place: usize, most: u64) -> Result<u64, LineRefused>
+    requires { place < length words.now }
+    ensures value { result ≡ decimal_at (map (λ word. word.now) words.now) place most }
+    ensures within { IfOk result (λ n. n ≤ most) }
+{
+    decimal(words[place], most).ok_or(LineRefused::Number)
+}
+
+// The word at a place as a hexadecimal number.
+fn hexadecimal_at(words: &[&[u8]], place: usize) -> Result<u64, LineRefused>
+    requires { place < length words.now }
+    ensures { result ≡ hexadecimal_at (map (λ word. word.now) words.now) place }
+{
+    hexadecimal(words[place]).ok_or(LineRefused::Number)
+}

@@ -1,0 +1,150 @@
+// The lines that are printed.
+ghost use Rattle.std.specs.Prelude.{◌≡◌, ◌++◌, decimal, IfOk, OnOk};
+ghost use Rattle.ras_daemon.specs.Text.{name_text, class_text, log_line, repeat_line, done_line, end_text, stop_line, reason_text};
+
+use crate::{Exit, LineRefused, Reason};
+use itoa::Buffer;
+use mca_status::Class;
+use ras_account::{Entry, Name};
+use ras_base::NoMemory;
+use std::alloc::Global;
+
+// Adds a number in decimal.
+fn push_number(text: &mut Vec<u8>, number: u64) -> Result<(), NoMemory>
+    ensures { OnOk result (text.new.items ≡ text.old.items ++ decimal number) }
+{
+    let mut buffer = Buffer::new();
+    text.extend_from_slice(buffer.format(number).as_bytes())?;
+    Ok(())
+}
+
+// Adds the name of a report.
+fn push_name(text: &mut Vec<u8>, name: &Name) -> Result<(), NoMemory>
+    ensures { OnOk result (text.new.items ≡ text.old.items ++ name_text name.now) }
+{
+    match name {
+        Name::Bank {
+            boot,
+            cpu,
+            bank,
+            tsc,
+        } => {
+            text.extend_from_slice(b"bank=")?;
+            push_number(text, *boot)?;
+            text.extend_from_slice(b"/")?;
+            push_number(text, u64::from(*cpu))?;
+            text.extend_from_slice(b"/")?;
+            push_number(text, u64::from(*bank))?;
+            text.extend_from_slice(b"/")?;
+            push_number(text, *tsc)
+        }
+    }
+}
+
+// The text of a class.
+fn class_word(class: Class) -> &'static [u8]
+    ensures { result.now ≡ class_text class }
+{
+    match class {
+        Class::Ce => b"CE",
+        Class::Ucna => b"UCNA",
+        Class::Srao => b"SRAO",
+        Class::Srar => b"SRAR",
+        Class::Uc => b"UC",
+        Class::Odd => b"ODD",
+    }
+}
+
+/// The line of a fresh entry.
+pub fn log_line(alloc: Global, entry: &Entry) -> Result<Vec<u8>, NoMemory>
+    ensures { IfOk result (λ text. text.items ≡ log_line entry.now) }
+{
+    match entry {
+        Entry::Fact(fact) => {
+            let mut text = Vec::from_slice(alloc, b"log ")?;
+            push_name(&mut text, &fact.name)?;
+            text.extend_from_slice(b" t=")?;
+            push_number(&mut text, fact.seconds)?;
+            text.extend_from_slice(b" class=")?;
+            text.extend_from_slice(class_word(fact.class))?;
+            text.extend_from_slice(b"\n")?;
+            Ok(text)
+        }
+    }
+}
+
+/// The line of a fact whose name was reported before.
+pub fn repeat_line(alloc: Global, entry: &Entry) -> Result<Vec<u8>, NoMemory>
+    ensures { IfOk result (λ text. text.items ≡ repeat_line entry.now) }
+{
+    match entry {
+        Entry::Fact(fact) => {
+            let mut text = Vec::from_slice(alloc, b"repeat ")?;
+            push_name(&mut text, &fact.name)?;
+            text.extend_from_slice(b"\n")?;
+            Ok(text)
+        }
+    }
+}
+
+/// The line that an event ends with, by the number of its line.
+pub fn done_line(alloc: Global, number: u64) -> Result<Vec<u8>, NoMemory>
+    ensures { IfOk result (λ text. text.items ≡ done_line number) }
+{
+    let mut text = Vec::from_slice(alloc, b"done ")?;
+    push_number(&mut text, number)?;
+    text.extend_from_slice(b"\n")?;
+    Ok(text)
+}
+
+/// The line that a whole run ends with, by the numbers of entries and of names in the account.
+pub fn end_line(alloc: Global, entries: u64, names: usize) -> Result<Vec<u8>, NoMemory>
+    ensures { IfOk result (λ text. text.items ≡ end_text entries names) }
+{
+    let mut text = Vec::from_slice(alloc, b"end entries=")?;
+    push_number(&mut text, entries)?;
+    text.extend_from_slice(b" names=")?;
+    push_number(&mut text, names as u64)?;
+    text.extend_from_slice(b"\n")?;
+    Ok(text)
+}
+
+// The reason why a line is refused.
+fn reason_word(reason: Reason) -> &'static [u8]
+    ensures { result.now ≡ reason_text reason }
+{
+    match reason {
+        Reason::Line(LineRefused::Kind) => b"line.1",
+        Reason::Line(LineRefused::Words) => b"line.2",
+        Reason::Line(LineRefused::Number) => b"line.3",
+        Reason::Line(LineRefused::NoMemory) => b"",
+    }
+}
+
+/// The line that a refused run ends with. An exit that is no refusal has none.
+pub fn stop_line(alloc: Global, exit: Exit) -> Result<Vec<u8>, NoMemory>
+    ensures { IfOk result (λ text. text.items ≡ stop_line exit) }
+{
+    let mut text = Vec::new(alloc);
+    match exit {
+        Exit::Usage => text.extend_from_slice(b"stop 1 usage\n")?,
+        Exit::BadLine { line, reason } => {
+            text.extend_from_slice(b"stop 2 line=")?;
+            push_number(&mut text, line)?;
+            text.extend_from_slice(b" reason=")?;
+            text.extend_from_slice(reason_word(reason))?;
+            text.extend_from_slice(b"\n")?;
+        }
+        Exit::Damaged { file, place } => {
+            text.extend_from_slice(b"stop 7 file=")?;
+            push_number(&mut text, u64::from(file))?;
+            text.extend_from_slice(b" place=")?;
+            push_number(&mut text, place)?;
+            text.extend_from_slice(b"\n")?;
+        }
+        Exit::Full => text.extend_from_slice(b"stop 8 full\n")?,
+        Exit::TooLong => text.extend_from_slice(b"stop 13 too-long\n")?,
+        Exit::Done | Exit::SourceFault | Exit::DiskFault | Exit::PrintFault | Exit::NoMemory => {}
+    }
+    Ok(text)
+}

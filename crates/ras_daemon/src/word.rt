@@ -1,0 +1,56 @@
+// The words of a call.
+ghost use Rattle.std.specs.Prelude.{◌≡◌, IfOk};
+ghost use Rattle.ras_daemon.specs.Command.{command_of};
+
+use ras_base::NoMemory;
+use std::alloc::Global;
+use std::marker::Model;
+
+/// A word of a call, as bytes.
+#[derive(Drop)]
+pub struct RasWord {
+    bytes: Vec<u8>,
+}
+
+impl Model for RasWord {
+    ghost use Rattle.std.specs.Prelude.{List, ℕ};
+
+    ghost Value = { List ℕ };
+
+    ghost view = { λ w. w.bytes.items };
+}
+
+impl RasWord {
+    /// A word of these bytes.
+    pub fn new(alloc: Global, bytes: &[u8]) -> Result<RasWord, NoMemory>
+        ensures { IfOk result (λ word. word ≡ bytes.now) }
+    {
+        Ok(RasWord {
+            bytes: Vec::from_slice(alloc, bytes)?,
+        })
+    }
+
+    /// The word's bytes.
+    pub fn bytes(&self) -> &[u8]
+        ensures { result.now ≡ self.now }
+    {
+        &self.bytes
+    }
+}
+
+/// What the words of a call ask for.
+#[derive(Clone, Copy, Debug, PartialEq, Eq)]
+pub enum Command {
+    /// Take a script.
+    Run,
+}
+
+/// What these words ask for, where they are a form of a call: the one word `run`.
+pub fn command_of(words: &[RasWord]) -> Option<Command>
+    ensures { result ≡ command_of words.now }
+{
+    match words {
+        [word] if word.bytes() == b"run".as_slice() => Some(Command::Run),
+        _ => None,
+    }
+}
