@@ -9,7 +9,7 @@ use Rattle.ras_daemon.specs.declared.exit.Exit.{Exit}
 use Rattle.ras_daemon.specs.declared.exit.Exit.TheVariants.{DiskFault, Damaged}
 use Rattle.ras_daemon.specs.declared.word.Command.TheVariants.{Run}
 use Rattle.ras_daemon.specs.Progress.{Takes, TakesCall, asks_size, behind, call_course, ends, start_course}
-use Rattle.ras_daemon.specs.Run.{OverTold}
+use Rattle.ras_daemon.specs.Ended.{OverTold}
 use Rattle.ras_daemon.specs.Status.{script_refusal, start_refusal}
 use Rattle.ras_daemon.specs.Text.{stop_line}
 use Rattle.ras_daemon.proofs.StepLemmas.{call_behind, call_taken, cut_first, map_one}
@@ -21,7 +21,7 @@ IsRun exit old new left = OverTold (λ script t. TakesCall (call_course (Some Ru
 pub size_failed : (left : Option (List ℕ)) (old new : Option Told) → Relates (MayList (Size Zero)) old new → IsRun DiskFault old new left
 size_failed None old new failed = tt
 size_failed (Some script) None new failed = tt
-size_failed (Some script) (Some t) new failed = cut_first (asks_size Zero) (start_course (start_refusal (Some Run) script t.file0) script).steps tt failed
+size_failed (Some script) (Some t) new failed = cut_first asks_size (start_course (start_refusal (Some Run) script t.file0) script).steps tt failed
 
 pub damaged : (left : Option (List ℕ)) (old mid new : Option Told) (size : ℕ) (exit : Exit) → Steps (called (Size Zero)) old mid → IfSome old (λ t. size ≡ length t.file0) → 0 < size
     → Takes (ends (stop_line (Damaged 0 0)) (Damaged 0 0)) exit mid new → IsRun exit old new left
@@ -29,7 +29,7 @@ damaged None old mid new size exit went is some taken = tt
 damaged (Some script) None mid new size exit went is some taken = tt
 damaged (Some script) (Some t) mid new size exit went is some taken =
     let long : nat_lt 0 (length t.file0) ≡ true = grind (arith, nat_tests, is) in
-    rw long (call_behind (Some t) mid new (asks_size Zero ∷ []) (ends (stop_line (Damaged 0 0)) (Damaged 0 0)) exit (went ∙ sym (map_one (asks_size Zero) (Some t))) (call_taken mid new (ends (stop_line (Damaged 0 0)) (Damaged 0 0)) exit taken))
+    rw long (call_behind (Some t) mid new (asks_size ∷ []) (ends (stop_line (Damaged 0 0)) (Damaged 0 0)) exit (went ∙ sym (map_one asks_size (Some t))) (call_taken mid new (ends (stop_line (Damaged 0 0)) (Damaged 0 0)) exit taken))
 
 pub undamaged : (left : Option (List ℕ)) (old mid new : Option Told) (size : ℕ) (exit : Exit) → Steps (called (Size Zero)) old mid → IfSome old (λ t. size ≡ length t.file0) → size ≤ 0
     → IfSome left (λ script. TakesCall (start_course (script_refusal script) script) exit mid new) → IsRun exit old new left
@@ -37,4 +37,4 @@ undamaged None old mid new size exit went is none taken = tt
 undamaged (Some script) None mid new size exit went is none taken = tt
 undamaged (Some script) (Some t) mid new size exit went is none taken =
     let empty : nat_lt 0 (length t.file0) ≡ false = grind (arith, nat_tests, is) in
-    rw empty (call_behind (Some t) mid new (asks_size Zero ∷ []) (start_course (script_refusal script) script) exit (went ∙ sym (map_one (asks_size Zero) (Some t))) taken)
+    rw empty (call_behind (Some t) mid new (asks_size ∷ []) (start_course (script_refusal script) script) exit (went ∙ sym (map_one asks_size (Some t))) taken)

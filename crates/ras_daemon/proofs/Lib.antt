@@ -7,3 +7,7 @@ pub mod StepLemmas
 pub mod EventLemmas
 pub mod RunLemmas
 pub mod DaemonLemmas
+pub mod CourseLaws
+pub mod CutLaws
+pub mod StoredLaws
+pub mod EndLaws

@@ -20,7 +20,7 @@ use Rattle.ras_daemon.specs.Text.{event_text, done_line}
 -- the calls that append a fresh entry behind so many
 abbrev pub fresh_steps : ℕ → Option FreshEntry → List Step
 fresh_steps count None = []
-fresh_steps count (Some fresh) = writes Zero (entry_length * count) fresh.bytes.items ∷ syncs Zero ∷ []
+fresh_steps count (Some fresh) = writes (entry_length * count) fresh.bytes.items ∷ syncs ∷ []
 
 -- the calls of an event that is prepared
 abbrev pub prepared_steps : ℕ → Prepared → List Step

@@ -9,6 +9,7 @@ pub mod Text
 pub mod Status
 pub mod Output
 pub mod Stored
+pub mod Ended
 pub mod Causes
 pub mod Event
 pub mod Progress

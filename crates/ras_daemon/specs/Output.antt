@@ -1,5 +1,5 @@
 -- What a run prints.
-use Rattle.std.specs.Prelude.{ℕ, List, [], ◌++◌, Option, None, Some, Result, Ok, Err}
+use Rattle.std.specs.Prelude.{ℕ, List, [], ◌++◌, take, Option, None, Some, Result, Ok, Err}
 use Rattle.std.specs.List.{flat_map}
 use Rattle.ras_base.specs.Places.{places}
 use Rattle.ras_account.specs.Account.{account_of}
@@ -38,3 +38,7 @@ output_after None script = lines_output (reads_of script)
 -- what a call with these words prints over a script and a file 0
 abbrev pub output_of : List (List ℕ) → List ℕ → List ℕ → List ℕ
 output_of words script file = output_after (start_refusal (command_of words) script file) script
+
+-- what so many of the lines before the first refused one have printed
+abbrev pub output_upto : List Read → ℕ → List ℕ
+output_upto reads count = flat_map output_at (take count (unrefused (places reads)))

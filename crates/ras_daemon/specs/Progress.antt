@@ -4,7 +4,6 @@ use Rattle.std.specs.Prelude.{◌≡◌, ℕ, ◌*◌, ◌==◌, List, [], ◌�
 use Rattle.std.specs.List.{flat_map}
 use Rattle.std.specs.Option.{option_map}
 use Rattle.board_core.specs.declared.board.DiskCall.TheVariants.{Size, Sync}
-use Rattle.board_core.specs.declared.board.FileNo.{FileNo}
 use Rattle.board_core.specs.declared.board.FileNo.TheVariants.{Zero}
 use Rattle.board_core.specs.Told.{Told, Relates, called, written, printed, MayList, FailsWrite, FailsPrint}
 use Rattle.ras_base.specs.Places.{places_behind}
@@ -22,18 +21,18 @@ use Rattle.ras_daemon.specs.Reports.{Read, reads_of, made, reports}
 use Rattle.ras_daemon.specs.Status.{Place, refusal_at, start_refusal}
 use Rattle.ras_daemon.specs.Text.{event_text, done_line, end_line, stop_line}
 
--- one call on a board that went well
+-- a call on a board, of its file 0 or of its output
 pub data Step : Type 0 where
-  asks_size : FileNo → Step
-  writes : FileNo → ℕ → List ℕ → Step
-  syncs : FileNo → Step
+  asks_size : Step
+  writes : ℕ → List ℕ → Step
+  syncs : Step
   prints : List ℕ → Step
 
 -- what a call, and what calls in order, leave
 abbrev pub after : Step → Told → Told
-after (asks_size file) told = called (Size file) told
-after (writes file place bytes) told = written file place bytes told
-after (syncs file) told = called (Sync file) told
+after asks_size told = called (Size Zero) told
+after (writes place bytes) told = written Zero place bytes told
+after syncs told = called (Sync Zero) told
 after (prints bytes) told = printed bytes told
 
 abbrev pub after_all : List Step → Told → Told
@@ -42,21 +41,21 @@ after_all (step ∷ steps) told = after_all steps (after step told)
 
 -- what a failed call may leave
 abbrev pub Fails : Step → Told → Told → Type 0
-Fails (asks_size file) old new = MayList (Size file) old new
-Fails (writes file place bytes) old new = FailsWrite file place (length bytes) old new
-Fails (syncs file) old new = MayList (Sync file) old new
+Fails asks_size old new = MayList (Size Zero) old new
+Fails (writes place bytes) old new = FailsWrite Zero place (length bytes) old new
+Fails syncs old new = MayList (Sync Zero) old new
 Fails (prints bytes) old new = FailsPrint bytes old new
 
 abbrev pub IsDisk : Step → Type 0
-IsDisk (asks_size file) = Unit {0}
-IsDisk (writes file place bytes) = Unit {0}
-IsDisk (syncs file) = Unit {0}
+IsDisk asks_size = Unit {0}
+IsDisk (writes place bytes) = Unit {0}
+IsDisk syncs = Unit {0}
 IsDisk (prints bytes) = ⊥
 
 abbrev pub IsPrint : Step → Type 0
-IsPrint (asks_size file) = ⊥
-IsPrint (writes file place bytes) = ⊥
-IsPrint (syncs file) = ⊥
+IsPrint asks_size = ⊥
+IsPrint (writes place bytes) = ⊥
+IsPrint syncs = ⊥
 IsPrint (prints bytes) = Unit {0}
 
 -- calls in order, of which one failed: those before it went well
@@ -104,7 +103,7 @@ TakesCall course exit old new = Takes course exit old new
 -- the calls of an entry behind those that were reported before it: a fresh one is written and synced
 abbrev pub entry_steps : List Entry → Entry → List Step
 entry_steps before entry =
-    if is_fresh_behind before entry then writes Zero (entry_length * length (fresh before)) (entry_bytes entry) ∷ syncs Zero ∷ [] else []
+    if is_fresh_behind before entry then writes (entry_length * length (fresh before)) (entry_bytes entry) ∷ syncs ∷ [] else []
 
 abbrev pub entries_steps : List Entry → List Entry → List Step
 entries_steps before entries = flat_map (λ p. entry_steps p.0 p.1) (places_behind before entries)
@@ -154,4 +153,4 @@ start_course None script = lines_course [] (reads_of script)
 -- the course of a call
 abbrev pub call_course : Option Command → List ℕ → List ℕ → Course
 call_course None script file = ends (stop_line Usage) Usage
-call_course (Some Run) script file = behind (asks_size Zero ∷ []) (start_course (start_refusal (Some Run) script file) script)
+call_course (Some Run) script file = behind (asks_size ∷ []) (start_course (start_refusal (Some Run) script file) script)

@@ -1,5 +1,5 @@
 -- How a run over lines goes on and ends. This file only carries proofs.
-use Rattle.std.specs.Prelude.{◌≡◌, ℕ, List, [], ◌∷◌, ◌++◌, Option, IfSome, Result, Ok, Err, ⊤}
+use Rattle.std.specs.Prelude.{◌≡◌, ℕ, List, [], ◌∷◌, ◌++◌, Option, Result, Ok, Err, ⊤}
 use Rattle.std.specs.Option.{option_map}
 use Rattle.board_core.specs.Told.{Told}
 use Rattle.ras_account.specs.Account.{State, account_of}
@@ -57,7 +57,3 @@ pub record TookSome (reads rest : List Read) (old new : Option Told) (state : St
   pub course : lines_course [] reads ≡ behind steps (lines_course before rest)
   pub goes : new ≡ option_map (after_all steps) old
   pub account : state ≡ account_of (reports before)
-
--- where both the source and the board tell
-abbrev pub OverTold : (List ℕ → Told → Type 0) → Option (List ℕ) → Option Told → Type 0
-OverTold P left told = IfSome left (λ script. IfSome told (λ t. P script t))

@@ -21,6 +21,7 @@ pub fn run_script<B: Board>(alloc: Global, script: &[u8], board: &mut B) -> Exit
     requires short { length script.now ≤ 40000 }
     requires empty { Fits (B.told board.old) 0 }
     ensures takes { Takes (lines_course [] (reads_of script.now)) result (B.told board.old) (B.told board.new) }
+    ensures listed { result ≡ Exit.Usage → ⊥ }
     ensures disk { DiskCause result (B.disk_faults board.old) (B.disk_faults board.new) }
     ensures print { PrintCause result (B.print_faults board.old) (B.print_faults board.new) }
 {

@@ -12,7 +12,7 @@ use board_core::{Board, Failed, FileNo};
 /// `DiskFault` comes only where a disk call failed.
 pub fn append<B: Board>(board: &mut B, place: u64, bytes: &[u8]) -> Result<(), Exit>
     requires { IfSome (B.told board.old) (λ told. place ≤ length told.file0) }
-    ensures performs { Performs (writes Zero place bytes.now ∷ syncs Zero ∷ []) result (B.told board.old) (B.told board.new) }
+    ensures performs { Performs (writes place bytes.now ∷ syncs ∷ []) result (B.told board.old) (B.told board.new) }
     ensures disk { Causes DiskCause result (B.disk_faults board.old) (B.disk_faults board.new) }
     ensures print { Causes PrintCause result (B.print_faults board.old) (B.print_faults board.new) }
 {

@@ -2,6 +2,7 @@ use Rattle.std.proofs.Common.{ap, ◌∙◌}
 use Rattle.ras_daemon.specs.Reports.{reads_of}
 use Rattle.ras_daemon.specs.Text.{end_text}
 use Rattle.ras_daemon.proofs.RunLemmas.{run_ends}
+use Rattle.ras_daemon.proofs.CourseLaws.{lines-usage}
 use Rattle.ras_daemon.proofs.run.run_script.Goals as goal
 
 pub returns-in-Ok-clause-takes : goal.returns-in-Ok-clause-takes
@@ -12,3 +13,6 @@ returns-in-Ok-clause-takes g c =
     ∙ ap (λ n. end_text n c.names_len.result) c.entries.ensures
     ∙ ap (λ n. end_text c.take_lines.new.account.state.entries n) c.names_len.ensures)
     c.last_line.ensures.takes
+
+pub returns-in-Err-clause-listed : goal.returns-in-Err-clause-listed
+returns-in-Err-clause-listed g c = lines-usage (reads_of c.args.script.now) c.in-Err.exit _ _ c.in-Err.ensures.takes

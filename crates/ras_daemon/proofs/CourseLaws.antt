@@ -1,0 +1,157 @@
+-- What the course of a run prints and how it ends, against what is said of it.
+use Rattle.std.proofs.Common.{◌≡◌, ℕ, ◌==◌, Bool, true, false, List, [], ◌∷◌, ◌++◌, length, map, Option, None, Some, Result, Ok, Err, refl, ap, sym, ◌∙◌, subst, append_assoc, append-nil, arith, unwrap_or, if◌then◌else◌}
+use Rattle.std.proofs.lemmas.Bool.Decides.{nat_tests}
+use Rattle.std.proofs.lemmas.List.Concat.{flat_map-append}
+use Rattle.std.specs.List.{flat_map, filter_map}
+use Rattle.board_core.specs.Told.{Told}
+use Rattle.ras_base.specs.Places.{places_behind}
+use Rattle.ras_account.specs.declared.entry.Entry.{Entry}
+use Rattle.ras_account.specs.Account.{account_of}
+use Rattle.ras_account.specs.Fresh.{is_fresh_behind}
+use Rattle.ras_daemon.specs.declared.exit.Exit.{Exit}
+use Rattle.ras_daemon.specs.declared.exit.Exit.TheVariants.{Done, Usage, Full}
+use Rattle.ras_daemon.specs.declared.line.Line.{Line}
+use Rattle.ras_daemon.specs.declared.line.Line.TheVariants.{Empty, Comment, Bank}
+use Rattle.ras_daemon.specs.declared.word.Command.{Command}
+use Rattle.ras_daemon.specs.declared.word.Command.TheVariants.{Run}
+use Rattle.ras_daemon.specs.Command.{command_of}
+use Rattle.ras_daemon.specs.Output.{output_at, output_after, output_of, last_line, line_output}
+use Rattle.ras_daemon.specs.Progress.{Step, after, after_all, asks_size, writes, syncs, prints, entry_steps, entries_steps, text_steps, event_steps, line_steps, read_steps, lines_course, line_course, start_course, call_course, Takes}
+use Rattle.ras_daemon.specs.Reports.{Read, made, reads_of, reports}
+use Rattle.ras_daemon.specs.Status.{Place, is_past, lines_status, refusal_at, refusal_among, start_refusal, status_of, unrefused}
+use Rattle.ras_daemon.specs.Text.{event_text, done_line, end_line, stop_line}
+
+-- what a call prints
+abbrev pub text_of : Step → List ℕ
+text_of asks_size = []
+text_of (writes place bytes) = []
+text_of syncs = []
+text_of (prints bytes) = bytes
+
+abbrev pub printed_by : List Step → List ℕ
+printed_by steps = flat_map text_of steps
+
+pub out-after : (steps : List Step) (told : Told) → (after_all steps told).out ≡ told.out ++ printed_by steps
+out-after [] told = sym (append-nil told.out)
+out-after (asks_size ∷ steps) told = out-after steps (after asks_size told)
+out-after (writes place bytes ∷ steps) told = out-after steps (after (writes place bytes) told)
+out-after (syncs ∷ steps) told = out-after steps (after syncs told)
+out-after (prints bytes ∷ steps) told = out-after steps (after (prints bytes) told) ∙ append_assoc told.out bytes (printed_by steps)
+
+pub printed-append : (xs ys : List Step) → printed_by (xs ++ ys) ≡ printed_by xs ++ printed_by ys
+printed-append xs ys = flat_map-append text_of xs ys
+
+-- appending an entry prints nothing
+printed-entry : (before : List Entry) (entry : Entry) → printed_by (entry_steps before entry) ≡ []
+printed-entry before entry = by (is_fresh_behind before entry) refl
+  where
+    by : (b : Bool) → is_fresh_behind before entry ≡ b → printed_by (entry_steps before entry) ≡ []
+    by true is = rw is refl
+    by false is = rw is refl
+
+pub printed-entries : (before entries : List Entry) → printed_by (entries_steps before entries) ≡ []
+printed-entries before [] = refl
+printed-entries before (entry ∷ entries) =
+    printed-append (entry_steps before entry) (entries_steps (before ++ entry ∷ []) entries)
+    ∙ ap (λ text. text ++ printed_by (entries_steps (before ++ entry ∷ []) entries)) (printed-entry before entry)
+    ∙ printed-entries (before ++ entry ∷ []) entries
+
+printed-text : (text : List ℕ) → printed_by (text_steps text) ≡ text
+printed-text [] = refl
+printed-text (b ∷ bs) = by (length (b ∷ bs) == 0) refl
+  where
+    by : (t : Bool) → (length (b ∷ bs) == 0) ≡ t → printed_by (text_steps (b ∷ bs)) ≡ b ∷ bs
+    by true is = absurd (grind (arith, nat_tests, is))
+    by false is = rw is (append-nil (b ∷ bs))
+
+pub printed-event : (before : List Entry) (number : ℕ) (entries : List Entry) → printed_by (event_steps before number entries) ≡ event_text before entries ++ done_line number
+printed-event before number entries =
+    printed-append (entries_steps before entries) (text_steps (event_text before entries) ++ prints (done_line number) ∷ [])
+    ∙ ap (λ text. text ++ printed_by (text_steps (event_text before entries) ++ prints (done_line number) ∷ [])) (printed-entries before entries)
+    ∙ printed-append (text_steps (event_text before entries)) (prints (done_line number) ∷ [])
+    ∙ ap (λ text. text ++ (done_line number ++ [])) (printed-text (event_text before entries))
+    ∙ ap (λ text. event_text before entries ++ text) (append-nil (done_line number))
+
+-- a line prints what is said of its place
+pub printed-read : (before : List Read) (read : Read) → printed_by (read_steps before read) ≡ output_at (before, read)
+printed-read before (number, Err refused) = refl
+printed-read before (number, Ok Empty) = refl
+printed-read before (number, Ok Comment) = refl
+printed-read before (number, Ok (Bank boot seconds cpu bank tsc cap mcg status addr misc)) =
+    printed-event (reports before) number (made (Bank boot seconds cpu bank tsc cap mcg status addr misc))
+
+-- the output of lines that follow others
+abbrev pub output_behind : List Read → List Read → List ℕ
+output_behind before reads =
+    flat_map output_at (unrefused (places_behind before reads)) ++ last_line (before ++ reads) (refusal_among (places_behind before reads))
+
+pub printed-lines : (before reads : List Read) → printed_by (lines_course before reads).steps ≡ output_behind before reads
+printed-lines before [] = append-nil (end_line (account_of (reports before))) ∙ ap (λ rs. end_line (account_of (reports rs))) (sym (append-nil before))
+printed-lines before (read ∷ reads) = by (refusal_at (before, read)) refl (printed-lines (before ++ read ∷ []) reads)
+  where
+    by : (r : Option Exit) → refusal_at (before, read) ≡ r → printed_by (lines_course (before ++ read ∷ []) reads).steps ≡ output_behind (before ++ read ∷ []) reads
+        → printed_by (lines_course before (read ∷ reads)).steps ≡ output_behind before (read ∷ reads)
+    by (Some exit) is ih = rw is (append-nil (stop_line exit))
+    by None is ih =
+        let taken : List ℕ = flat_map output_at (unrefused (places_behind (before ++ read ∷ []) reads)) in
+        let refusal : Option Exit = refusal_among (places_behind (before ++ read ∷ []) reads) in
+        rw is
+        (printed-append (read_steps before read) (lines_course (before ++ read ∷ []) reads).steps
+        ∙ ap (λ text. text ++ printed_by (lines_course (before ++ read ∷ []) reads).steps) (printed-read before read)
+        ∙ ap (λ text. output_at (before, read) ++ text) ih
+        ∙ sym (append_assoc (output_at (before, read)) taken (last_line ((before ++ read ∷ []) ++ reads) refusal))
+        ∙ ap (λ rs. (output_at (before, read) ++ taken) ++ last_line rs refusal) (append_assoc before (read ∷ []) reads))
+
+-- lines end as is said of them
+pub exit-lines : (before reads : List Read) → (lines_course before reads).exit ≡ unwrap_or (refusal_among (places_behind before reads)) Done
+exit-lines before [] = refl
+exit-lines before (read ∷ reads) = by (refusal_at (before, read)) refl (exit-lines (before ++ read ∷ []) reads)
+  where
+    by : (r : Option Exit) → refusal_at (before, read) ≡ r → (lines_course (before ++ read ∷ []) reads).exit ≡ unwrap_or (refusal_among (places_behind (before ++ read ∷ []) reads)) Done
+        → (lines_course before (read ∷ reads)).exit ≡ unwrap_or (refusal_among (places_behind before (read ∷ reads))) Done
+    by (Some exit) is ih = rw is refl
+    by None is ih = rw is ih
+
+-- the whole of a call
+pub printed-call : (words : List (List ℕ)) (script file : List ℕ) → printed_by (call_course (command_of words) script file).steps ≡ output_of words script file
+printed-call words script file = by (command_of words) refl
+  where
+    started : (r : Option Exit) → printed_by (start_course r script).steps ≡ output_after r script
+    started (Some exit) = append-nil (stop_line exit)
+    started None = printed-lines [] (reads_of script)
+    by : (c : Option Command) → command_of words ≡ c → printed_by (call_course (command_of words) script file).steps ≡ output_of words script file
+    by None is = rw is (append-nil (stop_line Usage))
+    by (Some Run) is = rw is (started (start_refusal (Some Run) script file))
+
+pub exit-call : (words : List (List ℕ)) (script file : List ℕ) → (call_course (command_of words) script file).exit ≡ status_of words script file
+exit-call words script file = by (command_of words) refl
+  where
+    started : (r : Option Exit) → (start_course r script).exit ≡ unwrap_or r (lines_status (reads_of script))
+    started (Some exit) = refl
+    started None = exit-lines [] (reads_of script)
+    by : (c : Option Command) → command_of words ≡ c → (call_course (command_of words) script file).exit ≡ status_of words script file
+    by None is = rw is refl
+    by (Some Run) is = rw is (started (start_refusal (Some Run) script file))
+
+-- no line is refused for the words of the call
+refused-usage : (place : Place) → refusal_at place ≡ Some Usage → ⊥
+refused-usage (before, (number, Err refused)) is = cc
+refused-usage (before, (number, Ok Empty)) is = cc
+refused-usage (before, (number, Ok Comment)) is = cc
+refused-usage (before, (number, Ok (Bank boot seconds cpu bank tsc cap mcg status addr misc))) is =
+    by (is_past (account_of (reports before ++ made (Bank boot seconds cpu bank tsc cap mcg status addr misc)))) is
+  where
+    by : (b : Bool) → (if b then Some Full else None) ≡ Some Usage → ⊥
+    by true is = cc
+    by false is = cc
+
+exit-usage : (before reads : List Read) → (lines_course before reads).exit ≡ Usage → ⊥
+exit-usage before [] is = cc
+exit-usage before (read ∷ reads) is = by (refusal_at (before, read)) refl (exit-usage (before ++ read ∷ []) reads)
+  where
+    by : (r : Option Exit) → refusal_at (before, read) ≡ r → ((lines_course (before ++ read ∷ []) reads).exit ≡ Usage → ⊥) → ⊥
+    by (Some exit) refused ih = refused-usage (before, read) (refused ∙ ap Some (rw refused at is))
+    by None refused ih = ih (rw refused at is)
+
+pub lines-usage : (reads : List Read) (exit : Exit) (old new : Option Told) → Takes (lines_course [] reads) exit old new → exit ≡ Usage → ⊥
+lines-usage reads exit old new taken is = exit-usage [] reads (let usage : Takes (lines_course [] reads) Usage old new = subst (λ e. Takes (lines_course [] reads) e old new) is taken in usage.0)
