@@ -1,0 +1,60 @@
+-- What a line of a script is, or why it is refused.
+use Rattle.std.specs.Prelude.{◌≡◌, ℕ, ◌-◌, ◌^◌, ◌==◌, ◌||◌, Bool, List, [], ◌∷◌, length, codes, Result, Ok, Err, ⊤, Option, None, Some, if◌then◌else◌, slice_index, slice_index_or}
+use Rattle.ras_daemon.specs.declared.line.Line.{Line}
+use Rattle.ras_daemon.specs.declared.line.Line.TheVariants.{Empty, Comment, Bank}
+use Rattle.ras_daemon.specs.declared.line.LineRefused.{LineRefused}
+use Rattle.ras_daemon.specs.declared.line.LineRefused.TheVariants.{Kind, Words, Number, NoMemory}
+use Rattle.std.specs.Str.{bytes_eq}
+use Rattle.ras_daemon.specs.Number.{decimal_of, hexadecimal_of}
+use Rattle.ras_daemon.specs.Splitting.{words_of}
+
+infixl 10 ◌>>=◌
+abbrev pub ◌>>=◌ : {A B : Type 0} → Result A LineRefused → (A → Result B LineRefused) → Result B LineRefused
+(Ok x) >>= f = f x
+(Err e) >>= f = Err e
+
+-- a word that has to be a number
+abbrev pub needed : Option ℕ → Result ℕ LineRefused
+needed None = Err Number
+needed (Some n) = Ok n
+
+-- the word at a place, as a decimal number in its range or as a hexadecimal one
+abbrev pub decimal_at : List (List ℕ) → ℕ → ℕ → Result ℕ LineRefused
+decimal_at words place most = needed (decimal_of most (slice_index_or words place []))
+
+abbrev pub hexadecimal_at : List (List ℕ) → ℕ → Result ℕ LineRefused
+hexadecimal_at words place = needed (hexadecimal_of (slice_index_or words place []))
+
+-- A snapshot of a machine-check bank: boot, seconds, cpu, bank and time-stamp counter in decimal, then IA32_MCG_CAP,
+-- IA32_MCG_STATUS and the bank's IA32_MCi_STATUS, ADDR and MISC in hexadecimal. These are the words after `bank`.
+abbrev pub bank_of : List (List ℕ) → Result Line LineRefused
+bank_of words = if length words == 10 then (do
+  boot ← decimal_at words 0 (2 ^ 64 - 1)
+  seconds ← decimal_at words 1 (2 ^ 64 - 1)
+  cpu ← decimal_at words 2 65535
+  bank ← decimal_at words 3 255
+  tsc ← decimal_at words 4 (2 ^ 64 - 1)
+  cap ← hexadecimal_at words 5
+  mcg ← hexadecimal_at words 6
+  status ← hexadecimal_at words 7
+  addr ← hexadecimal_at words 8
+  misc ← hexadecimal_at words 9
+  Ok (Bank boot seconds cpu bank tsc cap mcg status addr misc)) else Err Words
+
+-- A line without words is empty. A line whose first word begins with `#` is a comment. Every other line is an event,
+-- whose kind its first word names.
+abbrev pub line_of_words : List (List ℕ) → Result Line LineRefused
+line_of_words [] = Ok Empty
+line_of_words (kind ∷ words) =
+    if slice_index kind 0 == 35 then Ok Comment else if bytes_eq kind (codes "bank") then bank_of words else Err Kind
+
+abbrev pub line_of : List ℕ → Result Line LineRefused
+line_of bytes = line_of_words (words_of bytes)
+
+-- Reading a line gave this: what the line is, or want of memory.
+abbrev pub ReadsLine : Result Line LineRefused → List ℕ → Type 0
+ReadsLine (Ok line) bytes = line_of bytes ≡ Ok line
+ReadsLine (Err Kind) bytes = line_of bytes ≡ Err Kind
+ReadsLine (Err Words) bytes = line_of bytes ≡ Err Words
+ReadsLine (Err Number) bytes = line_of bytes ≡ Err Number
+ReadsLine (Err NoMemory) bytes = ⊤
