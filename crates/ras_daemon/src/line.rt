@@ -1,7 +1,10 @@
 // The lines of a script.
-ghost use Rattle.std.specs.Prelude.{◌≤◌, length};
-ghost use Rattle.ras_daemon.specs.Line.{ReadsLine};
+ghost use Rattle.std.specs.Prelude.{◌≡◌, ◌<◌, ◌≤◌, length, map, IfOk};
+ghost use Rattle.ras_daemon.specs.Line.{ReadsLine, line_of_words, bank_of, decimal_at, hexadecimal_at};
+ghost use Rattle.ras_daemon.specs.declared.line.LineRefused.TheVariants as RefusedFor;
 
+use crate::number::{decimal, hexadecimal};
+use crate::splitting::words;
 use ras_base::NoMemory;
 use std::alloc::Global;
 
@@ -41,4 +44,78 @@ pub enum LineRefused {
     NoMemory,
 }
 
-// (to be written)
+// How many words stand after `bank`.
+const BANK_WORDS: usize = 10;
+
+/// What a line says. `bytes` are the line without its line feed, at most 40,000 of them.
+///
+/// # Errors
+///
+/// The first that applies of `Kind`, `Words` and `Number`; `NoMemory` for want of memory alone.
+pub fn read_line(alloc: Global, bytes: &[u8]) -> Result<Line, LineRefused>
+    ensures { ReadsLine result bytes.now }
+{
+    let words = words(alloc, bytes)?;
+    line_of_words(&words)
+}
+
+impl From<NoMemory> for LineRefused {
+    ghost from_gives = { λ _ e. e ≡ RefusedFor.NoMemory };
+
+    fn from(_: NoMemory) -> Self {
+        LineRefused::NoMemory
+    }
+}
+
+// What a line says whose words these are.
+fn line_of_words(words: &[&[u8]]) -> Result<Line, LineRefused>
+    ensures { result ≡ line_of_words (map (λ word. word.now) words.now) }
+{
+    let [kind, rest @ ..] = words else {
+        return Ok(Line::Empty);
+    };
+    if kind.first() == Some(&b'#') {
+        return Ok(Line::Comment);
+    }
+    match *kind {
+        b"bank" => bank_of(rest),
+        _ => Err(LineRefused::Kind),
+    }
+}
+
+// The snapshot of a bank, from the words after `bank`.
+fn bank_of(words: &[&[u8]]) -> Result<Line, LineRefused>
+    ensures { result ≡ bank_of (map (λ word. word.now) words.now) }
+{
+    if words.len() != BANK_WORDS {
+        return Err(LineRefused::Words);
+    }
+    let boot = decimal_at(words, 0, u64::MAX)?;
+    let seconds = decimal_at(words, 1, u64::MAX)?;
+    let cpu = decimal_at(words, 2, u64::from(u16::MAX))? as u16;
+    let bank = decimal_at(words, 3, u64::from(u8::MAX))? as u8;
+    let tsc = decimal_at(words, 4, u64::MAX)?;
+    let cap = hexadecimal_at(words, 5)?;
+    let mcg = hexadecimal_at(words, 6)?;
+    let status = hexadecimal_at(words, 7)?;
+    let addr = hexadecimal_at(words, 8)?;
+    let misc = hexadecimal_at(words, 9)?;
+    Ok(Line::Bank { boot, seconds, cpu, bank, tsc, cap, mcg, status, addr, misc })
+}
+
+// The word at a place as a decimal number of at most `most`.
+fn decimal_at(words: &[&[u8]], place: usize, most: u64) -> Result<u64, LineRefused>
+    requires { place < length words.now }
+    ensures value { result ≡ decimal_at (map (λ word. word.now) words.now) place most }
+    ensures within { IfOk result (λ n. n ≤ most) }
+{
+    decimal(words[place], most).ok_or(LineRefused::Number)
+}
+
+// The word at a place as a hexadecimal number.
+fn hexadecimal_at(words: &[&[u8]], place: usize) -> Result<u64, LineRefused>
+    requires { place < length words.now }
+    ensures { result ≡ hexadecimal_at (map (λ word. word.now) words.now) place }
+{
+    hexadecimal(words[place]).ok_or(LineRefused::Number)
+}
