@@ -9,12 +9,12 @@ use Rattle.std.specs.List.{slice_split, position_or_len, All, count_by}
 use Rattle.ras_daemon.specs.Splitting.{lines_of, without_empty_last}
 
 -- a part in front of others is a line, whatever it holds
-part_first : (part : List ℕ) (parts : List (List ℕ)) → 0 < length parts → without_empty_last (part ∷ parts) ≡ part ∷ without_empty_last parts
+pub part_first : (part : List ℕ) (parts : List (List ℕ)) → 0 < length parts → without_empty_last (part ∷ parts) ≡ part ∷ without_empty_last parts
 part_first part [] h = absurd (omega arith)
 part_first part (next ∷ parts) h = refl
 
 -- an unended last line
-last_line : (line : List ℕ) → 0 < length line → without_empty_last (line ∷ []) ≡ line ∷ []
+pub last_line : (line : List ℕ) → 0 < length line → without_empty_last (line ∷ []) ≡ line ∷ []
 last_line line some = grind (arith, nat_tests, some)
 
 -- the place that a search for the line feed tells

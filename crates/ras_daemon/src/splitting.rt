@@ -1,6 +1,7 @@
 // The lines of a script, and the words of a line.
-ghost use Rattle.std.specs.Prelude.{◌≡◌, ◌+◌, ◌<◌, ◌≤◌, ◌∷◌, length, map, IfOk};
-ghost use Rattle.ras_daemon.specs.Splitting.{lines_of, words_of};
+ghost use Rattle.std.specs.Prelude.{◌≡◌, ℕ, ◌+◌, ◌<◌, ◌≤◌, List, [], ◌∷◌, ◌++◌, length, map, IfOk};
+ghost use Rattle.std.specs.List.{AllByRecursion};
+ghost use Rattle.ras_daemon.specs.Splitting.{lines_of, words_of, Lacks, ended, completed};
 
 use ras_base::NoMemory;
 use std::alloc::Global;
@@ -27,4 +28,23 @@ pub fn words(alloc: Global, line: &[u8]) -> Result<Vec<&[u8]>, NoMemory>
         .filter(|word| !word.is_empty())
         .collect(alloc)?;
     Ok(words)
+}
+
+
+/// The lines of a script, each with a line feed behind it, are the script, which gets one where its last byte is no
+/// line feed. No line holds a line feed.
+pub fn lines_are_the_script()
+    ensures whole { (script : List ℕ) → ended (lines_of script) ≡ completed script }
+    ensures unbroken { (script : List ℕ) → AllByRecursion (Lacks 10) (lines_of script) }
+{
+}
+
+/// A text without a space is one word, unless it is empty, and a space separates: the words of two texts with a space
+/// between them are those of the one and then those of the other. No word is empty or holds a space.
+pub fn spaces_separate_words()
+    ensures none { words_of [] ≡ [] }
+    ensures single { (word : List ℕ) → 0 < length word → Lacks 32 word → words_of word ≡ word ∷ [] }
+    ensures separated { (left right : List ℕ) → words_of (left ++ 32 ∷ right) ≡ words_of left ++ words_of right }
+    ensures apart { (line : List ℕ) → AllByRecursion (λ word. (0 < length word) × Lacks 32 word) (words_of line) }
+{
 }

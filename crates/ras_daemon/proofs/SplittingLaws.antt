@@ -1,0 +1,113 @@
+-- The laws of lines and words.
+use Rattle.std.proofs.Common.{◌≡◌, ℕ, ◌+◌, ◌<◌, ◌≤◌, ◌==◌, Bool, true, false, cond, nat_lt, List, [], ◌∷◌, ◌++◌, length, refl, ap, sym, subst, ◌∙◌, arith}
+use Rattle.std.proofs.lemmas.Bool.Decides.{nat_tests}
+use Rattle.std.proofs.lemmas.List.Elements.{filter-append}
+use Rattle.std.proofs.lemmas.List.Splits.{length-slice_split, slice_split_none}
+use Rattle.std.specs.List.{slice_split, onto_first, flat_map, AllByRecursion, filter, count_by}
+use Rattle.ras_daemon.specs.Splitting.{lines_of, words_of, without_empty_last, Lacks, ended, completed}
+use Rattle.ras_daemon.proofs.SplittingLemmas.{part_first, last_line}
+
+some_part : {X : Type 0} (p : X → Bool) (xs : List X) → 0 < length (slice_split p xs)
+some_part p xs = omega (arith, length-slice_split p xs)
+
+-- a byte in front of the first line
+front_some : (b : ℕ) (parts : List (List ℕ)) → 0 < length (without_empty_last (onto_first b parts))
+front_some b [] = omega (arith, ap length (last_line (b ∷ []) (omega arith)))
+front_some b (part ∷ []) = omega (arith, ap length (last_line (b ∷ part) (omega arith)))
+front_some b (part ∷ next ∷ parts) = omega arith
+
+front_ended : (b : ℕ) (parts : List (List ℕ)) → 0 < length (without_empty_last parts) → ended (without_empty_last (onto_first b parts)) ≡ b ∷ ended (without_empty_last parts)
+front_ended b [] h = absurd (omega arith)
+front_ended b ([] ∷ []) h = absurd (omega arith)
+front_ended b ((c ∷ cs) ∷ []) h = ap ended (last_line (b ∷ c ∷ cs) (omega arith)) ∙ ap (λ lines. b ∷ ended lines) (sym (last_line (c ∷ cs) (omega arith)))
+front_ended b (part ∷ next ∷ parts) h = refl
+
+-- a line feed in front, and another byte
+lines_cons : (b : ℕ) (script : List ℕ) (t : Bool) → (b == 10) ≡ t → lines_of (b ∷ script) ≡ cond t ([] ∷ lines_of script) (without_empty_last (onto_first b (slice_split (λ c. c == 10) script)))
+lines_cons b script true h = rw h (part_first [] (slice_split (λ c. c == 10) script) (some_part (λ c. c == 10) script))
+lines_cons b script false h = rw h refl
+
+some_line : (b : ℕ) (script : List ℕ) (t : Bool) → (b == 10) ≡ t → 0 < length (lines_of (b ∷ script))
+some_line b script true h = omega (arith, ap length (lines_cons b script true h))
+some_line b script false h = omega (arith, ap length (lines_cons b script false h), front_some b (slice_split (λ c. c == 10) script))
+
+one_byte : (b : ℕ) (t : Bool) → (b == 10) ≡ t → ended (lines_of (b ∷ [])) ≡ completed (b ∷ [])
+one_byte b true h =
+    let feed : 10 ≡ b = grind (arith, nat_tests, h) in
+    ap ended (lines_cons b [] true h) ∙ rw h (ap (λ k. k ∷ []) feed)
+one_byte b false h = ap ended (lines_cons b [] false h) ∙ rw h refl
+
+more_bytes : (b c : ℕ) (script : List ℕ) (t : Bool) → (b == 10) ≡ t → ended (lines_of (c ∷ script)) ≡ completed (c ∷ script) → ended (lines_of (b ∷ c ∷ script)) ≡ completed (b ∷ c ∷ script)
+more_bytes b c script true h rest =
+    let feed : 10 ≡ b = grind (arith, nat_tests, h) in
+    ap ended (lines_cons b (c ∷ script) true h) ∙ ap (λ k. k ∷ ended (lines_of (c ∷ script))) feed ∙ ap (λ k. b ∷ k) rest
+more_bytes b c script false h rest =
+    ap ended (lines_cons b (c ∷ script) false h) ∙ front_ended b (slice_split (λ k. k == 10) (c ∷ script)) (some_line c script (c == 10) refl) ∙ ap (λ k. b ∷ k) rest
+
+pub lines_joined : (script : List ℕ) → ended (lines_of script) ≡ completed script
+lines_joined [] = refl
+lines_joined (b ∷ []) = one_byte b (b == 10) refl
+lines_joined (b ∷ c ∷ script) = more_bytes b c script (b == 10) refl (lines_joined (c ∷ script))
+
+-- the parts between a byte lack it
+onto_lacking : (byte b : ℕ) (parts : List (List ℕ)) → ¬ (b ≡ byte) → AllByRecursion (Lacks byte) parts → AllByRecursion (Lacks byte) (onto_first b parts)
+onto_lacking byte b [] other all = ((other, tt), tt)
+onto_lacking byte b (part ∷ parts) other all = ((other, all.0), all.1)
+
+lacking_step : (byte b : ℕ) (parts : List (List ℕ)) (t : Bool) → (b == byte) ≡ t → AllByRecursion (Lacks byte) parts → AllByRecursion (Lacks byte) (cond t ([] ∷ parts) (onto_first b parts))
+lacking_step byte b parts true h all = (tt, all)
+lacking_step byte b parts false h all = onto_lacking byte b parts (λ same. grind (arith, nat_tests, h, same)) all
+
+pub parts_lack : (byte : ℕ) (text : List ℕ) → AllByRecursion (Lacks byte) (slice_split (λ b. b == byte) text)
+parts_lack byte [] = (tt, tt)
+parts_lack byte (b ∷ text) = lacking_step byte b (slice_split (λ b. b == byte) text) (b == byte) refl (parts_lack byte text)
+
+last_lacking : (byte : ℕ) (part : List ℕ) (t : Bool) → (length part == 0) ≡ t → Lacks byte part → AllByRecursion (Lacks byte) (cond t [] (part ∷ []))
+last_lacking byte part true h all = tt
+last_lacking byte part false h all = (all, tt)
+
+lines_lacking : (parts : List (List ℕ)) → AllByRecursion (Lacks 10) parts → AllByRecursion (Lacks 10) (without_empty_last parts)
+lines_lacking [] all = tt
+lines_lacking (part ∷ []) all = last_lacking 10 part (length part == 0) refl all.0
+lines_lacking (part ∷ next ∷ parts) all = (all.0, lines_lacking (next ∷ parts) all.1)
+
+pub lines_unbroken : (script : List ℕ) → AllByRecursion (Lacks 10) (lines_of script)
+lines_unbroken script = lines_lacking (slice_split (λ b. b == 10) script) (parts_lack 10 script)
+
+-- words
+words_step : (part : List ℕ) (parts : List (List ℕ)) (t : Bool) → nat_lt 0 (length part) ≡ t → Lacks 32 part → AllByRecursion (λ word. (0 < length word) × Lacks 32 word) parts → AllByRecursion (λ word. (0 < length word) × Lacks 32 word) (cond t (part ∷ parts) parts)
+words_step part parts true h lacks all = ((grind (arith, nat_tests, h), lacks), all)
+words_step part parts false h lacks all = all
+
+words_kept : (parts : List (List ℕ)) → AllByRecursion (Lacks 32) parts → AllByRecursion (λ word. (0 < length word) × Lacks 32 word) (filter (λ word. nat_lt 0 (length word)) parts)
+words_kept [] all = tt
+words_kept (part ∷ parts) all = words_step part (filter (λ word. nat_lt 0 (length word)) parts) (nat_lt 0 (length part)) refl all.0 (words_kept parts all.1)
+
+pub words_apart : (line : List ℕ) → AllByRecursion (λ word. (0 < length word) × Lacks 32 word) (words_of line)
+words_apart line = words_kept (slice_split (λ b. b == 32) line) (parts_lack 32 line)
+
+onto_append : (b : ℕ) (parts more : List (List ℕ)) → 0 < length parts → onto_first b (parts ++ more) ≡ onto_first b parts ++ more
+onto_append b [] more h = absurd (omega arith)
+onto_append b (part ∷ parts) more h = refl
+
+split_step : (b byte : ℕ) (left right : List ℕ) (t : Bool) → (b == byte) ≡ t → slice_split (λ c. c == byte) (left ++ byte ∷ right) ≡ slice_split (λ c. c == byte) left ++ slice_split (λ c. c == byte) right → slice_split (λ c. c == byte) ((b ∷ left) ++ byte ∷ right) ≡ slice_split (λ c. c == byte) (b ∷ left) ++ slice_split (λ c. c == byte) right
+split_step b byte left right true h rest = rw h (ap (λ parts. [] ∷ parts) rest)
+split_step b byte left right false h rest = rw h (ap (onto_first b) rest ∙ onto_append b (slice_split (λ c. c == byte) left) (slice_split (λ c. c == byte) right) (some_part (λ c. c == byte) left))
+
+split_between : (byte : ℕ) (left right : List ℕ) → slice_split (λ b. b == byte) (left ++ byte ∷ right) ≡ slice_split (λ b. b == byte) left ++ slice_split (λ b. b == byte) right
+split_between byte [] right = let same : (byte == byte) ≡ true = grind (arith, nat_tests) in rw same refl
+split_between byte (b ∷ left) right = split_step b byte left right (b == byte) refl (split_between byte left right)
+
+pub words_separated : (left right : List ℕ) → words_of (left ++ 32 ∷ right) ≡ words_of left ++ words_of right
+words_separated left right = ap (filter (λ word. nat_lt 0 (length word))) (split_between 32 left right) ∙ filter-append (λ word. nat_lt 0 (length word)) (slice_split (λ b. b == 32) left) (slice_split (λ b. b == 32) right)
+
+split_lacking : (byte : ℕ) (text : List ℕ) → Lacks byte text → slice_split (λ b. b == byte) text ≡ text ∷ []
+split_lacking byte [] h = refl
+split_lacking byte (b ∷ text) h =
+    let other : (b == byte) ≡ false = grind (arith, nat_tests, h.0) in
+    rw other (ap (onto_first b) (split_lacking byte text h.1))
+
+pub words_single : (word : List ℕ) → 0 < length word → Lacks 32 word → words_of word ≡ word ∷ []
+words_single word some lacks =
+    let test : nat_lt 0 (length word) ≡ true = grind (arith, nat_tests, some) in
+    ap (filter (λ word. nat_lt 0 (length word))) (split_lacking 32 word lacks) ∙ rw test refl

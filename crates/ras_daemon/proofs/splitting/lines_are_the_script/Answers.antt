@@ -1,0 +1,8 @@
+use Rattle.ras_daemon.proofs.SplittingLaws.{lines_joined, lines_unbroken}
+use Rattle.ras_daemon.proofs.splitting.lines_are_the_script.Goals as goal
+
+pub returns-clause-whole : goal.returns-clause-whole
+returns-clause-whole c = lines_joined
+
+pub returns-clause-unbroken : goal.returns-clause-unbroken
+returns-clause-unbroken c = lines_unbroken
