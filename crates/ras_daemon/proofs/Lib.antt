@@ -1,3 +1,4 @@
 pub mod NumberLemmas
 pub mod SplittingLemmas
 pub mod SplittingLaws
+pub mod LineLaws

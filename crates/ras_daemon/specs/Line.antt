@@ -1,9 +1,10 @@
 -- What a line of a script is, or why it is refused.
-use Rattle.std.specs.Prelude.{◌≡◌, ℕ, ◌-◌, ◌^◌, ◌==◌, ◌||◌, Bool, List, [], ◌∷◌, length, codes, Result, Ok, Err, ⊤, Option, None, Some, if◌then◌else◌, slice_index, slice_index_or}
+use Rattle.std.specs.Prelude.{◌≡◌, ℕ, ◌-◌, ◌^◌, ◌<◌, ◌==◌, List, [], ◌∷◌, length, codes, Result, Ok, Err, ⊤, Option, None, Some, if◌then◌else◌, slice_index, slice_index_or}
 use Rattle.ras_daemon.specs.declared.line.Line.{Line}
 use Rattle.ras_daemon.specs.declared.line.Line.TheVariants.{Empty, Comment, Bank}
 use Rattle.ras_daemon.specs.declared.line.LineRefused.{LineRefused}
 use Rattle.ras_daemon.specs.declared.line.LineRefused.TheVariants.{Kind, Words, Number, NoMemory}
+use Rattle.std.specs.List.{AllByRecursion}
 use Rattle.std.specs.Str.{bytes_eq}
 use Rattle.ras_daemon.specs.Number.{decimal_of, hexadecimal_of}
 use Rattle.ras_daemon.specs.Splitting.{words_of}
@@ -51,10 +52,13 @@ line_of_words (kind ∷ words) =
 abbrev pub line_of : List ℕ → Result Line LineRefused
 line_of bytes = line_of_words (words_of bytes)
 
--- Reading a line gave this: what the line is, or want of memory.
+-- Reading a line gave this: what the line says, or want of memory.
 abbrev pub ReadsLine : Result Line LineRefused → List ℕ → Type 0
-ReadsLine (Ok line) bytes = line_of bytes ≡ Ok line
-ReadsLine (Err Kind) bytes = line_of bytes ≡ Err Kind
-ReadsLine (Err Words) bytes = line_of bytes ≡ Err Words
-ReadsLine (Err Number) bytes = line_of bytes ≡ Err Number
 ReadsLine (Err NoMemory) bytes = ⊤
+ReadsLine read bytes = line_of bytes ≡ read
+
+-- for the laws: the numbers of a line are within their ranges
+abbrev pub InRange : Line → Type 0
+InRange (Bank boot seconds cpu bank tsc cap mcg status addr misc) =
+    AllByRecursion (λ n. n < 2 ^ 64) (boot ∷ seconds ∷ tsc ∷ cap ∷ mcg ∷ status ∷ addr ∷ misc ∷ []) × (cpu < 2 ^ 16) × (bank < 2 ^ 8)
+InRange line = ⊤

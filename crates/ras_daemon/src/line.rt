@@ -1,6 +1,7 @@
 // The lines of a script.
-ghost use Rattle.std.specs.Prelude.{◌≡◌, ◌<◌, ◌≤◌, length, map, IfOk};
-ghost use Rattle.ras_daemon.specs.Line.{ReadsLine, line_of_words, bank_of, decimal_at, hexadecimal_at};
+ghost use Rattle.std.specs.Prelude.{◌≡◌, ℕ, ◌<◌, ◌≤◌, List, length, map, IfOk, IsErr};
+ghost use Rattle.ras_daemon.specs.Line.{ReadsLine, InRange, line_of, line_of_words, bank_of, decimal_at, hexadecimal_at};
+ghost use Rattle.ras_daemon.specs.Splitting.{words_of};
 ghost use Rattle.ras_daemon.specs.declared.line.LineRefused.TheVariants as RefusedFor;
 
 use crate::number::{decimal, hexadecimal};
@@ -57,6 +58,19 @@ pub fn read_line(alloc: Global, bytes: &[u8]) -> Result<Line, LineRefused>
 {
     let words = words(alloc, bytes)?;
     line_of_words(&words)
+}
+
+/// The numbers of a line that is read are within their ranges: those of a bank's snapshot below 2^64, its CPU's below
+/// 2^16 and its bank's below 2^8.
+pub fn numbers_are_in_range()
+    ensures { (bytes : List ℕ) → IfOk (line_of bytes) InRange }
+{
+}
+
+/// A line is refused only for a word: a line without words never is.
+pub fn refused_lines_have_words()
+    ensures { (bytes : List ℕ) → IsErr (line_of bytes) → 0 < length (words_of bytes) }
+{
 }
 
 impl From<NoMemory> for LineRefused {
