@@ -6,4 +6,3 @@ mod number;
 mod splitting;
 
 pub use line::{Line, LineRefused};
-

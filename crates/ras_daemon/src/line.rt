@@ -48,11 +48,13 @@ pub enum LineRefused {
 // How many words stand after `bank`.
 const BANK_WORDS: usize = 10;
 
-/// What a line says. `bytes` are the line without its line feed, at most 40,000 of them.
+/// What a line says, whose bytes these are without its line feed.
 ///
 /// # Errors
 ///
-/// The first that applies of `Kind`, `Words` and `Number`; `NoMemory` for want of memory alone.
+/// The first that applies: `Kind` where its first word is no kind of line, `Words` where the number of words isn't the
+/// kind's, `Number` where a word that has to be a number is none or is out of its range. `NoMemory` comes for want of
+/// memory alone.
 pub fn read_line(alloc: Global, bytes: &[u8]) -> Result<Line, LineRefused>
     ensures { ReadsLine result bytes.now }
 {
@@ -64,14 +66,12 @@ pub fn read_line(alloc: Global, bytes: &[u8]) -> Result<Line, LineRefused>
 /// 2^16 and its bank's below 2^8.
 pub fn numbers_are_in_range()
     ensures { (bytes : List ℕ) → IfOk (line_of bytes) InRange }
-{
-}
+{}
 
 /// A line is refused only for a word: a line without words never is.
 pub fn refused_lines_have_words()
     ensures { (bytes : List ℕ) → IsErr (line_of bytes) → 0 < length (words_of bytes) }
-{
-}
+{}
 
 impl From<NoMemory> for LineRefused {
     ghost from_gives = { λ _ e. e ≡ RefusedFor.NoMemory };
@@ -114,7 +114,18 @@ fn bank_of(words: &[&[u8]]) -> Result<Line, LineRefused>
     let status = hexadecimal_at(words, 7)?;
     let addr = hexadecimal_at(words, 8)?;
     let misc = hexadecimal_at(words, 9)?;
-    Ok(Line::Bank { boot, seconds, cpu, bank, tsc, cap, mcg, status, addr, misc })
+    Ok(Line::Bank {
+        boot,
+        seconds,
+        cpu,
+        bank,
+        tsc,
+        cap,
+        mcg,
+        status,
+        addr,
+        misc,
+    })
 }
 
 // The word at a place as a decimal number of at most `most`.
@@ -132,4 +143,63 @@ fn hexadecimal_at(words: &[&[u8]], place: usize) -> Result<u64, LineRefused>
     ensures { result ≡ hexadecimal_at (map (λ word. word.now) words.now) place }
 {
     hexadecimal(words[place]).ok_or(LineRefused::Number)
+}
+
+#[cfg(test)]
+mod tests {
+    use super::*;
+
+    #[test]
+    fn reads_lines(rt: HostRuntime) {
+        let bank = Line::Bank {
+            boot: 1,
+            seconds: 100,
+            cpu: 0,
+            bank: 7,
+            tsc: 1000,
+            cap: 0x0100_0c14,
+            mcg: 0,
+            status: 0x8c00_0040_0001_0090,
+            addr: 0x1234_5040,
+            misc: 0x86,
+        };
+        let cases: [(&[u8], Result<Line, LineRefused>); 15] = [
+            (b"", Ok(Line::Empty)),
+            (b"   ", Ok(Line::Empty)),
+            (b"# comment", Ok(Line::Comment)),
+            (b" #x", Ok(Line::Comment)),
+            (
+                b"bank 1 100 0 7 1000 1000c14 0 8c00004000010090 12345040 86",
+                Ok(bank),
+            ),
+            (b"bank 1", Err(LineRefused::Words)),
+            (b"bank x", Err(LineRefused::Words)),
+            (
+                b"bank 1 100 0 7 1000 1000c14 0 8c00004000010090 12345040 86 0",
+                Err(LineRefused::Words),
+            ),
+            (
+                b"bank x 100 0 7 1000 1000c14 0 8c00004000010090 12345040 86",
+                Err(LineRefused::Number),
+            ),
+            (
+                b"bank 1 100 0 256 1000 1000c14 0 8c00004000010090 12345040 86",
+                Err(LineRefused::Number),
+            ),
+            (
+                b"bank 1 100 65536 7 1000 1000c14 0 8c00004000010090 12345040 86",
+                Err(LineRefused::Number),
+            ),
+            (b"frob", Err(LineRefused::Kind)),
+            (
+                b"banks 1 100 0 7 1000 1000c14 0 8c00004000010090 12345040 86",
+                Err(LineRefused::Kind),
+            ),
+            (b"restart", Err(LineRefused::Kind)),
+            (b"Bank 1", Err(LineRefused::Kind)),
+        ];
+        for (bytes, want) in cases {
+            assert_eq!(rt; read_line(rt.alloc(), bytes), want);
+        }
+    }
 }
