@@ -1,9 +1,9 @@
 -- The laws of lines and words.
-use Rattle.std.proofs.Common.{◌≡◌, ℕ, ◌+◌, ◌<◌, ◌≤◌, ◌==◌, Bool, true, false, cond, nat_lt, List, [], ◌∷◌, ◌++◌, length, refl, ap, sym, subst, ◌∙◌, arith}
+use Rattle.std.proofs.Common.{◌≡◌, ℕ, ◌<◌, ◌==◌, Bool, true, false, cond, nat_lt, List, [], ◌∷◌, ◌++◌, length, refl, ap, sym, ◌∙◌, arith}
 use Rattle.std.proofs.lemmas.Bool.Decides.{nat_tests}
 use Rattle.std.proofs.lemmas.List.Elements.{filter-append}
-use Rattle.std.proofs.lemmas.List.Splits.{length-slice_split, slice_split_none}
-use Rattle.std.specs.List.{slice_split, onto_first, flat_map, AllByRecursion, filter, count_by}
+use Rattle.std.proofs.lemmas.List.Splits.{length-slice_split}
+use Rattle.std.specs.List.{slice_split, onto_first, AllByRecursion, filter}
 use Rattle.ras_daemon.specs.Splitting.{lines_of, words_of, without_empty_last, Lacks, ended, completed}
 use Rattle.ras_daemon.proofs.SplittingLemmas.{part_first, last_line}
 
