@@ -26,7 +26,7 @@ pub fn hexadecimal(word: &[u8]) -> Option<u64>
 fn number(word: &[u8], radix: u32, longest: usize, most: u64) -> Option<u64>
     requires some_radix { 2 ≤ radix }
     requires small_radix { radix ≤ 16 }
-    requires short { longest ≤ 20 }
+    requires short { longest ≤ 30 }
     ensures value { result ≡ number_of radix longest most word.now }
     ensures within { IfSome result (λ n. n ≤ most) }
 {
