@@ -1,4 +1,5 @@
 pub mod NumberLemmas
+pub mod NumberLaws
 pub mod SplittingLemmas
 pub mod SplittingLaws
 pub mod LineLaws

@@ -1,5 +1,6 @@
 // Numbers as the words of a script write them.
-ghost use Rattle.std.specs.Prelude.{◌≡◌, ◌-◌, ◌^◌, ◌≤◌, IfSome};
+ghost use Rattle.std.specs.Prelude.{◌≡◌, ℕ, ◌^◌, ◌<◌, ◌≤◌, Bool, IfSome};
+ghost use Rattle.std.specs.Fmt.{decimal, digits};
 ghost use Rattle.ras_daemon.specs.Number.{number_of, decimal_of, hexadecimal_of};
 
 // The most digits that a decimal and a hexadecimal word may have.
@@ -21,6 +22,12 @@ pub fn hexadecimal(word: &[u8]) -> Option<u64>
 {
     number(word, 16, HEXADECIMAL_DIGITS, u64::MAX)
 }
+
+/// What `{}` writes of a number is a decimal word of it, and what `{:x}` and `{:X}` write are hexadecimal words of it.
+pub fn written_numbers_are_read()
+    ensures in_decimal { (most n : ℕ) → n ≤ most → most < 2 ^ 64 → decimal_of most (decimal n) ≡ Some n }
+    ensures in_hexadecimal { (upper : Bool) (n : ℕ) → n < 2 ^ 64 → hexadecimal_of (digits 16 upper n) ≡ Some n }
+{}
 
 // The value of a word of 1 to `longest` digits, where it is at most `most`.
 fn number(word: &[u8], radix: u32, longest: usize, most: u64) -> Option<u64>
