@@ -3,8 +3,8 @@ use Rattle.std.proofs.Common.{◌≡◌, ℕ, ◌<◌, ◌==◌, Bool, true, fal
 use Rattle.std.proofs.lemmas.Bool.Decides.{nat_tests}
 use Rattle.std.proofs.lemmas.List.Elements.{filter-append}
 use Rattle.std.proofs.lemmas.List.Splits.{length-slice_split}
-use Rattle.std.specs.List.{slice_split, onto_first, AllByRecursion, filter}
-use Rattle.ras_daemon.specs.Splitting.{lines_of, words_of, without_empty_last, Lacks, ended, completed}
+use Rattle.std.specs.List.{join_with_byte, slice_split, onto_first, AllByRecursion, filter}
+use Rattle.ras_daemon.specs.Splitting.{lines_of, words_of, without_empty_last, Lacks, IsWord, ended, completed}
 use Rattle.ras_daemon.proofs.SplittingLemmas.{part_first, last_line}
 
 some_part : {X : Type 0} (p : X → Bool) (xs : List X) → 0 < length (slice_split p xs)
@@ -75,15 +75,15 @@ pub lines_unbroken : (script : List ℕ) → AllByRecursion (Lacks 10) (lines_of
 lines_unbroken script = lines_lacking (slice_split (λ b. b == 10) script) (parts_lack 10 script)
 
 -- words
-words_step : (part : List ℕ) (parts : List (List ℕ)) (t : Bool) → nat_lt 0 (length part) ≡ t → Lacks 32 part → AllByRecursion (λ word. (0 < length word) × Lacks 32 word) parts → AllByRecursion (λ word. (0 < length word) × Lacks 32 word) (cond t (part ∷ parts) parts)
+words_step : (part : List ℕ) (parts : List (List ℕ)) (t : Bool) → nat_lt 0 (length part) ≡ t → Lacks 32 part → AllByRecursion IsWord parts → AllByRecursion IsWord (cond t (part ∷ parts) parts)
 words_step part parts true h lacks all = ((grind (arith, nat_tests, h), lacks), all)
 words_step part parts false h lacks all = all
 
-words_kept : (parts : List (List ℕ)) → AllByRecursion (Lacks 32) parts → AllByRecursion (λ word. (0 < length word) × Lacks 32 word) (filter (λ word. nat_lt 0 (length word)) parts)
+words_kept : (parts : List (List ℕ)) → AllByRecursion (Lacks 32) parts → AllByRecursion IsWord (filter (λ word. nat_lt 0 (length word)) parts)
 words_kept [] all = tt
 words_kept (part ∷ parts) all = words_step part (filter (λ word. nat_lt 0 (length word)) parts) (nat_lt 0 (length part)) refl all.0 (words_kept parts all.1)
 
-pub words_apart : (line : List ℕ) → AllByRecursion (λ word. (0 < length word) × Lacks 32 word) (words_of line)
+pub words_apart : (line : List ℕ) → AllByRecursion IsWord (words_of line)
 words_apart line = words_kept (slice_split (λ b. b == 32) line) (parts_lack 32 line)
 
 onto_append : (b : ℕ) (parts more : List (List ℕ)) → 0 < length parts → onto_first b (parts ++ more) ≡ onto_first b parts ++ more
@@ -107,7 +107,13 @@ split_lacking byte (b ∷ text) h =
     let other : (b == byte) ≡ false = grind (arith, nat_tests, h.0) in
     rw other (ap (onto_first b) (split_lacking byte text h.1))
 
-pub words_single : (word : List ℕ) → 0 < length word → Lacks 32 word → words_of word ≡ word ∷ []
-words_single word some lacks =
-    let test : nat_lt 0 (length word) ≡ true = grind (arith, nat_tests, some) in
-    ap (filter (λ word. nat_lt 0 (length word))) (split_lacking 32 word lacks) ∙ rw test refl
+pub words_single : (word : List ℕ) → IsWord word → words_of word ≡ word ∷ []
+words_single word is =
+    let test : nat_lt 0 (length word) ≡ true = grind (arith, nat_tests, is.0) in
+    ap (filter (λ word. nat_lt 0 (length word))) (split_lacking 32 word is.1) ∙ rw test refl
+
+pub words_joined : (words : List (List ℕ)) → AllByRecursion IsWord words → words_of (join_with_byte 32 words) ≡ words
+words_joined [] all = refl
+words_joined (word ∷ []) all = words_single word all.0
+words_joined (word ∷ next ∷ words) all =
+    words_separated word (join_with_byte 32 (next ∷ words)) ∙ rw (words_single word all.0, words_joined (next ∷ words) all.1) refl

@@ -1,7 +1,7 @@
 // The lines of a script, and the words of a line.
 ghost use Rattle.std.specs.Prelude.{◌≡◌, ℕ, ◌+◌, ◌<◌, ◌≤◌, List, [], ◌∷◌, ◌++◌, length, map, IfOk};
-ghost use Rattle.std.specs.List.{AllByRecursion};
-ghost use Rattle.ras_daemon.specs.Splitting.{lines_of, words_of, Lacks, ended, completed};
+ghost use Rattle.std.specs.List.{AllByRecursion, join_with_byte};
+ghost use Rattle.ras_daemon.specs.Splitting.{lines_of, words_of, Lacks, IsWord, ended, completed};
 
 use ras_base::NoMemory;
 use std::alloc::Global;
@@ -39,12 +39,14 @@ pub fn lines_are_the_script()
 {}
 
 /// A text without a space is one word, unless it is empty, and a space separates: the words of two texts with a space
-/// between them are those of the one and then those of the other. No word is empty or holds a space.
+/// between them are those of the one and then those of the other. No word is empty or holds a space, and words joined
+/// by single spaces are read as these words.
 pub fn spaces_separate_words()
     ensures none { words_of [] ≡ [] }
-    ensures single { (word : List ℕ) → 0 < length word → Lacks 32 word → words_of word ≡ word ∷ [] }
+    ensures single { (word : List ℕ) → IsWord word → words_of word ≡ word ∷ [] }
     ensures separated { (left right : List ℕ) → words_of (left ++ 32 ∷ right) ≡ words_of left ++ words_of right }
-    ensures apart { (line : List ℕ) → AllByRecursion (λ word. (0 < length word) × Lacks 32 word) (words_of line) }
+    ensures apart { (line : List ℕ) → AllByRecursion IsWord (words_of line) }
+    ensures joined { (words : List (List ℕ)) → AllByRecursion IsWord words → words_of (join_with_byte 32 words) ≡ words }
 {}
 
 #[cfg(test)]
