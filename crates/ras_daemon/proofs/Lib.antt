@@ -3,3 +3,4 @@ pub mod NumberLaws
 pub mod SplittingLemmas
 pub mod SplittingLaws
 pub mod LineLaws
+pub mod LineTexts

@@ -1,6 +1,6 @@
 // The lines of a script.
 ghost use Rattle.std.specs.Prelude.{◌≡◌, ℕ, ◌<◌, ◌≤◌, List, length, map, IfOk, IsErr};
-ghost use Rattle.ras_daemon.specs.Line.{ReadsLine, InRange, line_of, line_of_words, bank_of, decimal_at, hexadecimal_at};
+ghost use Rattle.ras_daemon.specs.Line.{ReadsLine, InRange, text_of, line_of, line_of_words, bank_of, decimal_at, hexadecimal_at};
 ghost use Rattle.ras_daemon.specs.Splitting.{words_of};
 ghost use Rattle.ras_daemon.specs.declared.line.LineRefused.TheVariants as RefusedFor;
 
@@ -66,6 +66,11 @@ pub fn read_line(alloc: Global, bytes: &[u8]) -> Result<Line, LineRefused>
 /// 2^16 and its bank's below 2^8.
 pub fn numbers_are_in_range()
     ensures { (bytes : List ℕ) → IfOk (line_of bytes) InRange }
+{}
+
+/// A line written with single spaces and plain numbers is read as what was written.
+pub fn written_lines_are_read()
+    ensures { (line : Line) → InRange line → line_of (text_of line) ≡ Ok line }
 {}
 
 /// A line is refused only for a word: a line without words never is.
