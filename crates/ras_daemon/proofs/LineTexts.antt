@@ -1,15 +1,15 @@
 -- A line as text is read as that line.
-use Rattle.std.proofs.Common.{◌≡◌, ℕ, ◌-◌, ◌^◌, ◌<◌, ◌≤◌, false, List, [], ◌∷◌, length, refl, ap, subst, ◌∙◌, arith, Result, Ok, Err, codes, lit<}
+use Rattle.std.proofs.Common.{◌≡◌, ℕ, ◌-◌, ◌^◌, ◌<◌, ◌≤◌, false, List, [], ◌∷◌, refl, ap, subst, ◌∙◌, arith, Result, Ok, codes, lit<}
 use Rattle.std.proofs.lemmas.Fmt.{digits_is_IsNumeral, decimal_is_IsNumeral}
 use Rattle.std.specs.Char.{digit_value}
-use Rattle.std.specs.Fmt.{decimal, digits}
-use Rattle.std.specs.List.{join_with_byte, AllByRecursion}
+use Rattle.std.specs.Fmt.{decimal}
+use Rattle.std.specs.List.{AllByRecursion}
 use Rattle.std.specs.Str.Parse.{AllDigits}
 use Rattle.ras_daemon.specs.declared.line.Line.{Line}
 use Rattle.ras_daemon.specs.declared.line.Line.TheVariants.{Empty, Comment, Bank}
 use Rattle.ras_daemon.specs.declared.line.LineRefused.{LineRefused}
-use Rattle.ras_daemon.specs.Splitting.{words_of, Lacks, IsWord}
-use Rattle.ras_daemon.specs.Line.{◌>>=◌, needed, decimal_at, hexadecimal_at, bank_of, line_of_words, line_of, InRange, hexadecimal, text_of}
+use Rattle.ras_daemon.specs.Splitting.{Lacks, IsWord}
+use Rattle.ras_daemon.specs.Line.{◌>>=◌, needed, bank_of, line_of_words, line_of, InRange, hexadecimal, text_of}
 use Rattle.ras_daemon.proofs.NumberLaws.{decimal_read, hexadecimal_read}
 use Rattle.ras_daemon.proofs.SplittingLaws.{words_joined}
 

@@ -1,5 +1,5 @@
 -- The laws of lines and words.
-use Rattle.std.proofs.Common.{◌≡◌, ℕ, ◌<◌, ◌==◌, Bool, true, false, cond, nat_lt, List, [], ◌∷◌, ◌++◌, length, refl, ap, sym, ◌∙◌, arith}
+use Rattle.std.proofs.Common.{◌≡◌, ℕ, ◌+◌, ◌<◌, ◌≤◌, ◌==◌, Bool, true, false, cond, nat_lt, List, [], ◌∷◌, ◌++◌, length, refl, ap, sym, ◌∙◌, arith}
 use Rattle.std.proofs.lemmas.Bool.Decides.{nat_tests}
 use Rattle.std.proofs.lemmas.List.Elements.{filter-append}
 use Rattle.std.proofs.lemmas.List.Splits.{length-slice_split}
@@ -48,6 +48,20 @@ pub lines_joined : (script : List ℕ) → ended (lines_of script) ≡ completed
 lines_joined [] = refl
 lines_joined (b ∷ []) = one_byte b (b == 10) refl
 lines_joined (b ∷ c ∷ script) = more_bytes b c script (b == 10) refl (lines_joined (c ∷ script))
+
+-- each line costs a byte
+front_few : (b : ℕ) (parts : List (List ℕ)) → length (without_empty_last (onto_first b parts)) ≤ length (without_empty_last parts) + 1
+front_few b [] = omega (arith, ap length (last_line (b ∷ []) (omega arith)))
+front_few b (part ∷ []) = omega (arith, ap length (last_line (b ∷ part) (omega arith)))
+front_few b (part ∷ next ∷ parts) = omega arith
+
+few_step : (b : ℕ) (script : List ℕ) (t : Bool) → (b == 10) ≡ t → length (lines_of (b ∷ script)) ≤ length (lines_of script) + 1
+few_step b script true h = omega (arith, ap length (lines_cons b script true h))
+few_step b script false h = omega (arith, ap length (lines_cons b script false h), front_few b (slice_split (λ c. c == 10) script))
+
+pub few_lines : (script : List ℕ) → length (lines_of script) ≤ length script
+few_lines [] = omega arith
+few_lines (b ∷ script) = omega (arith, few_step b script (b == 10) refl, few_lines script)
 
 -- the parts between a byte lack it
 onto_lacking : (byte b : ℕ) (parts : List (List ℕ)) → ¬ (b ≡ byte) → AllByRecursion (Lacks byte) parts → AllByRecursion (Lacks byte) (onto_first b parts)

@@ -62,7 +62,8 @@ ReadsLine read bytes = line_of bytes ≡ read
 abbrev pub InRange : Line → Type 0
 InRange (Bank boot seconds cpu bank tsc cap mcg status addr misc) =
     AllByRecursion (λ n. n < 2 ^ 64) (boot ∷ seconds ∷ tsc ∷ cap ∷ mcg ∷ status ∷ addr ∷ misc ∷ []) × (cpu < 2 ^ 16) × (bank < 2 ^ 8)
-InRange line = ⊤
+InRange Empty = ⊤
+InRange Comment = ⊤
 
 -- for the laws: a line as text, with single spaces, no leading zeros and small hexadecimal letters
 abbrev pub hexadecimal : ℕ → List ℕ

@@ -31,10 +31,11 @@ pub fn words(alloc: Global, line: &[u8]) -> Result<Vec<&[u8]>, NoMemory>
 }
 
 /// The lines of a script, each with a line feed behind it, are the script, which gets one where its last byte is no
-/// line feed. No line holds a line feed, and an empty script has no lines.
+/// line feed. No line holds a line feed, an empty script has no lines, and each line costs at least a byte.
 pub fn lines_are_the_script()
     ensures none { lines_of [] ≡ [] }
     ensures whole { (script : List ℕ) → ended (lines_of script) ≡ completed script }
+    ensures few { (script : List ℕ) → length (lines_of script) ≤ length script }
     ensures unbroken { (script : List ℕ) → AllByRecursion (Lacks 10) (lines_of script) }
 {}
 
