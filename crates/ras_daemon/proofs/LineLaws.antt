@@ -1,14 +1,13 @@
 -- The laws of what lines say.
-use Rattle.std.proofs.Common.{◌≡◌, ℕ, ◌-◌, ◌^◌, ◌+◌, ◌<◌, ◌≤◌, ◌==◌, ◌&&◌, Bool, true, false, cond, nat_le, List, [], ◌∷◌, length, refl, arith, Result, Ok, Err, Option, None, Some, IfOk, IfSome, codes}
+use Rattle.std.proofs.Common.{◌≡◌, ℕ, ◌-◌, ◌^◌, ◌<◌, ◌≤◌, ◌==◌, ◌&&◌, Bool, true, false, cond, nat_le, List, [], ◌∷◌, length, refl, arith, Result, Ok, Err, None, Some, IfOk, codes}
 use Rattle.std.specs.Prelude.{slice_index, slice_index_or, IsErr}
 use Rattle.std.proofs.lemmas.Bool.Decides.{nat_tests}
 use Rattle.std.specs.Str.{bytes_eq}
 use Rattle.std.specs.Str.Parse.{digits_value}
 use Rattle.ras_daemon.specs.declared.line.Line.{Line}
 use Rattle.ras_daemon.specs.declared.line.LineRefused.{LineRefused}
-use Rattle.ras_daemon.specs.Number.{is_numeral, number_of, decimal_of, hexadecimal_of}
-use Rattle.ras_daemon.specs.Splitting.{words_of}
-use Rattle.ras_daemon.specs.Line.{◌>>=◌, needed, decimal_at, hexadecimal_at, bank_of, line_of_words, line_of, InRange}
+use Rattle.ras_daemon.specs.Number.{is_numeral}
+use Rattle.ras_daemon.specs.Line.{◌>>=◌, needed, decimal_at, hexadecimal_at, bank_of, line_of_words, InRange}
 
 number_within : (most value : ℕ) (numeral small : Bool) → nat_le value most ≡ small → IfOk (needed (cond (numeral && small) (Some value) None)) (λ n. n ≤ most)
 number_within most value true true h = grind (arith, nat_tests, h)

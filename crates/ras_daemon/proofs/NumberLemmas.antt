@@ -1,5 +1,5 @@
 -- A numeral of few digits is small, and one more digit.
-use Rattle.std.proofs.Common.{subst, ◌≡◌, ℕ, ◌+◌, ◌*◌, ◌^◌, ◌<◌, ◌≤◌, ◌&&◌, true, List, [], ◌∷◌, length, refl, arith, lit<, take, get_or, nat_lt, ◌∙◌, ap, sym}
+use Rattle.std.proofs.Common.{subst, ◌≡◌, ℕ, ◌+◌, ◌*◌, ◌^◌, ◌<◌, ◌≤◌, ◌&&◌, true, List, [], ◌∷◌, length, refl, arith, lit<, take, get_or, ◌∙◌, ap, sym}
 use Rattle.std.proofs.Math.Nat.{pow-le-pow_left, pow-le-pow_right, mul-le-mul_left}
 use Rattle.std.proofs.lemmas.Bool.Decides.{nat_tests}
 use Rattle.std.proofs.lemmas.List.{length-take-le}
@@ -14,18 +14,18 @@ all_digits : (radix : ℕ) (word : List ℕ) → list_all (λ c. is_digit c radi
 all_digits radix [] h = tt
 all_digits radix (c ∷ cs) h = (grind (arith, nat_tests, h), all_digits radix cs (grind (arith, nat_tests, h)))
 
-pub bounded : (radix : ℕ) (word : List ℕ) → 2 ≤ radix → radix ≤ 16 → length word ≤ 20 → list_all (λ c. is_digit c radix) word ≡ true → digits_value radix word < 2 ^ 80
+pub bounded : (radix : ℕ) (word : List ℕ) → 2 ≤ radix → radix ≤ 16 → length word ≤ 30 → list_all (λ c. is_digit c radix) word ≡ true → digits_value radix word < 2 ^ 120
 bounded radix word some small short h =
     let below : digits_value radix word < radix ^ length word = digits_value-lt radix word (all_digits radix word h) in
     let left : radix ^ length word ≤ 16 ^ length word = pow-le-pow_left small (length word) in
-    let right : 16 ^ length word ≤ 16 ^ 20 = pow-le-pow_right (lit< tt) short in
+    let right : 16 ^ length word ≤ 16 ^ 30 = pow-le-pow_right (lit< tt) short in
     omega arith
 
 -- the value of the first digits, times the base, is far from 2 ^ 128
-pub room : (radix : ℕ) (word : List ℕ) (i value base : ℕ) → 2 ≤ radix → radix ≤ 16 → length word ≤ 20 → i < length word → list_all (λ c. is_digit c radix) (take i word) ≡ true → value ≡ digits_value radix (take i word) → base ≡ radix → value * base < 2 ^ 84
+pub room : (radix : ℕ) (word : List ℕ) (i value base : ℕ) → 2 ≤ radix → radix ≤ 16 → length word ≤ 30 → i < length word → list_all (λ c. is_digit c radix) (take i word) ≡ true → value ≡ digits_value radix (take i word) → base ≡ radix → value * base < 2 ^ 124
 room radix word i value base some small short inside sofar is same =
-    let few : length (take i word) ≤ 20 = omega (arith, length-take-le i word (omega arith)) in
-    let below : digits_value radix (take i word) < 2 ^ 80 = bounded radix (take i word) some small few sofar in
+    let few : length (take i word) ≤ 30 = omega (arith, length-take-le i word (omega arith)) in
+    let below : digits_value radix (take i word) < 2 ^ 120 = bounded radix (take i word) some small few sofar in
     let product : value * base ≤ value * 16 = mul-le-mul_left value (omega arith) in
     omega arith
 

@@ -1,10 +1,10 @@
 -- The laws of lines and words.
-use Rattle.std.proofs.Common.{◌≡◌, ℕ, ◌+◌, ◌<◌, ◌≤◌, ◌==◌, Bool, true, false, cond, nat_lt, List, [], ◌∷◌, ◌++◌, length, refl, ap, sym, subst, ◌∙◌, arith}
+use Rattle.std.proofs.Common.{◌≡◌, ℕ, ◌+◌, ◌<◌, ◌≤◌, ◌==◌, Bool, true, false, cond, nat_lt, List, [], ◌∷◌, ◌++◌, length, refl, ap, sym, ◌∙◌, arith}
 use Rattle.std.proofs.lemmas.Bool.Decides.{nat_tests}
 use Rattle.std.proofs.lemmas.List.Elements.{filter-append}
-use Rattle.std.proofs.lemmas.List.Splits.{length-slice_split, slice_split_none}
-use Rattle.std.specs.List.{slice_split, onto_first, flat_map, AllByRecursion, filter, count_by}
-use Rattle.ras_daemon.specs.Splitting.{lines_of, words_of, without_empty_last, Lacks, ended, completed}
+use Rattle.std.proofs.lemmas.List.Splits.{length-slice_split}
+use Rattle.std.specs.List.{join_with_byte, slice_split, onto_first, AllByRecursion, filter}
+use Rattle.ras_daemon.specs.Splitting.{lines_of, words_of, without_empty_last, Lacks, IsWord, ended, completed}
 use Rattle.ras_daemon.proofs.SplittingLemmas.{part_first, last_line}
 
 some_part : {X : Type 0} (p : X → Bool) (xs : List X) → 0 < length (slice_split p xs)
@@ -49,6 +49,20 @@ lines_joined [] = refl
 lines_joined (b ∷ []) = one_byte b (b == 10) refl
 lines_joined (b ∷ c ∷ script) = more_bytes b c script (b == 10) refl (lines_joined (c ∷ script))
 
+-- each line costs a byte
+front_few : (b : ℕ) (parts : List (List ℕ)) → length (without_empty_last (onto_first b parts)) ≤ length (without_empty_last parts) + 1
+front_few b [] = omega (arith, ap length (last_line (b ∷ []) (omega arith)))
+front_few b (part ∷ []) = omega (arith, ap length (last_line (b ∷ part) (omega arith)))
+front_few b (part ∷ next ∷ parts) = omega arith
+
+few_step : (b : ℕ) (script : List ℕ) (t : Bool) → (b == 10) ≡ t → length (lines_of (b ∷ script)) ≤ length (lines_of script) + 1
+few_step b script true h = omega (arith, ap length (lines_cons b script true h))
+few_step b script false h = omega (arith, ap length (lines_cons b script false h), front_few b (slice_split (λ c. c == 10) script))
+
+pub few_lines : (script : List ℕ) → length (lines_of script) ≤ length script
+few_lines [] = omega arith
+few_lines (b ∷ script) = omega (arith, few_step b script (b == 10) refl, few_lines script)
+
 -- the parts between a byte lack it
 onto_lacking : (byte b : ℕ) (parts : List (List ℕ)) → ¬ (b ≡ byte) → AllByRecursion (Lacks byte) parts → AllByRecursion (Lacks byte) (onto_first b parts)
 onto_lacking byte b [] other all = ((other, tt), tt)
@@ -75,15 +89,15 @@ pub lines_unbroken : (script : List ℕ) → AllByRecursion (Lacks 10) (lines_of
 lines_unbroken script = lines_lacking (slice_split (λ b. b == 10) script) (parts_lack 10 script)
 
 -- words
-words_step : (part : List ℕ) (parts : List (List ℕ)) (t : Bool) → nat_lt 0 (length part) ≡ t → Lacks 32 part → AllByRecursion (λ word. (0 < length word) × Lacks 32 word) parts → AllByRecursion (λ word. (0 < length word) × Lacks 32 word) (cond t (part ∷ parts) parts)
+words_step : (part : List ℕ) (parts : List (List ℕ)) (t : Bool) → nat_lt 0 (length part) ≡ t → Lacks 32 part → AllByRecursion IsWord parts → AllByRecursion IsWord (cond t (part ∷ parts) parts)
 words_step part parts true h lacks all = ((grind (arith, nat_tests, h), lacks), all)
 words_step part parts false h lacks all = all
 
-words_kept : (parts : List (List ℕ)) → AllByRecursion (Lacks 32) parts → AllByRecursion (λ word. (0 < length word) × Lacks 32 word) (filter (λ word. nat_lt 0 (length word)) parts)
+words_kept : (parts : List (List ℕ)) → AllByRecursion (Lacks 32) parts → AllByRecursion IsWord (filter (λ word. nat_lt 0 (length word)) parts)
 words_kept [] all = tt
 words_kept (part ∷ parts) all = words_step part (filter (λ word. nat_lt 0 (length word)) parts) (nat_lt 0 (length part)) refl all.0 (words_kept parts all.1)
 
-pub words_apart : (line : List ℕ) → AllByRecursion (λ word. (0 < length word) × Lacks 32 word) (words_of line)
+pub words_apart : (line : List ℕ) → AllByRecursion IsWord (words_of line)
 words_apart line = words_kept (slice_split (λ b. b == 32) line) (parts_lack 32 line)
 
 onto_append : (b : ℕ) (parts more : List (List ℕ)) → 0 < length parts → onto_first b (parts ++ more) ≡ onto_first b parts ++ more
@@ -107,7 +121,13 @@ split_lacking byte (b ∷ text) h =
     let other : (b == byte) ≡ false = grind (arith, nat_tests, h.0) in
     rw other (ap (onto_first b) (split_lacking byte text h.1))
 
-pub words_single : (word : List ℕ) → 0 < length word → Lacks 32 word → words_of word ≡ word ∷ []
-words_single word some lacks =
-    let test : nat_lt 0 (length word) ≡ true = grind (arith, nat_tests, some) in
-    ap (filter (λ word. nat_lt 0 (length word))) (split_lacking 32 word lacks) ∙ rw test refl
+pub words_single : (word : List ℕ) → IsWord word → words_of word ≡ word ∷ []
+words_single word is =
+    let test : nat_lt 0 (length word) ≡ true = grind (arith, nat_tests, is.0) in
+    ap (filter (λ word. nat_lt 0 (length word))) (split_lacking 32 word is.1) ∙ rw test refl
+
+pub words_joined : (words : List (List ℕ)) → AllByRecursion IsWord words → words_of (join_with_byte 32 words) ≡ words
+words_joined [] all = refl
+words_joined (word ∷ []) all = words_single word all.0
+words_joined (word ∷ next ∷ words) all =
+    words_separated word (join_with_byte 32 (next ∷ words)) ∙ rw (words_single word all.0, words_joined (next ∷ words) all.1) refl

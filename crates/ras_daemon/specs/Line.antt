@@ -1,10 +1,11 @@
 -- What a line of a script is, or why it is refused.
-use Rattle.std.specs.Prelude.{◌≡◌, ℕ, ◌-◌, ◌^◌, ◌<◌, ◌==◌, List, [], ◌∷◌, length, codes, Result, Ok, Err, ⊤, Option, None, Some, if◌then◌else◌, slice_index, slice_index_or}
+use Rattle.std.specs.Prelude.{◌≡◌, ℕ, ◌-◌, ◌^◌, ◌<◌, ◌==◌, List, [], ◌∷◌, length, codes, Result, Ok, Err, ⊤, false, Option, None, Some, if◌then◌else◌, slice_index, slice_index_or}
 use Rattle.ras_daemon.specs.declared.line.Line.{Line}
 use Rattle.ras_daemon.specs.declared.line.Line.TheVariants.{Empty, Comment, Bank}
 use Rattle.ras_daemon.specs.declared.line.LineRefused.{LineRefused}
 use Rattle.ras_daemon.specs.declared.line.LineRefused.TheVariants.{Kind, Words, Number, NoMemory}
-use Rattle.std.specs.List.{AllByRecursion}
+use Rattle.std.specs.Fmt.{decimal, digits}
+use Rattle.std.specs.List.{AllByRecursion, join_with_byte}
 use Rattle.std.specs.Str.{bytes_eq}
 use Rattle.ras_daemon.specs.Number.{decimal_of, hexadecimal_of}
 use Rattle.ras_daemon.specs.Splitting.{words_of}
@@ -61,4 +62,16 @@ ReadsLine read bytes = line_of bytes ≡ read
 abbrev pub InRange : Line → Type 0
 InRange (Bank boot seconds cpu bank tsc cap mcg status addr misc) =
     AllByRecursion (λ n. n < 2 ^ 64) (boot ∷ seconds ∷ tsc ∷ cap ∷ mcg ∷ status ∷ addr ∷ misc ∷ []) × (cpu < 2 ^ 16) × (bank < 2 ^ 8)
-InRange line = ⊤
+InRange Empty = ⊤
+InRange Comment = ⊤
+
+-- for the laws: a line as text, with single spaces, no leading zeros and small hexadecimal letters
+abbrev pub hexadecimal : ℕ → List ℕ
+hexadecimal n = digits 16 false n
+
+abbrev pub text_of : Line → List ℕ
+text_of Empty = []
+text_of Comment = codes "#"
+text_of (Bank boot seconds cpu bank tsc cap mcg status addr misc) = join_with_byte 32
+    (codes "bank" ∷ decimal boot ∷ decimal seconds ∷ decimal cpu ∷ decimal bank ∷ decimal tsc
+    ∷ hexadecimal cap ∷ hexadecimal mcg ∷ hexadecimal status ∷ hexadecimal addr ∷ hexadecimal misc ∷ [])

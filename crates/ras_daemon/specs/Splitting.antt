@@ -1,5 +1,5 @@
 -- How a script is split into lines, and a line into words.
-use Rattle.std.specs.Prelude.{◌≡◌, ℕ, ◌==◌, List, [], ◌∷◌, ◌++◌, length, nat_lt, filter, if◌then◌else◌}
+use Rattle.std.specs.Prelude.{◌≡◌, ℕ, ◌==◌, List, [], ◌∷◌, ◌++◌, ◌<◌, length, nat_lt, filter, if◌then◌else◌}
 use Rattle.std.specs.List.{slice_split, flat_map, AllByRecursion}
 
 -- the parts of a text round a byte, without a last part that is empty
@@ -21,6 +21,10 @@ words_of line = filter (λ word. nat_lt 0 (length word)) (slice_split (λ b. b =
 -- a byte doesn't stand in a text
 abbrev pub Lacks : ℕ → List ℕ → Type 0
 Lacks byte text = AllByRecursion (λ b. ¬ (b ≡ byte)) text
+
+-- a word stands between spaces: it isn't empty, and holds none
+abbrev pub IsWord : List ℕ → Type 0
+IsWord word = (0 < length word) × Lacks 32 word
 
 -- each line with a line feed behind it
 abbrev pub ended : List (List ℕ) → List ℕ

@@ -1,6 +1,6 @@
 // The lines of a script.
 ghost use Rattle.std.specs.Prelude.{◌≡◌, ℕ, ◌<◌, ◌≤◌, List, length, map, IfOk, IsErr};
-ghost use Rattle.ras_daemon.specs.Line.{ReadsLine, InRange, line_of, line_of_words, bank_of, decimal_at, hexadecimal_at};
+ghost use Rattle.ras_daemon.specs.Line.{ReadsLine, InRange, text_of, line_of, line_of_words, bank_of, decimal_at, hexadecimal_at};
 ghost use Rattle.ras_daemon.specs.Splitting.{words_of};
 ghost use Rattle.ras_daemon.specs.declared.line.LineRefused.TheVariants as RefusedFor;
 
@@ -48,11 +48,13 @@ pub enum LineRefused {
 // How many words stand after `bank`.
 const BANK_WORDS: usize = 10;
 
-/// What a line says. `bytes` are the line without its line feed, at most 40,000 of them.
+/// What a line says, whose bytes these are without its line feed.
 ///
 /// # Errors
 ///
-/// The first that applies of `Kind`, `Words` and `Number`; `NoMemory` for want of memory alone.
+/// The first that applies: `Kind` where its first word is no kind of line, `Words` where the number of words isn't the
+/// kind's, `Number` where a word that has to be a number is none or is out of its range. `NoMemory` comes for want of
+/// memory alone.
 pub fn read_line(alloc: Global, bytes: &[u8]) -> Result<Line, LineRefused>
     ensures { ReadsLine result bytes.now }
 {
@@ -64,6 +66,11 @@ pub fn read_line(alloc: Global, bytes: &[u8]) -> Result<Line, LineRefused>
 /// 2^16 and its bank's below 2^8.
 pub fn numbers_are_in_range()
     ensures { (bytes : List ℕ) → IfOk (line_of bytes) InRange }
+{}
+
+/// A line written with single spaces and plain numbers is read as what was written.
+pub fn written_lines_are_read()
+    ensures { (line : Line) → InRange line → line_of (text_of line) ≡ Ok line }
 {}
 
 /// A line is refused only for a word: a line without words never is.
@@ -141,4 +148,63 @@ fn hexadecimal_at(words: &[&[u8]], place: usize) -> Result<u64, LineRefused>
     ensures { result ≡ hexadecimal_at (map (λ word. word.now) words.now) place }
 {
     hexadecimal(words[place]).ok_or(LineRefused::Number)
+}
+
+#[cfg(test)]
+mod tests {
+    use super::*;
+
+    #[test]
+    fn reads_lines(rt: HostRuntime) {
+        let bank = Line::Bank {
+            boot: 1,
+            seconds: 100,
+            cpu: 0,
+            bank: 7,
+            tsc: 1000,
+            cap: 0x0100_0c14,
+            mcg: 0,
+            status: 0x8c00_0040_0001_0090,
+            addr: 0x1234_5040,
+            misc: 0x86,
+        };
+        let cases: [(&[u8], Result<Line, LineRefused>); 15] = [
+            (b"", Ok(Line::Empty)),
+            (b"   ", Ok(Line::Empty)),
+            (b"# comment", Ok(Line::Comment)),
+            (b" #x", Ok(Line::Comment)),
+            (
+                b"bank 1 100 0 7 1000 1000c14 0 8c00004000010090 12345040 86",
+                Ok(bank),
+            ),
+            (b"bank 1", Err(LineRefused::Words)),
+            (b"bank x", Err(LineRefused::Words)),
+            (
+                b"bank 1 100 0 7 1000 1000c14 0 8c00004000010090 12345040 86 0",
+                Err(LineRefused::Words),
+            ),
+            (
+                b"bank x 100 0 7 1000 1000c14 0 8c00004000010090 12345040 86",
+                Err(LineRefused::Number),
+            ),
+            (
+                b"bank 1 100 0 256 1000 1000c14 0 8c00004000010090 12345040 86",
+                Err(LineRefused::Number),
+            ),
+            (
+                b"bank 1 100 65536 7 1000 1000c14 0 8c00004000010090 12345040 86",
+                Err(LineRefused::Number),
+            ),
+            (b"frob", Err(LineRefused::Kind)),
+            (
+                b"banks 1 100 0 7 1000 1000c14 0 8c00004000010090 12345040 86",
+                Err(LineRefused::Kind),
+            ),
+            (b"restart", Err(LineRefused::Kind)),
+            (b"Bank 1", Err(LineRefused::Kind)),
+        ];
+        for (bytes, want) in cases {
+            assert_eq!(rt; read_line(rt.alloc(), bytes), want);
+        }
+    }
 }

@@ -1,4 +1,4 @@
-use Rattle.ras_daemon.proofs.SplittingLaws.{lines_joined, lines_unbroken}
+use Rattle.ras_daemon.proofs.SplittingLaws.{lines_joined, lines_unbroken, few_lines}
 use Rattle.ras_daemon.proofs.splitting.lines_are_the_script.Goals as goal
 
 pub returns-clause-whole : goal.returns-clause-whole
@@ -6,3 +6,6 @@ returns-clause-whole c = lines_joined
 
 pub returns-clause-unbroken : goal.returns-clause-unbroken
 returns-clause-unbroken c = lines_unbroken
+
+pub returns-clause-few : goal.returns-clause-few
+returns-clause-few c = few_lines

@@ -1,4 +1,4 @@
-use Rattle.ras_daemon.proofs.SplittingLaws.{words_single, words_separated, words_apart}
+use Rattle.ras_daemon.proofs.SplittingLaws.{words_single, words_separated, words_apart, words_joined}
 use Rattle.ras_daemon.proofs.splitting.spaces_separate_words.Goals as goal
 
 pub returns-clause-single : goal.returns-clause-single
@@ -9,3 +9,6 @@ returns-clause-separated c = words_separated
 
 pub returns-clause-apart : goal.returns-clause-apart
 returns-clause-apart c = words_apart
+
+pub returns-clause-joined : goal.returns-clause-joined
+returns-clause-joined c = words_joined
