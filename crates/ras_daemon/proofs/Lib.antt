@@ -1,6 +1,15 @@
 pub mod NumberLemmas
-pub mod NumberLaws
 pub mod SplittingLemmas
 pub mod SplittingLaws
 pub mod LineLaws
+pub mod ScriptLemmas
+pub mod StepLemmas
+pub mod EventLemmas
+pub mod RunLemmas
+pub mod DaemonLemmas
+pub mod CourseLaws
+pub mod CutLaws
+pub mod StoredLaws
+pub mod EndLaws
+pub mod NumberLaws
 pub mod LineTexts

@@ -1,3 +1,17 @@
 pub mod Number
 pub mod Splitting
 pub mod Line
+pub mod Command
+pub mod ExitStatus
+pub mod Reports
+pub mod PlainFile
+pub mod Text
+pub mod Status
+pub mod Output
+pub mod Stored
+pub mod Ended
+pub mod Causes
+pub mod Event
+pub mod Progress
+pub mod ScriptRead
+pub mod Run
