@@ -14,3 +14,6 @@ pub use classes::{Class, ItemClass, class_of};
 pub use registers::{Cap, GlobalStatus, Misc, Status};
 pub use thresholds::{Threshold, threshold_of};
 pub use weights::weight_of;
+
+#[cfg(test)]
+mod tests;

@@ -1,0 +1,10 @@
+//! The MCA error code of a machine-check bank: what it says, its text, and whether the manual gives
+//! it to a recoverable error. It follows the Intel SDM, volume 3, chapter "Interpreting Machine Check
+//! Error Codes".
+#![tactic(auto)]
+
+mod codes;
+mod marks;
+
+pub use codes::{Code, code_of};
+pub use marks::{Mark, mark_of};

@@ -1,0 +1,28 @@
+//! Whether the manual gives a code to a recoverable error.
+
+ghost use Rattle.std.specs.Prelude.{◌≡◌};
+ghost use Rattle.mca_codes.specs.Marks.{mark_of_number};
+
+/// The kind of recoverable error that the manual gives a code to.
+#[derive(Clone, Copy, Debug, PartialEq, Eq)]
+pub enum Mark {
+    /// None.
+    Neither,
+    /// Action optional: memory scrubbing, or an explicit writeback from the last level cache.
+    Srao,
+    /// Action required: a data load, or an instruction fetch.
+    Srar,
+}
+
+/// The kind of recoverable error that the manual gives an MCA error code to, whatever its filter bit
+/// is. (Intel SDM, volume 3, the compound error codes for SRAO and SRAR errors.)
+#[tactic(auto, using(crate::proofs::Patterns::unfiltered_and))]
+pub fn mark_of(code: u16) -> Mark
+    ensures mark { result ≡ mark_of_number code }
+{
+    match code & 0xefff {
+        0x00c0..=0x00cf | 0x017a => Mark::Srao,
+        0x0134 | 0x0150 => Mark::Srar,
+        _ => Mark::Neither,
+    }
+}
