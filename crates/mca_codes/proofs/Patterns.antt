@@ -1,5 +1,5 @@
 -- The patterns of compound codes as quotients of the code without its filter bit.
-use Rattle.std.proofs.Common.{ℕ, ◌≡◌, ◌+◌, ◌-◌, ◌*◌, ◌/◌, ◌%◌, ◌^◌, ◌<◌, ◌≤◌, ◌∙◌, refl, ap, sym, arith, bit_and, count_by, cond, lit≤, lit<}
+use Rattle.std.proofs.Common.{ℕ, ◌≡◌, ◌+◌, ◌-◌, ◌*◌, ◌/◌, ◌%◌, ◌^◌, ◌<◌, ◌≤◌, ◌∙◌, refl, sym, arith, bit_and, count_by, cond, lit≤, lit<}
 use Rattle.std.proofs.lemmas.List.Sums.{sum_by-append}
 use Rattle.mca_codes.specs.Marks.{unfiltered}
 use Rattle.mca_codes.specs.Codes.{fits, simple_rows, compound_rows, rows_fitted}
@@ -46,11 +46,11 @@ internal_simple code above below = grind arith
 
 internal_compound : (code : ℕ) → 0x0401 ≤ code → code ≤ 0x07ff → count_by (fits code) compound_rows ≡ 0
 internal_compound code above below =
-  let fits16 : code < 2 ^ 16 = omega arith in
-  let same : bit_and code 0xefff ≡ code = omega (arith, unfiltered_bits code fits16) in
-  grind (arith, same, generic_cache_bits code fits16, tlb_bits code fits16, memory_bits code fits16, cache_bits code fits16, bus_bits code fits16)
+    let fits16 : code < 2 ^ 16 = omega arith in
+    let same : bit_and code 0xefff ≡ code = omega (arith, unfiltered_bits code fits16) in
+    grind (arith, same, generic_cache_bits code fits16, tlb_bits code fits16, memory_bits code fits16, cache_bits code fits16, bus_bits code fits16)
 
 pub internal_one_row : (code : ℕ) → 0x0401 ≤ code → code ≤ 0x07ff → rows_fitted code ≡ 1
 internal_one_row code above below =
-  sum_by-append (λ row. cond (fits code row) 1 0) simple_rows compound_rows
-  ∙ rw (internal_simple code above below, internal_compound code above below) refl
+    sum_by-append (λ row. cond (fits code row) 1 0) simple_rows compound_rows
+    ∙ rw (internal_simple code above below, internal_compound code above below) refl

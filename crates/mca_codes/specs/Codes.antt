@@ -2,7 +2,7 @@
 -- chapter "Interpreting Machine Check Error Codes", sections "Simple Error Codes" and "Compound Error
 -- Codes". That a code of no row is Other, and that 0E0Bh is read before the bus and interconnect
 -- form, is this project's own.
-use Rattle.std.specs.Prelude.{ℕ, ◌≡◌, ◌≢◌, ◌<◌, ◌≤◌, ◌/◌, ◌%◌, ◌^◌, ◌==◌, ◌&&◌, nat_le, Bool, List, [], ◌∷◌, ◌++◌, ⊤, bit_and, count_by}
+use Rattle.std.specs.Prelude.{ℕ, ◌<◌, ◌/◌, ◌%◌, ◌^◌, ◌==◌, ◌&&◌, nat_le, Bool, List, [], ◌∷◌, ◌++◌, ⊤, bit_and, count_by}
 use Rattle.std.specs.List.{find}
 use Rattle.std.specs.Option.{option_map_or}
 use Rattle.mca_codes.specs.declared.codes.Code.{Code}

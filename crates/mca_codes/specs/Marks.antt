@@ -2,8 +2,6 @@
 -- "Machine-Check Architecture", the tables of MCA compound error codes for SRAO and SRAR errors.
 use Rattle.std.specs.Prelude.{ℕ, Bool, ◌&&◌, ◌||◌, ◌==◌, nat_le, ◌-◌, ◌*◌, ◌^◌, if◌then◌else◌}
 use Rattle.mca_codes.specs.Codes.{field}
-use Rattle.mca_codes.specs.declared.codes.Code.{Code}
-use Rattle.mca_codes.specs.declared.codes.Code.TheVariants.{Memory, Cache}
 use Rattle.mca_codes.specs.declared.marks.Mark.{Mark}
 use Rattle.mca_codes.specs.declared.marks.Mark as Marked
 

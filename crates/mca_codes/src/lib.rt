@@ -5,6 +5,8 @@
 
 mod codes;
 mod marks;
+mod texts;
+mod words;
 
 pub use codes::{Code, code_of};
 pub use marks::{Mark, mark_of};

@@ -1,5 +1,5 @@
 -- A code from 0401h to 07FFh fits its own row alone.
-use Rattle.std.proofs.Common.{◌≡◌, ◌≤◌, arith}
+use Rattle.std.proofs.Common.{arith}
 use Rattle.mca_codes.proofs.Patterns.{internal_one_row}
 use Rattle.mca_codes.proofs.codes.code_of.Goals as goal
 
