@@ -2,7 +2,7 @@
 -- chapter "Interpreting Machine Check Error Codes", sections "Simple Error Codes" and "Compound Error
 -- Codes". That a code of no row is Other, and that 0E0Bh is read before the bus and interconnect
 -- form, is this project's own.
-use Rattle.std.specs.Prelude.{ℕ, ◌<◌, ◌/◌, ◌%◌, ◌^◌, ◌==◌, ◌&&◌, nat_le, Bool, List, [], ◌∷◌, ◌++◌, ⊤, bit_and, count_by}
+use Rattle.std.specs.Prelude.{ℕ, ◌<◌, ◌/◌, ◌%◌, ◌^◌, ◌==◌, ◌&&◌, nat_le, Bool, false, List, [], ◌∷◌, ◌++◌, ⊤, bit_and, count_by}
 use Rattle.std.specs.List.{find}
 use Rattle.std.specs.Option.{option_map_or}
 use Rattle.mca_codes.specs.declared.codes.Code.{Code}
@@ -105,3 +105,12 @@ HasFieldsInRange (Memory mmm channel filter) = (mmm < 8) × (channel < 16)
 HasFieldsInRange (Cache rrrr tt ll filter) = (rrrr < 16) × (tt < 4) × (ll < 4)
 HasFieldsInRange (Bus pp t rrrr ii ll filter) = (pp < 4) × (t < 2) × (rrrr < 16) × (ii < 4) × (ll < 4)
 HasFieldsInRange _ = ⊤
+
+-- the filter that an answer tells; a simple code has none
+abbrev pub filter_of : Code → Bool
+filter_of (GenericCache ll filter) = filter
+filter_of (Tlb tt ll filter) = filter
+filter_of (Memory mmm channel filter) = filter
+filter_of (Cache rrrr tt ll filter) = filter
+filter_of (Bus pp t rrrr ii ll filter) = filter
+filter_of _ = false

@@ -1,7 +1,7 @@
 //! What an MCA error code says.
 
 ghost use Rattle.std.specs.Prelude.{◌≡◌, ◌≢◌, ◌↔◌, ◌≤◌, ◌<◌, ◌^◌, count_by};
-ghost use Rattle.mca_codes.specs.Codes.{field, is_filtered, code_of_rows, rows_fitted, reading, fits, compound_rows, HasFieldsInRange};
+ghost use Rattle.mca_codes.specs.Codes.{field, is_filtered, code_of_rows, rows_fitted, reading, fits, compound_rows, HasFieldsInRange, filter_of};
 
 /// An MCA error code, bits 15:0 of IA32_MCi_STATUS, by its kind. The raw fields of a compound code
 /// are named as in the manual, and `filter` is its bit 12.
@@ -60,6 +60,9 @@ pub fn code_of(code: u16) -> Code
     // A code is Other exactly where it fits no row.
     ensures other { (result ≡ Code.Other) ↔ (rows_fitted code ≡ 0) }
     ensures in_range { HasFieldsInRange result }
+
+    // A compound code has bit 12 as its filter; a simple one has bit 12 clear.
+    ensures filter { result ≢ Code.Other → filter_of result ≡ is_filtered code }
 {
     match code {
         0x0000 => Code::NoError,
@@ -82,6 +85,7 @@ fn compound_code(code: u16) -> Code
     ensures one_row { count_by (fits code) compound_rows ≤ 1 }
     ensures other { (result ≡ Code.Other) ↔ (count_by (fits code) compound_rows ≡ 0) }
     ensures in_range { HasFieldsInRange result }
+    ensures filter { result ≢ Code.Other → filter_of result ≡ is_filtered code }
 {
     let filter = is_filtered(code);
     let ll = field(code, 0, 2);
