@@ -1,6 +1,5 @@
 -- The MCA error code, bits 15:0 of IA32_MCi_STATUS, as a table of rows: the Intel SDM, volume 3,
--- chapter "Interpreting Machine Check Error Codes", sections "Simple Error Codes" and "Compound Error
--- Codes". That a code of no row is Other, and that 0E0Bh is read before the bus and interconnect
+-- chapter "Machine-Check Architecture", sections "Simple Error Codes" and "Compound Error Codes". That a code of no row is Other, and that 0E0Bh is read before the bus and interconnect
 -- form, is this project's own.
 use Rattle.std.specs.Prelude.{ℕ, ◌<◌, ◌/◌, ◌%◌, ◌^◌, ◌==◌, ◌&&◌, nat_le, Bool, false, List, [], ◌∷◌, ◌++◌, ⊤, bit_and, count_by}
 use Rattle.std.specs.List.{find}

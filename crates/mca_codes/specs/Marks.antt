@@ -1,5 +1,5 @@
 -- Which codes the manual gives to recoverable errors: the Intel SDM, volume 3, chapter
--- "Machine-Check Architecture", the tables of MCA compound error codes for SRAO and SRAR errors.
+-- "Machine-Check Architecture", section "Architecturally Defined UCR Errors".
 use Rattle.std.specs.Prelude.{ℕ, Bool, ◌&&◌, ◌||◌, ◌==◌, nat_le, ◌-◌, ◌*◌, ◌^◌, if◌then◌else◌}
 use Rattle.mca_codes.specs.Codes.{field}
 use Rattle.mca_codes.specs.declared.codes.Code.{Code}

@@ -1,6 +1,6 @@
 //! The MCA error code of a machine-check bank: what it says, its text, and whether the manual gives
-//! it to a recoverable error. It follows the Intel SDM, volume 3, chapter "Interpreting Machine Check
-//! Error Codes".
+//! it to a recoverable error. It follows the Intel SDM, volume 3, chapter "Machine-Check
+//! Architecture", section "Interpreting the MCA Error Codes".
 #![tactic(auto)]
 
 mod codes;

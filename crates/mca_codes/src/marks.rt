@@ -9,14 +9,14 @@ ghost use Rattle.mca_codes.specs.Codes.{code_of_rows};
 pub enum Mark {
     /// None.
     Neither,
-    /// Action optional: memory scrubbing, or an explicit writeback from the last level cache.
+    /// Action optional: memory scrubbing, or an explicit writeback of the L3 cache.
     Srao,
     /// Action required: a data load, or an instruction fetch.
     Srar,
 }
 
 /// The kind of recoverable error that the manual gives an MCA error code to, whatever its filter bit
-/// is. (Intel SDM, volume 3, the compound error codes for SRAO and SRAR errors.)
+/// is. (Intel SDM, volume 3, "Architecturally Defined UCR Errors".)
 #[tactic(auto, using(crate::proofs::Patterns::unfiltered_and, crate::proofs::MarkLemmas::mark_by_kind))]
 pub fn mark_of(code: u16) -> Mark
     ensures mark { result ≡ mark_of_number code }

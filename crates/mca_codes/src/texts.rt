@@ -58,7 +58,6 @@ impl Text {
 /// The text of an error code: a word for its kind, then the words of its subfields with a colon
 /// before each, then `/F` where a compound code has its filter set. It refuses only for want of
 /// memory. (The subfields are those of the Intel SDM, volume 3, "Compound Error Codes".)
-
 #[tactic(auto, using(crate::proofs::WordLemmas::text_of_word))]
 pub fn code_text(alloc: Global, code: Code) -> Result<Text, NoMemory>
     requires { HasFieldsInRange code }
@@ -105,14 +104,7 @@ fn code_string(alloc: Global, code: Code) -> Result<String, AllocError>
             tt,
             ll,
             filter,
-        } => {
-            let words = [
-                words::transaction(tt),
-                words::level(ll),
-                words::request(rrrr),
-            ];
-            compound_text(alloc, "cache", &words, filter)
-        }
+        } => cache_text(alloc, rrrr, tt, ll, filter),
         Code::Bus {
             pp,
             t,
@@ -120,16 +112,7 @@ fn code_string(alloc: Global, code: Code) -> Result<String, AllocError>
             ii,
             ll,
             filter,
-        } => {
-            let words = [
-                words::level(ll),
-                words::participation(pp),
-                words::request(rrrr),
-                words::target(ii),
-                words::timeout(t),
-            ];
-            compound_text(alloc, "bus", &words, filter)
-        }
+        } => bus_text(alloc, pp, t, rrrr, ii, ll, filter),
     }
 }
 
@@ -143,6 +126,42 @@ fn memory_text(alloc: Global, mmm: u8, channel: u8, filter: bool) -> Result<Stri
     }
     let channel = channel.to_string(alloc)?;
     compound_text(alloc, "memory", &[memory, channel.as_str()], filter)
+}
+
+// The text of a cache hierarchy code.
+fn cache_text(alloc: Global, rrrr: u8, tt: u8, ll: u8, filter: bool) -> Result<String, AllocError>
+    requires { HasFieldsInRange (Code.Cache rrrr tt ll filter) }
+    ensures { IfOk result (λ text. string_bytes text ≡ text_of (Code.Cache rrrr tt ll filter)) }
+{
+    let words = [
+        words::transaction(tt),
+        words::level(ll),
+        words::request(rrrr),
+    ];
+    compound_text(alloc, "cache", &words, filter)
+}
+
+// The text of a bus and interconnect code.
+fn bus_text(
+    alloc: Global,
+    pp: u8,
+    t: u8,
+    rrrr: u8,
+    ii: u8,
+    ll: u8,
+    filter: bool,
+) -> Result<String, AllocError>
+    requires { HasFieldsInRange (Code.Bus pp t rrrr ii ll filter) }
+    ensures { IfOk result (λ text. string_bytes text ≡ text_of (Code.Bus pp t rrrr ii ll filter)) }
+{
+    let words = [
+        words::level(ll),
+        words::participation(pp),
+        words::request(rrrr),
+        words::target(ii),
+        words::timeout(t),
+    ];
+    compound_text(alloc, "bus", &words, filter)
 }
 
 // The text of a compound code, by the word for its kind and the words of its subfields.

@@ -33,14 +33,14 @@ pub fn usable_address(cap: Cap, status: Status, addr: u64, misc: Misc) -> Option
     }
 }
 
-// The address with all bits below the least valid one cleared, which is still in the same page.
+// The address with all bits below the least valid one cleared.
 fn round_down(address: u64, least_bit: u32) -> u64
-    requires { least_bit ≤ 12 }
+    requires { least_bit < 64 }
     ensures rounded { result ≡ rounded_address address least_bit }
     ensures not_above { result ≤ address }
     ensures near { address < result + 2 ^ least_bit }
     ensures whole { result % 2 ^ least_bit ≡ 0 }
-    ensures same_page { result / 4096 ≡ address / 4096 }
+    ensures same_page { least_bit ≤ 12 → result / 4096 ≡ address / 4096 }
 {
     address & (u64::MAX << least_bit)
 }

@@ -13,4 +13,4 @@ pub returns-clause-whole : goal.returns-clause-whole
 returns-clause-whole c = rw (masked c.args.address c.args.least_bit c.ranges.address.fits (omega (arith, c.requires))) (rounded-whole c.args.address c.args.least_bit)
 
 pub returns-clause-same_page : goal.returns-clause-same_page
-returns-clause-same_page c = rw (masked c.args.address c.args.least_bit c.ranges.address.fits (omega (arith, c.requires))) (rounded-page c.args.address c.args.least_bit (12 - c.args.least_bit) (omega (arith, c.requires)))
+returns-clause-same_page c within = rw (masked c.args.address c.args.least_bit c.ranges.address.fits (omega (arith, c.requires))) (rounded-page c.args.address c.args.least_bit (12 - c.args.least_bit) (omega (arith, c.requires)))
