@@ -7,37 +7,51 @@ ghost use Rattle.mca_codes.specs.Codes.{field, is_filtered, code_of_rows, rows_f
 /// are named as in the manual, and `filter` is its bit 12.
 #[derive(Clone, Copy, Debug, PartialEq, Eq)]
 pub enum Code {
+    /// No error was reported.
     NoError,
+    /// An error that the manual's classes don't have.
     Unclassified,
+    /// A parity error in the microcode ROM.
     MicrocodeRom,
+    /// Another processor's BINIT# caused this one to enter machine check.
     External,
+    /// An error of functional redundancy checking.
     Frc,
+    /// An internal parity error.
     InternalParity,
+    /// An internal timer error.
     InternalTimer,
+    /// An internal error of no class, 0401h to 07FFh.
     InternalUnclassified,
+    /// A generic input and output error, 0E0Bh.
     GenericIo,
     /// A code that no row of the table has.
     Other,
+    /// An error of the cache hierarchy, with its level alone.
     GenericCache {
         ll: u8,
         filter: bool,
     },
+    /// An error of a translation lookaside buffer.
     Tlb {
         tt: u8,
         ll: u8,
         filter: bool,
     },
+    /// An error of a memory controller; `channel` is CCCC.
     Memory {
         mmm: u8,
         channel: u8,
         filter: bool,
     },
+    /// An error of the cache hierarchy.
     Cache {
         rrrr: u8,
         tt: u8,
         ll: u8,
         filter: bool,
     },
+    /// An error of a bus or interconnect.
     Bus {
         pp: u8,
         t: u8,
