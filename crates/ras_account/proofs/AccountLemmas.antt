@@ -12,7 +12,7 @@ use Rattle.ras_account.specs.declared.name.Name.{Name}
 use Rattle.ras_account.specs.declared.entry.Entry.{Entry}
 use Rattle.ras_account.specs.declared.entry.Entry.TheVariants.{Fact}
 use Rattle.ras_account.specs.Fresh.{name_in, names_in, same_name}
-use Rattle.ras_account.specs.Account.{State, is_fresh_in, counts, continued, continued_all, added_by}
+use Rattle.ras_account.specs.Account.{State, is_fresh_in, counts, continued, continued_all, added_by, IsWithin}
 use Rattle.ras_account.specs.View.{View}
 use Rattle.ras_base.specs.Prefix.{IsPrefixOf}
 use Rattle.ras_account.specs.Growth.{brings, GrowsBy}
@@ -203,3 +203,33 @@ reserves counted keys before after a entries first are cut inserted =
       names = ap (λ n. take n after) count ∙ ap (take (length a.names)) joined ∙ take-append_seam a.names behind.0;
       waiting = ap (λ n. drop n after) count ∙ ap (drop (length a.names)) (added ∙ sym (names-continued_all a entries));
     }
+
+-- what one entry adds stands in front of what those behind it add
+pub names-continued : (a : State) (e : Entry) → (rest : List Name) × ((continued a e).names ≡ a.names ++ rest)
+names-continued a e = by (is_fresh_in a e)
+  where
+    by : (b : Bool) → (rest : List Name) × ((if b then counts a e else a).names ≡ a.names ++ rest)
+    by true = (names_in (e ∷ []), refl)
+    by false = ([], sym (append-nil a.names))
+
+pub added_by-cons : (a : State) (e : Entry) (entries : List Entry) → added_by a (e ∷ entries) ≡ added_by a (e ∷ []) ++ added_by (continued a e) entries
+added_by-cons a e entries =
+    let b : State = continued a e in
+    let one : (rest : List Name) × (b.names ≡ a.names ++ rest) = names-continued a e in
+    let others : (rest : List Name) × (insert_all same_name b.names (names_in entries) ≡ b.names ++ rest) = insert_all-behind b.names (names_in entries) in
+    let all : (continued_all b entries).names ≡ b.names ++ others.0 = names-continued_all b entries ∙ others.1 in
+    let adds_one : added_by a (e ∷ []) ≡ one.0 = ap (drop (length a.names)) one.1 ∙ drop-append_seam a.names one.0 in
+    let adds_others : added_by b entries ≡ others.0 = ap (drop (length b.names)) all ∙ drop-append_seam b.names others.0 in
+    let adds : added_by a (e ∷ entries) ≡ one.0 ++ others.0 =
+        ap (drop (length a.names)) (all ∙ ap (λ names. names ++ others.0) one.1 ∙ append_assoc a.names one.0 others.0) ∙ drop-append_seam a.names (one.0 ++ others.0) in
+    adds ∙ (λ i. sym adds_one i ++ sym adds_others i)
+
+-- an account that is within the limits with more entries is within them
+pub IsWithin-continued_all : (a : State) (entries : List Entry) → IsWithin (continued_all a entries) → IsWithin a
+IsWithin-continued_all a entries within =
+    let grown : (n : ℕ) × (n ≤ length entries) × GrowsBy n a (continued_all a entries) = growth a entries in
+    record { names = omega (arith, within.names, grown.2.names); entries = omega (arith, within.entries, grown.2.entries) }
+
+-- the first entry of what was reserved can be taken
+pub waits_first : (v : View) (e : Entry) (entries : List Entry) → v.waiting ≡ added_by v.state (e ∷ entries) → IsPrefixOf (added_by v.state (e ∷ [])) v.waiting
+waits_first v e entries waits = (added_by (continued v.state e) entries, sym (waits ∙ added_by-cons v.state e entries))
