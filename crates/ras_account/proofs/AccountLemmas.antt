@@ -5,8 +5,8 @@ use Rattle.std.proofs.lemmas.Map.Keys.{IsDistinct-push}
 use Rattle.std.proofs.lemmas.List.Sums.{fold-append}
 use Rattle.std.proofs.lemmas.List.Folds.{list_any-append}
 use Rattle.std.proofs.Math.Bool.{or-false}
-use Rattle.std.proofs.lemmas.List.{length-take-le}
-use Rattle.std.proofs.Math.Seq.{take-suc, take-append_seam, drop-append_seam}
+use Rattle.std.proofs.lemmas.List.{length-take-le, append_cancel_left}
+use Rattle.std.proofs.Math.Seq.{take-suc, drop-cons, take-append_seam, drop-append_seam}
 use Rattle.indexmap.specs.IndexSet.{insert_key, insert_all}
 use Rattle.ras_account.specs.declared.name.Name.{Name}
 use Rattle.ras_account.specs.declared.entry.Entry.{Entry}
@@ -221,7 +221,7 @@ added_by-cons a e entries =
     let adds_one : added_by a (e ∷ []) ≡ one.0 = ap (drop (length a.names)) one.1 ∙ drop-append_seam a.names one.0 in
     let adds_others : added_by b entries ≡ others.0 = ap (drop (length b.names)) all ∙ drop-append_seam b.names others.0 in
     let adds : added_by a (e ∷ entries) ≡ one.0 ++ others.0 =
-        ap (drop (length a.names)) (all ∙ ap (λ names. names ++ others.0) one.1 ∙ append_assoc a.names one.0 others.0) ∙ drop-append_seam a.names (one.0 ++ others.0) in
+    ap (drop (length a.names)) (all ∙ ap (λ names. names ++ others.0) one.1 ∙ append_assoc a.names one.0 others.0) ∙ drop-append_seam a.names (one.0 ++ others.0) in
     adds ∙ (λ i. sym adds_one i ++ sym adds_others i)
 
 -- an account that is within the limits with more entries is within them
@@ -233,3 +233,36 @@ IsWithin-continued_all a entries within =
 -- the first entry of what was reserved can be taken
 pub waits_first : (v : View) (e : Entry) (entries : List Entry) → v.waiting ≡ added_by v.state (e ∷ entries) → IsPrefixOf (added_by v.state (e ∷ [])) v.waiting
 waits_first v e entries waits = (added_by (continued v.state e) entries, sym (waits ∙ added_by-cons v.state e entries))
+
+-- the entries from a place on: the one there, and those behind it
+pub drop-next : (entries : List Entry) (i : ℕ) (d : Entry) → i < length entries → drop i entries ≡ get_or entries i d ∷ drop (i + 1) entries
+drop-next entries i d within = drop-cons entries i d within ∙ ap (λ n. get_or entries i d ∷ drop n entries) (sym (add-one i))
+
+-- the state of a run over a list that was reserved: the entries before place i were taken, the others wait
+pub record TakesInTurn (start : State) (v : View) (entries : List Entry) (i : ℕ) : Type 0 where
+  pub state : v.state ≡ continued_all start (take i entries)
+  pub waiting : v.waiting ≡ added_by v.state (drop i entries)
+  pub within : IsWithin (continued_all v.state (drop i entries))
+
+module _ (start : State) (old : View) (entries : List Entry) (i : ℕ) (d : Entry) (there : i < length entries) (turn : TakesInTurn start old entries i) where
+  waits_so : old.waiting ≡ added_by old.state (get_or entries i d ∷ drop (i + 1) entries)
+  waits_so = turn.waiting ∙ ap (added_by old.state) (drop-next entries i d there)
+
+  within_so : IsWithin (continued_all (continued old.state (get_or entries i d)) (drop (i + 1) entries))
+  within_so = subst (λ es. IsWithin (continued_all old.state es)) (drop-next entries i d there) turn.within
+
+  pub turn_waits : IsPrefixOf (added_by old.state (get_or entries i d ∷ [])) old.waiting
+  turn_waits = waits_first old (get_or entries i d) (drop (i + 1) entries) waits_so
+
+  pub turn_within : IsWithin (continued old.state (get_or entries i d))
+  turn_within = IsWithin-continued_all _ (drop (i + 1) entries) within_so
+
+  pub turn_next : (new : View) → new.state ≡ continued old.state (get_or entries i d) → old.waiting ≡ added_by old.state (get_or entries i d ∷ []) ++ new.waiting → TakesInTurn start new entries (i + 1)
+  turn_next new taken waits = record {
+    state = taken ∙ ap (λ a. continued a (get_or entries i d)) turn.state ∙ sym (continued_all-more start entries i d there);
+    waiting =
+        append_cancel_left (added_by old.state (get_or entries i d ∷ [])) new.waiting (added_by (continued old.state (get_or entries i d)) (drop (i + 1) entries))
+        (sym waits ∙ waits_so ∙ added_by-cons old.state (get_or entries i d) (drop (i + 1) entries))
+        ∙ ap (λ a. added_by a (drop (i + 1) entries)) (sym taken);
+    within = subst (λ a. IsWithin (continued_all a (drop (i + 1) entries))) (sym taken) within_so;
+  }

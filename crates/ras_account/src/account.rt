@@ -111,14 +111,16 @@ impl Account {
 
     /// How many entries are counted.
     pub fn entries(&self) -> u64
-        ensures { result ≡ self.now.state.entries }
+        ensures count { result ≡ self.now.state.entries }
+        ensures within { IsWithin self.now.state }
     {
         self.entries
     }
 
     /// How many names are counted.
     pub fn names_len(&self) -> usize
-        ensures { result ≡ length self.now.state.names }
+        ensures count { result ≡ length self.now.state.names }
+        ensures within { IsWithin self.now.state }
     {
         self.counted
     }

@@ -21,8 +21,7 @@ pub fn account_laws()
 
     // Accounts that are equal stay equal, whatever follows.
     ensures equal { (one other more : List Entry) → account_of one ≡ account_of other → account_of (one ++ more) ≡ account_of (other ++ more) }
-{
-}
+{}
 
 /// The laws by which each entry of a list can be taken in turn once the list was reserved. The function does nothing:
 /// its clauses are what it is for.
@@ -31,5 +30,4 @@ pub fn reserve_laws()
     ensures in_turn { (a : State) (entry : Entry) (entries : List Entry) → added_by a (entry ∷ entries) ≡ added_by a (entry ∷ []) ++ added_by (continued a entry) entries }
     // Where the account keeps within the limits with the whole list, it does with the first entry.
     ensures within { (a : State) (entry : Entry) (entries : List Entry) → IsWithin (continued_all a (entry ∷ entries)) → IsWithin (continued a entry) }
-{
-}
+{}

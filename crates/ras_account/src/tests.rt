@@ -38,11 +38,18 @@ fn counts_each_name_once(rt: HostRuntime) -> Result<(), Fail> {
     assert_eq!(rt; account.entries(), 0);
 
     // A name that comes again in the same list is counted once, and so is one that comes again later.
-    take_all(&mut account, &[report(1000, 100), report(1001, 101), report(1000, 102)])?;
+    take_all(
+        &mut account,
+        &[report(1000, 100), report(1001, 101), report(1000, 102)],
+    )?;
     take_all(&mut account, &[report(1001, 103), report(999, 104)])?;
     assert_eq!(rt; account.entries(), 3);
     assert_eq!(rt; account.names_len(), 3);
-    for (entry, is_fresh) in [(report(1000, 200), false), (report(999, 100), false), (report(1002, 100), true)] {
+    for (entry, is_fresh) in [
+        (report(1000, 200), false),
+        (report(999, 100), false),
+        (report(1002, 100), true),
+    ] {
         assert_eq!(rt; account.is_fresh(&entry), is_fresh);
     }
     Ok(())
