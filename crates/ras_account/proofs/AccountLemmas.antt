@@ -12,7 +12,7 @@ use Rattle.ras_account.specs.declared.name.Name.{Name}
 use Rattle.ras_account.specs.declared.entry.Entry.{Entry}
 use Rattle.ras_account.specs.declared.entry.Entry.TheVariants.{Fact}
 use Rattle.ras_account.specs.Fresh.{name_in, names_in, same_name}
-use Rattle.ras_account.specs.Account.{State, is_fresh_in, counts, continued, continued_all, added_by, IsWithin}
+use Rattle.ras_account.specs.Account.{State, is_fresh_in, with_entry, continued, continued_all, added_by, IsWithin}
 use Rattle.ras_account.specs.View.{View}
 use Rattle.ras_base.specs.Prefix.{IsPrefixOf}
 use Rattle.ras_account.specs.Growth.{brings, GrowsBy}
@@ -26,14 +26,14 @@ names-continued_all a (Fact fact ∷ entries) =
     names-continued_all (continued a (Fact fact)) entries
     ∙ ap (λ names. insert_all same_name names (names_in entries)) (by (list_any (same_name fact.name) a.names))
   where
-    by : (b : Bool) → (if not b then counts a (Fact fact) else a).names ≡ (if b then a.names else a.names ++ fact.name ∷ [])
+    by : (b : Bool) → (if not b then with_entry a (Fact fact) else a).names ≡ (if b then a.names else a.names ++ fact.name ∷ [])
     by true = refl
     by false = refl
 
 pub once-continued : (a : State) (e : Entry) → IsDistinct same_name a.names → IsDistinct same_name (continued a e).names
 once-continued a (Fact fact) once = by (list_any (same_name fact.name) a.names) refl
   where
-    by : (b : Bool) → list_any (same_name fact.name) a.names ≡ b → IsDistinct same_name (if not b then counts a (Fact fact) else a).names
+    by : (b : Bool) → list_any (same_name fact.name) a.names ≡ b → IsDistinct same_name (if not b then with_entry a (Fact fact) else a).names
     by true is = once
     by false is = IsDistinct-push same_name-laws a.names fact.name once is
 
@@ -84,7 +84,7 @@ list_any-continued_all name a (Fact fact ∷ entries) =
     ∙ by (list_any (same_name fact.name) a.names) refl
   where
     by : (b : Bool) → list_any (same_name fact.name) a.names ≡ b
-        → (list_any (same_name name) (if not b then counts a (Fact fact) else a).names || list_any (brings name) entries) ≡ (list_any (same_name name) a.names || (same_name name fact.name || list_any (brings name) entries))
+        → (list_any (same_name name) (if not b then with_entry a (Fact fact) else a).names || list_any (brings name) entries) ≡ (list_any (same_name name) a.names || (same_name name fact.name || list_any (brings name) entries))
     by true is = known_or (list_any (same_name name) a.names) (same_name name fact.name) _
         (λ same. subst (λ n. list_any (same_name n) a.names ≡ true) (sym (same_name-exact name fact.name same)) is)
     by false is = ap (λ b. b || list_any (brings name) entries) (list_any-append (same_name name) a.names (fact.name ∷ []))
@@ -104,13 +104,13 @@ is_fresh_in-continued_all a entries (Fact fact) name is =
 
 -- one entry more is counted where it is fresh
 pub grows_more : (n : ℕ) (old a : State) (e : Entry) → is_fresh_in a e ≡ true → GrowsBy n old a → GrowsBy (n + 1) old (continued a e)
-grows_more n old a (Fact fact) fresh grown = subst (λ b. GrowsBy (n + 1) old (if b then counts a (Fact fact) else a)) (sym fresh) (record {
+grows_more n old a (Fact fact) fresh grown = subst (λ b. GrowsBy (n + 1) old (if b then with_entry a (Fact fact) else a)) (sym fresh) (record {
   names = omega (arith, grown.names, length-append a.names (fact.name ∷ []));
   entries = omega (arith, grown.entries);
 })
 
 pub grows_same : (n : ℕ) (old a : State) (e : Entry) → is_fresh_in a e ≡ false → GrowsBy n old a → GrowsBy n old (continued a e)
-grows_same n old a e repeat grown = subst (λ b. GrowsBy n old (if b then counts a e else a)) (sym repeat) grown
+grows_same n old a e repeat grown = subst (λ b. GrowsBy n old (if b then with_entry a e else a)) (sym repeat) grown
 
 -- so by at most as many as there are
 pub growth : (a : State) (entries : List Entry) → (n : ℕ) × (n ≤ length entries) × GrowsBy n a (continued_all a entries)
@@ -169,7 +169,7 @@ takes_here : (counted : ℕ) (keys : List Name) (entries : ℕ) (e : Entry)
     × (drop counted keys ≡ added_by (viewed counted keys entries).state (e ∷ []) ++ drop (counted + 1) keys)
 takes_here counted keys entries (Fact fact) fresh (rest, starts) =
     let a : State = (viewed counted keys entries).state in
-    let goes : continued a (Fact fact) ≡ counts a (Fact fact) = ap (λ b. if b then counts a (Fact fact) else a) fresh in
+    let goes : continued a (Fact fact) ≡ with_entry a (Fact fact) = ap (λ b. if b then with_entry a (Fact fact) else a) fresh in
     let adds : added_by a (Fact fact ∷ []) ≡ fact.name ∷ [] = ap (λ (s : State). drop (length a.names) s.names) goes ∙ drop-append_seam a.names (fact.name ∷ []) in
     let next : (take (suc counted) keys ≡ take counted keys ++ fact.name ∷ []) × (drop (suc counted) keys ≡ rest) = split_next counted keys fact.name rest (sym starts ∙ ap (λ names. names ++ rest) adds) in
     let names : take (counted + 1) keys ≡ take counted keys ++ fact.name ∷ [] = ap (λ n. take n keys) (add-one counted) ∙ next.0 in
@@ -208,7 +208,7 @@ reserves counted keys before after a entries first are cut inserted =
 pub names-continued : (a : State) (e : Entry) → (rest : List Name) × ((continued a e).names ≡ a.names ++ rest)
 names-continued a e = by (is_fresh_in a e)
   where
-    by : (b : Bool) → (rest : List Name) × ((if b then counts a e else a).names ≡ a.names ++ rest)
+    by : (b : Bool) → (rest : List Name) × ((if b then with_entry a e else a).names ≡ a.names ++ rest)
     by true = (names_in (e ∷ []), refl)
     by false = ([], sym (append-nil a.names))
 

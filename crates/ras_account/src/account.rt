@@ -63,6 +63,7 @@ impl Account {
     pub fn is_fresh(&self, entry: &Entry) -> bool
         ensures fresh { result ≡ is_fresh_in self.now.state entry.now }
         ensures history { (history : List Entry) → self.now.state ≡ account_of history → result ≡ is_fresh_behind history entry.now }
+        ensures repeat { (history : List Entry) → self.now.state ≡ account_of history → IsFalse result → self.now.state ≡ account_of (history ++ entry.now ∷ []) }
     {
         match entry {
             Entry::Fact(fact) => !self.holds(&fact.name),

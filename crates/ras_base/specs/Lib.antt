@@ -1,3 +1,4 @@
 pub mod Places
 pub mod PlacesLaws
 pub mod Prefix
+pub mod PrefixLaws
