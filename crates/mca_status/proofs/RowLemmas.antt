@@ -44,5 +44,3 @@ pub class_of_rows-no_recovery : (cap : Cap) (status : Status) → IsFalse (recov
 class_of_rows-no_recovery cap status none other agree =
     let same : (i : ℕ) → list_any (λ place. place == i) (55 ∷ 56 ∷ []) ≡ false → is_bit_set other i ≡ is_bit_set status.0 i = same_bit (55 ∷ 56 ∷ []) _ _ agree in
     class_by-same (is_bit_set other 63) _ (is_bit_set other 61) _ (is_bit_set other 57) _ _ _ _ _ _ _ _ (same 63 refl) (same 61 refl) (same 57 refl) none
-
-pub ruleset class_laws = (class_of_rows-overflow, class_of_rows-no_recovery)

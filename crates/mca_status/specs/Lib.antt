@@ -1,2 +1,5 @@
 pub mod Registers
 pub mod Classes
+pub mod Weight
+pub mod Address
+pub mod Thresholds

@@ -27,15 +27,25 @@ pub enum Class {
 /// The class of an item of a report: a bank's class, or the severity of a firmware record.
 #[derive(Clone, Copy, Debug, PartialEq, Eq)]
 pub enum ItemClass {
+    /// A bank's class Ce.
     Ce,
+    /// A bank's class Ucna.
     Ucna,
+    /// A bank's class Srao.
     Srao,
+    /// A bank's class Srar.
     Srar,
+    /// A bank's class Uc.
     Uc,
+    /// A bank's class Odd.
     Odd,
+    /// A firmware record's severity corrected.
     Corrected,
+    /// A firmware record's severity recoverable.
     Recoverable,
+    /// A firmware record's severity fatal.
     Fatal,
+    /// A firmware record's severity informational.
     Informational,
 }
 
@@ -80,7 +90,6 @@ impl From<Class> for ItemClass {
 
 /// The class of the error that a bank holds, by IA32_MCG_CAP and the bank's IA32_MCi_STATUS; None
 /// exactly where VAL is 0. (Intel SDM, volume 3, "UCR Error Classification".)
-#[tactic(auto, using(crate::proofs::RowLemmas::class_laws))]
 pub fn class_of(cap: Cap, status: Status) -> Option<Class>
     ensures rows { result ≡ class_of_rows cap status }
     ensures held { IsSome result ↔ IsTrue (valid status) }
@@ -94,21 +103,32 @@ pub fn class_of(cap: Cap, status: Status) -> Option<Class>
     // AR and S, at bits 55 and 56, say nothing where the processor has no software error recovery.
     ensures recovery_ignored { IsFalse (recovers_in_software cap) → ClassIgnores (55 ∷ 56 ∷ []) cap status }
 {
-    if !status.is_valid() {
-        None
-    } else if !status.is_uncorrected() {
-        Some(Class::Ce)
-    } else if status.is_context_corrupt() || !cap.recovers_in_software() {
-        Some(Class::Uc)
+    if status.is_valid() {
+        Some(held_class(cap, status))
     } else {
-        let signaled = status.is_signaled();
-        let enabled = status.is_enabled();
-        let action_required = status.is_action_required();
-        Some(match (signaled, enabled, action_required) {
-            (false, _, false) => Class::Ucna,
-            (false, _, true) | (true, false, _) => Class::Odd,
-            (true, true, false) => Class::Srao,
-            (true, true, true) => Class::Srar,
-        })
+        None
+    }
+}
+
+// The class of the error that a bank holds.
+fn held_class(cap: Cap, status: Status) -> Class
+    requires { IsTrue (valid status) }
+    ensures rows { class_of_rows cap status ≡ Some result }
+    ensures corrected { (result ≡ Class.Ce) ↔ IsTrue (not (uncorrected status)) }
+{
+    if !status.is_uncorrected() {
+        return Class::Ce;
+    }
+    if status.is_context_corrupt() || !cap.recovers_in_software() {
+        return Class::Uc;
+    }
+    let signaled = status.is_signaled();
+    let enabled = status.is_enabled();
+    let action_required = status.is_action_required();
+    match (signaled, enabled, action_required) {
+        (false, _, false) => Class::Ucna,
+        (false, _, true) | (true, false, _) => Class::Odd,
+        (true, true, false) => Class::Srao,
+        (true, true, true) => Class::Srar,
     }
 }

@@ -3,8 +3,17 @@
 //! 3, chapter "Machine-Check Architecture". No call takes memory, and none refuses.
 #![tactic(auto)]
 
+mod addresses;
 mod classes;
 mod registers;
+mod thresholds;
+mod weights;
 
+pub use addresses::{usable_address, usable_page};
 pub use classes::{Class, ItemClass, class_of};
 pub use registers::{Cap, GlobalStatus, Misc, Status};
+pub use thresholds::{Threshold, threshold_of};
+pub use weights::weight_of;
+
+#[cfg(test)]
+mod tests;

@@ -1,6 +1,6 @@
 //! The registers, each a number as read, and their single bits.
 
-ghost use Rattle.std.specs.Prelude.{◌≡◌, ◌<◌};
+ghost use Rattle.std.specs.Prelude.{◌≡◌, ◌<◌, ◌^◌};
 ghost use Rattle.mca_status.specs.Registers.{is_bit_set};
 
 /// IA32_MCi_STATUS of a bank, as read.
@@ -78,7 +78,7 @@ impl GlobalStatus {
 }
 
 impl Status {
-    ghost use Rattle.mca_status.specs.Registers.{valid, overflow, uncorrected, enabled, misc_valid, address_valid, context_corrupt, signaled, action_required};
+    ghost use Rattle.mca_status.specs.Registers.{valid, overflow, uncorrected, enabled, misc_valid, address_valid, context_corrupt, signaled, action_required, error_code, corrected_count, threshold_status};
 
     /// VAL: the bank holds an error.
     pub fn is_valid(self) -> bool
@@ -141,5 +141,49 @@ impl Status {
         ensures { result ≡ action_required self }
     {
         is_set(self.0, 55)
+    }
+
+    /// The MCA error code.
+    pub fn error_code(self) -> u16
+        ensures code { result ≡ error_code self }
+    {
+        (self.0 & 0xffff) as u16
+    }
+
+    /// The corrected error count, as the field stands.
+    pub fn corrected_count(self) -> u16
+        ensures count { result ≡ corrected_count self }
+        ensures within_field { result < 2 ^ 15 }
+    {
+        (self.0 >> 38 & 0x7fff) as u16
+    }
+
+    /// The threshold status, as the field stands.
+    pub fn threshold_status(self) -> u8
+        ensures value { result ≡ threshold_status self }
+        ensures within_field { result < 4 }
+    {
+        (self.0 >> 53 & 3) as u8
+    }
+}
+
+impl Misc {
+    ghost use Rattle.mca_status.specs.Registers.{least_bit, address_mode};
+
+    /// The lowest bit of the address that is valid, where MCG_SER_P is 1.
+    pub fn least_bit(self) -> u32
+        ensures bit { result ≡ least_bit self }
+        ensures within_field { result < 64 }
+    {
+        (self.0 & 0x3f) as u32
+    }
+
+    /// The address mode, where MCG_SER_P is 1: 0 is a segment offset, 1 a linear address, 2 a
+    /// physical one, 3 a memory address, 7 generic.
+    pub fn address_mode(self) -> u8
+        ensures mode { result ≡ address_mode self }
+        ensures within_field { result < 8 }
+    {
+        (self.0 >> 6 & 7) as u8
     }
 }

@@ -1,0 +1,115 @@
+-- The MCA error code, bits 15:0 of IA32_MCi_STATUS, as a table of rows: the Intel SDM, volume 3,
+-- chapter "Machine-Check Architecture", sections "Simple Error Codes" and "Compound Error Codes". That a code of no row is Other, and that 0E0Bh is read before the bus and interconnect
+-- form, is this project's own.
+use Rattle.std.specs.Prelude.{ℕ, ◌<◌, ◌/◌, ◌%◌, ◌^◌, ◌==◌, ◌&&◌, nat_le, Bool, false, List, [], ◌∷◌, ◌++◌, ⊤, bit_and, count_by}
+use Rattle.std.specs.List.{find}
+use Rattle.std.specs.Option.{option_map_or}
+use Rattle.mca_codes.specs.declared.codes.Code.{Code}
+use Rattle.mca_codes.specs.declared.codes.Code.TheVariants.{NoError, Unclassified, MicrocodeRom, External, Frc, InternalParity, InternalTimer, InternalUnclassified, GenericIo, Other, GenericCache, Tlb, Memory, Cache, Bus}
+
+-- the number that stands in so many bits of a code from bit low on
+abbrev pub field : ℕ → ℕ → ℕ → ℕ
+field code low width = code / 2 ^ low % 2 ^ width
+
+-- F, bit 12 of a compound code: correction report filtering is on
+abbrev pub is_filtered : ℕ → Bool
+is_filtered code = field code 12 1 == 1
+
+-- a row: the codes that fit it, and how such a code reads
+pub data Row : Type 0 where
+  -- one number
+  plain : ℕ → Code → Row
+  -- the numbers from low to high
+  numbers : (low high : ℕ) → Code → Row
+  -- a pattern with letters: the mask has the bits that no letter takes, the value what stands there
+  pattern : (mask value : ℕ) → (ℕ → Code) → Row
+
+-- whether a code fits a row
+abbrev pub fits : ℕ → Row → Bool
+fits code (plain number kind) = code == number
+fits code (numbers low high kind) = nat_le low code && nat_le code high
+fits code (pattern mask value read) = bit_and code mask == value
+
+-- a code as a row reads it
+abbrev pub read_by : ℕ → Row → Code
+read_by code (plain number kind) = kind
+read_by code (numbers low high kind) = kind
+read_by code (pattern mask value read) = read code
+
+-- 000F 0000 0000 11LL: generic cache hierarchy errors
+abbrev pub generic_cache_of : ℕ → Code
+generic_cache_of code = GenericCache (field code 0 2) (is_filtered code)
+
+-- 000F 0000 0001 TTLL: TLB errors
+abbrev pub tlb_of : ℕ → Code
+tlb_of code = Tlb (field code 2 2) (field code 0 2) (is_filtered code)
+
+-- 000F 0000 1MMM CCCC: memory controller errors
+abbrev pub memory_of : ℕ → Code
+memory_of code = Memory (field code 4 3) (field code 0 4) (is_filtered code)
+
+-- 000F 0001 RRRR TTLL: cache hierarchy errors
+abbrev pub cache_of : ℕ → Code
+cache_of code = Cache (field code 4 4) (field code 2 2) (field code 0 2) (is_filtered code)
+
+-- 000F 1PPT RRRR IILL: bus and interconnect errors
+abbrev pub bus_of : ℕ → Code
+bus_of code = Bus (field code 9 2) (field code 8 1) (field code 4 4) (field code 2 2) (field code 0 2) (is_filtered code)
+
+-- the simple error codes; 0E0Bh, generic input and output, stands among them
+abbrev pub simple_rows : List Row
+simple_rows =
+    plain 0x0000 NoError
+    ∷ plain 0x0001 Unclassified
+    ∷ plain 0x0002 MicrocodeRom
+    ∷ plain 0x0003 External
+    ∷ plain 0x0004 Frc
+    ∷ plain 0x0005 InternalParity
+    ∷ plain 0x0400 InternalTimer
+    ∷ numbers 0x0401 0x07ff InternalUnclassified
+    ∷ plain 0x0e0b GenericIo
+    ∷ []
+
+-- the compound error codes
+abbrev pub compound_rows : List Row
+compound_rows =
+    pattern 0xeffc 0x000c generic_cache_of
+    ∷ pattern 0xeff0 0x0010 tlb_of
+    ∷ pattern 0xef80 0x0080 memory_of
+    ∷ pattern 0xef00 0x0100 cache_of
+    ∷ pattern 0xe800 0x0800 bus_of
+    ∷ []
+
+-- the table; 0E0Bh stands before the bus form, whose pattern it fits too
+abbrev pub code_rows : List Row
+code_rows = simple_rows ++ compound_rows
+
+-- a code by the first of the rows that it fits, or Other where it fits none
+abbrev pub reading : List Row → ℕ → Code
+reading rows code = option_map_or (read_by code) (find (fits code) rows) Other
+
+-- what a code says
+abbrev pub code_of_rows : ℕ → Code
+code_of_rows code = reading code_rows code
+
+-- how many rows a code fits
+abbrev pub rows_fitted : ℕ → ℕ
+rows_fitted code = count_by (fits code) code_rows
+
+-- raw fields that their subfields can hold: what a text is defined for
+abbrev pub HasFieldsInRange : Code → Type 0
+HasFieldsInRange (GenericCache ll filter) = ll < 4
+HasFieldsInRange (Tlb tt ll filter) = (tt < 4) × (ll < 4)
+HasFieldsInRange (Memory mmm channel filter) = (mmm < 8) × (channel < 16)
+HasFieldsInRange (Cache rrrr tt ll filter) = (rrrr < 16) × (tt < 4) × (ll < 4)
+HasFieldsInRange (Bus pp t rrrr ii ll filter) = (pp < 4) × (t < 2) × (rrrr < 16) × (ii < 4) × (ll < 4)
+HasFieldsInRange _ = ⊤
+
+-- the filter that an answer tells; a simple code has none
+abbrev pub filter_of : Code → Bool
+filter_of (GenericCache ll filter) = filter
+filter_of (Tlb tt ll filter) = filter
+filter_of (Memory mmm channel filter) = filter
+filter_of (Cache rrrr tt ll filter) = filter
+filter_of (Bus pp t rrrr ii ll filter) = filter
+filter_of _ = false
