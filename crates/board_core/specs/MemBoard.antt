@@ -33,6 +33,11 @@ pub record FailsAsChosen {T E : Type 0} (old new : State) (result : Result T E) 
   pub chosen : IsTrue (fails_next old) → IsErr result
   pub starved : old.starved < new.starved → IsErr result
 
+-- The calls are numbered on, and the chosen ones stay.
+pub record CountsCall (old new : State) : Type 0 where
+  pub made : new.made ≡ counted old.made
+  pub fails : new.fails ≡ old.fails
+
 -- a call that went well and leaves this told
 abbrev pub Counts : Told → State → State → Type 0
 Counts told old new = new ≡ record old { told = told; made = counted old.made }

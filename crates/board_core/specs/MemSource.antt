@@ -1,5 +1,5 @@
 -- What a source in memory is: the bytes left, and which calls fail.
-use Rattle.std.specs.Prelude.{ℕ, ◌+◌, ◌-◌, ◌^◌, min, Bool, List, nat_eq}
+use Rattle.std.specs.Prelude.{◌≡◌, ℕ, ◌+◌, ◌-◌, ◌^◌, min, Bool, List, nat_eq}
 use Rattle.std.specs.List.{list_any}
 
 pub record Reading : Type 0 where
@@ -20,3 +20,9 @@ is_chosen call fails = list_any (λ fail. nat_eq fail call) fails
 -- whether the next call was chosen to fail
 abbrev pub fails_next : Reading → Bool
 fails_next s = is_chosen (counted s.made) s.fails
+
+-- The reads are numbered on, and the chosen ones and the pieces stay.
+pub record CountsRead (old new : Reading) : Type 0 where
+  pub made : new.made ≡ counted old.made
+  pub fails : new.fails ≡ old.fails
+  pub piece : new.piece ≡ old.piece

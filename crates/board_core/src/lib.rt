@@ -14,3 +14,6 @@ pub use board::{Board, DiskCall, FileNo};
 pub use mem_board::MemBoard;
 pub use mem_source::MemSource;
 pub use source::{Failed, Source};
+
+#[cfg(test)]
+mod tests;

@@ -3,7 +3,7 @@ ghost use Rattle.std.specs.Prelude.{◌≡◌, ℕ, ◌+◌, ◌≤◌, ◌++◌
 ghost use Rattle.board_core.specs.declared.board.DiskCall.TheVariants.{Size, ReadAt, WriteAt, Sync};
 ghost use Rattle.board_core.specs.Cause.{HasCause};
 ghost use Rattle.board_core.specs.MemSource.{counted};
-ghost use Rattle.board_core.specs.MemBoard.{empty, fails_next, FailsAsChosen, Counts, FailsDisk};
+ghost use Rattle.board_core.specs.MemBoard.{empty, fails_next, FailsAsChosen, CountsCall, Counts, FailsDisk};
 ghost use Rattle.board_core.specs.Told.{Told, Steps, Relates, Reads, MayList, FailsWrite, FailsPrint, file_of, with_file, overlaid, called, written, printed};
 
 use crate::{Board, DiskCall, Failed, FileNo};
@@ -173,6 +173,7 @@ impl Board for MemBoard {
         ensures cause { HasCause self.old.disk_faults self.new.disk_faults result }
         ensures print { self.new.print_faults ≡ self.old.print_faults }
         ensures exact { FailsAsChosen self.old self.new result }
+        ensures counted { CountsCall self.old self.new }
     {
         self.begin(DiskCall::Size(file))?;
         Ok(self.file(file).len() as u64)
@@ -186,6 +187,7 @@ impl Board for MemBoard {
         ensures cause { HasCause self.old.disk_faults self.new.disk_faults result }
         ensures print { self.new.print_faults ≡ self.old.print_faults }
         ensures exact { FailsAsChosen self.old self.new result }
+        ensures counted { CountsCall self.old self.new }
     {
         self.begin(DiskCall::ReadAt(file, place, buf.len() as u64))?;
         Ok(copy_from(self.file(file), place as usize, buf))
@@ -198,6 +200,7 @@ impl Board for MemBoard {
         ensures cause { HasCause self.old.disk_faults self.new.disk_faults result }
         ensures print { self.new.print_faults ≡ self.old.print_faults }
         ensures exact { FailsAsChosen self.old self.new result }
+        ensures counted { CountsCall self.old self.new }
         // A write that failed has written nothing.
         ensures kept { OnErr result (MayList (WriteAt file place (length bytes.now)) self.old.told self.new.told) }
     {
@@ -220,6 +223,7 @@ impl Board for MemBoard {
         ensures cause { HasCause self.old.disk_faults self.new.disk_faults result }
         ensures print { self.new.print_faults ≡ self.old.print_faults }
         ensures exact { FailsAsChosen self.old self.new result }
+        ensures counted { CountsCall self.old self.new }
     {
         self.begin(DiskCall::Sync(file))
     }
@@ -230,6 +234,7 @@ impl Board for MemBoard {
         ensures cause { HasCause self.old.print_faults self.new.print_faults result }
         ensures disk { self.new.disk_faults ≡ self.old.disk_faults }
         ensures exact { FailsAsChosen self.old self.new result }
+        ensures counted { CountsCall self.old self.new }
         // A print that failed has printed nothing.
         ensures kept { OnErr result (self.new.told ≡ self.old.told) }
     {

@@ -2,7 +2,7 @@
 ghost use Rattle.std.specs.Prelude.{◌≡◌, ℕ, ◌+◌, ◌<◌, ◌≤◌, ◌↔◌, [], drop, length, min, Some, IfOk, IsErr, OnErr, IsTrue};
 ghost use Rattle.board_core.specs.Cause.{HasCause, Rose};
 ghost use Rattle.board_core.specs.Left.{Takes};
-ghost use Rattle.board_core.specs.MemSource.{Reading, fails_next};
+ghost use Rattle.board_core.specs.MemSource.{Reading, CountsRead, fails_next};
 
 use crate::{Failed, Source};
 use std::marker::Model;
@@ -63,6 +63,7 @@ impl Source for MemSource {
         ensures piece { IfOk result (λ n. n ≡ min self.old.piece (min (length buf.old) (length self.old.left))) }
         // It fails exactly at the calls that were chosen.
         ensures chosen { IsErr result ↔ IsTrue (fails_next self.old) }
+        ensures counted { CountsRead self.old self.new }
     {
         self.made = self.made.saturating_add(1);
         if self.fails.contains(&self.made) {

@@ -5,14 +5,14 @@ use Rattle.std.proofs.lemmas.Map.Keys.{IsDistinct-push}
 use Rattle.std.proofs.lemmas.List.Sums.{fold-append}
 use Rattle.std.proofs.lemmas.List.Folds.{list_any-append}
 use Rattle.std.proofs.Math.Bool.{or-false}
-use Rattle.std.proofs.lemmas.List.{length-take-le}
-use Rattle.std.proofs.Math.Seq.{take-suc, take-append_seam, drop-append_seam}
+use Rattle.std.proofs.lemmas.List.{length-take-le, append_cancel_left}
+use Rattle.std.proofs.Math.Seq.{take-suc, drop-cons, take-append_seam, drop-append_seam}
 use Rattle.indexmap.specs.IndexSet.{insert_key, insert_all}
 use Rattle.ras_account.specs.declared.name.Name.{Name}
 use Rattle.ras_account.specs.declared.entry.Entry.{Entry}
 use Rattle.ras_account.specs.declared.entry.Entry.TheVariants.{Fact}
 use Rattle.ras_account.specs.Fresh.{name_in, names_in, same_name}
-use Rattle.ras_account.specs.Account.{State, is_fresh_in, counts, continued, continued_all, added_by}
+use Rattle.ras_account.specs.Account.{State, is_fresh_in, with_entry, continued, continued_all, added_by, IsWithin}
 use Rattle.ras_account.specs.View.{View}
 use Rattle.ras_base.specs.Prefix.{IsPrefixOf}
 use Rattle.ras_account.specs.Growth.{brings, GrowsBy}
@@ -26,14 +26,14 @@ names-continued_all a (Fact fact ∷ entries) =
     names-continued_all (continued a (Fact fact)) entries
     ∙ ap (λ names. insert_all same_name names (names_in entries)) (by (list_any (same_name fact.name) a.names))
   where
-    by : (b : Bool) → (if not b then counts a (Fact fact) else a).names ≡ (if b then a.names else a.names ++ fact.name ∷ [])
+    by : (b : Bool) → (if not b then with_entry a (Fact fact) else a).names ≡ (if b then a.names else a.names ++ fact.name ∷ [])
     by true = refl
     by false = refl
 
 pub once-continued : (a : State) (e : Entry) → IsDistinct same_name a.names → IsDistinct same_name (continued a e).names
 once-continued a (Fact fact) once = by (list_any (same_name fact.name) a.names) refl
   where
-    by : (b : Bool) → list_any (same_name fact.name) a.names ≡ b → IsDistinct same_name (if not b then counts a (Fact fact) else a).names
+    by : (b : Bool) → list_any (same_name fact.name) a.names ≡ b → IsDistinct same_name (if not b then with_entry a (Fact fact) else a).names
     by true is = once
     by false is = IsDistinct-push same_name-laws a.names fact.name once is
 
@@ -84,7 +84,7 @@ list_any-continued_all name a (Fact fact ∷ entries) =
     ∙ by (list_any (same_name fact.name) a.names) refl
   where
     by : (b : Bool) → list_any (same_name fact.name) a.names ≡ b
-        → (list_any (same_name name) (if not b then counts a (Fact fact) else a).names || list_any (brings name) entries) ≡ (list_any (same_name name) a.names || (same_name name fact.name || list_any (brings name) entries))
+        → (list_any (same_name name) (if not b then with_entry a (Fact fact) else a).names || list_any (brings name) entries) ≡ (list_any (same_name name) a.names || (same_name name fact.name || list_any (brings name) entries))
     by true is = known_or (list_any (same_name name) a.names) (same_name name fact.name) _
         (λ same. subst (λ n. list_any (same_name n) a.names ≡ true) (sym (same_name-exact name fact.name same)) is)
     by false is = ap (λ b. b || list_any (brings name) entries) (list_any-append (same_name name) a.names (fact.name ∷ []))
@@ -104,13 +104,13 @@ is_fresh_in-continued_all a entries (Fact fact) name is =
 
 -- one entry more is counted where it is fresh
 pub grows_more : (n : ℕ) (old a : State) (e : Entry) → is_fresh_in a e ≡ true → GrowsBy n old a → GrowsBy (n + 1) old (continued a e)
-grows_more n old a (Fact fact) fresh grown = subst (λ b. GrowsBy (n + 1) old (if b then counts a (Fact fact) else a)) (sym fresh) (record {
+grows_more n old a (Fact fact) fresh grown = subst (λ b. GrowsBy (n + 1) old (if b then with_entry a (Fact fact) else a)) (sym fresh) (record {
   names = omega (arith, grown.names, length-append a.names (fact.name ∷ []));
   entries = omega (arith, grown.entries);
 })
 
 pub grows_same : (n : ℕ) (old a : State) (e : Entry) → is_fresh_in a e ≡ false → GrowsBy n old a → GrowsBy n old (continued a e)
-grows_same n old a e repeat grown = subst (λ b. GrowsBy n old (if b then counts a e else a)) (sym repeat) grown
+grows_same n old a e repeat grown = subst (λ b. GrowsBy n old (if b then with_entry a e else a)) (sym repeat) grown
 
 -- so by at most as many as there are
 pub growth : (a : State) (entries : List Entry) → (n : ℕ) × (n ≤ length entries) × GrowsBy n a (continued_all a entries)
@@ -169,7 +169,7 @@ takes_here : (counted : ℕ) (keys : List Name) (entries : ℕ) (e : Entry)
     × (drop counted keys ≡ added_by (viewed counted keys entries).state (e ∷ []) ++ drop (counted + 1) keys)
 takes_here counted keys entries (Fact fact) fresh (rest, starts) =
     let a : State = (viewed counted keys entries).state in
-    let goes : continued a (Fact fact) ≡ counts a (Fact fact) = ap (λ b. if b then counts a (Fact fact) else a) fresh in
+    let goes : continued a (Fact fact) ≡ with_entry a (Fact fact) = ap (λ b. if b then with_entry a (Fact fact) else a) fresh in
     let adds : added_by a (Fact fact ∷ []) ≡ fact.name ∷ [] = ap (λ (s : State). drop (length a.names) s.names) goes ∙ drop-append_seam a.names (fact.name ∷ []) in
     let next : (take (suc counted) keys ≡ take counted keys ++ fact.name ∷ []) × (drop (suc counted) keys ≡ rest) = split_next counted keys fact.name rest (sym starts ∙ ap (λ names. names ++ rest) adds) in
     let names : take (counted + 1) keys ≡ take counted keys ++ fact.name ∷ [] = ap (λ n. take n keys) (add-one counted) ∙ next.0 in
@@ -203,3 +203,66 @@ reserves counted keys before after a entries first are cut inserted =
       names = ap (λ n. take n after) count ∙ ap (take (length a.names)) joined ∙ take-append_seam a.names behind.0;
       waiting = ap (λ n. drop n after) count ∙ ap (drop (length a.names)) (added ∙ sym (names-continued_all a entries));
     }
+
+-- what one entry adds stands in front of what those behind it add
+pub names-continued : (a : State) (e : Entry) → (rest : List Name) × ((continued a e).names ≡ a.names ++ rest)
+names-continued a e = by (is_fresh_in a e)
+  where
+    by : (b : Bool) → (rest : List Name) × ((if b then with_entry a e else a).names ≡ a.names ++ rest)
+    by true = (names_in (e ∷ []), refl)
+    by false = ([], sym (append-nil a.names))
+
+pub added_by-cons : (a : State) (e : Entry) (entries : List Entry) → added_by a (e ∷ entries) ≡ added_by a (e ∷ []) ++ added_by (continued a e) entries
+added_by-cons a e entries =
+    let b : State = continued a e in
+    let one : (rest : List Name) × (b.names ≡ a.names ++ rest) = names-continued a e in
+    let others : (rest : List Name) × (insert_all same_name b.names (names_in entries) ≡ b.names ++ rest) = insert_all-behind b.names (names_in entries) in
+    let all : (continued_all b entries).names ≡ b.names ++ others.0 = names-continued_all b entries ∙ others.1 in
+    let adds_one : added_by a (e ∷ []) ≡ one.0 = ap (drop (length a.names)) one.1 ∙ drop-append_seam a.names one.0 in
+    let adds_others : added_by b entries ≡ others.0 = ap (drop (length b.names)) all ∙ drop-append_seam b.names others.0 in
+    let adds : added_by a (e ∷ entries) ≡ one.0 ++ others.0 =
+    ap (drop (length a.names)) (all ∙ ap (λ names. names ++ others.0) one.1 ∙ append_assoc a.names one.0 others.0) ∙ drop-append_seam a.names (one.0 ++ others.0) in
+    adds ∙ (λ i. sym adds_one i ++ sym adds_others i)
+
+-- an account that is within the limits with more entries is within them
+pub IsWithin-continued_all : (a : State) (entries : List Entry) → IsWithin (continued_all a entries) → IsWithin a
+IsWithin-continued_all a entries within =
+    let grown : (n : ℕ) × (n ≤ length entries) × GrowsBy n a (continued_all a entries) = growth a entries in
+    record { names = omega (arith, within.names, grown.2.names); entries = omega (arith, within.entries, grown.2.entries) }
+
+-- the first entry of what was reserved can be taken
+pub waits_first : (v : View) (e : Entry) (entries : List Entry) → v.waiting ≡ added_by v.state (e ∷ entries) → IsPrefixOf (added_by v.state (e ∷ [])) v.waiting
+waits_first v e entries waits = (added_by (continued v.state e) entries, sym (waits ∙ added_by-cons v.state e entries))
+
+-- the entries from a place on: the one there, and those behind it
+pub drop-next : (entries : List Entry) (i : ℕ) (d : Entry) → i < length entries → drop i entries ≡ get_or entries i d ∷ drop (i + 1) entries
+drop-next entries i d within = drop-cons entries i d within ∙ ap (λ n. get_or entries i d ∷ drop n entries) (sym (add-one i))
+
+-- the state of a run over a list that was reserved: the entries before place i were taken, the others wait
+pub record TakesInTurn (start : State) (v : View) (entries : List Entry) (i : ℕ) : Type 0 where
+  pub state : v.state ≡ continued_all start (take i entries)
+  pub waiting : v.waiting ≡ added_by v.state (drop i entries)
+  pub within : IsWithin (continued_all v.state (drop i entries))
+
+module _ (start : State) (old : View) (entries : List Entry) (i : ℕ) (d : Entry) (there : i < length entries) (turn : TakesInTurn start old entries i) where
+  waits_so : old.waiting ≡ added_by old.state (get_or entries i d ∷ drop (i + 1) entries)
+  waits_so = turn.waiting ∙ ap (added_by old.state) (drop-next entries i d there)
+
+  within_so : IsWithin (continued_all (continued old.state (get_or entries i d)) (drop (i + 1) entries))
+  within_so = subst (λ es. IsWithin (continued_all old.state es)) (drop-next entries i d there) turn.within
+
+  pub turn_waits : IsPrefixOf (added_by old.state (get_or entries i d ∷ [])) old.waiting
+  turn_waits = waits_first old (get_or entries i d) (drop (i + 1) entries) waits_so
+
+  pub turn_within : IsWithin (continued old.state (get_or entries i d))
+  turn_within = IsWithin-continued_all _ (drop (i + 1) entries) within_so
+
+  pub turn_next : (new : View) → new.state ≡ continued old.state (get_or entries i d) → old.waiting ≡ added_by old.state (get_or entries i d ∷ []) ++ new.waiting → TakesInTurn start new entries (i + 1)
+  turn_next new taken waits = record {
+    state = taken ∙ ap (λ a. continued a (get_or entries i d)) turn.state ∙ sym (continued_all-more start entries i d there);
+    waiting =
+        append_cancel_left (added_by old.state (get_or entries i d ∷ [])) new.waiting (added_by (continued old.state (get_or entries i d)) (drop (i + 1) entries))
+        (sym waits ∙ waits_so ∙ added_by-cons old.state (get_or entries i d) (drop (i + 1) entries))
+        ∙ ap (λ a. added_by a (drop (i + 1) entries)) (sym taken);
+    within = subst (λ a. IsWithin (continued_all a (drop (i + 1) entries))) (sym taken) within_so;
+  }

@@ -11,7 +11,7 @@ use Rattle.ras_account.specs.declared.entry.Entry.{Entry}
 use Rattle.ras_account.specs.declared.entry.Entry.TheVariants.{Fact}
 use Rattle.ras_account.specs.declared.entry.Fact.{Fact as Report}
 use Rattle.ras_account.specs.Fresh.{name_in, names_in, same_name, is_fresh_behind, fresh}
-use Rattle.ras_account.specs.Account.{State, account_of, is_fresh_in, counts, continued, continued_all}
+use Rattle.ras_account.specs.Account.{State, account_of, is_fresh_in, with_entry, continued, continued_all}
 use Rattle.ras_account.proofs.NameLemmas.{same_name-exact}
 
 pub names_in-append : (xs ys : List Entry) → names_in (xs ++ ys) ≡ names_in xs ++ names_in ys
@@ -98,8 +98,8 @@ account_of-snoc h e = by (is_fresh_behind h e) refl
     grown : (b : Bool) → is_fresh_behind h e ≡ b → fresh (h ++ e ∷ []) ≡ fresh h ++ (if b then e ∷ [] else [])
     grown b is = fresh-snoc h e ∙ ap (λ c. fresh h ++ (if c then e ∷ [] else [])) is
 
-    goes_on : (b : Bool) → is_fresh_behind h e ≡ b → continued (account_of h) e ≡ (if b then counts (account_of h) e else account_of h)
-    goes_on b is = ap (λ c. if c then counts (account_of h) e else account_of h) (is_fresh_in-account_of h e ∙ is)
+    goes_on : (b : Bool) → is_fresh_behind h e ≡ b → continued (account_of h) e ≡ (if b then with_entry (account_of h) e else account_of h)
+    goes_on b is = ap (λ c. if c then with_entry (account_of h) e else account_of h) (is_fresh_in-account_of h e ∙ is)
 
     by : (b : Bool) → is_fresh_behind h e ≡ b → account_of (h ++ e ∷ []) ≡ continued (account_of h) e
     by true is = ap summed (grown true is) ∙ (λ i. record { names = names_in-append (fresh h) (e ∷ []) i; entries = length-append (fresh h) (e ∷ []) i }) ∙ sym (goes_on true is)
@@ -111,3 +111,8 @@ account_of-append h (e ∷ es) =
     ap account_of (sym (append_assoc h (e ∷ []) es))
     ∙ account_of-append (h ++ e ∷ []) es
     ∙ ap (λ a. continued_all a es) (account_of-snoc h e)
+
+-- what isn't fresh leaves the account as it is
+pub account_of-repeat : (a : State) (h : List Entry) (e : Entry) → a ≡ account_of h → is_fresh_in a e ≡ false → a ≡ account_of (h ++ e ∷ [])
+account_of-repeat a h e is repeat =
+    sym (ap (λ b. if b then with_entry a e else a) repeat) ∙ ap (λ s. continued s e) is ∙ sym (account_of-snoc h e)

@@ -19,13 +19,13 @@ account_of history = record { names = names_in (fresh history); entries = length
 abbrev pub is_fresh_in : State → Entry → Bool
 is_fresh_in a (Fact fact) = not (list_any (same_name fact.name) a.names)
 
--- an account that counts an entry
-abbrev pub counts : State → Entry → State
-counts a entry = record { names = a.names ++ names_in (entry ∷ []); entries = a.entries + 1 }
+-- an account with one entry more, which is fresh
+abbrev pub with_entry : State → Entry → State
+with_entry a entry = record { names = a.names ++ names_in (entry ∷ []); entries = a.entries + 1 }
 
 -- an account continued by an entry: it counts the entry where it is fresh, and else stays
 abbrev pub continued : State → Entry → State
-continued a entry = if is_fresh_in a entry then counts a entry else a
+continued a entry = if is_fresh_in a entry then with_entry a entry else a
 
 -- an account continued by each entry of a list in order
 abbrev pub continued_all : State → List Entry → State

@@ -63,6 +63,7 @@ impl Account {
     pub fn is_fresh(&self, entry: &Entry) -> bool
         ensures fresh { result ≡ is_fresh_in self.now.state entry.now }
         ensures history { (history : List Entry) → self.now.state ≡ account_of history → result ≡ is_fresh_behind history entry.now }
+        ensures repeat { (history : List Entry) → self.now.state ≡ account_of history → IsFalse result → self.now.state ≡ account_of (history ++ entry.now ∷ []) }
     {
         match entry {
             Entry::Fact(fact) => !self.holds(&fact.name),
@@ -111,14 +112,16 @@ impl Account {
 
     /// How many entries are counted.
     pub fn entries(&self) -> u64
-        ensures { result ≡ self.now.state.entries }
+        ensures count { result ≡ self.now.state.entries }
+        ensures within { IsWithin self.now.state }
     {
         self.entries
     }
 
     /// How many names are counted.
     pub fn names_len(&self) -> usize
-        ensures { result ≡ length self.now.state.names }
+        ensures count { result ≡ length self.now.state.names }
+        ensures within { IsWithin self.now.state }
     {
         self.counted
     }

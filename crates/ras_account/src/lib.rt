@@ -12,6 +12,9 @@ mod reserve;
 
 pub use account::{Account, MOST_ENTRIES, MOST_NAMES};
 pub use entry::{Entry, Fact};
-pub use laws::account_laws;
+pub use laws::{account_laws, reserve_laws};
 pub use name::Name;
 pub use reserve::ReserveRefused;
+
+#[cfg(test)]
+mod tests;

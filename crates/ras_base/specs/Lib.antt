@@ -1,4 +1,5 @@
 pub mod Places
 pub mod PlacesLaws
 pub mod Prefix
+pub mod PrefixLaws
 pub mod LittleEndian

@@ -2,13 +2,19 @@ use Rattle.std.proofs.Common.{[], ap, sym, subst, ◌∙◌}
 use Rattle.ras_account.specs.Account.{account_of, continued_all}
 use Rattle.ras_account.specs.Fresh.{names_in, fresh, same_name}
 use Rattle.std.specs.List.{IsDistinct}
-use Rattle.ras_account.proofs.FreshLemmas.{account_of-snoc, account_of-append, among_fresh}
+use Rattle.ras_account.proofs.FreshLemmas.{account_of-snoc, account_of-append, fresh-snoc, among_fresh}
 use Rattle.ras_account.proofs.AccountLemmas.{once-continued_all}
 use Rattle.ras_account.proofs.NameLemmas.{found, IsDistinct-nil}
 use Rattle.ras_account.proofs.laws.account_laws.Goals as goal
 
 pub returns-clause-appended : goal.returns-clause-appended
 returns-clause-appended c = account_of-snoc
+
+pub returns-clause-all_appended : goal.returns-clause-all_appended
+returns-clause-all_appended c = account_of-append
+
+pub returns-clause-grows : goal.returns-clause-grows
+returns-clause-grows c = fresh-snoc
 
 pub returns-clause-held : goal.returns-clause-held
 returns-clause-held c = λ history name. (
