@@ -10,7 +10,7 @@ mod words;
 
 pub use codes::{Code, code_of};
 pub use marks::{Mark, mark_of};
-pub use texts::{NoMemory, Text, code_text};
+pub use texts::{Text, code_text};
 
 #[cfg(test)]
 mod tests;

@@ -6,24 +6,9 @@ ghost use Rattle.mca_codes.specs.Texts.{text_of, compound_text, IsWord};
 
 use crate::codes::Code;
 use crate::words;
-use std::alloc::{AllocError, AllocFailed, Global};
+use ras_base::NoMemory;
+use std::alloc::{AllocError, Global};
 use std::marker::Model;
-
-/// The allocator had no memory left.
-#[derive(Clone, Copy, Debug, PartialEq, Eq)]
-pub struct NoMemory;
-
-impl From<AllocError> for NoMemory {
-    fn from(_error: AllocError) -> Self {
-        NoMemory
-    }
-}
-
-impl<T: Drop> From<AllocFailed<T>> for NoMemory {
-    fn from(_error: AllocFailed<T>) -> Self {
-        NoMemory
-    }
-}
 
 /// A text to print, which contracts see as the list of its bytes.
 #[derive(Debug, Drop)]

@@ -8,7 +8,7 @@ use Rattle.ras_account.specs.declared.name.Name.{Name}
 use Rattle.ras_account.specs.declared.name.Name.TheVariants.{Bank}
 use Rattle.ras_account.specs.declared.entry.Entry.{Entry}
 use Rattle.ras_account.specs.declared.entry.Entry.TheVariants.{Fact}
-use Rattle.ras_account.specs.Account.{State, account_of, continued, continued_all, counts, is_fresh_in, IsWithin, IsPast, most_names, most_entries}
+use Rattle.ras_account.specs.Account.{State, account_of, continued, continued_all, is_fresh_in, IsWithin, IsPast, most_names, most_entries}
 use Rattle.ras_account.specs.Fresh.{fresh, is_fresh_behind}
 use Rattle.ras_account.proofs.FreshLemmas.{account_of-snoc, account_of-append}
 use Rattle.ras_daemon.specs.declared.event.FreshEntry.{FreshEntry}
@@ -38,9 +38,6 @@ room_for before entry state is within = ap is_past (more_account before entry st
 no_room_for : (before entries : List Entry) (state : State) → state ≡ account_of before → IsPast (continued_all state entries) → is_past (account_of (before ++ entries)) ≡ true
 no_room_for before entries state is past =
     ap is_past (account_of-append before entries ∙ ap (λ a. continued_all a entries) (sym is)) ∙ no_room-past (continued_all state entries) past
-
-continued-fresh : (state : State) (entry : Entry) → is_fresh_in state entry ≡ true → continued state entry ≡ counts state entry
-continued-fresh state entry is = rw is refl
 
 continued-repeat : (state : State) (entry : Entry) → is_fresh_in state entry ≡ false → continued state entry ≡ state
 continued-repeat state entry is = rw is refl

@@ -10,8 +10,8 @@ returns-in-Ok-clause-takes g c =
     run_ends (reads_of c.args.script.now) _ _ _ c.take_lines.new.account.state c.deref.result.now c.last_line.result c.in_default.ensures.takes
     (c.deref.ensures.value
     ∙ c.in-Ok.ensures
-    ∙ ap (λ n. end_text n c.names_len.result) c.entries.ensures
-    ∙ ap (λ n. end_text c.take_lines.new.account.state.entries n) c.names_len.ensures)
+    ∙ ap (λ n. end_text n c.names_len.result) c.entries.ensures.count
+    ∙ ap (λ n. end_text c.take_lines.new.account.state.entries n) c.names_len.ensures.count)
     c.last_line.ensures.takes
 
 pub returns-in-Err-clause-listed : goal.returns-in-Err-clause-listed
