@@ -1,6 +1,8 @@
 // Standard input as a source.
-ghost use Rattle.std.specs.Prelude.{◌≡◌, None};
+ghost use Rattle.std.specs.Prelude.{◌≡◌, ◌≢◌, None, IfErr};
 ghost use Rattle.std.specs.Io.{ReadsAtMost};
+ghost use Rattle.std.specs.Io.KnownBytes.{ReadConsumes};
+ghost use Rattle.std.specs.IoError.{error_kind};
 
 use crate::counted::counted;
 use crate::streams::{closed, if_open};
@@ -55,15 +57,18 @@ fn read_input(input: Option<Stdin>, buf: &mut [u8]) -> io::Result<usize>
     read_retrying(&mut input, buf)
 }
 
-// A read that a signal interrupted has taken nothing, and is made again.
-pub fn read_retrying(input: &mut impl Read, buf: &mut [u8]) -> io::Result<usize>
-    ensures { ReadsAtMost result buf.new }
+// One read. Where a signal interrupted it, it has taken nothing and is made again.
+pub fn read_retrying<R: Read>(reader: &mut R, buf: &mut [u8]) -> io::Result<usize>
+    ensures within { ReadsAtMost result buf.new }
+    ensures taken { ReadConsumes (R.remaining reader.old) (R.remaining reader.new) result buf.new }
+    ensures goes_on { IfErr result (λ error. error_kind error ≢ ErrorKind.Interrupted) }
 {
     for _ in 0..u64::MAX {
-        match input.read(buf) {
-            Err(e) if e.kind() == ErrorKind::Interrupted => {}
-            answer => return answer,
+        match reader.read(buf) {
+            Ok(count) => return Ok(count),
+            Err(error) if error.kind() == ErrorKind::Interrupted => {}
+            Err(error) => return Err(error),
         }
     }
-    Err(io::Error::from(ErrorKind::Interrupted))
+    Err(io::Error::from(ErrorKind::TimedOut))
 }
