@@ -13,9 +13,11 @@ use file_board::FileBoard;
 use file_source::FileSource;
 use ras_base::NoMemory;
 use ras_daemon::{Exit, RasWord, rasd};
-use std::env;
-use std::io::ErrorKind;
+use std::env::{Env, FillError};
 use std::process::ExitCode;
+
+// No word of a form of a call is longer.
+const LONGEST_WORD: usize = 64;
 
 fn main(rt: HostRuntime) -> ExitCode {
     let mut source = FileSource::new(rt);
@@ -27,18 +29,26 @@ fn main(rt: HostRuntime) -> ExitCode {
     ExitCode::from(exit.status())
 }
 
-// The program's words without its name. Where one is not UTF-8 they are no form that is listed, and no words stand for
-// them, which are none either.
+// The program's words without its name.
 fn words_of(rt: HostRuntime) -> Result<Vec<RasWord>, NoMemory> {
     let mut words = Vec::new(rt.alloc());
-    match env::args(&rt) {
-        Ok(args) => {
-            for arg in args.skip(1) {
-                words.push(RasWord::new(rt.alloc(), arg.as_bytes())?)?;
-            }
+    for place in 1..usize::MAX {
+        match word_at(rt, place)? {
+            Some(word) => words.push(word)?,
+            None => break,
         }
-        Err(e) if e.kind() == ErrorKind::OutOfMemory => return Err(NoMemory),
-        Err(_) => {}
     }
     Ok(words)
+}
+
+// The word at a place of the command line, where there is one. Of a longer word than `LONGEST_WORD` its first bytes are
+// taken, so many that they too are in no form of a call.
+fn word_at(rt: HostRuntime, place: usize) -> Result<Option<RasWord>, NoMemory> {
+    let mut bytes = [0; LONGEST_WORD];
+    let length = match rt.arg(place, &mut bytes) {
+        Ok(length) => length,
+        Err(FillError::TooLong) => LONGEST_WORD,
+        Err(FillError::NotPresent) => return Ok(None),
+    };
+    Ok(Some(RasWord::new(rt.alloc(), &bytes[..length])?))
 }
