@@ -1,0 +1,54 @@
+//! The program: the daemon over standard input, standard output and the working folder's files.
+#![tactic(auto)]
+
+mod counted;
+mod file_board;
+mod file_source;
+mod folder_file;
+mod streams;
+#[cfg(test)]
+mod tests;
+
+use file_board::FileBoard;
+use file_source::FileSource;
+use ras_base::NoMemory;
+use ras_daemon::{Exit, RasWord, rasd};
+use std::env::{Env, FillError};
+use std::process::ExitCode;
+
+// No word of a form of a call is longer.
+const LONGEST_WORD: usize = 64;
+
+fn main(rt: HostRuntime) -> ExitCode {
+    let mut source = FileSource::new(rt);
+    let mut board = FileBoard::new(rt);
+    let exit = match words_of(rt) {
+        Ok(words) => rasd(rt.alloc(), &words, &mut source, &mut board),
+        Err(NoMemory) => Exit::NoMemory,
+    };
+    ExitCode::from(exit.status())
+}
+
+// The program's words without its name.
+fn words_of(rt: HostRuntime) -> Result<Vec<RasWord>, NoMemory> {
+    let mut words = Vec::new(rt.alloc());
+    for place in 1..usize::MAX {
+        match word_at(rt, place)? {
+            Some(word) => words.push(word)?,
+            None => break,
+        }
+    }
+    Ok(words)
+}
+
+// The word at a place of the command line, where there is one. Of a longer word than `LONGEST_WORD` its first bytes are
+// taken, so many that they too are in no form of a call.
+fn word_at(rt: HostRuntime, place: usize) -> Result<Option<RasWord>, NoMemory> {
+    let mut bytes = [0; LONGEST_WORD];
+    let length = match rt.arg(place, &mut bytes) {
+        Ok(length) => length,
+        Err(FillError::TooLong) => LONGEST_WORD,
+        Err(FillError::NotPresent) => return Ok(None),
+    };
+    Ok(Some(RasWord::new(rt.alloc(), &bytes[..length])?))
+}
