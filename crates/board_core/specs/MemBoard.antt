@@ -1,5 +1,5 @@
 -- What a board in memory is: all that it tells, and which calls fail.
-use Rattle.std.specs.Prelude.{◌≡◌, ℕ, ◌<◌, ◌⊎◌, Bool, List, [], IsTrue, Result, IsErr}
+use Rattle.std.specs.Prelude.{◌≡◌, ℕ, ◌<◌, ◌≤◌, ◌⊎◌, Bool, List, [], IsTrue, Result, IsErr}
 use Rattle.board_core.specs.declared.board.DiskCall.{DiskCall}
 use Rattle.board_core.specs.Cause.{Rose}
 use Rattle.board_core.specs.MemSource.{counted, is_chosen}
@@ -33,10 +33,11 @@ pub record FailsAsChosen {T E : Type 0} (old new : State) (result : Result T E) 
   pub chosen : IsTrue (fails_next old) → IsErr result
   pub starved : old.starved < new.starved → IsErr result
 
--- The calls are numbered on, and the chosen ones stay.
+-- The calls are numbered on, the chosen ones stay, and the number of refused growths never falls.
 pub record CountsCall (old new : State) : Type 0 where
   pub made : new.made ≡ counted old.made
   pub fails : new.fails ≡ old.fails
+  pub starved : old.starved ≤ new.starved
 
 -- a call that went well and leaves this told
 abbrev pub Counts : Told → State → State → Type 0

@@ -125,6 +125,7 @@ impl MemBoard {
     fn begin(&mut self, call: DiskCall) -> Result<(), Failed>
         ensures ok { OnOk result (Counts (called call self.old.told) self.old self.new) }
         ensures err { OnErr result (FailsDisk call self.old self.new) }
+        ensures counted { CountsCall self.old self.new }
         ensures cause { HasCause self.old.disk_faults self.new.disk_faults result }
         ensures exact { FailsAsChosen self.old self.new result }
     {

@@ -1,4 +1,4 @@
--- How an account grows, for clauses of functions that are not public: it only carries proofs.
+-- How an account grows, for clauses of functions that are not public. It only carries proofs.
 use Rattle.std.specs.Prelude.{◌≡◌, ℕ, ◌+◌, Bool, length}
 use Rattle.ras_account.specs.declared.name.Name.{Name}
 use Rattle.ras_account.specs.declared.entry.Entry.{Entry}

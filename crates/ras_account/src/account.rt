@@ -34,7 +34,8 @@ pub struct Account {
 
 impl Model for Account {
     ghost use Rattle.std.specs.Prelude.{take, drop};
-    ghost use Rattle.ras_account.specs.View.{View, IsKept};
+    ghost use Rattle.ras_account.specs.View.{View};
+    ghost use Rattle.ras_account.specs.Kept.{IsKept};
 
     ghost Value = { View };
 
