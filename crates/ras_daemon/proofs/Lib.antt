@@ -13,3 +13,4 @@ pub mod StoredLaws
 pub mod EndLaws
 pub mod NumberLaws
 pub mod LineTexts
+pub mod ReportLaws

@@ -4,6 +4,7 @@
 mod daemon;
 mod event;
 mod exit;
+mod laws;
 mod line;
 mod number;
 mod plain_file;
@@ -16,6 +17,7 @@ mod word;
 
 pub use daemon::rasd;
 pub use exit::{Exit, Reason};
+pub use laws::logging_laws;
 pub use line::{
     Line, LineRefused, numbers_are_in_range, read_line, refused_lines_have_words,
     written_lines_are_read,
@@ -23,3 +25,6 @@ pub use line::{
 pub use number::written_numbers_are_read;
 pub use splitting::{lines_are_the_script, spaces_separate_words};
 pub use word::{Command, RasWord, command_of};
+
+#[cfg(test)]
+mod tests;
