@@ -119,6 +119,7 @@ printed-call words script file = by (command_of words) refl
     started : (r : Option Exit) → printed_by (start_course r script).steps ≡ output_after r script
     started (Some exit) = append-nil (stop_line exit)
     started None = printed-lines [] (reads_of script)
+
     by : (c : Option Command) → command_of words ≡ c → printed_by (call_course (command_of words) script file).steps ≡ output_of words script file
     by None is = rw is (append-nil (stop_line Usage))
     by (Some Run) is = rw is (started (start_refusal (Some Run) script file))
@@ -129,6 +130,7 @@ exit-call words script file = by (command_of words) refl
     started : (r : Option Exit) → (start_course r script).exit ≡ unwrap_or r (lines_status (reads_of script))
     started (Some exit) = refl
     started None = exit-lines [] (reads_of script)
+
     by : (c : Option Command) → command_of words ≡ c → (call_course (command_of words) script file).exit ≡ status_of words script file
     by None is = rw is refl
     by (Some Run) is = rw is (started (start_refusal (Some Run) script file))

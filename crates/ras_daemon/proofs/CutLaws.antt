@@ -35,7 +35,7 @@ place_of (d ∷ done) step rest (f ∷ front) back is =
     let same : d ≡ f = cc in
     let tails : done ++ step ∷ rest ≡ front ++ back = cc in
     elim (place_of done step rest front back tails) [
-      inl there ↦ inl (there.0, let e = there.1 in cc)
+      | inl there ↦ inl (there.0, let e = there.1 in cc)
       | inr there ↦ inr (there.0, (let e = there.1 in cc), there.2)
     ]
 
@@ -77,6 +77,7 @@ none_printed before (number, Ok (Bank boot seconds cpu bank tsc cap mcg status a
   where
     entries : List Entry
     entries = made (Bank boot seconds cpu bank tsc cap mcg status addr misc)
+
     by : InFront done step (entries_steps (reports before) (made (Bank boot seconds cpu bank tsc cap mcg status addr misc)))
         ⊎ InBack done step more (entries_steps (reports before) (made (Bank boot seconds cpu bank tsc cap mcg status addr misc))) (text_steps (event_text (reports before) (made (Bank boot seconds cpu bank tsc cap mcg status addr misc))) ++ prints (done_line number) ∷ [])
         → printed_by done ≡ []
@@ -97,11 +98,13 @@ whole_printed before (read ∷ reads) done step rest disk is = by (refusal_at (b
         → (count : ℕ) × (printed_by done ≡ flat_map output_at (take count ((before, read) ∷ unrefused (places_behind (before ++ read ∷ []) reads))))
     found (inl there) ih = (zero, none_printed before read done step there.0 disk there.1)
     found (inr there) ih =
-        let later = ih there.0 step rest disk there.2 in
-        (suc later.0,
-        ap printed_by there.1 ∙ printed-append (read_steps before read) there.0
-        ∙ ap (λ text. text ++ printed_by there.0) (printed-read before read)
-        ∙ ap (λ text. output_at (before, read) ++ text) later.1)
+        let later = ih there.0 step rest disk there.2 in (
+          suc later.0,
+          ap printed_by there.1 ∙ printed-append (read_steps before read) there.0
+              ∙ ap (λ text. text ++ printed_by there.0) (printed-read before read)
+              ∙ ap (λ text. output_at (before, read) ++ text) later.1,
+        )
+
     by : (r : Option Exit) → refusal_at (before, read) ≡ r
         → ((later : List Step) (s : Step) (more : List Step) → IsDisk s → later ++ s ∷ more ≡ (lines_course (before ++ read ∷ []) reads).steps
         → (count : ℕ) × (printed_by later ≡ flat_map output_at (take count (unrefused (places_behind (before ++ read ∷ []) reads)))))
@@ -119,9 +122,9 @@ fails-out asks_size old new (inr listed) = ([], ap out_of listed ∙ sym (append
 fails-out syncs old new (inl same) = ([], ap out_of same ∙ sym (append-nil old.out), ([], refl))
 fails-out syncs old new (inr listed) = ([], ap out_of listed ∙ sym (append-nil old.out), ([], refl))
 fails-out (writes place bytes) old new fails = elim fails.2 [
-      inl same ↦ ([], ap out_of same ∙ sym (append-nil old.out), ([], refl))
-      | inr listed ↦ ([], ap out_of listed ∙ sym (append-nil old.out), ([], refl))
-    ]
+  | inl same ↦ ([], ap out_of same ∙ sym (append-nil old.out), ([], refl))
+  | inr listed ↦ ([], ap out_of listed ∙ sym (append-nil old.out), ([], refl))
+]
 fails-out (prints bytes) old new fails = (fails.0, ap out_of fails.3, (fails.1, fails.2))
 
 -- calls that were cut short have printed a beginning of what they print
@@ -130,21 +133,25 @@ pub cut-out : {Kind : Step → Type 0} (steps : List Step) (t : Told) (new : Opt
 cut-out steps t None cut = cut.leaves
 cut-out steps t (Some now) cut =
     let failed = fails-out cut.step (after_all cut.done t) now cut.leaves in
-    let rest = failed.2 in
-    (printed_by cut.done ++ failed.0,
-    (rest.0 ++ printed_by cut.rest,
-    append_assoc (printed_by cut.done) failed.0 (rest.0 ++ printed_by cut.rest)
-    ∙ ap (λ text. printed_by cut.done ++ text) (sym (append_assoc failed.0 rest.0 (printed_by cut.rest)) ∙ ap (λ text. text ++ printed_by cut.rest) rest.1)
-    ∙ sym (printed-append cut.done (cut.step ∷ cut.rest))
-    ∙ ap printed_by cut.splits),
-    failed.1 ∙ ap (λ text. text ++ failed.0) (out-after cut.done t) ∙ append_assoc t.out (printed_by cut.done) failed.0)
+    let rest = failed.2 in (
+      printed_by cut.done ++ failed.0,
+      (
+        rest.0 ++ printed_by cut.rest,
+        append_assoc (printed_by cut.done) failed.0 (rest.0 ++ printed_by cut.rest)
+            ∙ ap (λ text. printed_by cut.done ++ text) (sym (append_assoc failed.0 rest.0 (printed_by cut.rest)) ∙ ap (λ text. text ++ printed_by cut.rest) rest.1)
+            ∙ sym (printed-append cut.done (cut.step ∷ cut.rest))
+            ∙ ap printed_by cut.splits,
+      ),
+      failed.1 ∙ ap (λ text. text ++ failed.0) (out-after cut.done t) ∙ append_assoc t.out (printed_by cut.done) failed.0,
+    )
 
 pub paused-out : (steps : List Step) (t : Told) (new : Option Told) → Paused steps (Some t) new
     → IsSomeAnd new (λ now. PrintsPart (printed_by steps) t.out now.out)
-paused-out steps t new paused = rw paused.leaves
-    (printed_by paused.done,
-    (printed_by paused.rest, sym (printed-append paused.done paused.rest) ∙ ap printed_by paused.splits),
-    out-after paused.done t)
+paused-out steps t new paused = rw paused.leaves (
+  printed_by paused.done,
+  (printed_by paused.rest, sym (printed-append paused.done paused.rest) ∙ ap printed_by paused.splits),
+  out-after paused.done t,
+)
 
 -- before a disk call of a call whole lines are printed
 whole_call : (words : List (List ℕ)) (script file : List ℕ) (done : List Step) (step : Step) (rest : List Step) → IsDisk step → done ++ step ∷ rest ≡ (call_course (command_of words) script file).steps
@@ -154,11 +161,13 @@ whole_call words script file done step rest disk is = by (command_of words) refl
     started : (r : Option Exit) (later : List Step) → later ++ step ∷ rest ≡ (start_course r script).steps → (count : ℕ) × (printed_by later ≡ output_upto (reads_of script) count)
     started (Some exit) later there = absurd (no_disk later step rest (prints (stop_line exit) ∷ []) there (tt, tt) disk)
     started None later there = whole_printed [] (reads_of script) later step rest disk there
+
     found : (r : Option Exit) → InFront done step (asks_size ∷ []) ⊎ InBack done step rest (asks_size ∷ []) (start_course r script).steps → (count : ℕ) × (printed_by done ≡ output_upto (reads_of script) count)
     found r (inl there) = (zero, nil-front (printed_by done) (printed_by (step ∷ there.0)) (sym (printed-append done (step ∷ there.0)) ∙ ap printed_by there.1))
     found r (inr there) =
         let later = started r there.0 there.2 in
         (later.0, ap printed_by there.1 ∙ later.1)
+
     by : (c : Option Command) → command_of words ≡ c → (count : ℕ) × (printed_by done ≡ output_upto (reads_of script) count)
     by None none = absurd (no_disk done step rest (prints (stop_line Usage) ∷ []) (rw none at is) (tt, tt) disk)
     by (Some Run) run = found (start_refusal (Some Run) script file) (place_of done step rest (asks_size ∷ []) (start_course (start_refusal (Some Run) script file) script).steps (rw run at is))

@@ -150,6 +150,7 @@ read-file before read told is = by read ∙ ap (λ es. plain_file (fresh es)) (s
   where
     same : told.file0 ≡ plain_file (fresh (reports before ++ []))
     same = is ∙ ap (λ es. plain_file (fresh es)) (sym (append-nil (reports before)))
+
     by : (r : Read) → (after_all (read_steps before r) told).file0 ≡ plain_file (fresh (reports before ++ made_by r))
     by (number, Err refused) = same
     by (number, Ok Empty) = same
@@ -166,6 +167,7 @@ read-calls before read = by read ∙ ap (λ es. append_all_calls (length (fresh 
   where
     same : append_all_calls (length (fresh (reports before))) ++ [] ≡ append_all_calls (length (fresh (reports before ++ [])))
     same = append-nil (append_all_calls (length (fresh (reports before)))) ∙ ap (λ es. append_all_calls (length (fresh es))) (sym (append-nil (reports before)))
+
     by : (r : Read) → append_all_calls (length (fresh (reports before))) ++ calls_by (read_steps before r) ≡ append_all_calls (length (fresh (reports before ++ made_by r)))
     by (number, Err refused) = same
     by (number, Ok Empty) = same
@@ -218,6 +220,7 @@ calls-call words script file = by (command_of words) refl
     started : (r : Option Exit) → calls_by (start_course r script).steps ≡ calls_started r script
     started (Some exit) = refl
     started None = lines-calls [] (reads_of script)
+
     by : (c : Option Command) → command_of words ≡ c → calls_by (call_course (command_of words) script file).steps ≡ calls_of words script file
     by None is = rw is refl
     by (Some Run) is = rw is (ap (λ calls. Size Zero ∷ calls) (started (start_refusal (Some Run) script file)))
@@ -228,6 +231,7 @@ file-call words script told = by (command_of words) refl
     none : (file : List ℕ) → nat_lt 0 (length file) ≡ false → file ≡ []
     none [] empty = refl
     none (b ∷ bs) empty = absurd (grind (arith, nat_tests, empty))
+
     started : (r : Option Exit) → start_refusal (Some Run) script told.file0 ≡ r → (after_all (start_course r script).steps (after asks_size told)).file0 ≡ file_started r script told.file0
     started (Some exit) is = refl
     started None is = lines-file [] (reads_of script) (after asks_size told) (none told.file0 (empty (nat_lt 0 (length told.file0)) refl is))
@@ -235,6 +239,7 @@ file-call words script told = by (command_of words) refl
         empty : (b : Bool) → nat_lt 0 (length told.file0) ≡ b → start_refusal (Some Run) script told.file0 ≡ None → nat_lt 0 (length told.file0) ≡ false
         empty true long is = absurd (let no : Some (Damaged 0 0) ≡ None = sym (ap (λ b. if b then Some (Damaged 0 0) else script_refusal script) long) ∙ is in cc)
         empty false short is = short
+
     by : (c : Option Command) → command_of words ≡ c → (after_all (call_course (command_of words) script told.file0).steps told).file0 ≡ file_after words script told.file0
     by None is = rw is refl
     by (Some Run) is = rw is (started (start_refusal (Some Run) script told.file0) refl)
