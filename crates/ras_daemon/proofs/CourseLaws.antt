@@ -1,8 +1,8 @@
 -- What the course of a run prints and how it ends, against what is said of it.
-use Rattle.std.proofs.Common.{◌≡◌, ℕ, ◌==◌, Bool, true, false, List, [], ◌∷◌, ◌++◌, length, map, Option, None, Some, Result, Ok, Err, refl, ap, sym, ◌∙◌, subst, append_assoc, append-nil, arith, unwrap_or, if◌then◌else◌}
+use Rattle.std.proofs.Common.{◌≡◌, ℕ, ◌==◌, Bool, true, false, List, [], ◌∷◌, ◌++◌, length, Option, None, Some, Ok, Err, refl, ap, sym, ◌∙◌, subst, append_assoc, append-nil, arith, unwrap_or, if◌then◌else◌}
 use Rattle.std.proofs.lemmas.Bool.Decides.{nat_tests}
 use Rattle.std.proofs.lemmas.List.Concat.{flat_map-append}
-use Rattle.std.specs.List.{flat_map, filter_map}
+use Rattle.std.specs.List.{flat_map}
 use Rattle.board_core.specs.Told.{Told}
 use Rattle.ras_base.specs.Places.{places_behind}
 use Rattle.ras_account.specs.declared.entry.Entry.{Entry}
@@ -10,13 +10,12 @@ use Rattle.ras_account.specs.Account.{account_of}
 use Rattle.ras_account.specs.Fresh.{is_fresh_behind}
 use Rattle.ras_daemon.specs.declared.exit.Exit.{Exit}
 use Rattle.ras_daemon.specs.declared.exit.Exit.TheVariants.{Done, Usage, Full}
-use Rattle.ras_daemon.specs.declared.line.Line.{Line}
 use Rattle.ras_daemon.specs.declared.line.Line.TheVariants.{Empty, Comment, Bank}
 use Rattle.ras_daemon.specs.declared.word.Command.{Command}
 use Rattle.ras_daemon.specs.declared.word.Command.TheVariants.{Run}
 use Rattle.ras_daemon.specs.Command.{command_of}
-use Rattle.ras_daemon.specs.Output.{output_at, output_after, output_of, last_line, line_output}
-use Rattle.ras_daemon.specs.Progress.{Step, after, after_all, asks_size, writes, syncs, prints, entry_steps, entries_steps, text_steps, event_steps, line_steps, read_steps, lines_course, line_course, start_course, call_course, Takes}
+use Rattle.ras_daemon.specs.Output.{output_at, output_after, output_of, last_line}
+use Rattle.ras_daemon.specs.Progress.{Step, after, after_all, asks_size, writes, syncs, prints, entry_steps, entries_steps, text_steps, event_steps, read_steps, lines_course, start_course, call_course, Takes}
 use Rattle.ras_daemon.specs.Reports.{Read, made, reads_of, reports}
 use Rattle.ras_daemon.specs.Status.{Place, is_past, lines_status, refusal_at, refusal_among, start_refusal, status_of, unrefused}
 use Rattle.ras_daemon.specs.Text.{event_text, done_line, end_line, stop_line}

@@ -1,13 +1,11 @@
 -- What a run that was cut short has printed.
-use Rattle.std.proofs.Common.{◌≡◌, ℕ, zero, suc, ◌⊎◌, ◌==◌, Bool, true, false, List, [], ◌∷◌, ◌++◌, length, take, Option, None, Some, IsSomeAnd, Result, Ok, Err, refl, ap, sym, ◌∙◌, subst, inl, inr, append_assoc, append-nil}
+use Rattle.std.proofs.Common.{◌≡◌, ℕ, zero, suc, ◌⊎◌, ◌==◌, Bool, true, false, List, [], ◌∷◌, ◌++◌, length, take, Option, None, Some, IsSomeAnd, Ok, Err, refl, ap, sym, ◌∙◌, subst, inl, inr, append_assoc, append-nil}
 use Rattle.std.specs.List.{flat_map}
-use Rattle.std.specs.Option.{option_map}
-use Rattle.board_core.specs.Told.{Told, Relates}
+use Rattle.board_core.specs.Told.{Told}
 use Rattle.ras_base.specs.Places.{places_behind}
 use Rattle.ras_base.specs.Prefix.{IsPrefixOf}
 use Rattle.ras_account.specs.declared.entry.Entry.{Entry}
 use Rattle.ras_daemon.specs.declared.exit.Exit.{Exit}
-use Rattle.ras_daemon.specs.declared.line.Line.{Line}
 use Rattle.ras_daemon.specs.declared.line.Line.TheVariants.{Empty, Comment, Bank}
 use Rattle.ras_daemon.specs.declared.exit.Exit.TheVariants.{Usage}
 use Rattle.ras_daemon.specs.declared.word.Command.{Command}
@@ -15,7 +13,7 @@ use Rattle.ras_daemon.specs.declared.word.Command.TheVariants.{Run}
 use Rattle.ras_daemon.specs.Command.{command_of}
 use Rattle.ras_daemon.specs.Ended.{PrintsPart}
 use Rattle.ras_daemon.specs.Output.{output_at, output_upto}
-use Rattle.ras_daemon.specs.Progress.{Step, after_all, asks_size, writes, syncs, prints, Fails, IsDisk, IsPrint, Cut, Paused, entries_steps, text_steps, event_steps, read_steps, lines_course, start_course, call_course}
+use Rattle.ras_daemon.specs.Progress.{Step, after_all, asks_size, writes, syncs, prints, Fails, IsDisk, IsPrint, Cut, Paused, entries_steps, text_steps, read_steps, lines_course, start_course, call_course}
 use Rattle.ras_daemon.specs.Reports.{Read, made, reads_of, reports}
 use Rattle.ras_daemon.specs.Status.{refusal_at, start_refusal, unrefused}
 use Rattle.ras_daemon.specs.Text.{event_text, done_line, stop_line}

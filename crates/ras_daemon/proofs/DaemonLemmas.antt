@@ -1,14 +1,13 @@
 -- The start of a call.
-use Rattle.std.proofs.Common.{◌≡◌, ℕ, ◌<◌, ◌≤◌, Bool, true, false, List, [], ◌∷◌, length, Option, None, Some, nat_lt, refl, ap, sym, ◌∙◌, subst, arith, IfSome}
+use Rattle.std.proofs.Common.{◌≡◌, ℕ, ◌<◌, ◌≤◌, true, false, List, [], ◌∷◌, length, Option, None, Some, nat_lt, sym, ◌∙◌, arith, IfSome}
 use Rattle.std.proofs.lemmas.Bool.Decides.{nat_tests}
-use Rattle.std.specs.Option.{option_map}
 use Rattle.board_core.specs.declared.board.DiskCall.TheVariants.{Size}
 use Rattle.board_core.specs.declared.board.FileNo.TheVariants.{Zero}
 use Rattle.board_core.specs.Told.{Told, Relates, MayList, Steps, called}
 use Rattle.ras_daemon.specs.declared.exit.Exit.{Exit}
 use Rattle.ras_daemon.specs.declared.exit.Exit.TheVariants.{DiskFault, Damaged}
 use Rattle.ras_daemon.specs.declared.word.Command.TheVariants.{Run}
-use Rattle.ras_daemon.specs.Progress.{Takes, TakesCall, asks_size, behind, call_course, ends, start_course}
+use Rattle.ras_daemon.specs.Progress.{Takes, TakesCall, asks_size, call_course, ends, start_course}
 use Rattle.ras_daemon.specs.Ended.{OverTold}
 use Rattle.ras_daemon.specs.Status.{script_refusal, start_refusal}
 use Rattle.ras_daemon.specs.Text.{stop_line}

@@ -1,5 +1,5 @@
 -- What a call that took its course has printed, kept and answered.
-use Rattle.std.proofs.Common.{◌≡◌, ℕ, List, [], ◌++◌, Option, None, Some, IsSomeAnd, refl, ap, sym, ◌∙◌, subst, append-nil, inl, inr}
+use Rattle.std.proofs.Common.{◌≡◌, ℕ, List, [], ◌++◌, Option, None, Some, IsSomeAnd, ap, sym, ◌∙◌, subst, append-nil, inl, inr}
 use Rattle.std.specs.Option.{option_map}
 use Rattle.board_core.specs.Told.{Told}
 use Rattle.ras_daemon.specs.declared.exit.Exit.{Exit}

@@ -1,25 +1,24 @@
 -- What an event makes, against the account that it meets.
-use Rattle.std.proofs.Common.{◌≡◌, ℕ, ◌<◌, ◌≤◌, ◌||◌, ◌⊎◌, Bool, true, false, cond, List, [], ◌∷◌, ◌++◌, length, Option, None, Some, refl, ap, sym, ◌∙◌, subst, inl, inr, append-nil, length-append, arith}
+use Rattle.std.proofs.Common.{◌≡◌, ℕ, true, false, List, [], ◌∷◌, ◌++◌, length, Option, None, Some, refl, ap, sym, ◌∙◌, inl, inr, append-nil, length-append, arith}
 use Rattle.std.proofs.lemmas.Bool.Decides.{nat_tests}
 use Rattle.mca_status.specs.Classes.{class_number, item_class_of}
 use Rattle.std.specs.Option.{MatchOption, option_to_list}
-use Rattle.ras_base.specs.LittleEndian.{u16_bytes, u64_bytes, length-u16_bytes, length-u64_bytes}
+use Rattle.ras_base.specs.LittleEndian.{u64_bytes, length-u16_bytes, length-u64_bytes}
 use Rattle.ras_account.specs.declared.name.Name.{Name}
 use Rattle.ras_account.specs.declared.name.Name.TheVariants.{Bank}
 use Rattle.ras_account.specs.declared.entry.Entry.{Entry}
 use Rattle.ras_account.specs.declared.entry.Entry.TheVariants.{Fact}
-use Rattle.ras_account.specs.Account.{State, account_of, continued, continued_all, is_fresh_in, IsWithin, IsPast, most_names, most_entries}
-use Rattle.ras_account.specs.Fresh.{fresh, is_fresh_behind}
+use Rattle.ras_account.specs.Account.{State, account_of, continued, continued_all, is_fresh_in, IsWithin, IsPast}
+use Rattle.ras_account.specs.Fresh.{is_fresh_behind}
 use Rattle.ras_account.proofs.FreshLemmas.{account_of-snoc, account_of-append}
 use Rattle.ras_daemon.specs.declared.event.FreshEntry.{FreshEntry}
 use Rattle.ras_daemon.specs.declared.event.Prepared.{Prepared}
 use Rattle.ras_daemon.specs.declared.exit.Exit.{Exit}
 use Rattle.ras_daemon.specs.declared.exit.Exit.TheVariants.{Done, Usage, BadLine, SourceFault, DiskFault, PrintFault, Damaged, Full, NoMemory, TooLong}
-use Rattle.ras_daemon.specs.Event.{IsPrepared, PrepareExit, ReserveExit, state_after, fresh_steps}
+use Rattle.ras_daemon.specs.Event.{IsPrepared, PrepareExit, ReserveExit}
 use Rattle.ras_daemon.specs.PlainFile.{name_bytes, entry_bytes, entry_length}
-use Rattle.ras_daemon.specs.Progress.{entries_steps}
 use Rattle.ras_daemon.specs.Status.{is_past}
-use Rattle.ras_daemon.specs.Text.{event_text, log_line, repeat_line, done_line}
+use Rattle.ras_daemon.specs.Text.{log_line, repeat_line, done_line}
 
 pub room-within : (a : State) → IsWithin a → is_past a ≡ false
 room-within a within = grind (arith, nat_tests, within.names, within.entries)
@@ -62,17 +61,6 @@ module _ (before : List Entry) (entry : Entry) (state : State) (is : state ≡ a
     account = rw (some, same) (ap (λ a. continued a entry) (sym is) ∙ sym (more_account before entry state is));
     room = room_for before entry state is within;
   }
-
--- an event that makes nothing
-pub prepared_none : (before : List Entry) (number : ℕ) (event : Prepared) → event.fresh ≡ None → event.text.items ≡ [] → event.done.items ≡ done_line number
-    → (state : State) → state ≡ account_of before → IsWithin state → IsPrepared before number [] event
-prepared_none before number event none texts ends state is within = record {
-  appends = λ count same. rw none refl;
-  texts = texts;
-  ends = ends;
-  account = rw (none, append-nil) refl;
-  room = ap (λ es. is_past (account_of es)) (append-nil before) ∙ ap is_past (sym is) ∙ room-within state within;
-}
 
 pub length-entry_bytes : (entry : Entry) → length (entry_bytes entry) ≡ entry_length
 length-entry_bytes (Fact fact) = by fact.name

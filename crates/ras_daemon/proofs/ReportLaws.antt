@@ -1,16 +1,12 @@
 -- What a bank line reports, by VAL.
-use Rattle.std.proofs.Common.{◌≡◌, ℕ, Bool, true, false, Option, None, Some, List, [], ◌∷◌, refl, sym, ap, subst}
-use Rattle.std.specs.Option.{option_map, option_to_list}
+use Rattle.std.proofs.Common.{◌≡◌, ℕ, Bool, true, false, None, Some, [], ◌∷◌, refl}
 use Rattle.mca_status.specs.Classes.{class_of_rows}
 use Rattle.mca_status.specs.Registers.{valid, uncorrected, context_corrupt, recovers_in_software, signaled, enabled, action_required}
 use Rattle.mca_status.specs.declared.registers.Cap.{Cap}
 use Rattle.mca_status.specs.declared.registers.Status.{Status}
 use Rattle.mca_status.specs.declared.classes.Class.{Class}
 use Rattle.mca_status.proofs.RowLemmas.{class_by}
-use Rattle.ras_account.specs.declared.name.Name.{Name}
 use Rattle.ras_account.specs.declared.name.Name.TheVariants.{Bank as BankName}
-use Rattle.ras_account.specs.declared.entry.Entry.{Entry}
-use Rattle.ras_account.specs.declared.entry.Entry.TheVariants.{Fact}
 use Rattle.ras_account.specs.Fresh.{names_in}
 use Rattle.ras_daemon.specs.declared.line.Line.TheVariants.{Bank}
 use Rattle.ras_daemon.specs.Reports.{made}

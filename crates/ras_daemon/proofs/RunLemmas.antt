@@ -1,7 +1,7 @@
 -- Lines taken one after another.
-use Rattle.std.proofs.Common.{◌≡◌, ℕ, ◌+◌, Bool, true, false, List, [], ◌∷◌, ◌++◌, Option, None, Some, Result, Ok, Err, map, refl, ap, sym, ◌∙◌, subst, append_assoc, append-nil}
+use Rattle.std.proofs.Common.{◌≡◌, ℕ, ◌+◌, List, [], ◌∷◌, ◌++◌, Option, None, Result, Ok, Err, map, refl, ap, sym, ◌∙◌, subst, append_assoc, append-nil}
 use Rattle.std.proofs.lemmas.List.Concat.{flat_map-append}
-use Rattle.std.specs.List.{flat_map, enumerate_from}
+use Rattle.std.specs.List.{enumerate_from}
 use Rattle.std.specs.Option.{option_map}
 use Rattle.std.specs.Result.{OnOk}
 use Rattle.board_core.specs.Told.{Told}
@@ -9,19 +9,18 @@ use Rattle.ras_account.specs.declared.entry.Entry.{Entry}
 use Rattle.ras_account.specs.Account.{State, account_of}
 use Rattle.ras_daemon.specs.declared.event.Prepared.{Prepared}
 use Rattle.ras_daemon.specs.declared.exit.Exit.{Exit}
-use Rattle.ras_daemon.specs.declared.exit.Exit.TheVariants.{Done, Usage, BadLine, SourceFault, DiskFault, PrintFault, Damaged, Full, NoMemory, TooLong}
+use Rattle.ras_daemon.specs.declared.exit.Exit.TheVariants.{Done}
 use Rattle.ras_daemon.specs.declared.line.Line.{Line}
 use Rattle.ras_daemon.specs.declared.line.Line.TheVariants.{Empty, Comment, Bank}
-use Rattle.ras_daemon.specs.declared.line.LineRefused.{LineRefused}
-use Rattle.ras_daemon.specs.Event.{IsPrepared, PrepareExit, TakesEvent, TakesLine, state_after, prepared_steps, fresh_steps}
+use Rattle.ras_daemon.specs.Event.{IsPrepared, TakesEvent, TakesLine, state_after, prepared_steps}
 use Rattle.ras_daemon.specs.Line.{line_of}
-use Rattle.ras_daemon.specs.Progress.{Step, after_all, Performs, Course, Takes, behind, ends, event_steps, read_steps, line_course, lines_course, prints, text_steps}
+use Rattle.ras_daemon.specs.Progress.{Step, after_all, Performs, Course, Takes, behind, ends, event_steps, read_steps, line_course, lines_course}
 use Rattle.ras_daemon.specs.Reports.{Read, made, made_by, reads_from, reports}
-use Rattle.ras_daemon.specs.Run.{Refuses, TookAll, TookSome}
+use Rattle.ras_daemon.specs.Run.{TookAll, TookSome}
 use Rattle.ras_daemon.specs.Splitting.{lines_of}
-use Rattle.ras_daemon.specs.Status.{room_refusal, refusal_at, is_past}
+use Rattle.ras_daemon.specs.Status.{refusal_at}
 use Rattle.ras_daemon.specs.Text.{end_line}
-use Rattle.ras_daemon.proofs.StepLemmas.{map_none, map_append, takes_behind, takes_first, paused_at_once}
+use Rattle.ras_daemon.proofs.StepLemmas.{map_none, map_append, takes_behind, takes_first}
 
 pub reports-more : (before : List Read) (read : Read) → reports (before ++ read ∷ []) ≡ reports before ++ made_by read
 reports-more before read = flat_map-append made_by before (read ∷ []) ∙ ap (λ es. reports before ++ es) (append-nil (made_by read))
@@ -43,20 +42,6 @@ event_taken before number entries event state more old new (Err exit) is prepare
     let steps : prepared_steps state.entries event ≡ event_steps before number entries = prepared-steps before number entries event state is prepared in
     let same : Performs (event_steps before number entries) (Err exit) old new = subst (λ s. Performs s (Err exit) old new) steps performs in
     rw prepared.room (takes_first old new (event_steps before number entries) rest exit same)
-
--- an event that was refused
-pub event_refused : (before : List Entry) (number : ℕ) (entries : List Entry) (exit result : Exit) (old new : Option Told) → PrepareExit before entries exit → Refuses exit result old new
-    → (rest : Course) → Takes (line_course (room_refusal before entries) (event_steps before number entries) rest) result old new
-event_refused before number entries Full result old new full refuses rest = rw full refuses
-event_refused before number entries NoMemory result old new free refuses rest = rw refuses.0 (paused_at_once _ refuses.1)
-event_refused before number entries Done result old new never refuses rest = absurd never
-event_refused before number entries Usage result old new never refuses rest = absurd never
-event_refused before number entries (BadLine line reason) result old new never refuses rest = absurd never
-event_refused before number entries SourceFault result old new never refuses rest = absurd never
-event_refused before number entries DiskFault result old new never refuses rest = absurd never
-event_refused before number entries PrintFault result old new never refuses rest = absurd never
-event_refused before number entries (Damaged file place) result old new never refuses rest = absurd never
-event_refused before number entries TooLong result old new never refuses rest = absurd never
 
 -- a line that is an event
 abbrev pub IsBank : Line → Type 0
@@ -108,13 +93,6 @@ pub took_stop : (reads rest left : List Read) (read : Read) (old mid new : Optio
 took_stop reads rest left read old mid new state more exit took is takes =
     let same : lines_course [] reads ≡ behind took.steps (lines_course took.before (read ∷ rest)) = took.course ∙ ap (λ rs. behind took.steps (lines_course took.before rs)) is in
     rw same (takes_behind old mid new took.steps (lines_course took.before (read ∷ rest)) exit took.goes (takes took.before took.account (lines_course (took.before ++ read ∷ []) rest)))
-
-pub took_all : (reads : List Read) (old new : Option Told) (state : State) → TookSome reads [] old new state → TookAll reads old new state
-took_all reads old new state took = record {
-  steps = took.steps;
-  course = took.course ∙ ap (λ a. behind took.steps (ends (end_line a) Done)) (sym took.account);
-  goes = took.goes;
-}
 
 -- behind all lines the last line was printed
 pub run_ends : (reads : List Read) (old mid new : Option Told) (state : State) (line : List ℕ) (exit : Exit) → TookAll reads old mid state → line ≡ end_line state

@@ -1,11 +1,11 @@
 -- Calls one after another.
-use Rattle.std.proofs.Common.{◌≡◌, ℕ, List, [], ◌∷◌, ◌++◌, Option, None, Some, Result, Ok, Err, refl, ap, sym, ◌∙◌, subst, append_assoc}
+use Rattle.std.proofs.Common.{◌≡◌, ℕ, List, [], ◌∷◌, ◌++◌, Option, None, Some, Result, Ok, Err, refl, ap, sym, ◌∙◌, append_assoc}
 use Rattle.std.specs.Option.{option_map}
 use Rattle.board_core.specs.Told.{Told, Relates}
 use Rattle.ras_daemon.specs.declared.exit.Exit.{Exit}
 use Rattle.ras_daemon.specs.declared.exit.Exit.TheVariants.{Done, Usage, BadLine, SourceFault, DiskFault, PrintFault, Damaged, Full, NoMemory, TooLong}
 use Rattle.ras_daemon.specs.Causes.{SourceCause}
-use Rattle.ras_daemon.specs.Progress.{Step, after, after_all, Fails, IsDisk, IsPrint, Cut, Paused, Performs, Course, Takes, TakesCall, behind}
+use Rattle.ras_daemon.specs.Progress.{Step, after, after_all, Fails, Cut, Paused, Performs, Course, Takes, TakesCall, behind}
 
 pub after_all-append : (xs ys : List Step) (told : Told) → after_all (xs ++ ys) told ≡ after_all ys (after_all xs told)
 after_all-append [] ys told = refl

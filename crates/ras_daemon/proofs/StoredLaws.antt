@@ -1,5 +1,5 @@
 -- What the course of a run leaves in file 0, and its disk calls.
-use Rattle.std.proofs.Common.{◌≡◌, ℕ, zero, suc, ◌+◌, ◌*◌, ◌<◌, ◌≤◌, ◌==◌, Bool, true, false, List, [], ◌∷◌, ◌++◌, length, take, drop, map, Option, None, Some, Result, Ok, Err, refl, ap, sym, ◌∙◌, subst, append_assoc, append-nil, length-append, add-zero, add-one, nat_lt, arith, if◌then◌else◌}
+use Rattle.std.proofs.Common.{◌≡◌, ℕ, zero, suc, ◌+◌, ◌*◌, Bool, true, false, List, [], ◌∷◌, ◌++◌, length, drop, map, Option, None, Some, Ok, Err, refl, ap, sym, ◌∙◌, append_assoc, append-nil, length-append, add-zero, nat_lt, arith, if◌then◌else◌}
 use Rattle.std.proofs.lemmas.Bool.Decides.{nat_tests}
 use Rattle.std.proofs.lemmas.List.{take_all, drop_all}
 use Rattle.std.proofs.lemmas.List.Concat.{flat_map-append}
@@ -19,7 +19,7 @@ use Rattle.ras_daemon.specs.declared.word.Command.{Command}
 use Rattle.ras_daemon.specs.declared.word.Command.TheVariants.{Run}
 use Rattle.ras_daemon.specs.Command.{command_of}
 use Rattle.ras_daemon.specs.PlainFile.{entry_bytes, entry_length, plain_file}
-use Rattle.ras_daemon.specs.Progress.{Step, after, after_all, asks_size, writes, syncs, prints, entry_steps, entries_steps, text_steps, event_steps, read_steps, lines_course, start_course, call_course}
+use Rattle.ras_daemon.specs.Progress.{Step, after, after_all, asks_size, writes, syncs, prints, entry_steps, entries_steps, text_steps, read_steps, lines_course, start_course, call_course}
 use Rattle.ras_daemon.specs.Reports.{Read, made, made_by, reads_of, reports}
 use Rattle.ras_daemon.specs.Status.{Place, refusal_at, script_refusal, start_refusal, unrefused}
 use Rattle.ras_daemon.specs.Stored.{append_calls, append_all_calls, calls_of, calls_started, file_after, file_started}

@@ -3,7 +3,7 @@ use Rattle.std.specs.Prelude.{◌≡◌, ℕ, List, ◌++◌, Option, IfSome, Is
 use Rattle.board_core.specs.Told.{Told}
 use Rattle.ras_base.specs.Prefix.{IsPrefixOf}
 use Rattle.ras_daemon.specs.declared.exit.Exit.{Exit}
-use Rattle.ras_daemon.specs.declared.exit.Exit.TheVariants.{Done, Usage, BadLine, SourceFault, DiskFault, PrintFault, Damaged, Full, NoMemory, TooLong}
+use Rattle.ras_daemon.specs.declared.exit.Exit.TheVariants.{SourceFault, DiskFault, PrintFault, NoMemory}
 
 -- P holds where the call came to its end or to a refusal. A fault or want of memory cuts a call short.
 abbrev pub OnAnswer : Exit → Type 0 → Type 0

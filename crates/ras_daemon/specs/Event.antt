@@ -1,7 +1,6 @@
 -- An event that has all its memory. This file only carries proofs.
-use Rattle.std.specs.Prelude.{◌≡◌, ℕ, ◌*◌, ◌≤◌, true, false, Bool, List, [], ◌∷◌, ◌++◌, length, Option, None, Some, IfSome, Result, Ok, Err, ⊤}
+use Rattle.std.specs.Prelude.{◌≡◌, ℕ, ◌*◌, true, false, List, [], ◌∷◌, ◌++◌, length, Option, None, Some, IfSome, Result, Ok, Err, ⊤}
 use Rattle.std.specs.Option.{option_map}
-use Rattle.board_core.specs.declared.board.FileNo.TheVariants.{Zero}
 use Rattle.board_core.specs.Told.{Told}
 use Rattle.ras_base.specs.Prefix.{IsPrefixOf}
 use Rattle.ras_account.specs.declared.entry.Entry.{Entry}
@@ -10,7 +9,7 @@ use Rattle.ras_account.specs.View.{View}
 use Rattle.ras_daemon.specs.declared.event.FreshEntry.{FreshEntry}
 use Rattle.ras_daemon.specs.declared.event.Prepared.{Prepared}
 use Rattle.ras_daemon.specs.declared.exit.Exit.{Exit}
-use Rattle.ras_daemon.specs.declared.exit.Exit.TheVariants.{Done, Usage, BadLine, SourceFault, DiskFault, PrintFault, Damaged, Full, NoMemory, TooLong}
+use Rattle.ras_daemon.specs.declared.exit.Exit.TheVariants.{Full, NoMemory}
 use Rattle.ras_daemon.specs.PlainFile.{entry_length}
 use Rattle.ras_daemon.specs.Progress.{Step, writes, syncs, prints, text_steps, entries_steps, after_all, Course, Takes, line_course, event_steps, read_steps}
 use Rattle.ras_daemon.specs.Reports.{Read, reports}

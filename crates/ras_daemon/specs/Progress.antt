@@ -11,14 +11,14 @@ use Rattle.ras_account.specs.declared.entry.Entry.{Entry}
 use Rattle.ras_account.specs.Account.{account_of}
 use Rattle.ras_account.specs.Fresh.{fresh, is_fresh_behind}
 use Rattle.ras_daemon.specs.declared.exit.Exit.{Exit}
-use Rattle.ras_daemon.specs.declared.exit.Exit.TheVariants.{Done, Usage, BadLine, SourceFault, DiskFault, PrintFault, Damaged, Full, NoMemory, TooLong}
+use Rattle.ras_daemon.specs.declared.exit.Exit.TheVariants.{Done, Usage, SourceFault, DiskFault, PrintFault, NoMemory}
 use Rattle.ras_daemon.specs.declared.line.Line.{Line}
 use Rattle.ras_daemon.specs.declared.line.Line.TheVariants.{Empty, Comment, Bank}
 use Rattle.ras_daemon.specs.declared.word.Command.{Command}
 use Rattle.ras_daemon.specs.declared.word.Command.TheVariants.{Run}
 use Rattle.ras_daemon.specs.PlainFile.{entry_length, entry_bytes}
 use Rattle.ras_daemon.specs.Reports.{Read, reads_of, made, reports}
-use Rattle.ras_daemon.specs.Status.{Place, refusal_at, start_refusal}
+use Rattle.ras_daemon.specs.Status.{refusal_at, start_refusal}
 use Rattle.ras_daemon.specs.Text.{event_text, done_line, end_line, stop_line}
 
 -- a call on a board, of its file 0 or of its output

@@ -1,5 +1,5 @@
 -- What the lines of a script report.
-use Rattle.std.specs.Prelude.{ℕ, List, [], ◌∷◌, map, Result, Ok, Err}
+use Rattle.std.specs.Prelude.{ℕ, List, [], map, Result, Ok, Err}
 use Rattle.std.specs.List.{enumerate_from, flat_map}
 use Rattle.std.specs.Option.{option_map, option_to_list}
 use Rattle.mca_status.specs.Classes.{class_of_rows}

@@ -1,14 +1,14 @@
 -- How a run over lines goes on and ends. This file only carries proofs.
-use Rattle.std.specs.Prelude.{◌≡◌, ℕ, List, [], ◌∷◌, ◌++◌, Option, Result, Ok, Err, ⊤}
+use Rattle.std.specs.Prelude.{◌≡◌, ℕ, List, [], Option, Result, Ok, Err}
 use Rattle.std.specs.Option.{option_map}
 use Rattle.board_core.specs.Told.{Told}
 use Rattle.ras_account.specs.Account.{State, account_of}
 use Rattle.ras_daemon.specs.declared.exit.Exit.{Exit}
-use Rattle.ras_daemon.specs.declared.exit.Exit.TheVariants.{Done, Usage, BadLine, SourceFault, DiskFault, PrintFault, Damaged, Full, NoMemory, TooLong}
+use Rattle.ras_daemon.specs.declared.exit.Exit.TheVariants.{Done, BadLine, SourceFault, DiskFault, PrintFault, NoMemory}
 use Rattle.ras_daemon.specs.declared.exit.Reason.TheVariants.{Line as LineReason}
 use Rattle.ras_daemon.specs.declared.line.LineRefused.{LineRefused}
 use Rattle.ras_daemon.specs.declared.line.LineRefused.TheVariants as refused
-use Rattle.ras_daemon.specs.Progress.{Step, after_all, Course, Takes, behind, ends, lines_course}
+use Rattle.ras_daemon.specs.Progress.{Step, after_all, Takes, behind, ends, lines_course}
 use Rattle.ras_daemon.specs.Reports.{Read, reports}
 use Rattle.ras_daemon.specs.Text.{stop_line, end_line}
 

@@ -1,5 +1,5 @@
 -- How a run ends: with its first refusal in order, or at its script's end.
-use Rattle.std.specs.Prelude.{ℕ, ◌||◌, ◌++◌, Bool, not, List, [], ◌∷◌, length, map, nat_lt, Option, None, Some, Result, Ok, Err, is_some, unwrap_or, if◌then◌else◌}
+use Rattle.std.specs.Prelude.{ℕ, ◌||◌, ◌++◌, Bool, List, [], ◌∷◌, length, map, nat_lt, Option, None, Some, Ok, Err, is_some, unwrap_or, if◌then◌else◌}
 use Rattle.std.specs.List.{filter_map}
 use Rattle.ras_base.specs.Places.{places}
 use Rattle.ras_account.specs.declared.entry.Entry.{Entry}

@@ -19,6 +19,7 @@ const PIECE: usize = 4096;
 /// `SourceFault` comes only where a read failed, and `NoMemory` where memory ran out.
 pub fn read_script<S: Source>(alloc: Global, source: &mut S) -> Result<Vec<u8>, Exit>
     ensures read { IfOk result (λ script. IfSome (S.left source.old) (λ left. IsRead script.items left (S.left source.new))) }
+    ensures ahead { IfOk result (λ script. length script.items ≤ longest_script + 4096) }
     ensures causes { Causes SourceCause result (S.faults source.old) (S.faults source.new) }
     ensures exits { IfErr result IsReadExit }
 {
@@ -29,12 +30,17 @@ pub fn read_script<S: Source>(alloc: Global, source: &mut S) -> Result<Vec<u8>, 
         if count == 0 {
             return Ok(script);
         }
+        // A script that is too long isn't read to its end.
+        if script.len() > LONGEST_SCRIPT {
+            return Ok(script);
+        }
     }
     Ok(script)
 }
 
 // Reads a piece of the script behind what was read before, and says how many bytes it has. 0 means the end.
 fn read_piece<S: Source>(script: &mut Vec<u8>, source: &mut S) -> Result<usize, Exit>
+    ensures within { IfOk result (λ count. count ≤ 4096) }
     ensures read { IfOk result (λ count. Continues count script.old.items script.new.items (S.left source.old) (S.left source.new)) }
     ensures causes { Causes SourceCause result (S.faults source.old) (S.faults source.new) }
     ensures exits { IfErr result IsReadExit }

@@ -1,7 +1,7 @@
-use Rattle.std.proofs.Common.{[], ◌∷◌, ◌++◌, sym, ◌∙◌, ap}
+use Rattle.std.proofs.Common.{[], ◌∷◌, ◌++◌}
 use Rattle.ras_daemon.specs.Event.{fresh_steps}
 use Rattle.ras_daemon.specs.Progress.{prints, text_steps}
-use Rattle.ras_daemon.proofs.StepLemmas.{cut_first, cut_behind, performs_first, performs_then}
+use Rattle.ras_daemon.proofs.StepLemmas.{cut_first, cut_behind, performs_first}
 use Rattle.ras_daemon.proofs.event.commit.Goals as goal
 
 pub returns-in-Err-clause-performs : goal.returns-in-Err-clause-performs

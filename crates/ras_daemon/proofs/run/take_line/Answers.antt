@@ -1,6 +1,4 @@
-use Rattle.std.proofs.Common.{Ok, sym, subst}
-use Rattle.ras_daemon.specs.declared.line.Line.{Line}
-use Rattle.ras_daemon.specs.Event.{TakesLine}
+use Rattle.std.proofs.Common.{sym, subst}
 use Rattle.ras_daemon.proofs.RunLemmas.{IsBank, bank_taken}
 use Rattle.ras_daemon.proofs.run.take_line.Goals as goal
 

@@ -1,5 +1,4 @@
 use Rattle.std.proofs.Common.{[], ◌∷◌, ◌∙◌, sym}
-use Rattle.board_core.specs.declared.board.FileNo.TheVariants.{Zero}
 use Rattle.ras_daemon.specs.Progress.{writes, syncs}
 use Rattle.ras_daemon.proofs.StepLemmas.{cut_first, cut_behind, map_one}
 use Rattle.ras_daemon.proofs.step.append.Goals as goal

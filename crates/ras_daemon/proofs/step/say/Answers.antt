@@ -1,4 +1,4 @@
-use Rattle.std.proofs.Common.{◌≡◌, ◌==◌, false, [], ◌∷◌, length, sym}
+use Rattle.std.proofs.Common.{◌≡◌, ◌==◌, false, [], length, sym}
 use Rattle.ras_daemon.specs.Progress.{prints}
 use Rattle.ras_daemon.proofs.StepLemmas.{cut_first}
 use Rattle.ras_daemon.proofs.step.say.Goals as goal
