@@ -1,1 +1,4 @@
 pub mod TableLemmas
+pub mod PlaceLemmas
+pub mod HistoryLemmas
+pub mod OrderLemmas

@@ -177,7 +177,7 @@ module _ {K : Type 0} (same : K → K → Bool) (exact : (x y : K) → same x y 
 
   -- a key that no element names has no elements, and one that an element names has some
   module _ {X : Type 0} (key : X → Option K) (k : K) where
-    of_key-unnamed : (xs : List X) → list_any (same k) (filter_map key xs) ≡ false → of_key same key xs k ≡ []
+    pub of_key-unnamed : (xs : List X) → list_any (same k) (filter_map key xs) ≡ false → of_key same key xs k ≡ []
     of_key-unnamed [] none = refl
     of_key-unnamed (x ∷ xs) none = at (key x) refl none (of_key-unnamed xs)
       where
@@ -191,7 +191,7 @@ module _ {K : Type 0} (same : K → K → Bool) (exact : (x y : K) → same x y 
             by true h ih = absurd (true≢false h)
             by false h ih = ih h
 
-    of_key-named : (xs : List X) → list_any (same k) (filter_map key xs) ≡ true → 0 < length (of_key same key xs k)
+    pub of_key-named : (xs : List X) → list_any (same k) (filter_map key xs) ≡ true → 0 < length (of_key same key xs k)
     of_key-named [] there = absurd (true≢false (sym there))
     of_key-named (x ∷ xs) there = at (key x) refl there (of_key-named xs)
       where

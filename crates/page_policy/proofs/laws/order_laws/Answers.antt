@@ -1,5 +1,6 @@
-use Rattle.page_policy.proofs.TableLemmas.{table-more, lookup-table, lookup-updated-own, lookup-updated-other}
+use Rattle.page_policy.proofs.OrderLemmas.{once_in_order}
+use Rattle.page_policy.proofs.HistoryLemmas.{never_falls}
 use Rattle.page_policy.proofs.laws.order_laws.Goals as goal
 
 pub returns : goal.returns
-returns c = ?
+returns c = once_in_order
