@@ -7,9 +7,10 @@ use Rattle.std.proofs.lemmas.Bool.Decides.{nat_tests}
 use Rattle.indexmap.specs.IndexMap.{set_value_at, insert_entry}
 use Rattle.page_policy.specs.declared.rows.Row.{Row}
 use Rattle.page_policy.specs.Buckets.{most_count}
-use Rattle.page_policy.specs.Rows.{new_row}
+use Rattle.page_policy.specs.Rows.{Report, new_row, row_after}
+use Rattle.page_policy.specs.Histories.{rows_after}
 use Rattle.page_policy.specs.Tables.{added, updated}
-use Rattle.page_policy.specs.Pages.{Held, is_held, is_ready}
+use Rattle.page_policy.specs.Pages.{Held, is_held, is_ready, taken}
 use Rattle.page_policy.specs.Places.{IsPlace, row_before, waiting_row, IsSmall, IsKept}
 
 pub nat_exact : (x y : ℕ) → nat_eq x y ≡ true → x ≡ y
@@ -35,6 +36,11 @@ module _ {X : Type 0} (P : X → Type 0) where
   pub All-append : (xs ys : List X) → AllByRecursion P xs → AllByRecursion P ys → AllByRecursion P (xs ++ ys)
   All-append [] ys all more = more
   All-append (x ∷ xs) ys all more = (all.0, All-append xs ys all.1 more)
+
+length-set_value_at : (es : List (ℕ × Row)) (i : ℕ) (row : Row) → length (set_value_at es i row) ≡ length es
+length-set_value_at [] i row = refl
+length-set_value_at (e ∷ es) zero row = refl
+length-set_value_at (e ∷ es) (suc i) row = ap suc (length-set_value_at es i row)
 
 pub small-set : (es : List (ℕ × Row)) (i : ℕ) (row : Row) → row.bucket.count ≤ most_count → AllByRecursion IsSmall es → AllByRecursion IsSmall (set_value_at es i row)
 small-set [] i row small all = tt
@@ -189,3 +195,25 @@ row_before-new [] held place seconds above = refl
 row_before-new (e ∷ es) zero place seconds above = refl
 row_before-new (e ∷ es) (suc held) zero seconds above = absurd (omega arith)
 row_before-new (e ∷ es) (suc held) (suc place) seconds above = row_before-new es held place seconds (omega arith)
+
+-- what holds of every table holds after a row is written
+pub kept-written : (held : ℕ) (es : List (ℕ × Row)) (place : ℕ) (row : Row) (m : ℕ) → IsKept held es → place < length es → row.bucket.count ≤ most_count → m ≡ max held (place + 1)
+    → IsKept m (set_value_at es place row)
+kept-written held es place row m kept within small counted = record {
+  first = omega (arith, kept.first, length-set_value_at es place row);
+  small = small-set es place row small kept.small;
+}
+
+-- the pages once a report's row is written at its page's place
+pub viewed-written : (held : ℕ) (es : List (ℕ × Row)) (place : ℕ) (r : Report) (after : Row) (m : ℕ) → IsPlace r.page es place → is_ready (viewed held es) r.page ≡ true
+    → after ≡ row_after (row_before es held place r.seconds) r → m ≡ max held (place + 1)
+    → viewed m (set_value_at es place after) ≡ taken (viewed held es) r
+viewed-written held es place r after m at ready row counted =
+    let within : place ≤ held = ready-place r.page held es place ready at in
+    let covered : m ≡ covers held place = counted ∙ sym (covers-max held place within) in
+    let change : Row → Row = λ (row : Row). row_after row r in
+    let rows : rows_held m (set_value_at es place after) ≡ rows_after (rows_held held es) r =
+        (λ i. rows_held (covered i) (set_value_at es place (row i))) ∙ rows-written r.page r.seconds change held es place at within in
+    let waiting : pages_waiting m (set_value_at es place after) ≡ (taken (viewed held es) r).waiting =
+        ap (λ n. pages_waiting n (set_value_at es place after)) covered ∙ waiting-written r.page r.seconds change after held es place at within in
+    λ i. record { rows = rows i; waiting = waiting i }
