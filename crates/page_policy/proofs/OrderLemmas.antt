@@ -185,7 +185,7 @@ module _ (limit : Limit) (from : ℕ) (valid : IsLimit limit) where
 -- what holds of each element
 by_recursion : {X : Type 0} (P : X → Type 0) (xs : List X) → All P xs → AllByRecursion P xs
 by_recursion P [] all = tt
-by_recursion P (x ∷ xs) all = ?
+by_recursion P (x ∷ xs) all = (all 0 x (omega arith), by_recursion P xs (λ k d within. all (suc k) d (omega arith)))
 
 split : {X : Type 0} (P : X → Type 0) (xs : List X) (y : X) → AllByRecursion P (xs ++ y ∷ []) → AllByRecursion P xs × P y
 split P [] y all = (tt, all.0)

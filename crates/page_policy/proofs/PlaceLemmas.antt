@@ -1,9 +1,13 @@
 -- The place of a page in a table, and the table once its row is written there.
-use Rattle.std.proofs.Common.{◌≡◌, ℕ, zero, suc, ◌+◌, ◌<◌, ◌≤◌, Bool, true, false, not, cond, if◌then◌else◌, ◌||◌, nat_eq, nat_lt, List, [], ◌∷◌, ◌++◌, length, map, take, drop, Option, None, Some, refl, sym, ap, ◌∙◌, true≢false, max, unwrap_or, slice_get, arith, append-nil}
+use Rattle.std.proofs.Common.{◌≡◌, ℕ, zero, suc, ◌+◌, ◌<◌, ◌≤◌, Bool, true, false, not, cond, if◌then◌else◌, ◌||◌, nat_eq, nat_lt, List, [], ◌∷◌, ◌++◌, length, map, take, drop, Option, None, Some, refl, sym, ap, ◌∙◌, true≢false, max, unwrap_or, slice_get, is_some, get_or, subst, arith, append-nil, append_assoc, length-append, add-one}
 use Rattle.std.specs.List.{list_any, position, position_or_len, AllByRecursion}
 use Rattle.std.specs.Map.{keys_of, values_of, lookup}
 use Rattle.std.specs.Option.{option_map_or}
 use Rattle.std.proofs.lemmas.Bool.Decides.{nat_tests}
+use Rattle.std.proofs.lemmas.List.{map-append, length-take-le}
+use Rattle.std.proofs.lemmas.Map.Made.{is_some-lookup}
+use Rattle.std.proofs.Math.Seq.{take-suc, take-append_seam, drop-append_seam}
+use Rattle.page_policy.proofs.TableLemmas.{added-append}
 use Rattle.indexmap.specs.IndexMap.{set_value_at, insert_entry}
 use Rattle.page_policy.specs.declared.rows.Row.{Row}
 use Rattle.page_policy.specs.Buckets.{most_count}
@@ -62,6 +66,10 @@ small-at [] i row is all = cc
 small-at (e ∷ es) zero row is all = let here : e.1 ≡ row = cc in omega (arith, all.0, ap (λ (r : Row). r.bucket.count) here)
 small-at (e ∷ es) (suc i) row is all = small-at es i row is all.1
 
+length-keys : (es : List (ℕ × Row)) → length (keys_of es) ≡ length es
+length-keys [] = refl
+length-keys (e ∷ es) = ap suc (length-keys es)
+
 -- the first place at which the test of a page passes is the page's place
 module _ (page : ℕ) where
   place-or_len : (es : List (ℕ × Row)) → is_held es page ≡ true
@@ -94,10 +102,6 @@ module _ (page : ℕ) where
       by true test h = rw h (place-or_len es there)
       by false test h = absurd (above (length-keys es) (place-or_len es there).1 test)
         where
-          length-keys : (es : List (ℕ × Row)) → length (keys_of es) ≡ length es
-          length-keys [] = refl
-          length-keys (e ∷ es) = ap suc (length-keys es)
-
           above : length (keys_of es) ≡ length es → n < length es → nat_lt n (length (keys_of es)) ≡ false → ⊥
           above same within test = grind (arith, nat_tests)
 
@@ -217,3 +221,84 @@ viewed-written held es place r after m at ready row counted =
     let waiting : pages_waiting m (set_value_at es place after) ≡ (taken (viewed held es) r).waiting =
         ap (λ n. pages_waiting n (set_value_at es place after)) covered ∙ waiting-written r.page r.seconds change after held es place at within in
     λ i. record { rows = rows i; waiting = waiting i }
+
+-- whether a page is in the table, as its calls say it
+pub is_some-held : (es : List (ℕ × Row)) (page : ℕ) → is_some (lookup (nat_eq page) es) ≡ is_held es page
+is_some-held es page = is_some-lookup (nat_eq page) es
+
+-- a page that isn't there goes behind the others
+pub insert_entry-last : (es : List (ℕ × Row)) (page : ℕ) (row : Row) → is_held es page ≡ false → insert_entry nat_eq es page row ≡ es ++ (page, row) ∷ []
+insert_entry-last [] page row none = refl
+insert_entry-last (e ∷ es) page row none = by (nat_eq page e.0) none (insert_entry-last es page row)
+  where
+    by : (b : Bool) → (b || is_held es page) ≡ false → (is_held es page ≡ false → insert_entry nat_eq es page row ≡ es ++ (page, row) ∷ [])
+        → (if b then (e.0, row) ∷ es else e ∷ insert_entry nat_eq es page row) ≡ e ∷ (es ++ (page, row) ∷ [])
+    by true h ih = absurd (true≢false h)
+    by false h ih = ap (λ (rest : List (ℕ × Row)). e ∷ rest) (ih h)
+
+-- the table with the pages of a list inserted behind the others
+abbrev pub with_waiting : List (ℕ × Row) → List ℕ → List (ℕ × Row)
+with_waiting es pages = es ++ map waiting_row (added nat_eq (keys_of es) pages)
+
+pub with_waiting-known : (es : List (ℕ × Row)) (page : ℕ) → is_held es page ≡ true → es ≡ with_waiting es (page ∷ [])
+with_waiting-known es page known =
+    sym (ap (λ b. es ++ map waiting_row (if b then [] else page ∷ [])) known ∙ append-nil es)
+
+pub with_waiting-new : (es : List (ℕ × Row)) (page : ℕ) → is_held es page ≡ false → insert_entry nat_eq es page (new_row 0) ≡ with_waiting es (page ∷ [])
+with_waiting-new es page fresh =
+    insert_entry-last es page (new_row 0) fresh ∙ sym (ap (λ b. es ++ map waiting_row (if b then [] else page ∷ [])) fresh)
+
+keys_of-waiting : (pages : List ℕ) → keys_of (map waiting_row pages) ≡ pages
+keys_of-waiting [] = refl
+keys_of-waiting (page ∷ pages) = ap (λ rest. page ∷ rest) (keys_of-waiting pages)
+
+pub keys_of-append : (es fs : List (ℕ × Row)) → keys_of (es ++ fs) ≡ keys_of es ++ keys_of fs
+keys_of-append [] fs = refl
+keys_of-append (e ∷ es) fs = ap (λ rest. e.0 ∷ rest) (keys_of-append es fs)
+
+pub with_waiting-append : (es : List (ℕ × Row)) (pages more : List ℕ) → with_waiting (with_waiting es pages) more ≡ with_waiting es (pages ++ more)
+with_waiting-append es pages more =
+    let first : List ℕ = added nat_eq (keys_of es) pages in
+    let keys : keys_of (with_waiting es pages) ≡ keys_of es ++ first = keys_of-append es (map waiting_row first) ∙ ap (λ ks. keys_of es ++ ks) (keys_of-waiting first) in
+    ap (λ ks. (es ++ map waiting_row first) ++ map waiting_row (added nat_eq ks more)) keys
+    ∙ append_assoc es (map waiting_row first) (map waiting_row (added nat_eq (keys_of es ++ first) more))
+    ∙ ap (λ (rest : List (ℕ × Row)). es ++ rest) (sym (map-append waiting_row first (added nat_eq (keys_of es ++ first) more)) ∙ ap (λ ks. map waiting_row ks) (sym (added-append nat_eq nat_exact nat_own (keys_of es) pages more)))
+
+pub with_waiting-more : (es : List (ℕ × Row)) (pages : List ℕ) (i d : ℕ) → i < length pages
+    → with_waiting (with_waiting es (take i pages)) (get_or pages i d ∷ []) ≡ with_waiting es (take (i + 1) pages)
+with_waiting-more es pages i d within =
+    with_waiting-append es (take i pages) (get_or pages i d ∷ []) ∙ ap (λ ps. with_waiting es ps) (sym (ap (λ n. take n pages) (add-one i) ∙ take-suc pages i d within))
+
+pub take-with_waiting : (es : List (ℕ × Row)) (pages : List ℕ) → take (length es) (with_waiting es pages) ≡ es
+take-with_waiting es pages = take-append_seam es (map waiting_row (added nat_eq (keys_of es) pages))
+
+-- the pages once others wait behind those held
+pub record Waits (held : ℕ) (after : List (ℕ × Row)) (rows : List (ℕ × Row)) (pages : List ℕ) : Type 0 where
+  pub kept : IsKept held after
+  pub rows_are : rows_held held after ≡ rows
+  pub waiting : pages_waiting held after ≡ added nat_eq (keys_of rows) pages
+
+pub waits : (held : ℕ) (es before after : List (ℕ × Row)) (pages : List ℕ) → IsKept held es → before ≡ rows_held held es → after ≡ with_waiting before pages
+    → Waits held after (rows_held held es) pages
+waits held es before after pages kept cut inserted =
+    let rows : List (ℕ × Row) = rows_held held es in
+    let count : held ≡ length rows = sym (length-take-le held es kept.first) in
+    let joined : after ≡ with_waiting rows pages = inserted ∙ ap (λ (rs : List (ℕ × Row)). with_waiting rs pages) cut in
+    let more : List ℕ = added nat_eq (keys_of rows) pages in
+    record {
+      kept = record {
+        first = omega (arith, count, ap length joined, length-append rows (map waiting_row more));
+        small = subst (AllByRecursion IsSmall) (sym joined) (All-append IsSmall rows (map waiting_row more) (All-take IsSmall held es kept.small) (small-waiting more));
+      };
+      rows_are = ap (λ n. take n after) count ∙ ap (take (length rows)) joined ∙ take-with_waiting rows pages;
+      waiting = ap (λ n. drop n (keys_of after)) (count ∙ sym (length-keys rows)) ∙ ap (λ es. drop (length (keys_of rows)) (keys_of es)) joined
+          ∙ ap (drop (length (keys_of rows))) (keys_of-append rows (map waiting_row more) ∙ ap (λ ks. keys_of rows ++ ks) (keys_of-waiting more))
+          ∙ drop-append_seam (keys_of rows) more;
+    }
+
+-- where no page waits, all rows are held
+pub all_held : (held : ℕ) (es : List (ℕ × Row)) → held ≤ length es → pages_waiting held es ≡ [] → rows_held held es ≡ es
+all_held zero [] within none = refl
+all_held zero (e ∷ es) within none = cc
+all_held (suc held) [] within none = refl
+all_held (suc held) (e ∷ es) within none = ap (λ (rest : List (ℕ × Row)). e ∷ rest) (all_held held es (omega arith) none)
