@@ -302,3 +302,40 @@ all_held zero [] within none = refl
 all_held zero (e ∷ es) within none = cc
 all_held (suc held) [] within none = refl
 all_held (suc held) (e ∷ es) within none = ap (λ (rest : List (ℕ × Row)). e ∷ rest) (all_held held es (omega arith) none)
+
+-- whether a page is held, as the table says it where no page waits
+pub held-by_table : (held : ℕ) (es : List (ℕ × Row)) (v : Held) (page : ℕ) → held ≤ length es → viewed held es ≡ v → v.waiting ≡ []
+    → is_some (lookup (nat_eq page) es) ≡ is_held v.rows page
+held-by_table held es v page within is none =
+    let all : rows_held held es ≡ es = all_held held es within (ap (λ (v : Held). v.waiting) is ∙ none) in
+    is_some-held es page ∙ ap (λ (rows : List (ℕ × Row)). is_held rows page) (sym all ∙ ap (λ (v : Held). v.rows) is)
+
+-- the pages once a row was put behind the others
+pub record Pushed (held : ℕ) (after : List (ℕ × Row)) (rows : List (ℕ × Row)) (page : ℕ) (row : Row) : Type 0 where
+  pub kept : IsKept held after
+  pub rows_are : rows_held held after ≡ rows ++ (page, row) ∷ []
+  pub waiting : pages_waiting held after ≡ []
+
+pub pushed : (held : ℕ) (es : List (ℕ × Row)) (v : Held) (page : ℕ) (row : Row) (after : List (ℕ × Row)) (m : ℕ) → IsKept held es → viewed held es ≡ v → v.waiting ≡ []
+    → is_held v.rows page ≡ false → row.bucket.count ≤ most_count → after ≡ insert_entry nat_eq es page row → m ≡ length after
+    → Pushed m after v.rows page row
+pushed held es v page row after m kept is none fresh small inserted counted =
+    let all : rows_held held es ≡ es = all_held held es kept.first (ap (λ (v : Held). v.waiting) is ∙ none) in
+    let rows : v.rows ≡ es = sym (ap (λ (v : Held). v.rows) is) ∙ all in
+    let last : after ≡ es ++ (page, row) ∷ [] = inserted ∙ insert_entry-last es page row (ap (λ (rs : List (ℕ × Row)). is_held rs page) (sym rows) ∙ fresh) in
+    record {
+      kept = record {
+        first = omega (arith, counted);
+        small = subst (AllByRecursion IsSmall) (sym last) (All-append IsSmall es ((page, row) ∷ []) kept.small (small, tt));
+      };
+      rows_are = ap (λ n. take n after) counted ∙ take-whole after ∙ last ∙ ap (λ (rs : List (ℕ × Row)). rs ++ (page, row) ∷ []) (sym rows);
+      waiting = ap (λ n. drop n (keys_of after)) counted ∙ drop-whole after;
+    }
+  where
+    take-whole : (es : List (ℕ × Row)) → take (length es) es ≡ es
+    take-whole [] = refl
+    take-whole (e ∷ es) = ap (λ (rest : List (ℕ × Row)). e ∷ rest) (take-whole es)
+
+    drop-whole : (es : List (ℕ × Row)) → drop (length es) (keys_of es) ≡ []
+    drop-whole [] = refl
+    drop-whole (e ∷ es) = drop-whole es
