@@ -1,7 +1,7 @@
 -- The laws of tables. This file only carries proofs, for the crates above too.
 use Rattle.std.proofs.Common.{◌≡◌, ◌<◌, Bool, true, false, cond, if◌then◌else◌, ◌||◌, List, [], ◌∷◌, ◌++◌, length, filter, map, Option, None, Some, refl, sym, ap, ◌∙◌, append_assoc, append-nil, true≢false, arith}
-use Rattle.std.specs.List.{list_any, filter_map}
-use Rattle.std.specs.Map.{lookup}
+use Rattle.std.specs.List.{list_any, filter_map, IsDistinct, AllByRecursion}
+use Rattle.std.specs.Map.{keys_of, lookup}
 use Rattle.std.specs.Option.{option_map_or}
 use Rattle.std.proofs.lemmas.List.Elements.{filter-append, filter_map-append}
 use Rattle.std.proofs.lemmas.List.Folds.{list_any-append}
@@ -253,6 +253,47 @@ module _ {K : Type 0} (same : K → K → Bool) (exact : (x y : K) → same x y 
   lookup-table key row xs k =
       lookup-keyed (λ j. row (of_key same key xs j)) k (distinct same (filter_map key xs))
       ∙ ap (λ b. cond b (Some (row (of_key same key xs k))) None) (any-distinct k (filter_map key xs))
+
+  -- the keys of a table that was updated
+  pub keys-updated : {R : Type 0} (k : K) (new : R) (change : R → R) (es : List (K × R))
+      → keys_of (updated same k new change es) ≡ (if list_any (same k) (keys_of es) then keys_of es else keys_of es ++ k ∷ [])
+  keys-updated k new change [] = refl
+  keys-updated {R} k new change (e ∷ es) = by (same k e.0) (keys-updated k new change es)
+    where
+      push : (c : Bool) → e.0 ∷ (if c then keys_of es else keys_of es ++ k ∷ []) ≡ (if c then e.0 ∷ keys_of es else e.0 ∷ (keys_of es ++ k ∷ []))
+      push true = refl
+      push false = refl
+
+      by : (b : Bool) → keys_of (updated same k new change es) ≡ (if list_any (same k) (keys_of es) then keys_of es else keys_of es ++ k ∷ [])
+          → keys_of (if b then (e.0, change e.1) ∷ es else e ∷ updated same k new change es) ≡ (if b || list_any (same k) (keys_of es) then e.0 ∷ keys_of es else e.0 ∷ (keys_of es ++ k ∷ []))
+      by true ih = refl
+      by false ih = ap (λ ks. e.0 ∷ ks) ih ∙ push (list_any (same k) (keys_of es))
+
+  -- the keys of the table of a list
+  pub keys-table : {X R : Type 0} (key : X → Option K) (row : List X → R) (xs : List X) → keys_of (table same key row xs) ≡ distinct same (filter_map key xs)
+  keys-table {X} {R} key row xs = keys-keyed (distinct same (filter_map key xs))
+    where
+      keys-keyed : (ks : List K) → keys_of (map {B = K × R} (λ k. (k, row (of_key same key xs k))) ks) ≡ ks
+      keys-keyed [] = refl
+      keys-keyed (k ∷ ks) = ap (λ rest. k ∷ rest) (keys-keyed ks)
+
+  -- each of the keys that are seen first is there once
+  none-apart : (k : K) (ks : List K) → list_any (same k) ks ≡ false → AllByRecursion (λ j. same k j ≡ false) ks
+  none-apart k [] is = tt
+  none-apart k (j ∷ js) is = by (same k j) refl is (none-apart k js)
+    where
+      by : (b : Bool) → same k j ≡ b → (b || list_any (same k) js) ≡ false → (list_any (same k) js ≡ false → AllByRecursion (λ j. same k j ≡ false) js)
+          → AllByRecursion (λ j. same k j ≡ false) (j ∷ js)
+      by true here h ih = absurd (true≢false h)
+      by false here h ih = (here, ih h)
+
+  IsDistinct-once : (ks : List K) → Once ks → IsDistinct same ks
+  unfolding IsDistinct
+  IsDistinct-once [] once = tt
+  IsDistinct-once (k ∷ ks) once = (none-apart k ks once.0, IsDistinct-once ks once.1)
+
+  pub distinct-once : (ks : List K) → IsDistinct same (distinct same ks)
+  distinct-once ks = IsDistinct-once (distinct same ks) (once-added [] ks)
 
   -- the look-ups in a table that was updated
   pub lookup-updated-own : {R : Type 0} (k : K) (new : R) (change : R → R) (es : List (K × R))

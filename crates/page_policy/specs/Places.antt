@@ -1,5 +1,5 @@
--- Where a page's row stands in a table, for clauses of functions that are not public: it only carries
--- proofs.
+-- This file only carries proofs: where a page's row stands in a table, for clauses of functions that
+-- are not public.
 use Rattle.std.specs.Prelude.{◌≡◌, ℕ, zero, suc, ◌≤◌, Bool, true, false, nat_eq, List, [], ◌∷◌, length, map}
 use Rattle.std.specs.List.{AllByRecursion}
 use Rattle.page_policy.specs.declared.rows.Row.{Row}

@@ -1,6 +1,6 @@
 -- What one report of a page does to the page's row, and the order that follows. These rules are this
 -- project's own: a page is ordered away softly at too many corrected errors or at an uncorrected one
--- that nothing has used, and hard at one that asks for action or can't be undone.
+-- that nothing has used yet, and hard at each other uncorrected error of a known class.
 use Rattle.std.specs.Prelude.{ℕ, Bool, true, false, nat_lt, if◌then◌else◌, Option, Some, None}
 use Rattle.mca_status.specs.declared.classes.ItemClass.{ItemClass}
 use Rattle.mca_status.specs.declared.classes.ItemClass.TheVariants.{Ce, Ucna, Srao, Srar, Uc, Odd, Corrected, Recoverable, Fatal, Informational}

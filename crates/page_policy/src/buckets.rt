@@ -30,7 +30,8 @@ impl Bucket {
     ///
     /// Nothing leaks before a whole period of the limit has passed since the stamp, and so nothing
     /// at an earlier time than the stamp either. After a whole period capacity errors leak per
-    /// period, in whole errors.
+    /// period, in whole errors. Under a limit whose capacity is below what the bucket holds, it trips
+    /// whatever the weight.
     pub fn step(&mut self, limit: Limit, now: u64, weight: u16) -> bool
         requires limit { IsLimit limit }
         requires count { self.old.count ≤ most_count }

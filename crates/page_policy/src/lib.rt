@@ -13,7 +13,7 @@ mod rows;
 mod table;
 
 pub use buckets::{Bucket, Limit};
-pub use laws::{bucket_law, order_laws};
+pub use laws::page_laws;
 pub use pages::{Pages, RowRefused};
 pub use rows::{Order, PageState, Row};
 

@@ -1,10 +1,10 @@
 //! The pages, each with its row.
 
-ghost use Rattle.std.specs.Prelude.{◌≡◌, ◌≢◌, ◌↔◌, ◌≤◌, ◌<◌, ◌++◌, List, [], ◌∷◌, IsTrue, IfSome, Some, None, Err, OnOk, OnErr, length, slice_get, nat_eq};
+ghost use Rattle.std.specs.Prelude.{◌≡◌, ℕ, ◌≢◌, ◌↔◌, ◌≤◌, ◌<◌, ◌++◌, List, [], ◌∷◌, false, IsTrue, Some, Err, OnOk, OnErr, length, slice_get, nat_eq};
 ghost use Rattle.std.specs.Map.{keys_of, lookup};
 ghost use Rattle.page_policy.specs.Tables.{added};
 ghost use Rattle.page_policy.specs.Buckets.{IsLimit, most_count};
-ghost use Rattle.page_policy.specs.Rows.{Report, report, height, order_between};
+ghost use Rattle.page_policy.specs.Rows.{Report, report, height, called_for, order_between};
 ghost use Rattle.page_policy.specs.Histories.{rows_of, state_in, page_history, order_behind};
 ghost use Rattle.page_policy.specs.Pages.{is_held, is_ready, taken};
 
@@ -89,7 +89,7 @@ impl Pages {
     /// page starts Kept, with an empty bucket of that time. Ce and Corrected fill the page's bucket,
     /// and lead to Soft where it trips. Ucna leads to Soft; Srao, Srar, Uc, Recoverable and Fatal lead
     /// to Hard; Odd and Informational lead to nothing. A state only rises, and an order comes exactly
-    /// where it rose.
+    /// where it rose: a bucket that trips at a page that is Soft or Hard is emptied, and no order comes.
     pub fn account(
         &mut self,
         page: u64,
@@ -103,9 +103,17 @@ impl Pages {
         ensures pages { self.new ≡ taken self.old (report page class seconds weight limit) }
         ensures order { result ≡ order_between page (state_in self.old.rows page) (state_in self.new.rows page) }
 
+        // Soft is ordered of a page that is Kept alone, and Hard only where the class calls for it,
+        // whatever the bucket says.
+        ensures soft { result ≡ Some (Order.Soft page) → state_in self.old.rows page ≡ PageState.Kept }
+        ensures hard { result ≡ Some (Order.Hard page) → called_for class false ≡ PageState.Hard }
+
         // No state falls, and no other page's row changes.
         ensures never_falls { (other : _) → height (state_in self.old.rows other) ≤ height (state_in self.new.rows other) }
         ensures others { (other : _) → other ≢ page → lookup (nat_eq other) self.new.rows ≡ lookup (nat_eq other) self.old.rows }
+
+        // Where the pages of a list of reports wait, the reports can be taken in turn.
+        ensures in_turn { (pages : List ℕ) → self.old.waiting ≡ added nat_eq (keys_of self.old.rows) (page ∷ pages) → self.new.waiting ≡ added nat_eq (keys_of self.new.rows) pages }
 
         // The rows of a history become those of the history with this report, and the order is the one there.
         ensures history { (history : List Report) → self.old.rows ≡ rows_of history → self.new.rows ≡ rows_of (history ++ report page class seconds weight limit ∷ []) }

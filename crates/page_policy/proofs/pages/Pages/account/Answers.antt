@@ -1,11 +1,12 @@
 use Rattle.std.proofs.Common.{◌≡◌, ℕ, ◌≤◌, true, nat_eq, ◌∙◌, sym, ap, subst}
-use Rattle.std.specs.Map.{lookup}
+use Rattle.std.specs.Map.{keys_of, lookup}
+use Rattle.page_policy.specs.Tables.{added}
 use Rattle.indexmap.specs.IndexMap.{set_value_at}
-use Rattle.page_policy.specs.Rows.{Report, report, height, row_after, order_between}
+use Rattle.page_policy.specs.Rows.{Report, report, height, row_after, called_by, order_between}
 use Rattle.page_policy.specs.Histories.{rows_after, state_in}
 use Rattle.page_policy.specs.Pages.{Held, is_ready, taken}
 use Rattle.page_policy.proofs.PlaceLemmas.{viewed, viewed-written, ready-there, small-row_before, kept-written, row_before-lookup, nat_apart}
-use Rattle.page_policy.proofs.HistoryLemmas.{row_for, state_in-before, state_in-after, never_falls, lookup-rows_after, rows_of-more, order-history}
+use Rattle.page_policy.proofs.HistoryLemmas.{row_for, state_in-before, state_in-after, never_falls, lookup-rows_after, rows_of-more, order-history, soft-order, hard-order, in_turn}
 use Rattle.page_policy.proofs.pages.Pages.account.Goals as goal
 
 pub place_of-place-requires : goal.place_of-place-requires
@@ -38,12 +39,17 @@ module _ (c : goal.After-order_for) where
       ∙ row_before-lookup c.args.page c.self.inside.held c.self.inside.table.entries c.place_of-place.result c.args.seconds c.place_of-place.ensures.place
       ∙ ap (λ (v : Held). row_for v.rows taken_in) c.self.view_is
 
+  before_is : c.row_or_new-before.result.state ≡ state_in c.args.self.now.rows c.args.page
+  before_is = ap (λ row. row.state) known ∙ state_in-before c.args.self.now.rows taken_in
+
   ordered : c.order_for.result ≡ order_between c.args.page (state_in c.args.self.now.rows c.args.page) (state_in (rows_after c.args.self.now.rows taken_in) c.args.page)
   ordered =
       let after : c.after-after.result.state ≡ state_in (rows_after c.args.self.now.rows taken_in) c.args.page =
           ap (λ row. row.state) (c.after-after.ensures.row c.args.page) ∙ ap (λ row. (row_after row taken_in).state) known ∙ state_in-after c.args.self.now.rows taken_in in
-      let before : c.row_or_new-before.result.state ≡ state_in c.args.self.now.rows c.args.page = ap (λ row. row.state) known ∙ state_in-before c.args.self.now.rows taken_in in
-      c.order_for.ensures ∙ (λ i. order_between c.args.page (before i) (after i))
+      c.order_for.ensures ∙ (λ i. order_between c.args.page (before_is i) (after i))
+
+  ordered_row : c.order_for.result ≡ order_between c.args.page c.row_or_new-before.result.state (row_after c.row_or_new-before.result taken_in).state
+  ordered_row = c.order_for.ensures ∙ ap (λ row. order_between c.args.page c.row_or_new-before.result.state row.state) (c.after-after.ensures.row c.args.page)
 
 pub returns-clause-pages : goal.returns-clause-pages
 returns-clause-pages c = taken_is c
@@ -69,3 +75,13 @@ returns-clause-history_order c = λ history is.
     ordered c
     ∙ (λ i. order_between c.args.page (state_in (is i) c.args.page) (state_in ((ap (λ rows. rows_after rows (taken_in c)) is ∙ sym (rows_of-more history (taken_in c))) i) c.args.page))
     ∙ order-history history (taken_in c)
+
+pub returns-clause-soft : goal.returns-clause-soft
+returns-clause-soft c = λ is. sym (before_is c) ∙ soft-order c.args.page c.row_or_new-before.result.state (called_by c.row_or_new-before.result (taken_in c)) (sym (ordered_row c) ∙ is)
+
+pub returns-clause-hard : goal.returns-clause-hard
+returns-clause-hard c = λ is. hard-order c.args.page c.row_or_new-before.result (taken_in c) (sym (ordered_row c) ∙ is)
+
+pub returns-clause-in_turn : goal.returns-clause-in_turn
+returns-clause-in_turn c = λ pages wait.
+    ap (λ (v : Held). v.waiting) (taken_is c) ∙ in_turn c.args.self.now (taken_in c) pages wait ∙ ap (λ (v : Held). added nat_eq (keys_of v.rows) pages) (sym (taken_is c))
