@@ -1,5 +1,5 @@
 -- How a report continues the rows of a history, and what it does to the states.
-use Rattle.std.proofs.Common.{◌≡◌, ℕ, ◌<◌, ◌≤◌, Bool, true, false, cond, if◌then◌else◌, List, [], ◌∷◌, ◌++◌, length, Option, None, Some, nat_eq, nat_lt, ◌||◌, ◌↔◌, Contains, map, take, drop, refl, sym, ap, subst, ◌∙◌, unwrap_or, arith}
+use Rattle.std.proofs.Common.{◌≡◌, ℕ, ◌<◌, ◌≤◌, Bool, true, false, cond, if◌then◌else◌, List, [], ◌∷◌, ◌++◌, length, Option, None, Some, nat_eq, ◌||◌, ◌↔◌, Contains, map, take, drop, refl, sym, ap, subst, ◌∙◌, unwrap_or, arith}
 use Rattle.std.specs.List.{list_any, filter_map, IsDistinct}
 use Rattle.std.specs.Cmp.{nat_eq_equiv}
 use Rattle.std.specs.Map.{keys_of, lookup}
@@ -20,7 +20,7 @@ use Rattle.page_policy.proofs.TableLemmas.{table-more, lookup-table, lookup-upda
 use Rattle.indexmap.proofs.CallerLemmas.{Contains-list_any}
 use Rattle.std.proofs.lemmas.Map.Views.{list_any-from_Contains}
 use Rattle.std.proofs.lemmas.List.Folds.{list_any-append}
-use Rattle.page_policy.proofs.PlaceLemmas.{nat_exact, nat_own, nat_apart}
+use Rattle.page_policy.proofs.PlaceLemmas.{nat_exact, nat_own}
 
 page_row-more : (rs : List Report) (r : Report) → 0 < length rs → page_row (rs ++ r ∷ []) ≡ row_after (page_row rs) r
 page_row-more [] r some = absurd (omega arith)

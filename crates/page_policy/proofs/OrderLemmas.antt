@@ -1,9 +1,9 @@
 -- The orders of a page: which there can be, and when single corrected errors give one.
-use Rattle.std.proofs.Common.{◌≡◌, ℕ, zero, suc, ◌+◌, ◌-◌, ◌<◌, ◌≤◌, ◌⊎◌, inl, inr, Bool, true, false, cond, if◌then◌else◌, nat_le, nat_lt, ◌==◌, List, [], ◌∷◌, ◌++◌, length, fold, Option, None, Some, refl, sym, ap, subst, ◌∙◌, add-zero, zero-add, append_assoc, arith, All}
+use Rattle.std.proofs.Common.{◌≡◌, ℕ, suc, ◌+◌, ◌-◌, ◌<◌, ◌≤◌, ◌⊎◌, inl, inr, Bool, true, false, if◌then◌else◌, nat_le, nat_lt, ◌==◌, List, [], ◌∷◌, ◌++◌, length, fold, None, Some, refl, sym, ap, subst, ◌∙◌, add-zero, zero-add, arith, All}
 use Rattle.std.specs.List.{filter_map, cons_option, AllByRecursion}
 use Rattle.std.proofs.lemmas.Bool.Decides.{nat_tests}
 use Rattle.std.proofs.lemmas.List.Sums.{fold-append}
-use Rattle.ras_base.specs.Places.{places_behind, places}
+use Rattle.ras_base.specs.Places.{places_behind}
 use Rattle.mca_status.specs.declared.classes.ItemClass.{ItemClass}
 use Rattle.mca_status.specs.declared.classes.ItemClass.TheVariants.{Ce, Ucna, Srao, Srar, Uc, Odd, Corrected, Recoverable, Fatal, Informational}
 use Rattle.page_policy.specs.declared.buckets.Bucket.{Bucket}
@@ -107,9 +107,9 @@ module _ (limit : Limit) (from : ℕ) (valid : IsLimit limit) where
       let early : r.seconds < row.bucket.stamp + limit.period = omega (arith, single.within, stamped) in
       let still : aged limit r.seconds row.bucket ≡ row.bucket = unaged limit r.seconds row.bucket valid early in
       let tests : trips r.limit r.seconds r.weight row.bucket ≡ reaches row.bucket.count =
-          (λ i. trips (single.limit_is i) r.seconds (single.one i) row.bucket) ∙ ap (λ (b : Bucket). nat_le limit.capacity (b.count + 1)) still in
+      (λ i. trips (single.limit_is i) r.seconds (single.one i) row.bucket) ∙ ap (λ (b : Bucket). nat_le limit.capacity (b.count + 1)) still in
       let bucket : (row_after row r).bucket ≡ bucket_after limit r.seconds 1 row.bucket =
-          ap (λ b. if b then bucket_after r.limit r.seconds r.weight row.bucket else row.bucket) single.corrected ∙ (λ i. bucket_after (single.limit_is i) r.seconds (single.one i) row.bucket) in
+      ap (λ b. if b then bucket_after r.limit r.seconds r.weight row.bucket else row.bucket) single.corrected ∙ (λ i. bucket_after (single.limit_is i) r.seconds (single.one i) row.bucket) in
       record {
         stamp = ap (λ (b : Bucket). b.stamp) bucket ∙ ap (λ (b : Bucket). b.stamp) still;
         count = ap (λ (b : Bucket). b.count) bucket ∙ ap (λ (b : Bucket). if nat_le limit.capacity (b.count + 1) then 0 else b.count + 1) still;
@@ -138,9 +138,10 @@ module _ (limit : Limit) (from : ℕ) (valid : IsLimit limit) where
     goes_on : n + 1 < limit.capacity → (new.bucket.count ≡ n + 1) × (new.state ≡ Kept)
     goes_on more =
         let here : (old.bucket.count ≡ n) × (old.state ≡ Kept) = steady.below (omega arith) in
-        let no : reaches old.bucket.count ≡ false = ap reaches here.0 ∙ reaches-no n more in
-        (step.count ∙ ap (λ b. if b then 0 else old.bucket.count + 1) no ∙ ap (λ k. k + 1) here.0,
-         step.state ∙ ap (λ b. higher old.state (if b then Soft else Kept)) no ∙ ap (λ s. higher s Kept) here.1)
+        let no : reaches old.bucket.count ≡ false = ap reaches here.0 ∙ reaches-no n more in (
+          step.count ∙ ap (λ b. if b then 0 else old.bucket.count + 1) no ∙ ap (λ k. k + 1) here.0,
+          step.state ∙ ap (λ b. higher old.state (if b then Soft else Kept)) no ∙ ap (λ s. higher s Kept) here.1,
+        )
 
     turns : n < limit.capacity → limit.capacity ≤ n + 1 → new.state ≡ Soft
     turns below full =
@@ -199,7 +200,7 @@ order-at_capacity limit page earlier last valid all =
     let row : Row = fold row_after (new_row from) earlier in
     let parts : AllByRecursion (IsSingle limit from) earlier × IsSingle limit from last = split (IsSingle limit from) earlier last (by_recursion (IsSingle limit from) (earlier ++ last ∷ []) all) in
     let steady : Steady limit from valid (length earlier) row =
-        subst (λ m. Steady limit from valid m row) (add-zero (length earlier)) (steady-all limit from valid earlier 0 (new_row from) (steady-new limit from valid) parts.0) in
+    subst (λ m. Steady limit from valid m row) (add-zero (length earlier)) (steady-all limit from valid earlier 0 (new_row from) (steady-new limit from valid) parts.0) in
     let after : page_row (earlier ++ last ∷ []) ≡ row_after row last = fold-append row_after (new_row from) earlier (last ∷ []) in
     (λ i. order_between page (before earlier i) (after i).state)
     ∙ order-single limit from valid (length earlier) row (row_after row last) steady (goes limit from valid row last steady.stamp parts.1) page

@@ -1,8 +1,7 @@
 -- The place of a page in a table, and the table once its row is written there.
-use Rattle.std.proofs.Common.{◌≡◌, ℕ, zero, suc, ◌+◌, ◌<◌, ◌≤◌, Bool, true, false, not, cond, if◌then◌else◌, ◌||◌, nat_eq, nat_lt, List, [], ◌∷◌, ◌++◌, length, map, take, drop, Option, None, Some, refl, sym, ap, ◌∙◌, true≢false, max, unwrap_or, slice_get, is_some, get_or, subst, arith, append-nil, append_assoc, length-append, add-one}
-use Rattle.std.specs.List.{list_any, position, position_or_len, AllByRecursion}
+use Rattle.std.proofs.Common.{◌≡◌, ℕ, zero, suc, ◌+◌, ◌<◌, ◌≤◌, Bool, true, false, not, cond, if◌then◌else◌, ◌||◌, nat_eq, nat_lt, List, [], ◌∷◌, ◌++◌, length, map, take, drop, None, Some, refl, sym, ap, ◌∙◌, true≢false, max, unwrap_or, slice_get, is_some, get_or, subst, arith, append-nil, append_assoc, length-append, add-one}
+use Rattle.std.specs.List.{position, position_or_len, AllByRecursion}
 use Rattle.std.specs.Map.{keys_of, values_of, lookup}
-use Rattle.std.specs.Option.{option_map_or}
 use Rattle.std.proofs.lemmas.Bool.Decides.{nat_tests}
 use Rattle.std.proofs.lemmas.List.{map-append, length-take-le}
 use Rattle.std.proofs.lemmas.Map.Made.{is_some-lookup}
@@ -217,9 +216,9 @@ viewed-written held es place r after m at ready row counted =
     let covered : m ≡ covers held place = counted ∙ sym (covers-max held place within) in
     let change : Row → Row = λ (row : Row). row_after row r in
     let rows : rows_held m (set_value_at es place after) ≡ rows_after (rows_held held es) r =
-        (λ i. rows_held (covered i) (set_value_at es place (row i))) ∙ rows-written r.page r.seconds change held es place at within in
+    (λ i. rows_held (covered i) (set_value_at es place (row i))) ∙ rows-written r.page r.seconds change held es place at within in
     let waiting : pages_waiting m (set_value_at es place after) ≡ (taken (viewed held es) r).waiting =
-        ap (λ n. pages_waiting n (set_value_at es place after)) covered ∙ waiting-written r.page r.seconds change after held es place at within in
+    ap (λ n. pages_waiting n (set_value_at es place after)) covered ∙ waiting-written r.page r.seconds change after held es place at within in
     λ i. record { rows = rows i; waiting = waiting i }
 
 -- whether a page is in the table, as its calls say it

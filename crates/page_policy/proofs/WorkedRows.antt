@@ -3,7 +3,7 @@ use Rattle.std.proofs.Common.{◌≡◌, ℕ, List, [], ◌∷◌, ◌++◌, Som
 use Rattle.mca_status.specs.declared.classes.ItemClass.TheVariants.{Ce, Ucna, Srao}
 use Rattle.page_policy.specs.declared.buckets.Limit.{Limit}
 use Rattle.page_policy.specs.declared.rows.Order.TheVariants.{Soft as OrderSoft, Hard as OrderHard}
-use Rattle.page_policy.specs.declared.rows.PageState.TheVariants.{Kept, Soft, Hard}
+use Rattle.page_policy.specs.declared.rows.PageState.TheVariants.{Kept, Soft}
 use Rattle.page_policy.specs.Rows.{Report, report}
 use Rattle.page_policy.specs.Histories.{rows_of, orders_of, order_behind}
 

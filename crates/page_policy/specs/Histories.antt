@@ -1,7 +1,7 @@
 -- What a list of reports gives: a row for each page, and the orders.
-use Rattle.std.specs.Prelude.{ℕ, ◌≡◌, ◌+◌, ◌<◌, ◌⊎◌, Bool, true, nat_eq, Option, Some, List, [], ◌∷◌, ◌++◌, fold}
-use Rattle.std.specs.List.{filter_map, list_any}
-use Rattle.std.specs.Map.{keys_of, lookup}
+use Rattle.std.specs.Prelude.{ℕ, ◌≡◌, ◌+◌, ◌<◌, ◌⊎◌, true, nat_eq, Option, Some, List, [], ◌∷◌, ◌++◌, fold}
+use Rattle.std.specs.List.{filter_map}
+use Rattle.std.specs.Map.{lookup}
 use Rattle.std.specs.Option.{option_map_or}
 use Rattle.ras_base.specs.Places.{places}
 use Rattle.page_policy.specs.declared.buckets.Limit.{Limit}

@@ -1,6 +1,6 @@
 -- This file only carries proofs: where a page's row stands in a table, for clauses of functions that
 -- are not public.
-use Rattle.std.specs.Prelude.{◌≡◌, ℕ, zero, suc, ◌≤◌, Bool, true, false, nat_eq, List, [], ◌∷◌, length, map}
+use Rattle.std.specs.Prelude.{◌≡◌, ℕ, zero, suc, ◌≤◌, true, false, nat_eq, List, [], ◌∷◌, length}
 use Rattle.std.specs.List.{AllByRecursion}
 use Rattle.page_policy.specs.declared.rows.Row.{Row}
 use Rattle.page_policy.specs.Buckets.{most_count}

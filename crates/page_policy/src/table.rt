@@ -21,12 +21,7 @@ pub(crate) fn place_of(table: &IndexMap<u64, Row>, page: u64) -> usize
 }
 
 // The row at a place, if it is one of the first `held`, or a new row.
-pub(crate) fn row_or_new(
-    table: &IndexMap<u64, Row>,
-    held: usize,
-    place: usize,
-    seconds: u64,
-) -> Row
+pub(crate) fn row_or_new(table: &IndexMap<u64, Row>, held: usize, place: usize, seconds: u64) -> Row
     requires { place < length table.now.entries }
     ensures { result ≡ row_before table.now.entries held place seconds }
 {

@@ -1,6 +1,7 @@
 //! Buckets, rows and orders, by rows that were worked out by hand.
 use crate::{Bucket, Limit, Order, PageState, Pages, RowRefused};
 use mca_status::ItemClass;
+use ras_base::NoMemory;
 
 const TEN_A_DAY: Limit = Limit {
     capacity: 10,
@@ -8,6 +9,18 @@ const TEN_A_DAY: Limit = Limit {
 };
 
 const PAGE: u64 = 0x12345;
+
+// Takes a report of a page after it was let to wait.
+fn taken(
+    pages: &mut Pages,
+    page: u64,
+    class: ItemClass,
+    seconds: u64,
+    weight: u16,
+) -> Result<Option<Order>, NoMemory> {
+    pages.reserve(&[page])?;
+    Ok(pages.account(page, class, seconds, weight, TEN_A_DAY))
+}
 
 #[test]
 fn buckets(rt: HostRuntime) {
@@ -38,14 +51,12 @@ fn tenth(rt: HostRuntime) {
     ] {
         let mut pages = Pages::new(rt.alloc());
         assert!(rt; pages.is_empty());
-        assert!(rt; pages.reserve(&[PAGE]) == Ok(()));
         for _ in 0..9 {
-            let early = pages.account(PAGE, ItemClass::Ce, 1000, 1, TEN_A_DAY);
-            assert_eq!(rt; early, None);
+            assert_eq!(rt; taken(&mut pages, PAGE, ItemClass::Ce, 1000, 1), Ok(None));
         }
-        let last = pages.account(PAGE, ItemClass::Ce, seconds, 1, TEN_A_DAY);
-        assert_eq!(rt; last, order, "at {seconds}");
-        assert_eq!(rt; pages.len(), 1);
+        let last = taken(&mut pages, PAGE, ItemClass::Ce, seconds, 1);
+        assert_eq!(rt; last, Ok(order), "at {seconds}");
+        assert!(rt; pages.len() == 1);
         let (count, stamp, state) = row;
         assert_eq!(rt; pages.row(0), (PAGE, Bucket { count, stamp }, state));
     }
@@ -72,7 +83,11 @@ fn classes(rt: HostRuntime) {
         assert_eq!(rt; first, order, "{class:?}");
         let again = pages.account(PAGE, class, 6, weight, TEN_A_DAY);
         // A second trip or call orders nothing anew; nine corrected errors and nine are too many.
-        let later = if weight == 9 { Some(Order::Soft(PAGE)) } else { None };
+        let later = if weight == 9 {
+            Some(Order::Soft(PAGE))
+        } else {
+            None
+        };
         assert_eq!(rt; again, later, "{class:?} again");
     }
 }
@@ -82,19 +97,40 @@ fn rows(rt: HostRuntime) {
     let mut pages = Pages::new(rt.alloc());
     let bucket = Bucket { count: 3, stamp: 7 };
     assert_eq!(rt; pages.push_row(9, bucket, PageState::Hard), Ok(()));
-    assert_eq!(rt; pages.push_row(9, bucket, PageState::Kept), Err(RowRefused::Repeated));
+    assert_eq!(rt;
+        pages.push_row(9, bucket, PageState::Kept),
+        Err(RowRefused::Repeated)
+    );
     assert_eq!(rt; pages.row(0), (9, bucket, PageState::Hard));
 
     // Pages 4 and 6 wait, and each once; 9 is held.
     assert!(rt; pages.reserve(&[4, 9, 4, 6, 4]) == Ok(()));
     assert_eq!(rt; pages.len(), 1);
-    assert_eq!(rt; pages.account(4, ItemClass::Srao, 8, 1, TEN_A_DAY), Some(Order::Hard(4)));
+    assert_eq!(rt;
+        pages.account(4, ItemClass::Srao, 8, 1, TEN_A_DAY),
+        Some(Order::Hard(4))
+    );
     assert_eq!(rt; pages.account(9, ItemClass::Ce, 8, 7, TEN_A_DAY), None);
-    assert_eq!(rt; pages.account(6, ItemClass::Ucna, 8, 1, TEN_A_DAY), Some(Order::Soft(6)));
-    assert_eq!(rt; pages.account(6, ItemClass::Srar, 9, 1, TEN_A_DAY), Some(Order::Hard(6)));
-    assert_eq!(rt; pages.account(6, ItemClass::Ucna, 10, 1, TEN_A_DAY), None);
-    assert_eq!(rt; pages.len(), 3);
-    assert_eq!(rt; pages.row(0), (9, Bucket { count: 0, stamp: 7 }, PageState::Hard));
-    assert_eq!(rt; pages.row(1), (4, Bucket { count: 0, stamp: 8 }, PageState::Hard));
-    assert_eq!(rt; pages.row(2), (6, Bucket { count: 0, stamp: 8 }, PageState::Hard));
+    assert_eq!(rt;
+        pages.account(6, ItemClass::Ucna, 8, 1, TEN_A_DAY),
+        Some(Order::Soft(6))
+    );
+    assert_eq!(rt;
+        taken(&mut pages, 6, ItemClass::Srar, 9, 1),
+        Ok(Some(Order::Hard(6)))
+    );
+    assert_eq!(rt; taken(&mut pages, 6, ItemClass::Ucna, 10, 1), Ok(None));
+    assert!(rt; pages.len() == 3);
+    assert_eq!(rt;
+        pages.row(0),
+        (9, Bucket { count: 0, stamp: 7 }, PageState::Hard)
+    );
+    assert_eq!(rt;
+        pages.row(1),
+        (4, Bucket { count: 0, stamp: 8 }, PageState::Hard)
+    );
+    assert_eq!(rt;
+        pages.row(2),
+        (6, Bucket { count: 0, stamp: 8 }, PageState::Hard)
+    );
 }

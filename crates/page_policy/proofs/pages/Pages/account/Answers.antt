@@ -1,4 +1,4 @@
-use Rattle.std.proofs.Common.{◌≡◌, ℕ, ◌≤◌, true, nat_eq, ◌∙◌, sym, ap, subst}
+use Rattle.std.proofs.Common.{◌≡◌, ◌≤◌, true, nat_eq, ◌∙◌, sym, ap, subst}
 use Rattle.std.specs.Map.{keys_of, lookup}
 use Rattle.page_policy.specs.Tables.{added}
 use Rattle.indexmap.specs.IndexMap.{set_value_at}
@@ -45,7 +45,7 @@ module _ (c : goal.After-order_for) where
   ordered : c.order_for.result ≡ order_between c.args.page (state_in c.args.self.now.rows c.args.page) (state_in (rows_after c.args.self.now.rows taken_in) c.args.page)
   ordered =
       let after : c.after-after.result.state ≡ state_in (rows_after c.args.self.now.rows taken_in) c.args.page =
-          ap (λ row. row.state) (c.after-after.ensures.row c.args.page) ∙ ap (λ row. (row_after row taken_in).state) known ∙ state_in-after c.args.self.now.rows taken_in in
+      ap (λ row. row.state) (c.after-after.ensures.row c.args.page) ∙ ap (λ row. (row_after row taken_in).state) known ∙ state_in-after c.args.self.now.rows taken_in in
       c.order_for.ensures ∙ (λ i. order_between c.args.page (before_is i) (after i))
 
   ordered_row : c.order_for.result ≡ order_between c.args.page c.row_or_new-before.result.state (row_after c.row_or_new-before.result taken_in).state

@@ -1,5 +1,4 @@
-use Rattle.std.proofs.Common.{◌≡◌, true, false, refl, sym, ◌∙◌, true≢false}
-use Rattle.page_policy.specs.Pages.{is_held}
+use Rattle.std.proofs.Common.{refl, sym, ◌∙◌, true≢false}
 use Rattle.page_policy.proofs.PlaceLemmas.{held-by_table, Pushed, pushed}
 use Rattle.page_policy.proofs.pages.Pages.push_row.Goals as goal
 
