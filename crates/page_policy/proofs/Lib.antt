@@ -1,4 +1,5 @@
 pub mod TableLemmas
+pub mod WaitingLemmas
 pub mod PlaceLemmas
 pub mod HistoryLemmas
 pub mod OrderLemmas

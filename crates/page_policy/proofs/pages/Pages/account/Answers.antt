@@ -2,16 +2,17 @@ use Rattle.std.proofs.Common.{◌≡◌, ◌≤◌, true, nat_eq, ◌∙◌, sym
 use Rattle.std.specs.Map.{keys_of, lookup}
 use Rattle.page_policy.specs.Tables.{added}
 use Rattle.indexmap.specs.IndexMap.{set_value_at}
-use Rattle.page_policy.specs.Rows.{Report, report, height, row_after, called_by, order_between}
+use Rattle.page_policy.specs.Rows.{Report, report, height, new_row, row_after, called_by, order_between}
 use Rattle.page_policy.specs.Histories.{rows_after, state_in}
 use Rattle.page_policy.specs.Pages.{Held, is_ready, taken}
-use Rattle.page_policy.proofs.PlaceLemmas.{viewed, viewed-written, ready-there, small-row_before, kept-written, row_before-lookup, nat_apart}
+use Rattle.page_policy.proofs.PlaceLemmas.{nat_exact, nat_own, nat_apart, viewed, viewed-written, small-row_before, kept-written}
+use Rattle.page_policy.proofs.WaitingLemmas.{next-there, row_before-lookup}
 use Rattle.page_policy.proofs.HistoryLemmas.{row_for, state_in-before, state_in-after, never_falls, lookup-rows_after, rows_of-more, order-history, soft-order, hard-order, in_turn}
 use Rattle.page_policy.proofs.pages.Pages.account.Goals as goal
 
 pub place_of-place-requires : goal.place_of-place-requires
 place_of-place-requires c =
-    ready-there c.args.page c.self.inside.held c.self.inside.table.entries (subst (λ (v : Held). is_ready v c.args.page ≡ true) (sym c.self.view_is) c.requires.ready)
+    next-there nat_eq nat_exact nat_own c.args.page c.self.inside.held c.self.inside.table.entries (subst (λ (v : Held). is_ready v c.args.page ≡ true) (sym c.self.view_is) c.requires.ready)
 
 pub after-after-requires-clause-count : goal.after-after-requires-clause-count
 after-after-requires-clause-count c =
@@ -36,7 +37,7 @@ module _ (c : goal.After-order_for) where
   known : c.row_or_new-before.result ≡ row_for c.args.self.now.rows taken_in
   known =
       c.row_or_new-before.ensures
-      ∙ row_before-lookup c.args.page c.self.inside.held c.self.inside.table.entries c.place_of-place.result c.args.seconds c.place_of-place.ensures.place
+      ∙ row_before-lookup nat_eq nat_exact nat_own c.args.page c.self.inside.held c.self.inside.table.entries c.place_of-place.result (new_row c.args.seconds) c.place_of-place.ensures.place
       ∙ ap (λ (v : Held). row_for v.rows taken_in) c.self.view_is
 
   before_is : c.row_or_new-before.result.state ≡ state_in c.args.self.now.rows c.args.page
