@@ -81,9 +81,9 @@ viewed-written held es place r after m at ready row counted =
     let covered : m ≡ covers held place = counted ∙ sym (covers-max held place within) in
     let change : Row → Row = λ (row : Row). row_after row r in
     let rows : take m (set_value_at es place after) ≡ rows_after (take held es) r =
-        (λ i. take (covered i) (set_value_at es place (row i))) ∙ rows-written nat_eq nat_exact nat_own r.page (new_row r.seconds) change held es place at within in
+    (λ i. take (covered i) (set_value_at es place (row i))) ∙ rows-written nat_eq nat_exact nat_own r.page (new_row r.seconds) change held es place at within in
     let waiting : drop m (keys_of (set_value_at es place after)) ≡ (taken (viewed held es) r).waiting =
-        ap (λ n. drop n (keys_of (set_value_at es place after))) covered ∙ waiting-written nat_eq nat_exact nat_own r.page after held es place at within in
+    ap (λ n. drop n (keys_of (set_value_at es place after))) covered ∙ waiting-written nat_eq nat_exact nat_own r.page after held es place at within in
     λ i. record { rows = rows i; waiting = waiting i }
 
 -- what holds of every table holds where pages wait behind those held
