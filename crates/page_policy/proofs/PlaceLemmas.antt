@@ -1,5 +1,5 @@
 -- The table of pages: a row written at its page's place, pages that wait, and small buckets.
-use Rattle.std.proofs.Common.{◌≡◌, ℕ, zero, suc, ◌+◌, ◌<◌, ◌≤◌, Bool, true, false, nat_eq, List, [], ◌∷◌, ◌++◌, length, map, take, drop, Some, refl, sym, ap, ◌∙◌, max, slice_get, is_some, subst, arith}
+use Rattle.std.proofs.Common.{◌≡◌, ℕ, zero, suc, ◌+◌, ◌≤◌, Bool, true, false, nat_eq, List, [], ◌∷◌, ◌++◌, length, map, take, drop, Some, refl, sym, ap, ◌∙◌, max, slice_get, is_some, subst, arith}
 use Rattle.std.specs.List.{AllByRecursion}
 use Rattle.std.specs.Map.{keys_of, values_of, lookup}
 use Rattle.std.proofs.lemmas.Bool.Decides.{nat_tests}
@@ -65,10 +65,10 @@ abbrev pub viewed : ℕ → List (ℕ × Row) → Held
 viewed held es = record { rows = take held es; waiting = drop held (keys_of es) }
 
 -- what holds of every table holds after a row is written
-pub kept-written : (held : ℕ) (es : List (ℕ × Row)) (place : ℕ) (row : Row) (m : ℕ) → IsKept held es → place < length es → row.bucket.count ≤ most_count → m ≡ max held (place + 1)
+pub kept-written : (held : ℕ) (es : List (ℕ × Row)) (place : ℕ) (row : Row) (m : ℕ) → IsKept held es → m ≤ length es → row.bucket.count ≤ most_count
     → IsKept m (set_value_at es place row)
-kept-written held es place row m kept within small counted = record {
-  first = omega (arith, kept.first, length-set_value_at es place row);
+kept-written held es place row m kept within small = record {
+  first = omega (arith, within, length-set_value_at es place row);
   small = small-set es place row small kept.small;
 }
 

@@ -1,4 +1,4 @@
-use Rattle.std.proofs.Common.{◌≡◌, ◌≤◌, true, nat_eq, ◌∙◌, sym, ap, subst}
+use Rattle.std.proofs.Common.{arith, ◌≡◌, ◌≤◌, true, nat_eq, ◌∙◌, sym, ap, subst}
 use Rattle.std.specs.Map.{keys_of, lookup}
 use Rattle.page_policy.specs.Tables.{added}
 use Rattle.indexmap.specs.IndexMap.{set_value_at}
@@ -15,13 +15,12 @@ place_of-place-requires c =
     next-there nat_eq nat_exact nat_own c.args.page c.self.inside.held c.self.inside.table.entries (subst (λ (v : Held). is_ready v c.args.page ≡ true) (sym c.self.view_is) c.requires.ready)
 
 pub after-after-requires-clause-count : goal.after-after-requires-clause-count
-after-after-requires-clause-count c =
-    rw c.row_or_new-before.ensures (small-row_before c.self.inside.table.entries c.self.inside.held c.place_of-place.result c.args.seconds c.self.invariant.small)
+after-after-requires-clause-count c = rw c.row_or_new-before.ensures (small-row_before _ _ _ _ c.self.invariant.small)
 
 pub invariant_of-self : goal.invariant_of-self
 invariant_of-self c =
-    kept-written c.self.inside.held c.self.inside.table.entries c.place_of-place.result c.after-after.result c.max-self-inside.result
-    c.self.invariant c.place_of-place.ensures.within c.after-after.ensures.count c.max-self-inside.ensures
+    kept-written _ _ _ _ _ c.self.invariant
+    (omega (arith, c.self.invariant.first, c.place_of-place.ensures.within, c.max-self-inside.ensures)) c.after-after.ensures.count
 
 module _ (c : goal.After-order_for) where
   abbrev taken_in : Report
