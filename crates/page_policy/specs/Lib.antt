@@ -1,0 +1,6 @@
+pub mod Tables
+pub mod Buckets
+pub mod Rows
+pub mod Histories
+pub mod Pages
+pub mod Places

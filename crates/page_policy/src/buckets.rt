@@ -1,0 +1,70 @@
+//! The leaky bucket of a page's corrected errors.
+
+ghost use Rattle.std.specs.Prelude.{◌≡◌, ◌↔◌, ◌≤◌, ◌<◌, ◌+◌, IsTrue};
+ghost use Rattle.std.specs.Bool.{OnTrue, OnFalse};
+
+/// How many corrected errors within which time are too many for a page.
+#[derive(Clone, Copy, Debug, PartialEq, Eq)]
+pub struct Limit {
+    /// The number of errors at which a bucket trips, from 1 to 1,000,000.
+    pub capacity: u32,
+    /// The time in which so many errors leak out of a bucket, from 1 to 10,000,000 seconds.
+    pub period: u32,
+}
+
+/// A leaky bucket, after that of mcelog: it fills with a page's corrected errors, and they leak out
+/// with time.
+#[derive(Clone, Copy, Debug, PartialEq, Eq)]
+pub struct Bucket {
+    /// The errors in it.
+    pub count: u32,
+    /// When errors last leaked out of it, in seconds; before that, when it was first used.
+    pub stamp: u64,
+}
+
+impl Bucket {
+    ghost use Rattle.page_policy.specs.Buckets.{IsLimit, most_count, aged, trips, bucket_after};
+
+    /// Lets out what has leaked by this time, in seconds, and fills in a report's errors. The answer
+    /// is whether the bucket trips: it held the limit's capacity or more, and was emptied.
+    ///
+    /// Nothing leaks before a whole period of the limit has passed since the stamp, and so nothing
+    /// at an earlier time than the stamp either. After a whole period capacity errors leak per
+    /// period, in whole errors. Under a limit whose capacity is below what the bucket holds, it trips
+    /// whatever the weight.
+    pub fn step(&mut self, limit: Limit, now: u64, weight: u16) -> bool
+        requires limit { IsLimit limit }
+        requires count { self.old.count ≤ most_count }
+        ensures bucket { self.new ≡ bucket_after limit now weight self.old }
+        ensures trips { result ≡ trips limit now weight self.old }
+        ensures count { self.new.count ≤ most_count }
+
+        // Within a period of the stamp, or before it, the count is what it was and the weight.
+        ensures early_trip { now < self.old.stamp + limit.period → (IsTrue result ↔ (limit.capacity ≤ self.old.count + weight)) }
+        ensures early_count { now < self.old.stamp + limit.period → OnFalse result (self.new ≡ record self.old { count = self.old.count + weight }) }
+        ensures emptied { OnTrue result (self.new.count ≡ 0) }
+    {
+        self.age(limit, now);
+        self.count += u32::from(weight);
+        let is_full = self.count >= limit.capacity;
+        if is_full {
+            self.count = 0;
+        }
+        is_full
+    }
+
+    // Lets out what has leaked by this time.
+    fn age(&mut self, limit: Limit, now: u64)
+        requires limit { IsLimit limit }
+        ensures { self.new ≡ aged limit now self.old }
+    {
+        let passed = now.saturating_sub(self.stamp);
+        if passed < u64::from(limit.period) {
+            return;
+        }
+        // In u128, since the product of seconds and a capacity can pass 64 bits.
+        let leaked = u128::from(passed) * u128::from(limit.capacity) / u128::from(limit.period);
+        self.count -= leaked.min(u128::from(self.count)) as u32;
+        self.stamp = now;
+    }
+}

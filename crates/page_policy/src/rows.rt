@@ -1,0 +1,116 @@
+//! What is known of one page: its bucket and its state, and the orders that follow.
+
+ghost use Rattle.std.specs.Prelude.{◌≡◌, ◌≤◌};
+ghost use Rattle.page_policy.specs.Buckets.{IsLimit, most_count};
+ghost use Rattle.page_policy.specs.Rows.{report, new_row, row_after, is_corrected, called_for, higher, order_between};
+
+use crate::{Bucket, Limit};
+use mca_status::ItemClass;
+
+/// How far a page was taken out of use. A page's state only rises, in the order of the variants.
+#[derive(Clone, Copy, Debug, PartialEq, Eq)]
+pub enum PageState {
+    /// The page stays in use.
+    Kept,
+    /// Its contents are to be moved away, and the page left unused.
+    Soft,
+    /// The page is to be taken away at once, with what it holds.
+    Hard,
+}
+
+/// An order to take a page out of use, with the page's number: its address over 4,096.
+#[derive(Clone, Copy, Debug, PartialEq, Eq)]
+pub enum Order {
+    /// Move its contents away first.
+    Soft(u64),
+    /// Take it away at once.
+    Hard(u64),
+}
+
+/// What is known of a page.
+#[derive(Clone, Copy, Debug, PartialEq, Eq)]
+pub struct Row {
+    /// The bucket of its corrected errors.
+    pub bucket: Bucket,
+    /// Its state.
+    pub state: PageState,
+}
+
+impl Row {
+    // The row of a page that is first reported at this time.
+    pub(crate) fn new(seconds: u64) -> Row
+        ensures { result ≡ new_row seconds }
+    {
+        Row {
+            bucket: Bucket {
+                count: 0,
+                stamp: seconds,
+            },
+            state: PageState::Kept,
+        }
+    }
+
+    // The row after a report of the page.
+    pub(crate) fn after(self, class: ItemClass, seconds: u64, weight: u16, limit: Limit) -> Row
+        requires limit { IsLimit limit }
+        requires count { self.bucket.count ≤ most_count }
+        ensures row { (page : _) → result ≡ row_after self (report page class seconds weight limit) }
+        ensures count { result.bucket.count ≤ most_count }
+    {
+        let mut bucket = self.bucket;
+        let trips = counts(class) && bucket.step(limit, seconds, weight);
+        Row {
+            bucket,
+            state: self.state.raised(calls_for(class, trips)),
+        }
+    }
+}
+
+impl PageState {
+    // The higher of two states.
+    fn raised(self, other: PageState) -> PageState
+        ensures { result ≡ higher self other }
+    {
+        match (self, other) {
+            (PageState::Hard, _) | (_, PageState::Hard) => PageState::Hard,
+            (PageState::Soft, _) | (_, PageState::Soft) => PageState::Soft,
+            (PageState::Kept, PageState::Kept) => PageState::Kept,
+        }
+    }
+}
+
+// Whether an item of this class fills the bucket of its page.
+fn counts(class: ItemClass) -> bool
+    ensures { result ≡ is_corrected class }
+{
+    matches!(class, ItemClass::Ce | ItemClass::Corrected)
+}
+
+// The state that an item calls for; `trips` is whether the bucket trips, and counts for corrected items.
+fn calls_for(class: ItemClass, trips: bool) -> PageState
+    ensures { result ≡ called_for class trips }
+{
+    match class {
+        ItemClass::Ce | ItemClass::Corrected if trips => PageState::Soft,
+        ItemClass::Ucna => PageState::Soft,
+        ItemClass::Srao
+        | ItemClass::Srar
+        | ItemClass::Uc
+        | ItemClass::Recoverable
+        | ItemClass::Fatal => PageState::Hard,
+        ItemClass::Ce | ItemClass::Corrected | ItemClass::Odd | ItemClass::Informational => {
+            PageState::Kept
+        }
+    }
+}
+
+// The order where a page's state rises.
+pub(crate) fn order_for(page: u64, before: PageState, after: PageState) -> Option<Order>
+    ensures { result ≡ order_between page before after }
+{
+    match (before, after) {
+        (PageState::Kept, PageState::Soft) => Some(Order::Soft(page)),
+        (PageState::Kept | PageState::Soft, PageState::Hard) => Some(Order::Hard(page)),
+        _ => None,
+    }
+}
