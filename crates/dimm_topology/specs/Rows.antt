@@ -1,6 +1,6 @@
 -- The rows of a topology, and what each tells.
 use Rattle.std.specs.Prelude.{ℕ, Bool, true, false, nat_eq, nat_le, ◌&&◌, Option, Some, None, List, if◌then◌else◌}
-use Rattle.std.specs.List.{list_any}
+use Rattle.std.specs.List.{list_any, filter_map}
 use Rattle.dimm_topology.specs.Labels.{Bytes, same_label}
 use Rattle.dimm_topology.specs.declared.row.Row.{Row}
 use Rattle.dimm_topology.specs.declared.row.Row.TheVariants.{Cpu, Module, Range, Place}
@@ -10,16 +10,27 @@ abbrev pub socket_of : ℕ → Row → Option ℕ
 socket_of cpu (Cpu cpu' socket) = if nat_eq cpu cpu' then Some socket else None
 socket_of cpu _ = None
 
--- the label that a module row names for a socket, bank and channel
-abbrev pub label_at : ℕ → ℕ → ℕ → Row → Option Bytes
-label_at socket bank channel (Module label socket' bank' channel') =
-    if nat_eq socket socket' && nat_eq bank bank' && nat_eq channel channel' then Some label else None
-label_at socket bank channel _ = None
+-- the label that a row names
+abbrev pub label_in : Row → Option Bytes
+label_in (Cpu cpu socket) = None
+label_in (Module label socket bank channel) = Some label
+label_in (Range label first last) = Some label
+label_in (Place label node card module') = Some label
 
--- the label of a range that holds an address; both ends belong to a range
-abbrev pub label_over : ℕ → Row → Option Bytes
-label_over address (Range label first last) = if nat_le first address && nat_le address last then Some label else None
-label_over address _ = None
+-- the labels that rows name, in order
+abbrev pub labels_in : List Row → List Bytes
+labels_in rows = filter_map label_in rows
+
+-- whether a row is a module row of a socket, bank and channel
+abbrev pub is_at : ℕ → ℕ → ℕ → Row → Bool
+is_at socket bank channel (Module label socket' bank' channel') =
+    nat_eq socket socket' && nat_eq bank bank' && nat_eq channel channel'
+is_at socket bank channel _ = false
+
+-- whether a row is a range that holds an address; both ends belong to a range
+abbrev pub holds : ℕ → Row → Bool
+holds address (Range label first last) = nat_le first address && nat_le address last
+holds address _ = false
 
 -- whether a row is a module row of this label
 abbrev pub is_module_of : Bytes → Row → Bool

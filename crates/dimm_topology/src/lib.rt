@@ -7,6 +7,7 @@
 
 mod label;
 mod row;
+mod topology;
 
 pub use label::{Label, LabelRefused};
-pub use row::Row;
+pub use topology::{MOST_ROWS, Topology, TopologyRefused};

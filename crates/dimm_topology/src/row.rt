@@ -1,7 +1,7 @@
 // The rows of a topology.
 ghost use Rattle.std.specs.Prelude.{◌≡◌, Option};
 ghost use Rattle.std.specs.Option.{option_copied};
-ghost use Rattle.dimm_topology.specs.Rows.{socket_of, label_at, label_over};
+ghost use Rattle.dimm_topology.specs.Rows.{socket_of, label_in, is_at, holds, is_module_of, overlap};
 
 use crate::Label;
 
@@ -46,28 +46,67 @@ impl Row {
         }
     }
 
-    // The label that a module row names for this socket, bank and channel.
-    pub(crate) fn label_at(&self, socket: u8, bank: u8, channel: u8) -> Option<&Label>
-        ensures { option_copied result ≡ label_at socket bank channel self.now }
+    // The label that the row names.
+    pub(crate) fn label(&self) -> Option<&Label>
+        ensures { option_copied result ≡ label_in self.now }
     {
         match self {
-            Row::Module {
-                label,
-                socket: s,
-                bank: b,
-                channel: c,
-            } if (*s, *b, *c) == (socket, bank, channel) => Some(label),
-            _ => None,
+            Row::Cpu { .. } => None,
+            Row::Module { label, .. } | Row::Range { label, .. } | Row::Place { label, .. } => {
+                Some(label)
+            }
         }
     }
 
-    // The label of a range that holds this address.
-    pub(crate) fn label_over(&self, address: u64) -> Option<&Label>
-        ensures { option_copied result ≡ label_over address self.now }
+    // Whether this is a module row of this socket, bank and channel.
+    pub(crate) fn is_at(&self, socket: u8, bank: u8, channel: u8) -> bool
+        ensures { result ≡ is_at socket bank channel self.now }
     {
         match self {
-            Row::Range { label, first, last } if (*first..=*last).contains(&address) => Some(label),
-            _ => None,
+            Row::Module {
+                label: _,
+                socket: s,
+                bank: b,
+                channel: c,
+            } => (*s, *b, *c) == (socket, bank, channel),
+            _ => false,
+        }
+    }
+
+    // Whether this is a range that holds this address.
+    pub(crate) fn holds(&self, address: u64) -> bool
+        ensures { result ≡ holds address self.now }
+    {
+        match self {
+            Row::Range { first, last, .. } => (*first..=*last).contains(&address),
+            _ => false,
+        }
+    }
+
+    // Whether this is a module row of this label.
+    pub(crate) fn is_module_of(&self, label: &Label) -> bool
+        ensures { result ≡ is_module_of label.now self.now }
+    {
+        match self {
+            Row::Module { label: held, .. } => label == held,
+            _ => false,
+        }
+    }
+
+    // Whether this and another row are ranges with an address in common.
+    pub(crate) fn overlaps(&self, other: &Row) -> bool
+        ensures { result ≡ overlap self.now other.now }
+    {
+        match (self, other) {
+            (
+                Row::Range { first, last, .. },
+                Row::Range {
+                    first: other_first,
+                    last: other_last,
+                    ..
+                },
+            ) => first <= other_last && other_first <= last,
+            _ => false,
         }
     }
 }
