@@ -1,3 +1,4 @@
+-- That an owner is the label of a module row.
 use Rattle.std.proofs.Common.{◌≡◌, ℕ, Bool, true, false, ◌&&◌, ◌||◌, Option, Some, None, List, [], ◌∷◌, refl, sym, ◌∙◌, arith, filter}
 use Rattle.std.specs.Prelude.{IsTrue, IfSome}
 use Rattle.std.proofs.lemmas.Grind.{common_steps}
@@ -41,12 +42,15 @@ owner_named rows cpu bank code address topology = either (option_and_then (owner
   where
     P : Bytes → Type 0
     P label = IsTrue (is_module_label rows label)
+
     either : (one other : Option Bytes) → IfSome one P → IfSome other P → IfSome (option_or one other) P
     either None other p q = q
     either (Some label) other p q = p
+
     over : (address : Option ℕ) → IfSome (option_and_then (owner_of_address rows) address) P
     over None = tt
     over (Some a) = fitting rows (holds a) topology
+
     at : (channel socket : Option ℕ) → IfSome (option_and_then (λ c. option_and_then (λ s. owner_of_channel rows s bank c) socket) channel) P
     at None socket = tt
     at (Some c) None = tt

@@ -1,3 +1,4 @@
+-- Ranges that hold an address, and what a look-up through the rows finds.
 use Rattle.std.proofs.Common.{◌≡◌, ℕ, ◌≤◌, ◌+◌, Bool, true, false, Option, Some, None, List, [], ◌∷◌, length, map, refl, ap, sym, ◌∙◌, arith, filter, if◌then◌else◌}
 use Rattle.std.proofs.lemmas.Grind.{common_steps}
 use Rattle.std.proofs.lemmas.Bool.Decides.{nat_tests}
@@ -11,6 +12,7 @@ use Rattle.dimm_topology.specs.Rows.{label_in, labels_in, is_at, holds, overlap,
 use Rattle.dimm_topology.specs.Owners.{the_one, ranges_over, owner_of_address, owner_of_channel}
 use Rattle.dimm_topology.specs.Topology.{IsApart}
 
+-- the items as they are
 pub map_same : (xs : List ℕ) → map (λ (x : ℕ). x) xs ≡ xs
 map_same [] = refl
 map_same (x ∷ xs) = ap (λ (ys : List ℕ). x ∷ ys) (map_same xs)
@@ -49,6 +51,7 @@ the_one_of_one (Range label first last ∷ []) small = refl
 the_one_of_one (Place label node card module' ∷ []) small = refl
 the_one_of_one (row ∷ other ∷ rows) small = absurd (omega arith)
 
+-- the owner of an address is the label of the first range that holds it
 pub address_owner : (address : ℕ) (rows : List Row) → IsApart rows → owner_of_address rows address ≡ option_and_then label_in (find (holds address) rows)
 address_owner address rows apart =
     the_one_of_one (filter (holds address) rows) (one_over address rows apart) ∙ ap (option_and_then label_in) (sym (find_filter (holds address) rows))

@@ -1,3 +1,4 @@
+-- What a topology keeps as rows are added.
 use Rattle.std.proofs.Common.{◌≡◌, ℕ, ◌≤◌, ◌<◌, ◌+◌, Bool, true, false, ◌&&◌, ◌||◌, Option, Some, None, Result, List, [], ◌∷◌, ◌++◌, length, refl, ap, sym, ◌∙◌, arith, filter, length-append, append-nil}
 use Rattle.std.specs.Prelude.{IsTrue, OnOk, OnErr, Ok, Err, nat_le, nat_eq, max, IsSome, if◌then◌else◌}
 use Rattle.std.proofs.lemmas.Grind.{common_steps}
@@ -72,6 +73,7 @@ other_row result old new row other ok err address = by result ok err
   where
     more : filter (holds address) (old ++ row ∷ []) ≡ filter (holds address) old
     more = filter-append (holds address) old (row ∷ []) ∙ rw (other address) (append-nil (filter (holds address) old))
+
     by : (result : Result (Unit {0}) TopologyRefused) → OnOk result (new ≡ old ++ row ∷ []) → OnErr result (new ≡ old) → owner_of_address new address ≡ owner_of_address old address
     by (Ok done) ok err = rw (ok, more) refl
     by (Err refused) ok err = rw err refl
@@ -108,7 +110,7 @@ last_socket (Err refused) old new cpu socket ok = tt
 last_socket (Ok done) old new cpu socket ok =
     let own : nat_eq cpu cpu ≡ true = grind (arith, nat_tests) in
     let more : filter_map (socket_of cpu) (old ++ Cpu cpu socket ∷ []) ≡ filter_map (socket_of cpu) old ++ socket ∷ [] =
-        filter_map-append (socket_of cpu) old (Cpu cpu socket ∷ []) ∙ rw own refl in
+    filter_map-append (socket_of cpu) old (Cpu cpu socket ∷ []) ∙ rw own refl in
     rw (ok, more) (last_added (filter_map (socket_of cpu) old) None socket)
 
 -- where an address is in a range, a row that overlaps none doesn't hold it
@@ -126,5 +128,5 @@ range_keeps (Err refused) old new row answer ok err address owned = rw err refl
 range_keeps (Ok done) old new row answer ok err address owned =
     let free : list_any (overlap row) old ≡ false = grind (arith, common_steps, answer) in
     let more : filter (holds address) (old ++ row ∷ []) ≡ filter (holds address) old =
-        filter-append (holds address) old (row ∷ []) ∙ rw (not_over address row old free owned) (append-nil (filter (holds address) old)) in
+    filter-append (holds address) old (row ∷ []) ∙ rw (not_over address row old free owned) (append-nil (filter (holds address) old)) in
     rw (ok, more) refl

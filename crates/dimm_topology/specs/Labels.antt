@@ -3,6 +3,7 @@ use Rattle.std.specs.Prelude.{ℕ, Bool, nat_eq, nat_le, ◌&&◌, ◌||◌, not
 use Rattle.std.specs.List.{list_all}
 use Rattle.std.specs.Cmp.Lexicographic.{pointwise}
 
+-- a label is the list of its bytes, the empty one for none
 abbrev pub Bytes : Type 0
 Bytes = List ℕ
 
@@ -19,6 +20,6 @@ abbrev pub is_label : Bytes → Bool
 is_label bytes =
     nat_le 1 (length bytes) && nat_le (length bytes) 32 && list_all is_label_byte bytes && not (same_label bytes (codes "-"))
 
--- none is the empty list
+-- whether bytes are a label or none
 abbrev pub is_label_or_none : Bytes → Bool
 is_label_or_none bytes = nat_eq (length bytes) 0 || is_label bytes

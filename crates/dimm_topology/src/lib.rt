@@ -11,3 +11,6 @@ mod topology;
 
 pub use label::{Label, LabelRefused};
 pub use topology::{MOST_ROWS, Topology, TopologyRefused};
+
+#[cfg(test)]
+mod tests;

@@ -68,7 +68,11 @@ impl Topology {
         ensures answer { Answers result (refusal_of self.old (Row.Cpu cpu socket)) }
         ensures ok { OnOk result (self.new ≡ self.old ++ Row.Cpu cpu socket ∷ []) }
         ensures err { OnErr result (self.new ≡ self.old) }
+
+        // Who owns an address in a range stays.
         ensures addresses { (address : ℕ) → owner_of_address self.new address ≡ owner_of_address self.old address }
+
+        // The row counts from now on, whatever row the CPU had.
         ensures last { OnOk result (socket_by_rows self.new cpu ≡ Some socket) }
     {
         self.add(Row::Cpu { cpu, socket })
@@ -79,10 +83,18 @@ impl Topology {
     ///
     /// A module may be named by `Label::none()`, which is then a label like any other. `Full` comes exactly where
     /// `MOST_ROWS` rows are held. The rows stay after a refusal.
-    pub fn add_module(&mut self, label: Label, socket: u8, bank: u8, channel: u8) -> Result<(), TopologyRefused>
+    pub fn add_module(
+        &mut self,
+        label: Label,
+        socket: u8,
+        bank: u8,
+        channel: u8,
+    ) -> Result<(), TopologyRefused>
         ensures answer { Answers result (refusal_of self.old (Row.Module label socket bank channel)) }
         ensures ok { OnOk result (self.new ≡ self.old ++ Row.Module label socket bank channel ∷ []) }
         ensures err { OnErr result (self.new ≡ self.old) }
+
+        // Who owns an address in a range stays.
         ensures addresses { (address : ℕ) → owner_of_address self.new address ≡ owner_of_address self.old address }
     {
         self.add(Row::Module {
@@ -116,10 +128,18 @@ impl Topology {
     ///
     /// The first of these is answered: `Label` exactly where no module row has the label, `Full` exactly where
     /// `MOST_ROWS` rows are held. The rows stay after a refusal.
-    pub fn add_place(&mut self, label: Label, node: u16, card: u16, module: u16) -> Result<(), TopologyRefused>
+    pub fn add_place(
+        &mut self,
+        label: Label,
+        node: u16,
+        card: u16,
+        module: u16,
+    ) -> Result<(), TopologyRefused>
         ensures answer { Answers result (refusal_of self.old (Row.Place label node card «module»)) }
         ensures ok { OnOk result (self.new ≡ self.old ++ Row.Place label node card «module» ∷ []) }
         ensures err { OnErr result (self.new ≡ self.old) }
+
+        // Who owns an address in a range stays.
         ensures addresses { (address : ℕ) → owner_of_address self.new address ≡ owner_of_address self.old address }
     {
         self.add(Row::Place {
@@ -133,7 +153,13 @@ impl Topology {
     /// The module that an error in a machine-check bank belongs to: that of the range that holds the address, else the
     /// one that the module rows name for the CPU's socket, the bank and the memory channel of the code. No module where
     /// they name none or several different ones.
-    pub fn owner_of_bank(&self, cpu: u16, bank: u8, code: Code, address: Option<u64>) -> Option<&Label>
+    pub fn owner_of_bank(
+        &self,
+        cpu: u16,
+        bank: u8,
+        code: Code,
+        address: Option<u64>,
+    ) -> Option<&Label>
         ensures owner { option_copied result ≡ owner_by_rows self.now cpu bank code address }
 
         // Each address is in one range at most.
@@ -142,6 +168,7 @@ impl Topology {
         // An owner is the label of a module row.
         ensures named { IfSome result (λ label. IsTrue (is_module_label self.now label.now)) }
     {
+        // So that the clauses above can tell what holds of every topology.
         let _ = &self.rows;
         match address.and_then(|address| self.owner_of_address(address)) {
             Some(label) => Some(label),

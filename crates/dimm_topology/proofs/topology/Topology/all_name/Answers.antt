@@ -9,5 +9,5 @@ use Rattle.dimm_topology.proofs.topology.Topology.all_name.Goals as goal
 pub returns : goal.returns
 returns c =
     all_from_yields_List (is_module_of c.args.label.now) _ _ _ c.all.ensures.ran
-        (YieldsList-from_filter _ (is_at c.args.socket c.args.bank c.args.channel) (YieldsList-from_slice c.args.self.now cc) c.filter.ensures.closure (λ x b q k. search (rules, tests)))
-        (λ x b q k. search (rules, tests))
+    (YieldsList-from_filter _ (is_at c.args.socket c.args.bank c.args.channel) (YieldsList-from_slice c.args.self.now cc) c.filter.ensures.closure (λ x b q k. search (rules, tests)))
+    (λ x b q k. search (rules, tests))
