@@ -1,5 +1,5 @@
 -- Ranges that hold an address, and what a look-up through the rows finds.
-use Rattle.std.proofs.Common.{◌≡◌, ℕ, ◌≤◌, ◌+◌, Bool, true, false, Option, Some, None, List, [], ◌∷◌, length, map, refl, ap, sym, ◌∙◌, arith, filter, if◌then◌else◌}
+use Rattle.std.proofs.Common.{◌≡◌, ℕ, ◌≤◌, Bool, true, false, Some, None, List, [], ◌∷◌, length, map, refl, ap, sym, ◌∙◌, arith, filter, if◌then◌else◌}
 use Rattle.std.proofs.lemmas.Grind.{common_steps}
 use Rattle.std.proofs.lemmas.Bool.Decides.{nat_tests}
 use Rattle.std.specs.List.{list_any, list_all, find, slice_get}
@@ -9,7 +9,7 @@ use Rattle.dimm_topology.specs.Labels.{Bytes, same_label}
 use Rattle.dimm_topology.specs.declared.row.Row.{Row}
 use Rattle.dimm_topology.specs.declared.row.Row.TheVariants.{Cpu, Module, Range, Place}
 use Rattle.dimm_topology.specs.Rows.{label_in, labels_in, is_at, holds, overlap, is_module_of}
-use Rattle.dimm_topology.specs.Owners.{the_one, ranges_over, owner_of_address, owner_of_channel}
+use Rattle.dimm_topology.specs.Owners.{the_one, owner_of_address, owner_of_channel}
 use Rattle.dimm_topology.specs.Topology.{IsApart}
 
 -- the items as they are

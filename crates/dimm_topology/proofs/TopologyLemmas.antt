@@ -1,17 +1,16 @@
 -- What a topology keeps as rows are added.
-use Rattle.std.proofs.Common.{◌≡◌, ℕ, ◌≤◌, ◌<◌, ◌+◌, Bool, true, false, ◌&&◌, ◌||◌, Option, Some, None, Result, List, [], ◌∷◌, ◌++◌, length, refl, ap, sym, ◌∙◌, arith, filter, length-append, append-nil}
-use Rattle.std.specs.Prelude.{IsTrue, OnOk, OnErr, Ok, Err, nat_le, nat_eq, max, IsSome, if◌then◌else◌}
+use Rattle.std.proofs.Common.{◌≡◌, ℕ, ◌≤◌, ◌<◌, Bool, true, false, ◌&&◌, ◌||◌, Option, Some, None, Result, List, [], ◌∷◌, ◌++◌, length, refl, ◌∙◌, arith, filter, length-append, append-nil}
+use Rattle.std.specs.Prelude.{OnOk, OnErr, Ok, Err, nat_le, nat_eq, max, IsSome, if◌then◌else◌}
 use Rattle.std.proofs.lemmas.Grind.{common_steps}
 use Rattle.std.proofs.lemmas.Bool.Decides.{nat_tests}
 use Rattle.std.proofs.lemmas.List.Folds.{list_any-append, list_all-append}
 use Rattle.std.proofs.lemmas.List.Elements.{filter-append, filter_map-append}
-use Rattle.std.specs.Bool.{IsFalse}
 use Rattle.std.specs.List.{list_any, list_all, filter_map, last_or}
 use Rattle.dimm_topology.specs.Labels.{Bytes}
 use Rattle.dimm_topology.specs.declared.row.Row.{Row}
 use Rattle.dimm_topology.specs.declared.row.Row.TheVariants.{Cpu, Module, Range, Place}
 use Rattle.dimm_topology.specs.declared.topology.TopologyRefused.{TopologyRefused}
-use Rattle.dimm_topology.specs.Rows.{holds, overlap, names_module, is_module_label, is_module_of, socket_of}
+use Rattle.dimm_topology.specs.Rows.{holds, overlap, names_module, is_module_of, socket_of}
 use Rattle.dimm_topology.specs.Owners.{owner_of_address, socket_by_rows}
 use Rattle.dimm_topology.specs.Refusals.{SharesAddress, Answers, refusal_of}
 use Rattle.dimm_topology.specs.Topology.{IsApart, IsTopology, is_upright}

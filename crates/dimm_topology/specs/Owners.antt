@@ -1,5 +1,5 @@
 -- Which module an error belongs to, by the rows of a topology.
-use Rattle.std.specs.Prelude.{ℕ, Bool, nat_eq, Option, Some, None, List, [], ◌∷◌, if◌then◌else◌, filter}
+use Rattle.std.specs.Prelude.{ℕ, nat_eq, Option, Some, None, List, [], ◌∷◌, if◌then◌else◌, filter}
 use Rattle.std.specs.List.{list_all, filter_map, last_or}
 use Rattle.std.specs.Option.{option_and_then, option_or}
 use Rattle.mca_codes.specs.declared.codes.Code.{Code}

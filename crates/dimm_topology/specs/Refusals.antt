@@ -1,5 +1,5 @@
 -- Which rows a topology takes.
-use Rattle.std.specs.Prelude.{ℕ, ◌≡◌, ◌≤◌, Bool, nat_le, not, IsTrue, Option, Some, None, Result, Ok, Err, List, length, if◌then◌else◌}
+use Rattle.std.specs.Prelude.{ℕ, ◌≡◌, ◌≤◌, nat_le, not, IsTrue, Option, Some, None, Result, Ok, Err, List, length, if◌then◌else◌}
 use Rattle.std.specs.List.{list_any}
 use Rattle.dimm_topology.specs.declared.row.Row.{Row}
 use Rattle.dimm_topology.specs.declared.topology.TopologyRefused.{TopologyRefused}

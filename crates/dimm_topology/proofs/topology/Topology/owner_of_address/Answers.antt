@@ -1,4 +1,4 @@
-use Rattle.std.proofs.Common.{ap, sym, ◌∙◌, ◌≡◌}
+use Rattle.std.proofs.Common.{ap, sym, ◌∙◌}
 use Rattle.std.specs.Option.{option_and_then}
 use Rattle.dimm_topology.specs.Rows.{label_in}
 use Rattle.dimm_topology.proofs.OwnerLemmas.{address_owner}

@@ -1,4 +1,4 @@
-use Rattle.std.proofs.Common.{◌≡◌, rules, List, Some, IsTrue}
+use Rattle.std.proofs.Common.{◌≡◌, rules, Some, IsTrue}
 use Rattle.std.specs.Option.{option_copied}
 use Rattle.dimm_topology.specs.Rows.{is_module_label}
 use Rattle.dimm_topology.specs.Owners.{owner_by_rows}

@@ -1,4 +1,4 @@
-use Rattle.std.proofs.Common.{sym, ◌∙◌, arith}
+use Rattle.std.proofs.Common.{sym, arith}
 use Rattle.std.proofs.lemmas.Grind.{common_steps}
 use Rattle.dimm_topology.proofs.OwnerLemmas.{none_at, one_at}
 use Rattle.dimm_topology.proofs.topology.Topology.owner_of_channel.Goals as goal
