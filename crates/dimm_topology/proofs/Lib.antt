@@ -1,0 +1,3 @@
+pub mod OwnerLemmas
+pub mod TopologyLemmas
+pub mod NamedLemmas

@@ -1,0 +1,62 @@
+-- That an owner is the label of a module row.
+use Rattle.std.proofs.Common.{◌≡◌, ℕ, Bool, true, Option, Some, None, List, [], ◌∷◌, refl, arith, filter}
+use Rattle.std.specs.Prelude.{IsTrue, IfSome}
+use Rattle.std.proofs.lemmas.Grind.{common_steps}
+use Rattle.std.specs.Cmp.Lexicographic.{nat_list_eq_equiv}
+use Rattle.std.specs.List.{list_all}
+use Rattle.std.specs.Option.{option_and_then, option_or, option_copied}
+use denote.Ref.{Bor}
+use Rattle.mca_codes.specs.declared.codes.Code.{Code}
+use Rattle.dimm_topology.specs.Labels.{Bytes}
+use Rattle.dimm_topology.specs.declared.row.Row.{Row}
+use Rattle.dimm_topology.specs.declared.row.Row.TheVariants.{Cpu, Module, Range, Place}
+use Rattle.dimm_topology.specs.Rows.{labels_in, names_module, is_module_label, is_at, holds}
+use Rattle.dimm_topology.specs.Owners.{the_one, owner_by_rows, owner_of_address, owner_of_code, owner_of_channel, channel_of, socket_by_rows}
+use Rattle.dimm_topology.specs.Topology.{IsTopology}
+
+-- the labels of rows that pass a test are those of module rows
+fits_named : (rows xs : List Row) (test : Row → Bool) → ((label : Bytes) → is_module_label xs label ≡ true → is_module_label rows label ≡ true)
+    → list_all (names_module rows) xs ≡ true → list_all (is_module_label rows) (labels_in (filter test xs)) ≡ true
+fits_named rows [] test among named = refl
+fits_named rows (Cpu cpu socket ∷ xs) test among named =
+    grind (arith, common_steps, fits_named rows xs test among)
+fits_named rows (Module label socket bank channel ∷ xs) test among named =
+    let own : is_module_label rows label ≡ true = among label (rw (nat_list_eq_equiv.refl label) refl) in
+    let rest = fits_named rows xs test (λ label' held. among label' (grind (arith, common_steps, held))) named in
+    grind (arith, common_steps, own, rest)
+fits_named rows (Range label first last ∷ xs) test among named = grind (arith, common_steps, fits_named rows xs test among)
+fits_named rows (Place label node card module' ∷ xs) test among named = grind (arith, common_steps, fits_named rows xs test among)
+
+-- the one label of a list passes what all of its labels pass
+one_passes : (test : Bytes → Bool) (labels : List Bytes) → list_all test labels ≡ true → IfSome (the_one labels) (λ label. IsTrue (test label))
+one_passes test [] all = tt
+one_passes test (label ∷ labels) all = grind (arith, common_steps)
+
+fitting : (rows : List Row) (test : Row → Bool) → IsTopology rows → IfSome (the_one (labels_in (filter test rows))) (λ label. IsTrue (is_module_label rows label))
+fitting rows test topology = one_passes (is_module_label rows) (labels_in (filter test rows)) (fits_named rows rows test (λ label held. held) topology.named)
+
+-- an owner is the label of a module row
+pub owner_named : (rows : List Row) (cpu bank : ℕ) (code : Code) (address : Option ℕ) → IsTopology rows
+    → IfSome (owner_by_rows rows cpu bank code address) (λ label. IsTrue (is_module_label rows label))
+owner_named rows cpu bank code address topology = either (option_and_then (owner_of_address rows) address) (owner_of_code rows cpu bank code) (over address) (at (channel_of code) (socket_by_rows rows cpu))
+  where
+    P : Bytes → Type 0
+    P label = IsTrue (is_module_label rows label)
+
+    either : (one other : Option Bytes) → IfSome one P → IfSome other P → IfSome (option_or one other) P
+    either None other p q = q
+    either (Some label) other p q = p
+
+    over : (address : Option ℕ) → IfSome (option_and_then (owner_of_address rows) address) P
+    over None = tt
+    over (Some a) = fitting rows (holds a) topology
+
+    at : (channel socket : Option ℕ) → IfSome (option_and_then (λ c. option_and_then (λ s. owner_of_channel rows s bank c) socket) channel) P
+    at None socket = tt
+    at (Some c) None = tt
+    at (Some c) (Some s) = fitting rows (is_at s bank c) topology
+
+-- of what is behind a reference
+pub copied : (P : Bytes → Type 0) (result : Option (Bor Bytes)) (owner : Option Bytes) → option_copied result ≡ owner → IfSome owner P → IfSome result (λ label. P label.now)
+copied P None owner e p = tt
+copied P (Some label) owner e p = rw (← e) at p

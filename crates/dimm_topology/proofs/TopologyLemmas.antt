@@ -1,0 +1,131 @@
+-- What a topology keeps as rows are added.
+use Rattle.std.proofs.Common.{◌≡◌, ℕ, ◌≤◌, ◌<◌, Bool, true, false, ◌&&◌, ◌||◌, Option, Some, None, Result, List, [], ◌∷◌, ◌++◌, length, refl, ◌∙◌, arith, filter, length-append, append-nil}
+use Rattle.std.specs.Prelude.{OnOk, OnErr, Ok, Err, nat_le, nat_eq, max, IsSome, if◌then◌else◌}
+use Rattle.std.proofs.lemmas.Grind.{common_steps}
+use Rattle.std.proofs.lemmas.Bool.Decides.{nat_tests}
+use Rattle.std.proofs.lemmas.List.Folds.{list_any-append, list_all-append}
+use Rattle.std.proofs.lemmas.List.Elements.{filter-append, filter_map-append}
+use Rattle.std.specs.List.{list_any, list_all, filter_map, last_or}
+use Rattle.dimm_topology.specs.Labels.{Bytes}
+use Rattle.dimm_topology.specs.declared.row.Row.{Row}
+use Rattle.dimm_topology.specs.declared.row.Row.TheVariants.{Cpu, Module, Range, Place}
+use Rattle.dimm_topology.specs.declared.topology.TopologyRefused.{TopologyRefused}
+use Rattle.dimm_topology.specs.Rows.{holds, overlap, names_module, is_module_of, socket_of}
+use Rattle.dimm_topology.specs.Owners.{owner_of_address, socket_by_rows}
+use Rattle.dimm_topology.specs.Refusals.{SharesAddress, Answers, refusal_of}
+use Rattle.dimm_topology.specs.Topology.{IsApart, IsTopology, is_upright}
+use Rattle.dimm_topology.proofs.OwnerLemmas.{overlap_at, none_over}
+
+-- which of two rows is named first says nothing
+overlap_turned : (one other : Row) → overlap one other ≡ overlap other one
+overlap_turned (Range label first last) (Range label' first' last') = grind (arith, nat_tests)
+overlap_turned (Range label first last) (Cpu cpu socket) = refl
+overlap_turned (Range label first last) (Module label' socket bank channel) = refl
+overlap_turned (Range label first last) (Place label' node card module') = refl
+overlap_turned (Cpu cpu socket) (Range label first last) = refl
+overlap_turned (Cpu cpu socket) (Cpu cpu' socket') = refl
+overlap_turned (Cpu cpu socket) (Module label socket' bank channel) = refl
+overlap_turned (Cpu cpu socket) (Place label node card module') = refl
+overlap_turned (Module label' socket bank channel) (Range label first last) = refl
+overlap_turned (Module label' socket bank channel) (Cpu cpu' socket') = refl
+overlap_turned (Module label' socket bank channel) (Module label socket' bank' channel') = refl
+overlap_turned (Module label' socket bank channel) (Place label node card module') = refl
+overlap_turned (Place label' node card module') (Range label first last) = refl
+overlap_turned (Place label' node card module') (Cpu cpu' socket') = refl
+overlap_turned (Place label' node card module') (Module label socket' bank' channel') = refl
+overlap_turned (Place label' node card module') (Place label node' card' module'') = refl
+
+-- a row that overlaps none may be added
+apart_more : (rows : List Row) (row : Row) → IsApart rows → list_any (overlap row) rows ≡ false → IsApart (rows ++ row ∷ [])
+apart_more [] row apart free = (refl, apart)
+apart_more (other ∷ rows) row apart free =
+    (grind (arith, common_steps, list_any-append (overlap other) rows (row ∷ []), overlap_turned other row, apart.0), apart_more rows row apart.1 (grind (arith, common_steps)))
+
+-- a label that a module row has, it has however many rows are added
+named_kept : (rows more : List Row) (row : Row) → names_module rows row ≡ true → names_module (rows ++ more) row ≡ true
+named_kept rows more (Cpu cpu socket) named = refl
+named_kept rows more (Module label socket bank channel) named = refl
+named_kept rows more (Range label first last) named = grind (arith, common_steps, list_any-append (is_module_of label) rows more)
+named_kept rows more (Place label node card module') named = grind (arith, common_steps, list_any-append (is_module_of label) rows more)
+
+all_named_kept : (rows more xs : List Row) → list_all (names_module rows) xs ≡ true → list_all (names_module (rows ++ more)) xs ≡ true
+all_named_kept rows more [] named = refl
+all_named_kept rows more (row ∷ xs) named = grind (arith, common_steps, named_kept rows more row, all_named_kept rows more xs)
+
+pub topology_more : (rows : List Row) (row : Row) → IsTopology rows → names_module rows row ≡ true → list_any (overlap row) rows ≡ false → is_upright row ≡ true → length rows < 4096 → IsTopology (rows ++ row ∷ [])
+topology_more rows row topology named free upright small = record {
+  apart = apart_more rows row topology.apart free;
+  upright = grind (arith, common_steps, list_all-append is_upright rows (row ∷ []), topology.upright);
+  named = grind (arith, common_steps, list_all-append (names_module (rows ++ row ∷ [])) rows (row ∷ []), all_named_kept rows (row ∷ []) rows topology.named, named_kept rows (row ∷ []) row named);
+  small = grind (arith, common_steps, length-append rows (row ∷ []));
+}
+
+-- the rows after a push that may have found no memory
+pub pushed : (b : Bool) (rows new : List Row) (row : Row) → new ≡ (if b then rows ++ row ∷ [] else rows) → IsTopology rows → IsTopology (rows ++ row ∷ []) → IsTopology new
+pushed true rows new row e old more = rw e more
+pushed false rows new row e old more = rw e old
+
+-- a row that is no range over an address leaves its owner
+pub other_row : (result : Result (Unit {0}) TopologyRefused) (old new : List Row) (row : Row) → ((address : ℕ) → holds address row ≡ false)
+    → OnOk result (new ≡ old ++ row ∷ []) → OnErr result (new ≡ old) → (address : ℕ) → owner_of_address new address ≡ owner_of_address old address
+other_row result old new row other ok err address = by result ok err
+  where
+    more : filter (holds address) (old ++ row ∷ []) ≡ filter (holds address) old
+    more = filter-append (holds address) old (row ∷ []) ∙ rw (other address) (append-nil (filter (holds address) old))
+
+    by : (result : Result (Unit {0}) TopologyRefused) → OnOk result (new ≡ old ++ row ∷ []) → OnErr result (new ≡ old) → owner_of_address new address ≡ owner_of_address old address
+    by (Ok done) ok err = rw (ok, more) refl
+    by (Err refused) ok err = rw err refl
+
+-- a range shares an address with a held one that it overlaps
+pub shares : (label : Bytes) (first last : ℕ) (rows : List Row) → first ≤ last → list_all is_upright rows ≡ true
+    → list_any (overlap (Range label first last)) rows ≡ true → SharesAddress rows first last
+shares label first last [] upright all meets = cc
+shares label first last (Cpu cpu socket ∷ rows) upright all meets = shares label first last rows upright all meets
+shares label first last (Module label' socket bank channel ∷ rows) upright all meets = shares label first last rows upright all meets
+shares label first last (Place label' node card module' ∷ rows) upright all meets = shares label first last rows upright all meets
+shares label first last (Range label' first' last' ∷ rows) upright all meets =
+    by (nat_le first last' && nat_le first' last) refl meets (shares label first last rows upright (grind (arith, common_steps)))
+  where
+    by : (b : Bool) → (nat_le first last' && nat_le first' last) ≡ b → (b || list_any (overlap (Range label first last)) rows) ≡ true
+        → (list_any (overlap (Range label first last)) rows ≡ true → SharesAddress rows first last) → SharesAddress (Range label' first' last' ∷ rows) first last
+    by true here meets later = (max first first', omega arith, grind (arith, nat_tests), grind (arith, common_steps, nat_tests))
+    by false here meets later = let found = later meets in (found.0, found.1, found.2, grind (arith, common_steps, found.3))
+
+pub overlaps_at : (label : Bytes) (first last address : ℕ) (rows : List Row) → first ≤ address → address ≤ last
+    → list_any (holds address) rows ≡ true → list_any (overlap (Range label first last)) rows ≡ true
+overlaps_at label first last address [] low high held = cc
+overlaps_at label first last address (row ∷ rows) low high held =
+    let over : holds address (Range label first last) ≡ true = grind (arith, nat_tests) in
+    grind (arith, common_steps, overlap_at address (Range label first last) row over, overlaps_at label first last address rows low high)
+
+last_added : (xs : List ℕ) (first : Option ℕ) (x : ℕ) → last_or first (xs ++ x ∷ []) ≡ Some x
+last_added [] first x = refl
+last_added (y ∷ xs) first x = last_added xs (Some y) x
+
+-- a CPU row that is added gives the CPU its socket
+pub last_socket : (result : Result (Unit {0}) TopologyRefused) (old new : List Row) (cpu socket : ℕ) → OnOk result (new ≡ old ++ Cpu cpu socket ∷ []) → OnOk result (socket_by_rows new cpu ≡ Some socket)
+last_socket (Err refused) old new cpu socket ok = tt
+last_socket (Ok done) old new cpu socket ok =
+    let own : nat_eq cpu cpu ≡ true = grind (arith, nat_tests) in
+    let more : filter_map (socket_of cpu) (old ++ Cpu cpu socket ∷ []) ≡ filter_map (socket_of cpu) old ++ socket ∷ [] =
+    filter_map-append (socket_of cpu) old (Cpu cpu socket ∷ []) ∙ rw own refl in
+    rw (ok, more) (last_added (filter_map (socket_of cpu) old) None socket)
+
+-- where an address is in a range, a row that overlaps none doesn't hold it
+not_over : (address : ℕ) (row : Row) (rows : List Row) → list_any (overlap row) rows ≡ false → IsSome (owner_of_address rows address) → holds address row ≡ false
+not_over address row rows free owned = by (holds address row) refl
+  where
+    by : (b : Bool) → holds address row ≡ b → b ≡ false
+    by false e = refl
+    by true e = let none = rw (none_over address row rows e free) at owned in cc
+
+-- a range that is taken leaves the owners of the other ranges' addresses
+pub range_keeps : (result : Result (Unit {0}) TopologyRefused) (old new : List Row) (row : Row) → Answers result (refusal_of old row)
+    → OnOk result (new ≡ old ++ row ∷ []) → OnErr result (new ≡ old) → (address : ℕ) → IsSome (owner_of_address old address) → owner_of_address new address ≡ owner_of_address old address
+range_keeps (Err refused) old new row answer ok err address owned = rw err refl
+range_keeps (Ok done) old new row answer ok err address owned =
+    let free : list_any (overlap row) old ≡ false = grind (arith, common_steps, answer) in
+    let more : filter (holds address) (old ++ row ∷ []) ≡ filter (holds address) old =
+    filter-append (holds address) old (row ∷ []) ∙ rw (not_over address row old free owned) (append-nil (filter (holds address) old)) in
+    rw (ok, more) refl

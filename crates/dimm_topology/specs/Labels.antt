@@ -1,0 +1,25 @@
+-- What a label is: the name of a memory module, as a list of bytes.
+use Rattle.std.specs.Prelude.{ℕ, Bool, nat_eq, nat_le, ◌&&◌, ◌||◌, not, List, length, codes}
+use Rattle.std.specs.List.{list_all}
+use Rattle.std.specs.Cmp.Lexicographic.{pointwise}
+
+-- a label is the list of its bytes, the empty one for none
+abbrev pub Bytes : Type 0
+Bytes = List ℕ
+
+-- two labels are the same where their bytes are
+abbrev pub same_label : Bytes → Bytes → Bool
+same_label one other = pointwise nat_eq one other
+
+-- a byte that may stand in a label: a printable one of ASCII, and no space
+abbrev pub is_label_byte : ℕ → Bool
+is_label_byte byte = nat_le 0x21 byte && nat_le byte 0x7e
+
+-- whether bytes are a label: 1 to 32 such bytes, and not the one byte that is printed for none
+abbrev pub is_label : Bytes → Bool
+is_label bytes =
+    nat_le 1 (length bytes) && nat_le (length bytes) 32 && list_all is_label_byte bytes && not (same_label bytes (codes "-"))
+
+-- whether bytes are a label or none
+abbrev pub is_label_or_none : Bytes → Bool
+is_label_or_none bytes = nat_eq (length bytes) 0 || is_label bytes

@@ -1,0 +1,5 @@
+pub mod Labels
+pub mod Rows
+pub mod Refusals
+pub mod Owners
+pub mod Topology

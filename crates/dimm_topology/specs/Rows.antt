@@ -1,0 +1,53 @@
+-- The rows of a topology, and what each tells.
+use Rattle.std.specs.Prelude.{ℕ, Bool, true, false, nat_eq, nat_le, ◌&&◌, Option, Some, None, List, if◌then◌else◌}
+use Rattle.std.specs.List.{list_any, filter_map}
+use Rattle.dimm_topology.specs.Labels.{Bytes, same_label}
+use Rattle.dimm_topology.specs.declared.row.Row.{Row}
+use Rattle.dimm_topology.specs.declared.row.Row.TheVariants.{Cpu, Module, Range, Place}
+
+-- the socket that a CPU row gives a CPU
+abbrev pub socket_of : ℕ → Row → Option ℕ
+socket_of cpu (Cpu cpu' socket) = if nat_eq cpu cpu' then Some socket else None
+socket_of cpu _ = None
+
+-- the label that a row names
+abbrev pub label_in : Row → Option Bytes
+label_in (Cpu cpu socket) = None
+label_in (Module label socket bank channel) = Some label
+label_in (Range label first last) = Some label
+label_in (Place label node card module') = Some label
+
+-- the labels that rows name, in order
+abbrev pub labels_in : List Row → List Bytes
+labels_in rows = filter_map label_in rows
+
+-- whether a row is a module row of a socket, bank and channel
+abbrev pub is_at : ℕ → ℕ → ℕ → Row → Bool
+is_at socket bank channel (Module label socket' bank' channel') =
+    nat_eq socket socket' && nat_eq bank bank' && nat_eq channel channel'
+is_at socket bank channel _ = false
+
+-- whether a row is a range that holds an address; both ends belong to a range
+abbrev pub holds : ℕ → Row → Bool
+holds address (Range label first last) = nat_le first address && nat_le address last
+holds address _ = false
+
+-- whether a row is a module row of this label
+abbrev pub is_module_of : Bytes → Row → Bool
+is_module_of label (Module label' socket bank channel) = same_label label label'
+is_module_of label _ = false
+
+-- whether a label is that of some module row
+abbrev pub is_module_label : List Row → Bytes → Bool
+is_module_label rows label = list_any (is_module_of label) rows
+
+-- whether a row names a module that the rows have, as a range and a place must
+abbrev pub names_module : List Row → Row → Bool
+names_module rows (Range label first last) = is_module_label rows label
+names_module rows (Place label node card module') = is_module_label rows label
+names_module rows _ = true
+
+-- whether two rows are ranges with an address in common
+abbrev pub overlap : Row → Row → Bool
+overlap (Range label first last) (Range label' first' last') = nat_le first last' && nat_le first' last
+overlap _ _ = false

@@ -1,0 +1,31 @@
+-- What holds of the rows of every topology.
+use Rattle.std.specs.Prelude.{ℕ, ◌≤◌, Bool, true, nat_le, IsTrue, ⊤, List, [], ◌∷◌, length}
+use Rattle.std.specs.Bool.{IsFalse}
+use Rattle.std.specs.List.{list_any, list_all}
+use Rattle.dimm_topology.specs.declared.row.Row.{Row}
+use Rattle.dimm_topology.specs.declared.row.Row.TheVariants.{Range}
+use Rattle.dimm_topology.specs.Rows.{names_module, overlap}
+
+-- how many rows of all kinds a topology holds at most
+abbrev pub most_rows : ℕ
+most_rows = 4096
+
+-- whether a row that is a range has its first address not behind its last
+abbrev pub is_upright : Row → Bool
+is_upright (Range label first last) = nat_le first last
+is_upright _ = true
+
+-- no two rows have an address in common
+abbrev pub IsApart : List Row → Type 0
+IsApart [] = ⊤
+IsApart (row ∷ rows) = IsFalse (list_any (overlap row) rows) × IsApart rows
+
+-- what holds of every topology
+pub record IsTopology (rows : List Row) : Type 0 where
+  -- no two ranges overlap
+  pub apart : IsApart rows
+  -- each range begins no later than it ends
+  pub upright : IsTrue (list_all is_upright rows)
+  -- each range and each place names a label of a module row
+  pub named : IsTrue (list_all (names_module rows) rows)
+  pub small : length rows ≤ most_rows

@@ -1,0 +1,112 @@
+// The rows of a topology.
+ghost use Rattle.std.specs.Prelude.{◌≡◌, Option};
+ghost use Rattle.std.specs.Option.{option_copied};
+ghost use Rattle.dimm_topology.specs.Rows.{socket_of, label_in, is_at, holds, is_module_of, overlap};
+
+use crate::Label;
+
+/// What a topology holds, as contracts see it.
+#[derive(Debug, Drop)]
+pub enum Row {
+    /// A CPU, and the socket in which it is.
+    Cpu {
+        cpu: u16,
+        socket: u8,
+    },
+    /// A module, and the socket, the machine-check bank and the memory channel by which it is reported.
+    Module {
+        label: Label,
+        socket: u8,
+        bank: u8,
+        channel: u8,
+    },
+    /// A module, and the first and the last physical address of a range that is its own.
+    Range {
+        label: Label,
+        first: u64,
+        last: u64,
+    },
+    /// A module, and the node, the card and the module number by which firmware reports it.
+    Place {
+        label: Label,
+        node: u16,
+        card: u16,
+        module: u16,
+    },
+}
+
+impl Row {
+    // The socket that a CPU row gives this CPU.
+    pub(crate) fn socket_of(&self, cpu: u16) -> Option<u8>
+        ensures { result ≡ socket_of cpu self.now }
+    {
+        match self {
+            Row::Cpu { cpu: held, socket } if *held == cpu => Some(*socket),
+            _ => None,
+        }
+    }
+
+    // The label that the row names.
+    pub(crate) fn label(&self) -> Option<&Label>
+        ensures { option_copied result ≡ label_in self.now }
+    {
+        match self {
+            Row::Cpu { .. } => None,
+            Row::Module { label, .. } | Row::Range { label, .. } | Row::Place { label, .. } => {
+                Some(label)
+            }
+        }
+    }
+
+    // Whether this is a module row of this socket, bank and channel.
+    pub(crate) fn is_at(&self, socket: u8, bank: u8, channel: u8) -> bool
+        ensures { result ≡ is_at socket bank channel self.now }
+    {
+        match self {
+            Row::Module {
+                label: _,
+                socket: s,
+                bank: b,
+                channel: c,
+            } => (*s, *b, *c) == (socket, bank, channel),
+            _ => false,
+        }
+    }
+
+    // Whether this is a range that holds this address.
+    pub(crate) fn holds(&self, address: u64) -> bool
+        ensures { result ≡ holds address self.now }
+    {
+        match self {
+            Row::Range { first, last, .. } => (*first..=*last).contains(&address),
+            _ => false,
+        }
+    }
+
+    // Whether this is a module row of this label.
+    pub(crate) fn is_module_of(&self, label: &Label) -> bool
+        ensures { result ≡ is_module_of label.now self.now }
+    {
+        match self {
+            Row::Module { label: held, .. } => label == held,
+            _ => false,
+        }
+    }
+
+    // Whether this and another row are ranges with an address in common.
+    pub(crate) fn overlaps(&self, other: &Row) -> bool
+        ensures { result ≡ overlap self.now other.now }
+    {
+        match (self, other) {
+            (
+                Row::Range { first, last, .. },
+                Row::Range {
+                    first: other_first,
+                    last: other_last,
+                    ..
+                },
+            ) => first <= other_last && other_first <= last,
+            _ => false,
+        }
+    }
+}

@@ -1,0 +1,300 @@
+// The rows of a machine, and the owners that they tell.
+ghost use Rattle.std.specs.Prelude.{◌≡◌, ◌≤◌, ◌↔◌, ℕ, List, [], ◌∷◌, ◌++◌, length, Option, Some, IsTrue, IfSome, IsSome, OnOk, OnErr, filter, slice_get};
+ghost use Rattle.std.specs.List.{list_any, list_all, find};
+ghost use Rattle.std.specs.Option.{option_copied};
+ghost use Rattle.dimm_topology.specs.declared.row.Row.{Row};
+ghost use Rattle.dimm_topology.specs.Rows.{names_module, labels_in, overlap, is_at, holds, is_module_of, is_module_label};
+ghost use Rattle.dimm_topology.specs.Refusals.{refusal_of, Answers, SharesAddress};
+ghost use Rattle.dimm_topology.specs.Owners.{owner_by_rows, owner_of_address, owner_of_channel, owner_of_code, socket_by_rows, channel_of, ranges_over};
+ghost use Rattle.dimm_topology.specs.Topology.{is_upright, IsApart, IsTopology};
+
+use crate::Label;
+use crate::row::Row;
+use mca_codes::Code;
+use std::alloc::Global;
+use std::marker::Model;
+
+/// The most rows of all kinds that a topology holds.
+pub const MOST_ROWS: usize = 4_096;
+
+/// How a machine is built, by rows in the order in which they were added.
+///
+/// Contracts see the list of the rows. No two ranges overlap, and each range and each place names a label that a module
+/// row has.
+#[derive(Debug, Drop)]
+pub struct Topology {
+    rows: Vec<Row>,
+}
+
+impl Model for Topology {
+    ghost use Rattle.std.specs.Prelude.{List};
+    ghost use Rattle.dimm_topology.specs.declared.row.Row.{Row};
+    ghost use Rattle.dimm_topology.specs.Topology.{IsTopology};
+
+    ghost Value = { List Row };
+
+    ghost view = { λ a. a.rows.items };
+
+    ghost invariant = { λ a. IsTopology a.rows.items };
+}
+
+/// Why a topology doesn't take a row. Where several apply, the first of them is answered.
+#[derive(Clone, Copy, Debug, PartialEq, Eq)]
+pub enum TopologyRefused {
+    /// A range or a place names a label that no module row has.
+    Label,
+    /// A range has an address in common with one that is held.
+    Overlap,
+    /// `MOST_ROWS` rows are held.
+    Full,
+    /// Memory ran out.
+    NoMemory,
+}
+
+impl Topology {
+    /// A topology with no rows.
+    pub fn new(alloc: Global) -> Topology
+        ensures { result ≡ [] }
+    {
+        Topology {
+            rows: Vec::new(alloc),
+        }
+    }
+
+    /// Says in which socket a CPU is. The last row of a CPU counts.
+    ///
+    /// `Full` comes exactly where `MOST_ROWS` rows are held. The rows stay after a refusal.
+    pub fn add_cpu(&mut self, cpu: u16, socket: u8) -> Result<(), TopologyRefused>
+        ensures answer { Answers result (refusal_of self.old (Row.Cpu cpu socket)) }
+        ensures ok { OnOk result (self.new ≡ self.old ++ Row.Cpu cpu socket ∷ []) }
+        ensures err { OnErr result (self.new ≡ self.old) }
+
+        // Who owns an address in a range stays.
+        ensures addresses { (address : ℕ) → owner_of_address self.new address ≡ owner_of_address self.old address }
+
+        // The row counts from now on, whatever row the CPU had.
+        ensures last { OnOk result (socket_by_rows self.new cpu ≡ Some socket) }
+    {
+        self.add(Row::Cpu { cpu, socket })
+    }
+
+    /// Says that the machine-check bank of this number, in this socket, reports errors of this module with this memory
+    /// channel. Several modules may share one channel.
+    ///
+    /// A module may be named by `Label::none()`, which is then a label like any other. `Full` comes exactly where
+    /// `MOST_ROWS` rows are held. The rows stay after a refusal.
+    pub fn add_module(
+        &mut self,
+        label: Label,
+        socket: u8,
+        bank: u8,
+        channel: u8,
+    ) -> Result<(), TopologyRefused>
+        ensures answer { Answers result (refusal_of self.old (Row.Module label socket bank channel)) }
+        ensures ok { OnOk result (self.new ≡ self.old ++ Row.Module label socket bank channel ∷ []) }
+        ensures err { OnErr result (self.new ≡ self.old) }
+
+        // Who owns an address in a range stays.
+        ensures addresses { (address : ℕ) → owner_of_address self.new address ≡ owner_of_address self.old address }
+    {
+        self.add(Row::Module {
+            label,
+            socket,
+            bank,
+            channel,
+        })
+    }
+
+    /// Says that the physical addresses from `first` to `last`, both among them, are a module's own.
+    ///
+    /// The first of these is answered: `Label` exactly where no module row has the label, `Overlap` exactly where a held
+    /// range has an address in common, `Full` exactly where `MOST_ROWS` rows are held. The rows stay after a refusal.
+    pub fn add_range(&mut self, label: Label, first: u64, last: u64) -> Result<(), TopologyRefused>
+        requires { first ≤ last }
+        ensures answer { Answers result (refusal_of self.old (Row.Range label first last)) }
+        ensures ok { OnOk result (self.new ≡ self.old ++ Row.Range label first last ∷ []) }
+        ensures err { OnErr result (self.new ≡ self.old) }
+
+        // An address that is in a range keeps its owner.
+        ensures addresses { (address : ℕ) → IsSome (owner_of_address self.old address) → owner_of_address self.new address ≡ owner_of_address self.old address }
+
+        // A range overlaps a held one exactly where some address is in both.
+        ensures shared { IsTrue (list_any (overlap (Row.Range label first last)) self.old) ↔ SharesAddress self.old first last }
+    {
+        self.add(Row::Range { label, first, last })
+    }
+
+    /// Says by which node, card and module number firmware reports errors of a module.
+    ///
+    /// The first of these is answered: `Label` exactly where no module row has the label, `Full` exactly where
+    /// `MOST_ROWS` rows are held. The rows stay after a refusal.
+    pub fn add_place(
+        &mut self,
+        label: Label,
+        node: u16,
+        card: u16,
+        module: u16,
+    ) -> Result<(), TopologyRefused>
+        ensures answer { Answers result (refusal_of self.old (Row.Place label node card «module»)) }
+        ensures ok { OnOk result (self.new ≡ self.old ++ Row.Place label node card «module» ∷ []) }
+        ensures err { OnErr result (self.new ≡ self.old) }
+
+        // Who owns an address in a range stays.
+        ensures addresses { (address : ℕ) → owner_of_address self.new address ≡ owner_of_address self.old address }
+    {
+        self.add(Row::Place {
+            label,
+            node,
+            card,
+            module,
+        })
+    }
+
+    /// The module that an error in a machine-check bank belongs to: that of the range that holds the address, else the
+    /// one that the module rows name for the CPU's socket, the bank and the memory channel of the code. No module where
+    /// they name none or several different ones.
+    pub fn owner_of_bank(
+        &self,
+        cpu: u16,
+        bank: u8,
+        code: Code,
+        address: Option<u64>,
+    ) -> Option<&Label>
+        ensures owner { option_copied result ≡ owner_by_rows self.now cpu bank code address }
+
+        // Each address is in one range at most.
+        ensures one_range { (held : ℕ) → length (ranges_over self.now held) ≤ 1 }
+
+        // An owner is the label of a module row.
+        ensures named { IfSome result (λ label. IsTrue (is_module_label self.now label.now)) }
+    {
+        // So that the clauses above can tell what holds of every topology.
+        let _ = &self.rows;
+        match address.and_then(|address| self.owner_of_address(address)) {
+            Some(label) => Some(label),
+            None => self.owner_of_code(cpu, bank, code),
+        }
+    }
+
+    // Takes a row, where it can.
+    fn add(&mut self, row: Row) -> Result<(), TopologyRefused>
+        requires { IsTrue (is_upright row) }
+        ensures answer { Answers result (refusal_of self.old row) }
+        ensures ok { OnOk result (self.new ≡ self.old ++ row ∷ []) }
+        ensures err { OnErr result (self.new ≡ self.old) }
+        ensures topology { IsTopology self.old }
+    {
+        if !self.names_module(&row) {
+            return Err(TopologyRefused::Label);
+        }
+        if self.has_overlap(&row) {
+            return Err(TopologyRefused::Overlap);
+        }
+        if self.rows.len() >= MOST_ROWS {
+            return Err(TopologyRefused::Full);
+        }
+        match self.rows.push(row) {
+            Ok(()) => Ok(()),
+            Err(_) => Err(TopologyRefused::NoMemory),
+        }
+    }
+
+    // Whether a row names a module that the rows have, as a range and a place must.
+    fn names_module(&self, row: &Row) -> bool
+        ensures { result ≡ names_module self.now row.now }
+    {
+        match row {
+            Row::Range { label, .. } | Row::Place { label, .. } => self.is_module_label(label),
+            Row::Cpu { .. } | Row::Module { .. } => true,
+        }
+    }
+
+    // Whether a label is that of some module row.
+    fn is_module_label(&self, label: &Label) -> bool
+        ensures { result ≡ is_module_label self.now label.now }
+    {
+        self.rows.iter().any(|row| row.is_module_of(label))
+    }
+
+    // Whether a row is a range that has an address in common with one that is held.
+    fn has_overlap(&self, row: &Row) -> bool
+        ensures { result ≡ list_any (overlap row.now) self.now }
+    {
+        self.rows.iter().any(|held| row.overlaps(held))
+    }
+
+    // The label of the range that holds an address.
+    fn owner_of_address(&self, address: u64) -> Option<&Label>
+        ensures { option_copied result ≡ owner_of_address self.now address }
+    {
+        self.range_over(address)?.label()
+    }
+
+    // The range that holds an address.
+    fn range_over(&self, address: u64) -> Option<&Row>
+        ensures row { option_copied result ≡ find (holds address) self.now }
+        ensures apart { IsApart self.now }
+    {
+        self.rows.iter().find(|row| row.holds(address))
+    }
+
+    // The owner of an error by the CPU that reports it, the bank, and the channel that its code tells.
+    fn owner_of_code(&self, cpu: u16, bank: u8, code: Code) -> Option<&Label>
+        ensures { option_copied result ≡ owner_of_code self.now cpu bank code }
+    {
+        let channel = channel_of(code)?;
+        let socket = self.socket(cpu)?;
+        self.owner_of_channel(socket, bank, channel)
+    }
+
+    // The socket of a CPU, by its last row.
+    fn socket(&self, cpu: u16) -> Option<u8>
+        ensures { result ≡ socket_by_rows self.now cpu }
+    {
+        self.rows.iter().filter_map(|row| row.socket_of(cpu)).last()
+    }
+
+    // The one label that the module rows of a socket, bank and channel name.
+    fn owner_of_channel(&self, socket: u8, bank: u8, channel: u8) -> Option<&Label>
+        ensures { option_copied result ≡ owner_of_channel self.now socket bank channel }
+    {
+        let owner = self.label_at(socket, bank, channel)?;
+        self.all_name(owner, socket, bank, channel).then_some(owner)
+    }
+
+    // The label of the first module row of a socket, bank and channel.
+    fn label_at(&self, socket: u8, bank: u8, channel: u8) -> Option<&Label>
+        ensures { option_copied result ≡ slice_get (labels_in (filter (is_at socket bank channel) self.now)) 0 }
+    {
+        self.row_at(socket, bank, channel)?.label()
+    }
+
+    // The first module row of a socket, bank and channel.
+    fn row_at(&self, socket: u8, bank: u8, channel: u8) -> Option<&Row>
+        ensures { option_copied result ≡ find (is_at socket bank channel) self.now }
+    {
+        self.rows
+            .iter()
+            .find(|row| row.is_at(socket, bank, channel))
+    }
+
+    // Whether all module rows of a socket, bank and channel name this label.
+    fn all_name(&self, label: &Label, socket: u8, bank: u8, channel: u8) -> bool
+        ensures { result ≡ list_all (is_module_of label.now) (filter (is_at socket bank channel) self.now) }
+    {
+        self.rows
+            .iter()
+            .filter(|row| row.is_at(socket, bank, channel))
+            .all(|row| row.is_module_of(label))
+    }
+}
+
+// The memory channel that a code tells.
+fn channel_of(code: Code) -> Option<u8>
+    ensures { result ≡ channel_of code }
+{
+    match code {
+        Code::Memory { channel, .. } if channel != 15 => Some(channel),
+        _ => None,
+    }
+}
