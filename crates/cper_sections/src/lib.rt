@@ -15,3 +15,6 @@ pub use numbers::{u16_at, u32_at, u64_at};
 pub use processor::ProcSection;
 pub use sections::{Descriptor, Section, SectionRefused, read_section};
 pub use x64::{Context, X64Section, context_at};
+
+#[cfg(test)]
+mod tests;
