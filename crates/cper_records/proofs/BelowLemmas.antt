@@ -1,7 +1,7 @@
 -- Tests of the numbers below a count.
-use Rattle.std.proofs.Common.{◌≡◌, ℕ, zero, suc, ◌+◌, ◌<◌, Bool, true, false, ◌||◌, ◌⊎◌, refl, arith, add-one}
+use Rattle.std.proofs.Common.{◌≡◌, ℕ, zero, suc, ◌+◌, ◌<◌, ◌≤◌, List, length, Bool, true, false, ◌||◌, ◌⊎◌, refl, arith, add-one}
 use Rattle.std.proofs.lemmas.Grind.{common_steps}
-use Rattle.cper_records.specs.Descriptors.{some_below}
+use Rattle.cper_records.specs.Descriptors.{some_below, is_out, offset_of, section_length}
 
 -- no number is below 0
 pub some_below_none : (test : ℕ → Bool) → some_below 0 test ≡ false
@@ -22,3 +22,9 @@ some_below_at (suc count) i test below passes =
 -- and where none does, each fails
 pub some_below_each : (count i : ℕ) (test : ℕ → Bool) → some_below count test ≡ false → i < count → test i ≡ false
 some_below_each count i test none below = grind (arith, some_below_at count i test below)
+
+-- where no section passes the end, each lies inside
+pub inside_each : (bytes : List ℕ) (count i : ℕ) → some_below count (is_out bytes) ≡ false → i < count
+    → offset_of bytes i + section_length bytes i ≤ length bytes
+unfolding is_out
+inside_each bytes count i none below = grind (arith, some_below_each count i (is_out bytes) none below)

@@ -10,3 +10,6 @@ mod walk;
 pub use laws::only_own_bytes;
 pub use records::{Record, read_record};
 pub use refusals::RecordRefused;
+
+#[cfg(test)]
+mod tests;

@@ -38,6 +38,7 @@ pub(crate) const HEADER_LENGTH: usize = 128;
 /// two signatures, `Length` where the record's length is below 128 or above the number of bytes,
 /// `DescriptorOut` where the descriptors pass that length, `SectionOut` where some section does, and
 /// `Section` where `read_section` refuses some section.
+#[tactic(auto, using(crate::proofs::FrontLemmas::own_length), unfolding(crate::specs::Records::record_of))]
 pub fn read_record(bytes: &[u8]) -> Result<Record<'_>, RecordRefused>
     ensures answer { result ≡ record_of bytes.now }
 
@@ -69,7 +70,7 @@ fn has_signatures(bytes: &[u8]) -> bool
 }
 
 // The record of bytes that are as many as its length says.
-#[tactic(auto, unfolding(crate::specs::Records::sections_of))]
+#[tactic(auto, using(crate::proofs::BelowLemmas::inside_each, crate::proofs::BelowLemmas::some_below_each), unfolding(crate::specs::Records::sections_of))]
 fn sections_of(bytes: &[u8]) -> Result<Record<'_>, RecordRefused>
     requires header { 128 ≤ length bytes.now }
     requires whole { length_of bytes.now ≡ length bytes.now }
