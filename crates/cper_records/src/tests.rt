@@ -87,7 +87,6 @@ fn shorter_lengths(rt: HostRuntime) {
 
 #[test]
 fn refusals(rt: HostRuntime) {
-    let mut longer = [0u8; 400];
     for (place, byte, wanted) in [
         (16, 0xff, None),
         (353, 0xff, None),
@@ -98,7 +97,7 @@ fn refusals(rt: HostRuntime) {
         (21, 0, Some(RecordRefused::Length)),
         (21, 2, Some(RecordRefused::Length)),
         (23, 0xff, Some(RecordRefused::Length)),
-        (10, 3, None),
+        (10, 3, Some(RecordRefused::SectionOut)),
         (10, 4, Some(RecordRefused::DescriptorOut)),
         (11, 0xff, Some(RecordRefused::DescriptorOut)),
         (20, 0x60, Some(RecordRefused::SectionOut)),
@@ -111,17 +110,22 @@ fn refusals(rt: HostRuntime) {
         (132, 0x4a, None),
         (144, 0, None),
     ] {
+        let mut longer = [0u8; 400];
         put(&mut longer, 0, &two_sections());
-        longer[399] = 0;
         if place < 400 {
             longer[place] = byte;
         }
         let refused = read_record(&longer).err();
         assert!(rt; refused == wanted, "{byte:x} at {place}");
     }
-    // A section that passes the end is told before one that can't be read.
+    // A section that passes the end is told before one that can't be read, and by the whole sum of its
+    // offset and length.
+    let mut longer = [0u8; 400];
     put(&mut longer, 0, &two_sections());
     longer[132] = 0x48;
     longer[204] = 9;
+    assert!(rt; read_record(&longer).err() == Some(RecordRefused::SectionOut));
+    put(&mut longer, 0, &two_sections());
+    put(&mut longer, 128, &[0xf0, 0xff, 0xff, 0xff]);
     assert!(rt; read_record(&longer).err() == Some(RecordRefused::SectionOut));
 }

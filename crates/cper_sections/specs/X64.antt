@@ -32,6 +32,10 @@ pub record ContextParts : Type 0 where
 abbrev pub parts_of : Context → ContextParts
 parts_of context = record { kind = context.kind; msr = context.msr; mapped = context.mapped; array = context.array.now }
 
+-- how many bytes such a context takes, its header of 16 and its array
+abbrev pub bytes_taken : ContextParts → ℕ
+bytes_taken context = 16 + length context.array
+
 -- the bytes of the context at the front: a header of 16 bytes and an array, whose size stands at 2
 abbrev pub context_length : List ℕ → ℕ
 context_length bytes = 16 + number_at 2 2 bytes

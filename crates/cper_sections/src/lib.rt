@@ -3,6 +3,7 @@
 #![tactic(auto)]
 
 mod guids;
+mod laws;
 mod memory;
 mod numbers;
 mod processor;
@@ -10,6 +11,7 @@ mod sections;
 mod x64;
 
 pub use guids::{SectionType, guid_at, type_of};
+pub use laws::contexts_are_the_first_that_fit;
 pub use memory::MemSection;
 pub use numbers::{u16_at, u32_at, u64_at};
 pub use processor::ProcSection;
