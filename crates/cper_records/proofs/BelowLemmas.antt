@@ -1,6 +1,5 @@
 -- Tests of the numbers below a count.
-use Rattle.std.proofs.Common.{◌≡◌, ℕ, zero, suc, ◌+◌, ◌<◌, ◌≤◌, List, length, Bool, true, false, ◌||◌, ◌⊎◌, refl, arith, add-one}
-use Rattle.std.proofs.lemmas.Grind.{common_steps}
+use Rattle.std.proofs.Common.{◌≡◌, ℕ, zero, suc, ◌+◌, ◌<◌, ◌≤◌, List, length, Bool, true, false, ◌||◌, refl, arith, add-one}
 use Rattle.cper_records.specs.Descriptors.{some_below, is_out, offset_of, section_length}
 
 -- no number is below 0

@@ -2,7 +2,6 @@
 use Rattle.std.proofs.Common.{◌≡◌, ℕ, zero, suc, ◌+◌, ◌-◌, ◌<◌, ◌≤◌, ◌∙◌, List, [], ◌∷◌, length, drop, true, false, refl, ap, sym, arith, slice_get, sum_by}
 use Rattle.std.proofs.lemmas.List.{drop_all, drop-drop, length-take, length-drop}
 use Rattle.std.proofs.lemmas.List.Sums.{sum_by-cons}
-use native.Mathlib.Numerals.{unary_clauses}
 use Rattle.cper_sections.specs.X64.{contexts_in, contexts_at, contexts_of, x64_validation, stated_contexts, has_context, context_of, context_length, ContextParts, bytes_taken}
 use Rattle.cper_sections.specs.Numbers.{number_at}
 
@@ -82,7 +81,7 @@ contexts_inside zero bytes = unfold contexts_in in omega arith
 contexts_inside (suc stated) bytes =
     let P : Type 0 = sum_by bytes_taken (contexts_in (suc stated) bytes) ≤ length bytes in
     let cases : (fits : _) → has_context bytes ≡ fits → P = λ fits. elim fits as (λ v. has_context bytes ≡ v → P) [
-        true ↦ λ is. omega (arith, taken_more stated bytes is, fitting bytes is, contexts_inside stated (drop (context_length bytes) bytes), length-drop (context_length bytes) bytes)
+      | true ↦ λ is. omega (arith, taken_more stated bytes is, fitting bytes is, contexts_inside stated (drop (context_length bytes) bytes), length-drop (context_length bytes) bytes)
       | false ↦ λ is. rw (contexts_in_end (suc stated) bytes is) (omega arith)
     ] in
     cases (has_context bytes) refl
@@ -95,7 +94,7 @@ contexts_ended (suc stated) bytes fewer =
     let rest : List ℕ = drop (context_length bytes) bytes in
     let P : Type 0 = has_context (drop (sum_by bytes_taken (contexts_in (suc stated) bytes)) bytes) ≡ false in
     let cases : (fits : _) → has_context bytes ≡ fits → P = λ fits. elim fits as (λ v. has_context bytes ≡ v → P) [
-        true ↦ λ is.
+      | true ↦ λ is.
           let less : length (contexts_in stated rest) < stated =
           omega (arith, fewer, ap (λ (contexts : List ContextParts). length contexts) (contexts_in_more (suc stated) stated bytes refl is)) in
           let after : drop (sum_by bytes_taken (contexts_in (suc stated) bytes)) bytes ≡ drop (sum_by bytes_taken (contexts_in stated rest)) rest =

@@ -1,7 +1,7 @@
 -- Each test on the record's own bytes gives what it gives on all of them.
-use Rattle.std.proofs.Common.{◌≡◌, ◌≤◌, ℕ, List, length, take, refl, sym, arith, nat_lt, nat_le, true, false, ◌&&◌}
+use Rattle.std.proofs.Common.{◌≡◌, ◌≤◌, ℕ, List, length, take, refl, sym, arith, nat_lt, true, false}
 use Rattle.std.proofs.lemmas.List.{length-take}
-use Rattle.cper_records.specs.Header.{length_of, has_length, has_signatures}
+use Rattle.cper_records.specs.Header.{length_of, has_length}
 use Rattle.cper_records.specs.Records.{record_of}
 use Rattle.cper_records.proofs.FrontLemmas.{own_length, own_signatures, own_bytes}
 use Rattle.cper_records.proofs.laws.only_own_bytes.Goals as goal

@@ -1,5 +1,5 @@
 -- The last eight bytes stay as they are.
-use Rattle.std.proofs.Common.{ℕ, ◌≡◌, ◌<◌, ◌≤◌, List, [], ◌∷◌, length, drop, slice_index, arith, refl, lit<, lit≤}
+use Rattle.std.proofs.Common.{ℕ, ◌≡◌, List, length, drop, arith, refl}
 use Rattle.std.proofs.lemmas.List.{drop_more, drop_all}
 use Rattle.uuid.specs.Parts.{swap_fields}
 use Rattle.cper_sections.proofs.guids.guid_at.Goals as goal

@@ -1,5 +1,5 @@
 -- The contexts begin where the structures end.
-use Rattle.std.proofs.Common.{◌≡◌, ◌≤◌, ◌+◌, length, drop, sum_by, arith, sym, ap, ◌∙◌, List, ℕ}
+use Rattle.std.proofs.Common.{drop, sum_by, arith, sym, ap, ◌∙◌, List, ℕ}
 use Rattle.std.proofs.lemmas.List.{drop-drop, length-drop}
 use Rattle.cper_sections.specs.X64.{x64_validation, stated_contexts, contexts_at, contexts_of, has_context, bytes_taken}
 use Rattle.cper_sections.proofs.ContextLemmas.{contexts_inside, contexts_ended}

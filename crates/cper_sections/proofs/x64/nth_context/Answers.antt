@@ -1,5 +1,5 @@
 -- Each context that is passed is one that fits.
-use Rattle.std.proofs.Common.{◌≡◌, ◌∙◌, ◌≤◌, ◌<◌, sym, refl, arith, drop, true}
+use Rattle.std.proofs.Common.{◌≡◌, ◌∙◌, ◌<◌, sym, refl, arith, drop, true}
 use Rattle.std.proofs.lemmas.Option.{slice_get_past}
 use Rattle.cper_sections.specs.X64.{contexts_in, has_context, context_length}
 use Rattle.cper_sections.proofs.ContextLemmas.{most_contexts, step_length, step_get}
