@@ -1,0 +1,4 @@
+pub mod Store
+pub mod View
+pub mod StoreFile
+pub mod StoreReading
