@@ -1,5 +1,5 @@
 -- What is read is spelled so, and what is spelled so is read.
-use Rattle.std.proofs.Common.{◌≡◌, ℕ, zero, suc, ◌+◌, ◌-◌, ◌^◌, ◌<◌, ◌≤◌, Bool, true, false, cond, not, nat_eq, nat_lt, if◌then◌else◌, List, [], ◌∷◌, ◌++◌, length, map, get_or, take, drop, Option, None, Some, ◌&&◌, ◌||◌, refl, sym, ap, subst, ◌∙◌, arith, true≢false, append_assoc, inl, inr}
+use Rattle.std.proofs.Common.{◌≡◌, ℕ, zero, suc, ◌+◌, ◌-◌, ◌^◌, ◌<◌, ◌≤◌, Bool, true, false, cond, not, nat_eq, nat_lt, if◌then◌else◌, List, [], ◌∷◌, ◌++◌, length, map, get_or, take, drop, Option, None, Some, ◌&&◌, ◌||◌, refl, sym, ap, subst, ◌∙◌, arith, true≢false, append_assoc, add-one, inl, inr}
 use Rattle.std.specs.Prelude.{codes, slice_get, Result, Ok, Err}
 use Rattle.std.specs.List.{AllByRecursion, IsDistinct, list_any, flat_map}
 use Rattle.std.specs.Int.{Width, w32, w64, byte_len, from_le_bytes, to_le_bytes}
@@ -131,7 +131,7 @@ record_again : (r : Stored) (rest : List ℕ) → Fits r → record_at (record_b
 unfolding record_at
 record_again r rest fits =
     let grouped : record_bytes r ++ rest ≡ u64_bytes r.id ++ (u32_bytes (length r.bytes) ++ (r.bytes ++ rest)) =
-        append_assoc (u64_bytes r.id ++ u32_bytes (length r.bytes)) r.bytes rest ∙ append_assoc (u64_bytes r.id) (u32_bytes (length r.bytes)) (r.bytes ++ rest)
+    append_assoc (u64_bytes r.id ++ u32_bytes (length r.bytes)) r.bytes rest ∙ append_assoc (u64_bytes r.id) (u32_bytes (length r.bytes)) (r.bytes ++ rest)
     in
     let room : nat_lt (length (r.bytes ++ rest)) (length r.bytes) ≡ false = le-ltb _ _ (omega (arith, length-append r.bytes rest)) in
     ap record_at grouped
@@ -166,7 +166,7 @@ follows before r later kept =
     let short : nat_lt most_bytes (length r.bytes) ≡ false = le-ltb _ _ fits.bytes in
     let room : nat_eq (length before) most_records ≡ false = not_equal _ _ (omega (arith, kept.count, length-append before (r ∷ later))) in
     let unrefused : refusal_of r.id r.bytes before ≡ None = rw (good, short, room) refl in
-    rw (new, unrefused) refl
+    rw (unrefused, new) refl
 
 -- ---- all records
 
@@ -205,7 +205,7 @@ records_again before [] kept = ap (λ (rs : List Stored). Some rs) (sym (append-
 records_again before (r ∷ later) kept =
     let moved : before ++ r ∷ [] ++ later ≡ before ++ r ∷ later = append_assoc before (r ∷ []) later in
     let step : records_at (suc (length later)) before (record_bytes r ++ flat_map record_bytes later) ≡ records_at (length later) (before ++ r ∷ []) (flat_map record_bytes later) =
-        rw (record_again r (flat_map record_bytes later) (each_middle Fits before r later kept.each), follows before r later kept) refl
+    rw (record_again r (flat_map record_bytes later) (each_middle Fits before r later kept.each), follows before r later kept) refl
     in
     ap (records_at (suc (length later)) before) (flat_map-cons record_bytes r later)
     ∙ step
@@ -282,15 +282,37 @@ is_read_back bytes (Err Malformed) records given kept is =
     let found : file_at bytes ≡ Some records = ap file_at is ∙ file_again records kept in
     absurd cc
 
+-- where the loop has ended with bytes left, or with none
+pub is_left : (count i : ℕ) (before : List Stored) (bytes : List ℕ) (total : Option (List Stored)) → count ≤ i → nat_eq (length bytes) 0 ≡ false → records_at (count - i) before bytes ≡ total → total ≡ None
+is_left count i before bytes total le left so_far = sym (is_done count i before bytes total le so_far) ∙ ap (λ b. if b then Some before else None) left
+
+pub is_all : (count i : ℕ) (before : List Stored) (bytes : List ℕ) (total : Option (List Stored)) → count ≤ i → nat_eq (length bytes) 0 ≡ true → records_at (count - i) before bytes ≡ total → total ≡ Some before
+is_all count i before bytes total le none so_far = sym (is_done count i before bytes total le so_far) ∙ ap (λ b. if b then Some before else None) none
+
+-- parts that were written one after the other
+pub put_parts : (out a b c : List ℕ) → out ++ a ++ b ++ c ≡ out ++ (a ++ b ++ c)
+put_parts out a b c = ap (λ (front : List ℕ). front ++ c) (append_assoc out a b) ∙ append_assoc out (a ++ b) c
+
 -- one record more, as a loop writes it
-pub next_bytes : (rs : List Stored) (i id : ℕ) (bytes : List ℕ) → slice_get (ids rs) i ≡ Some id → slice_get (contents rs) i ≡ Some bytes
-    → flat_map record_bytes (take (i + 1) rs) ≡ flat_map record_bytes (take i rs) ++ record_bytes (record { id = id; bytes = bytes })
-next_bytes [] i id bytes is_id is_bytes = absurd cc
-next_bytes (r ∷ rs) zero id bytes is_id is_bytes =
+next_suc : (rs : List Stored) (i id : ℕ) (bytes : List ℕ) → slice_get (ids rs) i ≡ Some id → slice_get (contents rs) i ≡ Some bytes
+    → flat_map record_bytes (take (suc i) rs) ≡ flat_map record_bytes (take i rs) ++ record_bytes (record { id = id; bytes = bytes })
+next_suc [] i id bytes is_id is_bytes = absurd cc
+next_suc (r ∷ rs) zero id bytes is_id is_bytes =
     let same : r ≡ record { id = id; bytes = bytes } = λ j. record { id = some_is r.id id is_id j; bytes = some_is r.bytes bytes is_bytes j } in
     flat_map-cons record_bytes r [] ∙ append-nil (record_bytes r) ∙ ap record_bytes same
-next_bytes (r ∷ rs) (suc i) id bytes is_id is_bytes =
-    flat_map-cons record_bytes r (take (i + 1) rs)
-    ∙ ap (λ (back : List ℕ). record_bytes r ++ back) (next_bytes rs i id bytes is_id is_bytes)
+next_suc (r ∷ rs) (suc i) id bytes is_id is_bytes =
+    flat_map-cons record_bytes r (take (suc i) rs)
+    ∙ ap (λ (back : List ℕ). record_bytes r ++ back) (next_suc rs i id bytes is_id is_bytes)
     ∙ sym (append_assoc (record_bytes r) (flat_map record_bytes (take i rs)) (record_bytes (record { id = id; bytes = bytes })))
     ∙ ap (λ (front : List ℕ). front ++ record_bytes (record { id = id; bytes = bytes })) (sym (flat_map-cons record_bytes r (take i rs)))
+
+pub next_bytes : (start : List ℕ) (rs : List Stored) (i id : ℕ) (bytes out new : List ℕ) → slice_get (ids rs) i ≡ Some id → slice_get (contents rs) i ≡ Some bytes
+    → out ≡ start ++ flat_map record_bytes (take i rs) → new ≡ out ++ record_bytes (record { id = id; bytes = bytes }) → new ≡ start ++ flat_map record_bytes (take (i + 1) rs)
+next_bytes start rs i id bytes out new is_id is_bytes so_far pushed =
+    pushed
+    ∙ ap (λ (front : List ℕ). front ++ record_bytes (record { id = id; bytes = bytes })) so_far
+    ∙ append_assoc start (flat_map record_bytes (take i rs)) (record_bytes (record { id = id; bytes = bytes }))
+    ∙ ap (λ (back : List ℕ). start ++ back) (sym (next_suc rs i id bytes is_id is_bytes) ∙ ap (λ (n : ℕ). flat_map record_bytes (take n rs)) (sym (add-one i)))
+
+pub heading-nil : (count : ℕ) → heading count ≡ heading count ++ flat_map record_bytes []
+heading-nil count = sym (append-nil (heading count))

@@ -8,3 +8,6 @@ mod store;
 
 pub use reading::StoreRefused;
 pub use store::{MOST_BYTES, MOST_RECORDS, PutRefused, Store};
+
+#[cfg(test)]
+mod tests;

@@ -29,9 +29,9 @@ impl Store {
         ensures { IfOk result (λ v. v.items ≡ store_bytes self.now) }
     {
         let mut out = Vec::from_slice(alloc, MAGIC)?;
-        out.extend_from_slice(&(self.len() as u32).to_le_bytes())?;
+        push_u32(&mut out, self.len() as u32)?;
         for i in 0..self.len() {
-            put_record(&mut out, self.id(i), self.bytes(i))?;
+            push_record(&mut out, self.id(i), self.bytes(i))?;
         }
         Ok(out)
     }
@@ -62,14 +62,31 @@ impl Store {
     }
 }
 
-// Writes a record's identifier, length and bytes behind what is there.
-#[tactic(auto, unfolding(ras_base::specs::LittleEndian::u32_bytes, ras_base::specs::LittleEndian::u64_bytes))]
-fn put_record(out: &mut Vec<u8>, id: u64, bytes: &[u8]) -> Result<(), NoMemory>
+// Adds a number of 4 bytes, from its low byte.
+#[tactic(auto, unfolding(ras_base::specs::LittleEndian::u32_bytes))]
+fn push_u32(out: &mut Vec<u8>, number: u32) -> Result<(), NoMemory>
+    ensures { OnOk result (out.new.items ≡ out.old.items ++ u32_bytes number) }
+{
+    out.extend_from_slice(&number.to_le_bytes())?;
+    Ok(())
+}
+
+// Adds a number of 8 bytes, from its low byte.
+#[tactic(auto, unfolding(ras_base::specs::LittleEndian::u64_bytes))]
+fn push_u64(out: &mut Vec<u8>, number: u64) -> Result<(), NoMemory>
+    ensures { OnOk result (out.new.items ≡ out.old.items ++ u64_bytes number) }
+{
+    out.extend_from_slice(&number.to_le_bytes())?;
+    Ok(())
+}
+
+// Adds a record: its identifier, its length and its bytes.
+fn push_record(out: &mut Vec<u8>, id: u64, bytes: &[u8]) -> Result<(), NoMemory>
     requires { length bytes.now ≤ 16384 }
     ensures { OnOk result (out.new.items ≡ out.old.items ++ record_bytes (record { id = id; bytes = bytes.now })) }
 {
-    out.extend_from_slice(&id.to_le_bytes())?;
-    out.extend_from_slice(&(bytes.len() as u32).to_le_bytes())?;
+    push_u64(out, id)?;
+    push_u32(out, bytes.len() as u32)?;
     out.extend_from_slice(bytes)?;
     Ok(())
 }

@@ -1,6 +1,7 @@
 // The record store.
 ghost use Rattle.std.specs.Prelude.{◌≡◌, ◌<◌, ◌≤◌, length, [], Option, Some, false, nat_eq, OnOk, OnErr, slice_get};
 ghost use Rattle.std.specs.List.{position};
+ghost use Rattle.std.specs.Bool.{IsFalse};
 ghost use Rattle.std.specs.Option.{option_map};
 ghost use Rattle.erst_store.specs.Store.{Fits, IsStore, ids, contents, holds, bytes_under, with_record, without, refusal_of, Answers, SameBut};
 ghost use Rattle.erst_store.specs.View.{StandsAt, Places, Finds};
@@ -153,6 +154,7 @@ impl Store {
     pub(crate) fn remove(&mut self, id: u64) -> bool
         ensures there { result ≡ holds id self.old }
         ensures rest { self.new ≡ without id self.old }
+        ensures none { IsFalse result → self.new ≡ self.old }
     {
         match self.place(id) {
             Some(place) => {

@@ -11,6 +11,6 @@ returns-clause-there c =
 pub returns-clause-short : goal.returns-clause-short
 returns-clause-short c =
     let there : slice_get (contents (views c.self.inside.records.items)) c.args.i ≡ Some c.index.result.now.bytes.items =
-        got_bytes c.self.inside.records.items c.args.i c.index.result.now (omega (arith, rw (← c.self.view_is) at c.requires, length-views c.self.inside.records.items)) c.index.ensures
+    got_bytes c.self.inside.records.items c.args.i c.index.result.now (omega (arith, rw (← c.self.view_is) at c.requires, length-views c.self.inside.records.items)) c.index.ensures
     in
     rw c.deref.ensures.value (short-at (views c.self.inside.records.items) c.args.i c.index.result.now.bytes.items c.self.invariant.each there)
