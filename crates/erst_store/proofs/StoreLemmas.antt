@@ -211,6 +211,14 @@ module _ (id : ℕ) where
     distinct = without-distinct rs kept.distinct;
   }
 
+pub without-twice : (id : ℕ) (rs : List Stored) → without id (without id rs) ≡ without id rs
+without-twice id [] = refl
+without-twice id (r ∷ rs) = by (nat_eq r.id id) refl (without-twice id rs)
+  where
+    by : (b : Bool) → nat_eq r.id id ≡ b → without id (without id rs) ≡ without id rs → without id (picked id b r (without id rs)) ≡ picked id b r (without id rs)
+    by true is ih = ih
+    by false is ih = ap (λ c. picked id c r (without id (without id rs))) is ∙ ap (λ (qs : List Stored). r ∷ qs) ih
+
 -- ---- what a put leaves
 
 module _ (id : ℕ) (bytes : List ℕ) where
