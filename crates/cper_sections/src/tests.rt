@@ -96,7 +96,7 @@ fn processor_sections(rt: HostRuntime) {
     };
     let guid = guid_at(&PROCESSOR);
     assert!(rt; read_section(guid, &bytes) == Ok(Section::Processor(processor)));
-    assert!(rt; read_section(guid, &bytes[..191]) == Err(SectionRefused::Short));
+    assert!(rt; read_section(guid, front(&bytes, 191)) == Err(SectionRefused::Short));
 }
 
 #[test]
