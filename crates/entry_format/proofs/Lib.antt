@@ -1,0 +1,7 @@
+pub mod Codec
+pub mod FieldLaws
+pub mod EntryLaws
+pub mod FrontLaws
+pub mod FileLaws
+pub mod SizeLaws
+pub mod Loop

@@ -1,0 +1,47 @@
+-- Reading items one after the other, as a loop does.
+use Rattle.std.proofs.Common.{◌≡◌, ℕ, suc, ◌-◌, ◌+◌, ◌≤◌, ◌<◌, List, [], ◌∷◌, ◌++◌, Result, Ok, Err, refl, sym, ap, ◌∙◌, append_assoc, arith}
+use Rattle.std.proofs.lemmas.List.{append-nil}
+use Rattle.ras_facts.specs.declared.items.Item.{Item}
+use Rattle.entry_format.specs.declared.refused.EntryRefused.{EntryRefused}
+use Rattle.entry_format.specs.declared.refused.EntryRefused.TheVariants.{Cut, Bad, NoMemory}
+use Rattle.entry_format.specs.Reading.{◌>>=◌, Fails, item_at, items_at}
+
+abbrev ok : {A : Type 0} → A → Result A EntryRefused
+ok x = Ok x
+
+-- what was read before, and what is still read
+abbrev pub with_front : List Item → Result (List Item × List ℕ) EntryRefused → Result (List Item × List ℕ) EntryRefused
+with_front front read = read >>= λ x. Ok (front ++ x.0, x.1)
+
+regroup : (front : List Item) (n : Item) (read : Result (List Item × List ℕ) EntryRefused) → with_front front (read >>= λ x. Ok (n ∷ x.0, x.1)) ≡ with_front (front ++ n ∷ []) read
+regroup front n (Ok x) = ap (λ (ns : List Item). ok (ns, x.1)) (simp append_assoc)
+regroup front n (Err f) = refl
+
+pub goes_on : (front : List Item) (count i : ℕ) (bytes : List ℕ) (n : Item) (after : List ℕ) (total : Result (List Item × List ℕ) EntryRefused) → i < count → item_at bytes ≡ Ok (n, after)
+    → with_front front (items_at (count - i) bytes) ≡ total → with_front (front ++ n ∷ []) (items_at (count - (i + 1)) after) ≡ total
+unfolding items_at
+goes_on front count i bytes n after total lt h so_far =
+    let k : count - i ≡ suc (count - (i + 1)) = omega arith in
+    let one : with_front front (items_at (count - i) bytes) ≡ with_front (front ++ n ∷ []) (items_at (count - (i + 1)) after) = rw (k, h) (regroup front n (items_at (count - (i + 1)) after)) in
+    sym one ∙ so_far
+
+fails_as : (e : EntryRefused) (front : List Item) (n : ℕ) (bytes : List ℕ) → item_at bytes ≡ Err e → with_front front (items_at (suc n) bytes) ≡ Err e
+unfolding items_at
+fails_as e front n bytes h = rw h refl
+
+pub ends : (e : EntryRefused) (front : List Item) (count i : ℕ) (bytes : List ℕ) (total : Result (List Item × List ℕ) EntryRefused) → i < count → Fails e (item_at bytes)
+    → with_front front (items_at (count - i) bytes) ≡ total → Fails e total
+ends NoMemory front count i bytes total lt h so_far = tt
+ends Cut front count i bytes total lt h so_far =
+    let k : count - i ≡ suc (count - (i + 1)) = omega arith in
+    sym so_far ∙ rw k (fails_as Cut front (count - (i + 1)) bytes h)
+ends Bad front count i bytes total lt h so_far =
+    let k : count - i ≡ suc (count - (i + 1)) = omega arith in
+    sym so_far ∙ rw k (fails_as Bad front (count - (i + 1)) bytes h)
+
+pub is_done : (front : List Item) (count i : ℕ) (bytes : List ℕ) (total : Result (List Item × List ℕ) EntryRefused) → count ≤ i → with_front front (items_at (count - i) bytes) ≡ total → total ≡ Ok (front, bytes)
+unfolding items_at
+is_done front count i bytes total le so_far =
+    let k : count - i ≡ 0 = omega arith in
+    let one : with_front front (items_at (count - i) bytes) ≡ Ok (front, bytes) = rw k (ap (λ (ns : List Item). ok (ns, bytes)) (append-nil front)) in
+    sym so_far ∙ one

@@ -1,0 +1,49 @@
+-- How many bytes an entry has.
+use Rattle.std.proofs.Common.{◌≡◌, ℕ, ◌+◌, List, [], ◌∷◌, ◌++◌, length, Option, Some, None, refl, ap, ◌∙◌, arith, length-append, suc, append-nil}
+use Rattle.std.specs.Prelude.{MatchOption}
+use Rattle.std.specs.List.{flat_map}
+use Rattle.ras_base.specs.LittleEndian.{u16_bytes, u64_bytes, length-u16_bytes, length-u64_bytes}
+use Rattle.ras_facts.specs.declared.name.Name.{Name}
+use Rattle.ras_facts.specs.declared.name.Name.TheVariants.{Bank}
+use Rattle.ras_facts.specs.declared.items.Item.{Item}
+use Rattle.ras_facts.specs.declared.fact.Fact.{Fact}
+use Rattle.entry_format.specs.Spelling.{name_bytes, page_bytes, item_bytes, fact_bytes, entry_bytes}
+
+name_size : (name : Name) → length (name_bytes name) ≡ 20
+unfolding name_bytes
+name_size (Bank boot cpu bank tsc) = simp (length-append, length-u16_bytes, length-u64_bytes)
+
+page_size : (page : Option ℕ) → MatchOption page (length (page_bytes page) ≡ 1) (λ _. length (page_bytes page) ≡ 9)
+unfolding page_bytes
+page_size None = refl
+page_size (Some n) = ap suc (length-u64_bytes n)
+
+item_size : (item : Item) → length (item_bytes item) ≡ length (page_bytes item.page) + 4
+unfolding item_bytes
+item_size item = simp (length-append, length-u16_bytes) (omega arith)
+
+entry_size : (fact : Fact) (item : Item) → fact.items ≡ item ∷ [] → length (entry_bytes fact) ≡ length (page_bytes item.page) + 35
+unfolding entry_bytes fact_bytes
+entry_size fact item one =
+    let name = name_bytes fact.name in
+    let seconds = u64_bytes fact.seconds in
+    let count = u16_bytes (length fact.items) in
+    let items : length (flat_map item_bytes fact.items) ≡ length (item_bytes item) = ap (λ (xs : List Item). length (flat_map item_bytes xs)) one ∙ ap length (append-nil (item_bytes item)) in
+    omega (
+      arith,
+      length-append (name ++ seconds ++ count) (flat_map item_bytes fact.items),
+      length-append (name ++ seconds) count,
+      length-append name seconds,
+      name_size fact.name,
+      length-u64_bytes fact.seconds,
+      length-u16_bytes (length fact.items),
+      items,
+      item_size item,
+    )
+
+at_page : (page : Option ℕ) (n : ℕ) → MatchOption page (length (page_bytes page) ≡ 1) (λ _. length (page_bytes page) ≡ 9) → n ≡ length (page_bytes page) + 35 → MatchOption page (n ≡ 36) (λ _. n ≡ 44)
+at_page None n h e = omega (arith, h, e)
+at_page (Some page) n h e = omega (arith, h, e)
+
+pub one_item_size : (fact : Fact) (item : Item) → fact.items ≡ item ∷ [] → MatchOption item.page (length (entry_bytes fact) ≡ 36) (λ _. length (entry_bytes fact) ≡ 44)
+one_item_size fact item one = at_page item.page (length (entry_bytes fact)) (page_size item.page) (entry_size fact item one)

@@ -1,0 +1,19 @@
+use Rattle.entry_format.proofs.FrontLaws.{same_front}
+use Rattle.entry_format.proofs.FileLaws.{one_reading, one_place, whole_or_broken}
+use Rattle.entry_format.proofs.SizeLaws.{one_item_size}
+use Rattle.entry_format.proofs.laws.format_laws.Goals as goal
+
+pub returns-clause-none_begins_another : goal.returns-clause-none_begins_another
+returns-clause-none_begins_another c = same_front
+
+pub returns-clause-one_reading : goal.returns-clause-one_reading
+returns-clause-one_reading c = one_reading
+
+pub returns-clause-one_place : goal.returns-clause-one_place
+returns-clause-one_place c = one_place
+
+pub returns-clause-whole_or_broken : goal.returns-clause-whole_or_broken
+returns-clause-whole_or_broken c = whole_or_broken
+
+pub returns-clause-size : goal.returns-clause-size
+returns-clause-size c = one_item_size

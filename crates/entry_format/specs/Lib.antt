@@ -1,0 +1,5 @@
+pub mod Spelling
+pub mod Front
+pub mod File
+pub mod Steps
+pub mod Reading

@@ -1,0 +1,36 @@
+-- How facts are spelled as the entries of a file. Each number of several bytes stands from its low byte on.
+use Rattle.std.specs.Prelude.{ℕ, List, [], ◌∷◌, ◌++◌, length, Option, None, Some}
+use Rattle.std.specs.List.{flat_map}
+use Rattle.ras_base.specs.LittleEndian.{u16_bytes, u64_bytes}
+use Rattle.mca_status.specs.Classes.{class_number}
+use Rattle.ras_facts.specs.declared.name.Name.{Name}
+use Rattle.ras_facts.specs.declared.name.Name.TheVariants.{Bank}
+use Rattle.ras_facts.specs.declared.items.Item.{Item}
+use Rattle.ras_facts.specs.declared.fact.Fact.{Fact}
+
+-- the name of a bank's report: the kind 1, the boot (8 bytes), the processor (2), the bank (1) and the time-stamp
+-- counter (8)
+unfoldable pub name_bytes : Name → List ℕ
+name_bytes (Bank boot cpu bank tsc) = 1 ∷ u64_bytes boot ++ u16_bytes cpu ++ bank ∷ [] ++ u64_bytes tsc
+
+-- a page: whether there is one (1), and its number (8) where there is one
+unfoldable pub page_bytes : Option ℕ → List ℕ
+page_bytes None = 0 ∷ []
+page_bytes (Some page) = 1 ∷ u64_bytes page
+
+-- an item: the number of its class (1), a label of no bytes (1), its page, and its weight (2)
+unfoldable pub item_bytes : Item → List ℕ
+item_bytes item = class_number item.class ∷ 0 ∷ [] ++ page_bytes item.page ++ u16_bytes item.weight
+
+-- a fact: its name, its seconds (8), the number of its items (2), and the items in order
+unfoldable pub fact_bytes : Fact → List ℕ
+fact_bytes fact =
+    name_bytes fact.name ++ u64_bytes fact.seconds ++ u16_bytes (length fact.items) ++ flat_map item_bytes fact.items
+
+-- an entry: the kind 1, and a fact
+unfoldable pub entry_bytes : Fact → List ℕ
+entry_bytes fact = 1 ∷ fact_bytes fact
+
+-- the entries of a whole file, one behind the other
+abbrev pub entries_bytes : List Fact → List ℕ
+entries_bytes facts = flat_map entry_bytes facts

@@ -1,0 +1,43 @@
+// The entries of a whole file.
+ghost use Rattle.std.specs.Prelude.{◌≡◌, ◌≢◌, ◌-◌, ℕ, List, IfOk, IfErr, IsOkAnd};
+ghost use Rattle.entry_format.specs.File.{AreEntriesOf, BreaksOffAt, IsBreak};
+
+use crate::reading::split_entry;
+use crate::refused::EntriesRefused;
+use ras_facts::Fact;
+use std::alloc::Global;
+
+// The facts whose entries the bytes are.
+fn all_entries(alloc: Global, bytes: &[u8]) -> Result<Vec<Fact>, EntriesRefused>
+    ensures found { IfOk result (λ facts. AreEntriesOf facts.items bytes.now) }
+    ensures refused { IfErr result (IsBreak bytes.now) }
+{
+    let mut facts = Vec::new(alloc);
+    let mut rest = bytes;
+    while !rest.is_empty() {
+        match split_entry(alloc, rest) {
+            Ok((fact, after)) => {
+                facts.push(fact)?;
+                rest = after;
+            }
+            Err(refused) => return Err(refused.at((bytes.len() - rest.len()) as u64)),
+        }
+    }
+    Ok(facts)
+}
+
+/// The facts whose entries the bytes of a file are, in order. Each byte is read once.
+///
+/// It is refused as `Bad` exactly where the bytes aren't the entries of valid facts: the place is that of the first
+/// byte of the first entry that is cut or is none. It is refused as `NoMemory` where memory runs out.
+pub fn read_entries(alloc: Global, bytes: &[u8]) -> Result<Vec<Fact>, EntriesRefused>
+    // What is read is what the bytes are.
+    ensures found { IfOk result (λ facts. AreEntriesOf facts.items bytes.now) }
+    ensures refused { IfErr result (IsBreak bytes.now) }
+
+    // What the bytes are is read, unless memory runs out.
+    ensures entries { (facts : List Fact) → AreEntriesOf facts bytes.now → result ≢ Err EntriesRefused.NoMemory → IsOkAnd result (λ read. read.items ≡ facts) }
+    ensures place { (place : ℕ) → BreaksOffAt bytes.now place → result ≢ Err EntriesRefused.NoMemory → result ≡ Err (EntriesRefused.Bad place) }
+{
+    all_entries(alloc, bytes)
+}

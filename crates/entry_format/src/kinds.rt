@@ -1,0 +1,10 @@
+// The bytes that say what comes behind them.
+
+// The kind of an entry that is a fact.
+pub(crate) const FACT: u8 = 1;
+
+// The kind of a name that is a bank's.
+pub(crate) const BANK: u8 = 1;
+
+// The length of the label of an item that has none.
+pub(crate) const NO_LABEL: u8 = 0;

@@ -1,0 +1,95 @@
+// Facts from bytes.
+ghost use Rattle.std.specs.Prelude.{◌≡◌, ◌≢◌, length, IfOk, IfErr};
+ghost use Rattle.entry_format.specs.Spelling.{entry_bytes};
+ghost use Rattle.entry_format.specs.Front.{StartsWith, IsCut, IsNoEntry, IsReason};
+ghost use Rattle.entry_format.specs.Steps.{IsFront};
+ghost use Rattle.entry_format.specs.Reading.{Gives, items_at, list_at, fact_at, entry_at};
+
+use crate::fields::{behind, item_at, name_at, u16_at, u64_at};
+use crate::kinds::FACT;
+use crate::refused::EntryRefused;
+use ras_facts::{Fact, Items};
+use std::alloc::Global;
+
+// So many items.
+fn items_at(alloc: Global, count: u16, bytes: &[u8]) -> Result<(Items, &[u8]), EntryRefused>
+    ensures { Gives (λ x. (x.0, x.1.now)) result (items_at count bytes.now) }
+{
+    let mut items = Items::new(alloc);
+    let mut rest = bytes;
+    for _ in 0..count {
+        let (item, after) = item_at(rest)?;
+        items.push(item)?;
+        rest = after;
+    }
+    Ok((items, rest))
+}
+
+// Items behind their number.
+#[tactic(auto, unfolding(crate::specs::Reading::list_at))]
+fn list_at(alloc: Global, bytes: &[u8]) -> Result<(Items, &[u8]), EntryRefused>
+    ensures { Gives (λ x. (x.0, x.1.now)) result (list_at bytes.now) }
+{
+    let (count, rest) = u16_at(bytes)?;
+    items_at(alloc, count, rest)
+}
+
+// A fact.
+#[tactic(auto, unfolding(crate::specs::Reading::fact_at))]
+fn fact_at(alloc: Global, bytes: &[u8]) -> Result<(Fact, &[u8]), EntryRefused>
+    ensures { Gives (λ x. (x.0, x.1.now)) result (fact_at bytes.now) }
+{
+    let (name, rest) = name_at(bytes)?;
+    let (seconds, rest) = u64_at(rest)?;
+    let (items, rest) = list_at(alloc, rest)?;
+    let fact = Fact {
+        name,
+        seconds,
+        items,
+    };
+    Ok((fact, rest))
+}
+
+// An entry.
+#[tactic(auto, unfolding(crate::specs::Reading::entry_at))]
+fn entry_at(alloc: Global, bytes: &[u8]) -> Result<(Fact, &[u8]), EntryRefused>
+    ensures { Gives (λ x. (x.0, x.1.now)) result (entry_at bytes.now) }
+{
+    fact_at(alloc, behind(FACT, bytes)?)
+}
+
+// The fact whose entry stands at the front of the bytes, and the bytes behind the entry.
+pub(crate) fn split_entry(alloc: Global, bytes: &[u8]) -> Result<(Fact, &[u8]), EntryRefused>
+    ensures found { IfOk result (λ read. IsFront bytes.now read.0 read.1.now) }
+    ensures refused { IfErr result (IsReason bytes.now) }
+{
+    entry_at(alloc, bytes)
+}
+
+// The fact whose entry stands at the front of the bytes, and the length of the entry.
+fn front_entry(alloc: Global, bytes: &[u8]) -> Result<(Fact, usize), EntryRefused>
+    ensures found { IfOk result (λ read. StartsWith bytes.now read.0) }
+    ensures length { IfOk result (λ read. read.1 ≡ length (entry_bytes read.0)) }
+    ensures refused { IfErr result (IsReason bytes.now) }
+{
+    let (fact, rest) = split_entry(alloc, bytes)?;
+    Ok((fact, bytes.len() - rest.len()))
+}
+
+/// The fact whose entry stands at the front of the bytes, and how many bytes the entry has. Other bytes may follow it.
+///
+/// It is refused as `Cut` exactly where the bytes end before the entry does, as `Bad` exactly where no entry begins so,
+/// and as `NoMemory` where memory runs out.
+pub fn read_entry(alloc: Global, bytes: &[u8]) -> Result<(Fact, usize), EntryRefused>
+    // What is read is what stands there.
+    ensures found { IfOk result (λ read. StartsWith bytes.now read.0) }
+    ensures length { IfOk result (λ read. read.1 ≡ length (entry_bytes read.0)) }
+    ensures refused { IfErr result (IsReason bytes.now) }
+
+    // What stands there is read, unless memory runs out.
+    ensures entry { (fact : Fact) → StartsWith bytes.now fact → result ≢ Err EntryRefused.NoMemory → result ≡ Ok (fact, length (entry_bytes fact)) }
+    ensures cut { IsCut bytes.now → result ≢ Err EntryRefused.NoMemory → result ≡ Err EntryRefused.Cut }
+    ensures bad { IsNoEntry bytes.now → result ≢ Err EntryRefused.NoMemory → result ≡ Err EntryRefused.Bad }
+{
+    front_entry(alloc, bytes)
+}

@@ -1,0 +1,43 @@
+-- The fact that a bank's snapshot gives.
+use Rattle.std.specs.Prelude.{Option, [], ◌∷◌}
+use Rattle.std.specs.Option.{option_map}
+use Rattle.mca_status.specs.declared.registers.Cap.{Cap}
+use Rattle.mca_status.specs.declared.registers.Status.{Status}
+use Rattle.mca_status.specs.declared.registers.Misc.{Misc}
+use Rattle.mca_status.specs.declared.classes.Class.{Class}
+use Rattle.mca_status.specs.Classes.{class_of_rows, item_class_of}
+use Rattle.mca_status.specs.Address.{usable_page_of}
+use Rattle.mca_status.specs.Weight.{weight_of}
+use Rattle.ras_facts.specs.declared.name.Name.{Name}
+use Rattle.ras_facts.specs.declared.name.Name.TheVariants.{Bank}
+use Rattle.ras_facts.specs.declared.items.Item.{Item}
+use Rattle.ras_facts.specs.declared.fact.Fact.{Fact}
+use Rattle.ras_facts.specs.declared.bank.BankReport.{BankReport}
+
+-- the registers of a snapshot
+abbrev pub cap_in : BankReport → Cap
+cap_in bank = record { 0 = bank.cap }
+
+abbrev pub status_in : BankReport → Status
+status_in bank = record { 0 = bank.status }
+
+abbrev pub misc_in : BankReport → Misc
+misc_in bank = record { 0 = bank.misc }
+
+-- the name of a snapshot
+abbrev pub bank_name : BankReport → Name
+bank_name bank = Bank bank.boot bank.cpu bank.bank bank.tsc
+
+-- the item of an error of this class
+abbrev pub bank_item : BankReport → Class → Item
+bank_item bank class = record {
+  class = item_class_of class;
+  page = usable_page_of (cap_in bank) (status_in bank) bank.addr (misc_in bank);
+  weight = weight_of (cap_in bank) (status_in bank);
+}
+
+-- the fact of a snapshot, where the bank holds an error: it has the one item
+abbrev pub bank_fact : BankReport → Option Fact
+bank_fact bank =
+    option_map (λ class. record { name = bank_name bank; seconds = bank.seconds; items = bank_item bank class ∷ [] })
+    (class_of_rows (cap_in bank) (status_in bank))

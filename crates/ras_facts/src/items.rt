@@ -1,0 +1,67 @@
+// The items of a report.
+ghost use Rattle.std.specs.Prelude.{◌≡◌, ◌++◌, [], ◌∷◌, OnOk, OnErr};
+
+use mca_status::ItemClass;
+use ras_base::NoMemory;
+use std::alloc::Global;
+use std::marker::Model;
+
+/// One of the things that a report tells.
+#[derive(Clone, Copy, Debug, PartialEq, Eq)]
+pub struct Item {
+    /// The class of the error.
+    pub class: ItemClass,
+    /// The number of the page of 4,096 bytes that the error lies in, if it is known.
+    pub page: Option<u64>,
+    /// How many errors the item stands for.
+    pub weight: u16,
+}
+
+/// The items of a report, in order.
+#[derive(Debug, Drop)]
+pub struct Items {
+    list: Vec<Item>,
+}
+
+impl Model for Items {
+    ghost use Rattle.std.specs.Prelude.{List};
+    ghost use Rattle.ras_facts.specs.declared.items.Item.{Item};
+
+    ghost Value = { List Item };
+
+    ghost view = { λ a. a.list.items };
+}
+
+impl Items {
+    /// No items.
+    pub fn new(alloc: Global) -> Items
+        ensures { result ≡ [] }
+    {
+        Items {
+            list: Vec::new(alloc),
+        }
+    }
+
+    /// Puts an item behind the others. Where memory runs out the list stays, and the item is given up.
+    pub fn push(&mut self, item: Item) -> Result<(), NoMemory>
+        ensures ok { OnOk result (self.new ≡ self.old ++ item ∷ []) }
+        ensures err { OnErr result (self.new ≡ self.old) }
+    {
+        self.list.push(item)?;
+        Ok(())
+    }
+
+    /// The items in order.
+    pub fn as_slice(&self) -> &[Item]
+        ensures { result.now ≡ self.now }
+    {
+        self.list.as_slice()
+    }
+
+    /// The items in order, in a vector. It takes no memory.
+    pub fn into_vec(self) -> Vec<Item>
+        ensures { result.items ≡ self }
+    {
+        self.list
+    }
+}

@@ -1,0 +1,17 @@
+//! What a report tells: its name, when it came, and the items that it lists.
+//!
+//! The definitions in `specs/` say which fact a report gives, and what a valid fact is.
+#![tactic(auto)]
+
+mod bank;
+mod fact;
+mod items;
+mod name;
+
+pub use bank::{BankReport, fact_of_bank};
+pub use fact::Fact;
+pub use items::{Item, Items};
+pub use name::Name;
+
+#[cfg(test)]
+mod tests;
