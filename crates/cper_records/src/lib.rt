@@ -1,0 +1,15 @@
+//! CPER records: the header, the section descriptors and their sections, over the bytes that hold
+//! them. It follows the UEFI specification, appendix N, "Common Platform Error Record".
+#![tactic(auto)]
+
+mod laws;
+mod records;
+mod refusals;
+mod walk;
+
+pub use laws::only_own_bytes;
+pub use records::{Record, read_record};
+pub use refusals::RecordRefused;
+
+#[cfg(test)]
+mod tests;

@@ -1,0 +1,135 @@
+//! Records, as views of the bytes that hold them.
+
+ghost use Rattle.std.specs.Prelude.{◌≡◌, ◌≤◌, ◌<◌, ◌+◌, ℕ, length, false, IfOk, Ok};
+ghost use Rattle.cper_sections.specs.Sections.{section_of};
+ghost use Rattle.cper_records.specs.Header.{id_of, severity_of, length_of, count_of, has_signatures};
+ghost use Rattle.cper_records.specs.Descriptors.{offset_of, section_length, section_guid, section_severity, section_bytes};
+ghost use Rattle.cper_records.specs.Records.{record_of, sections_of};
+
+use crate::RecordRefused;
+use crate::walk::{descriptor, descriptor_at, is_some_out, is_some_refused};
+use cper_sections::{Descriptor, u16_at, u32_at, u64_at};
+use std::marker::Model;
+
+/// A record that reads, over the bytes that hold it: it copies nothing. A contract sees the record's
+/// own bytes, as many as its length says.
+#[derive(Drop)]
+pub struct Record<'a> {
+    bytes: &'a [u8],
+}
+
+impl<'a> Model for Record<'a> {
+    ghost use Rattle.std.specs.Prelude.{ℕ, List};
+    ghost use Rattle.cper_records.specs.Records.{IsRecord};
+
+    ghost Value = { List ℕ };
+
+    ghost view = { λ a. a.bytes.now };
+
+    ghost invariant = { λ a. IsRecord a.bytes.now };
+}
+
+// The bytes of a header.
+pub(crate) const HEADER_LENGTH: usize = 128;
+
+/// Reads the record at the front of bytes. (UEFI, appendix N, "Record Header".)
+///
+/// It is refused with the first that applies of: `Short` below 128 bytes, `Signature` without the
+/// two signatures, `Length` where the record's length is below 128 or above the number of bytes,
+/// `DescriptorOut` where the descriptors pass that length, `SectionOut` where some section does, and
+/// `Section` where `read_section` refuses some section.
+#[tactic(auto, using(crate::proofs::FrontLemmas::own_length), unfolding(crate::specs::Records::record_of))]
+pub fn read_record(bytes: &[u8]) -> Result<Record<'_>, RecordRefused>
+    ensures answer { result ≡ record_of bytes.now }
+
+    // The record and its sections lie inside the bytes.
+    ensures whole { IfOk result (λ own. length_of own ≡ length own) }
+    ensures inside { IfOk result (λ own. length own ≤ length bytes.now) }
+    ensures sections { IfOk result (λ own. (i : ℕ) → i < count_of own
+        → offset_of own i + section_length own i ≤ length own) }
+{
+    if bytes.len() < HEADER_LENGTH {
+        return Err(RecordRefused::Short);
+    }
+    if !has_signatures(bytes) {
+        return Err(RecordRefused::Signature);
+    }
+    let length = u32_at(bytes, 20) as usize;
+    if length < HEADER_LENGTH || bytes.len() < length {
+        return Err(RecordRefused::Length);
+    }
+    sections_of(&bytes[..length])
+}
+
+// Whether the two signatures stand at their places.
+fn has_signatures(bytes: &[u8]) -> bool
+    requires { 10 ≤ length bytes.now }
+    ensures { result ≡ has_signatures bytes.now }
+{
+    bytes.starts_with(b"CPER") && bytes[6..].starts_with(&[0xff; 4])
+}
+
+// The record of bytes that are as many as its length says.
+#[tactic(auto, using(crate::proofs::BelowLemmas::inside_each, crate::proofs::BelowLemmas::some_below_each), unfolding(crate::specs::Records::sections_of))]
+fn sections_of(bytes: &[u8]) -> Result<Record<'_>, RecordRefused>
+    requires header { 128 ≤ length bytes.now }
+    requires whole { length_of bytes.now ≡ length bytes.now }
+    ensures answer { result ≡ sections_of bytes.now }
+    ensures own { IfOk result (λ own. own ≡ bytes.now) }
+    ensures sections { IfOk result (λ own. (i : ℕ) → i < count_of own
+        → offset_of own i + section_length own i ≤ length own) }
+{
+    let count = u16_at(bytes, 10);
+    if bytes.len() < descriptor_at(count) {
+        return Err(RecordRefused::DescriptorOut);
+    }
+    if is_some_out(bytes, count) {
+        return Err(RecordRefused::SectionOut);
+    }
+    if is_some_refused(bytes, count) {
+        return Err(RecordRefused::Section);
+    }
+    Ok(Record { bytes })
+}
+
+impl<'a> Record<'a> {
+    /// The record's identifier.
+    pub fn id(&self) -> u64
+        ensures { result ≡ id_of self.now }
+    {
+        u64_at(self.bytes, 96)
+    }
+
+    /// The severity of the record: 0 recoverable, 1 fatal, 2 corrected, 3 informational.
+    pub fn severity(&self) -> u32
+        ensures { result ≡ severity_of self.now }
+    {
+        u32_at(self.bytes, 12)
+    }
+
+    /// The record's length in bytes, header and sections.
+    pub fn length(&self) -> u32
+        ensures field { result ≡ length_of self.now }
+        ensures whole { result ≡ length self.now }
+    {
+        u32_at(self.bytes, 20)
+    }
+
+    /// The count of sections.
+    pub fn count(&self) -> u16
+        ensures { result ≡ count_of self.now }
+    {
+        u16_at(self.bytes, 10)
+    }
+
+    /// A section by its number, from 0. (UEFI, appendix N, "Section Descriptor".)
+    pub fn section(&self, i: u16) -> Descriptor<'a>
+        requires { i < count_of self.now }
+        ensures severity { result.severity ≡ section_severity self.now i }
+        ensures guid { result.guid ≡ section_guid self.now i }
+        ensures bytes { result.bytes.now ≡ section_bytes self.now i }
+        ensures section { section_of result.guid result.bytes.now ≡ Ok result.section }
+    {
+        descriptor(self.bytes, i)
+    }
+}

@@ -1,0 +1,6 @@
+pub mod Numbers
+pub mod Guids
+pub mod Memory
+pub mod Processor
+pub mod X64
+pub mod Sections

@@ -1,0 +1,74 @@
+-- The IA32/X64 section of UEFI, appendix N, "IA32/X64 Processor Error Section". That the contexts end
+-- at the first that doesn't fit is this project's own.
+use Rattle.std.specs.Prelude.{ℕ, zero, suc, ◌+◌, ◌*◌, ◌/◌, ◌%◌, ◌^◌, nat_le, Bool, List, [], ◌∷◌, length, take, drop, if◌then◌else◌}
+use Rattle.cper_sections.specs.Numbers.{number_at, told}
+use Rattle.cper_sections.specs.declared.x64.X64Section.{X64Section}
+use Rattle.cper_sections.specs.declared.x64.Context.{Context}
+
+-- the validation bits, which hold the two counts
+abbrev pub x64_validation : List ℕ → ℕ
+x64_validation bytes = number_at 0 8 bytes
+
+-- bits 7:2, the count of error structures
+abbrev pub structures_of : ℕ → ℕ
+structures_of validation = validation / 2 ^ 2 % 2 ^ 6
+
+-- bits 13:8, the count of contexts that is stated
+abbrev pub stated_contexts : ℕ → ℕ
+stated_contexts validation = validation / 2 ^ 8 % 2 ^ 6
+
+-- where the contexts begin: after 64 bytes, and after structures of 64 bytes each
+abbrev pub contexts_at : List ℕ → ℕ
+contexts_at bytes = 64 + 64 * structures_of (x64_validation bytes)
+
+-- a context without where it lies in memory
+pub record ContextParts : Type 0 where
+  pub kind : ℕ
+  pub msr : ℕ
+  pub mapped : ℕ
+  pub array : List ℕ
+
+-- what a context shows
+abbrev pub parts_of : Context → ContextParts
+parts_of context = record { kind = context.kind; msr = context.msr; mapped = context.mapped; array = context.array.now }
+
+-- how many bytes such a context takes, its header of 16 and its array
+abbrev pub bytes_taken : ContextParts → ℕ
+bytes_taken context = 16 + length context.array
+
+-- the bytes of the context at the front: a header of 16 bytes and an array, whose size stands at 2
+abbrev pub context_length : List ℕ → ℕ
+context_length bytes = 16 + number_at 2 2 bytes
+
+-- whether the context at the front fits
+abbrev pub has_context : List ℕ → Bool
+has_context bytes = nat_le (context_length bytes) (length bytes)
+
+-- the context at the front
+unfoldable pub context_of : List ℕ → ContextParts
+context_of bytes = record {
+  kind = number_at 0 2 bytes;
+  msr = number_at 4 4 bytes;
+  mapped = number_at 8 8 bytes;
+  array = take (number_at 2 2 bytes) (drop 16 bytes);
+}
+
+-- the contexts that fit, of so many that are stated one after the other: the first that doesn't fit ends them
+unfoldable pub contexts_in : ℕ → List ℕ → List ContextParts
+contexts_in zero bytes = []
+contexts_in (suc stated) bytes =
+    if has_context bytes
+    then context_of bytes ∷ contexts_in stated (drop (context_length bytes) bytes)
+    else []
+
+-- the contexts of a section that fit
+abbrev pub contexts_of : List ℕ → List ContextParts
+contexts_of bytes = contexts_in (stated_contexts (x64_validation bytes)) (drop (contexts_at bytes) bytes)
+
+-- an IA32/X64 section by its table
+unfoldable pub x64_of : List ℕ → X64Section
+x64_of bytes = record {
+  apic = told 0 (x64_validation bytes) (number_at 8 8 bytes);
+  structures = structures_of (x64_validation bytes);
+  contexts = length (contexts_of bytes);
+}

@@ -1,0 +1,64 @@
+//! Platform memory sections.
+
+ghost use Rattle.std.specs.Prelude.{◌≡◌, ◌≤◌, length};
+ghost use Rattle.cper_sections.specs.Memory.{memory_of, rank_of};
+
+use crate::numbers::{is_set, u16_at, u64_at};
+
+/// What a platform memory section tells. Each field is there exactly where its validation bit is set.
+#[derive(Clone, Copy, Debug, PartialEq, Eq)]
+pub struct MemSection {
+    /// The physical address of the error.
+    pub physical: Option<u64>,
+    /// The mask of that address's bits that count.
+    pub mask: Option<u64>,
+    /// The node.
+    pub node: Option<u16>,
+    /// The card.
+    pub card: Option<u16>,
+    /// The module.
+    pub module: Option<u16>,
+    /// The bank.
+    pub bank: Option<u16>,
+    /// The row.
+    pub row: Option<u16>,
+    /// The rank, which the old form of 73 bytes doesn't have.
+    pub rank: Option<u16>,
+    /// The type of memory error.
+    pub kind: Option<u8>,
+}
+
+// The bytes of the old form, and of the one that tells the rank.
+pub(crate) const OLD_LENGTH: usize = 73;
+
+const RANK_LENGTH: usize = 80;
+
+// Reads a memory section.
+#[tactic(auto, unfolding(crate::specs::Memory::memory_of))]
+pub(crate) fn memory_at(bytes: &[u8]) -> MemSection
+    requires { 73 ≤ length bytes.now }
+    ensures { result ≡ memory_of bytes.now }
+{
+    let validation = u64_at(bytes, 0);
+    MemSection {
+        physical: is_set(validation, 1).then_some(u64_at(bytes, 16)),
+        mask: is_set(validation, 2).then_some(u64_at(bytes, 24)),
+        node: is_set(validation, 3).then_some(u16_at(bytes, 32)),
+        card: is_set(validation, 4).then_some(u16_at(bytes, 34)),
+        module: is_set(validation, 5).then_some(u16_at(bytes, 36)),
+        bank: is_set(validation, 6).then_some(u16_at(bytes, 38)),
+        row: is_set(validation, 8).then_some(u16_at(bytes, 42)),
+        rank: rank_at(bytes, validation),
+        kind: is_set(validation, 14).then_some(bytes[72]),
+    }
+}
+
+// The rank, where it is told and the section is long enough for it.
+fn rank_at(bytes: &[u8], validation: u64) -> Option<u16>
+    ensures { result ≡ rank_of validation bytes.now }
+{
+    if bytes.len() < RANK_LENGTH {
+        return None;
+    }
+    is_set(validation, 15).then_some(u16_at(bytes, 74))
+}

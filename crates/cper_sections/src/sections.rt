@@ -1,0 +1,81 @@
+//! A section of any type.
+
+ghost use Rattle.std.specs.Prelude.{◌≡◌};
+ghost use Rattle.cper_sections.specs.Sections.{section_of};
+
+use crate::guids::{SectionType, type_of};
+use crate::memory::{MemSection, OLD_LENGTH, memory_at};
+use crate::processor::{LENGTH, ProcSection, processor_at};
+use crate::x64::{FIXED_LENGTH, X64Section, contexts_start, x64_at};
+use uuid::Uuid;
+
+/// What a section tells, by its type.
+#[derive(Clone, Copy, Debug, PartialEq, Eq)]
+pub enum Section {
+    /// A platform memory section.
+    Memory(MemSection),
+    /// A processor generic section.
+    Processor(ProcSection),
+    /// An IA32/X64 section.
+    X64(X64Section),
+    /// A section of another type, whose bytes aren't read.
+    Unknown(Uuid),
+}
+
+/// Why a section can't be read.
+#[derive(Clone, Copy, Debug, PartialEq, Eq)]
+pub enum SectionRefused {
+    /// The section has fewer bytes than its type's fixed fields: 73 of a memory section, 192 of a
+    /// processor section, 64 of an IA32/X64 section.
+    Short,
+    /// The error structures of an IA32/X64 section, 64 bytes each, don't lie inside it.
+    TooManyStructures,
+}
+
+/// A section of a record, with what its descriptor says of it.
+#[derive(Clone, Copy, Debug, PartialEq, Eq)]
+pub struct Descriptor<'a> {
+    /// The section's severity: 0 recoverable, 1 fatal, 2 corrected, 3 informational.
+    pub severity: u32,
+    /// The section's type.
+    pub guid: Uuid,
+    /// The section's bytes.
+    pub bytes: &'a [u8],
+    /// What the section tells.
+    pub section: Section,
+}
+
+/// Reads a section of a type. (UEFI, appendix N, "Error Section".) A memory section may be longer
+/// than its 80 bytes, and the old form with 73 to 79 bytes is read without the rank.
+///
+/// `Short` comes where the section has fewer bytes than its type's fixed fields, `TooManyStructures`
+/// where the structures of an IA32/X64 section pass its end.
+#[tactic(auto, unfolding(crate::specs::Sections::section_of))]
+pub fn read_section(guid: Uuid, bytes: &[u8]) -> Result<Section, SectionRefused>
+    ensures { result ≡ section_of guid bytes.now }
+{
+    match type_of(guid) {
+        SectionType::Memory => {
+            if bytes.len() < OLD_LENGTH {
+                return Err(SectionRefused::Short);
+            }
+            Ok(Section::Memory(memory_at(bytes)))
+        }
+        SectionType::Processor => {
+            if bytes.len() < LENGTH {
+                return Err(SectionRefused::Short);
+            }
+            Ok(Section::Processor(processor_at(bytes)))
+        }
+        SectionType::X64 => {
+            if bytes.len() < FIXED_LENGTH {
+                return Err(SectionRefused::Short);
+            }
+            if bytes.len() < contexts_start(bytes) {
+                return Err(SectionRefused::TooManyStructures);
+            }
+            Ok(Section::X64(x64_at(bytes)))
+        }
+        SectionType::Unknown => Ok(Section::Unknown(guid)),
+    }
+}

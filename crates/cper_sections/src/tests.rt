@@ -1,0 +1,202 @@
+//! Sections at the lengths where they begin to read, and contexts that fit and don't fit.
+ghost use Rattle.std.specs.Prelude.{◌≤◌, length};
+
+use crate::{
+    Context, MemSection, ProcSection, Section, SectionRefused, X64Section, context_at, guid_at,
+    read_section,
+};
+
+// Section types as they stand in descriptors.
+const MEMORY: [u8; 16] = [
+    0x14, 0x11, 0xbc, 0xa5, 0x64, 0x6f, 0xde, 0x4e, 0xb8, 0x63, 0x3e, 0x83, 0xed, 0x7c, 0x83, 0xb1,
+];
+
+const PROCESSOR: [u8; 16] = [
+    0xad, 0xcc, 0x76, 0x98, 0xb4, 0x47, 0xdb, 0x4b, 0xb6, 0x5e, 0x16, 0xf1, 0x93, 0xc4, 0xf3, 0xdb,
+];
+
+const X64: [u8; 16] = [
+    0xb0, 0xa0, 0x3e, 0xdc, 0x44, 0xa1, 0x97, 0x47, 0xb9, 0x5b, 0x53, 0xfa, 0x24, 0x2b, 0x6e, 0x1d,
+];
+
+// So many bytes from the front, or all.
+fn front(bytes: &[u8], length: usize) -> &[u8] {
+    &bytes[..length.min(bytes.len())]
+}
+
+#[test]
+fn memory_sections(rt: HostRuntime) {
+    let mut bytes = [0u8; 81];
+    for place in 0..81u8 {
+        bytes[place as usize] = place;
+    }
+    bytes[0] = 0x7e;
+    bytes[1] = 0xc1;
+    let memory = MemSection {
+        physical: Some(0x1716151413121110),
+        mask: Some(0x1f1e1d1c1b1a1918),
+        node: Some(0x2120),
+        card: Some(0x2322),
+        module: Some(0x2524),
+        bank: Some(0x2726),
+        row: Some(0x2b2a),
+        rank: None,
+        kind: Some(0x48),
+    };
+    let ranked = MemSection {
+        rank: Some(0x4b4a),
+        ..memory
+    };
+    for (length, wanted) in [
+        (0, Err(SectionRefused::Short)),
+        (72, Err(SectionRefused::Short)),
+        (73, Ok(Section::Memory(memory))),
+        (79, Ok(Section::Memory(memory))),
+        (80, Ok(Section::Memory(ranked))),
+        (81, Ok(Section::Memory(ranked))),
+    ] {
+        let section = read_section(guid_at(&MEMORY), front(&bytes, length));
+        assert!(rt; section == wanted, "memory of {length}");
+    }
+    bytes[0] = 0x81;
+    bytes[1] = 0x3e;
+    let nothing = MemSection {
+        physical: None,
+        mask: None,
+        node: None,
+        card: None,
+        module: None,
+        bank: None,
+        row: None,
+        rank: None,
+        kind: None,
+    };
+    assert!(rt; read_section(guid_at(&MEMORY), &bytes) == Ok(Section::Memory(nothing)));
+}
+
+#[test]
+fn processor_sections(rt: HostRuntime) {
+    let mut bytes = [0u8; 192];
+    for place in 0..192u8 {
+        bytes[place as usize] = place;
+    }
+    let processor = ProcSection {
+        kind: 8,
+        isa: 9,
+        error: 10,
+        operation: 11,
+        flags: 12,
+        level: 13,
+        version: 0x1716151413121110,
+        id: 0x9f9e9d9c9b9a9998,
+        target: 0xa7a6a5a4a3a2a1a0,
+        requestor: 0xafaeadacabaaa9a8,
+        responder: 0xb7b6b5b4b3b2b1b0,
+        ip: 0xbfbebdbcbbbab9b8,
+    };
+    let guid = guid_at(&PROCESSOR);
+    assert!(rt; read_section(guid, &bytes) == Ok(Section::Processor(processor)));
+    assert!(rt; read_section(guid, front(&bytes, 191)) == Err(SectionRefused::Short));
+}
+
+#[test]
+fn x64_structures(rt: HostRuntime) {
+    let mut bytes = [0u8; 4097];
+    bytes[8] = 7;
+    for (validation, length, wanted) in [
+        (0x00, 63, Err(SectionRefused::Short)),
+        (0x00, 64, Ok((None, 0))),
+        (0x01, 64, Ok((Some(7), 0))),
+        (0x04, 63, Err(SectionRefused::Short)),
+        (0x04, 64, Err(SectionRefused::TooManyStructures)),
+        (0x06, 127, Err(SectionRefused::TooManyStructures)),
+        (0x06, 128, Ok((None, 1))),
+        (0xfd, 4095, Err(SectionRefused::TooManyStructures)),
+        (0xfd, 4096, Ok((Some(7), 63))),
+        (0xfc, 4097, Ok((None, 63))),
+    ] {
+        bytes[0] = validation;
+        let section = read_section(guid_at(&X64), front(&bytes, length));
+        let wanted = match wanted {
+            Ok((apic, structures)) => Ok(Section::X64(X64Section {
+                apic,
+                structures,
+                contexts: 0,
+            })),
+            Err(refused) => Err(refused),
+        };
+        assert!(rt; section == wanted, "validation {validation:x} of {length}");
+    }
+}
+
+// How many contexts a section is read to have, and how many of them are given.
+fn context_counts(bytes: &[u8]) -> (u8, u8) {
+    let read = match read_section(guid_at(&X64), bytes) {
+        Ok(Section::X64(section)) => section.contexts,
+        _ => 0,
+    };
+    let mut given = 0;
+    for i in 0..=255 {
+        if context_at(bytes, i).is_some() && given < 255 {
+            given += 1;
+        }
+    }
+    (read, given)
+}
+
+#[test]
+fn x64_contexts(rt: HostRuntime) {
+    let mut bytes = [0u8; 160];
+    bytes[64] = 1;
+    bytes[68] = 2;
+    bytes[72] = 3;
+    bytes[80] = 4;
+    for (stated, size, high, length, wanted) in [
+        (0, 8, 0, 160, 0),
+        (1, 8, 0, 79, 0),
+        (1, 8, 0, 87, 0),
+        (1, 8, 0, 88, 1),
+        (2, 8, 0, 88, 1),
+        (2, 8, 0, 103, 1),
+        (2, 8, 0, 104, 2),
+        (3, 8, 0, 104, 2),
+        (63, 8, 0, 160, 5),
+        (5, 8, 0, 160, 5),
+        (4, 8, 0, 160, 4),
+        (63, 80, 0, 160, 1),
+        (63, 81, 0, 160, 0),
+        (63, 8, 1, 160, 0),
+        (63, 255, 255, 160, 0),
+    ] {
+        bytes[1] = stated;
+        bytes[66] = size;
+        bytes[67] = high;
+        let counts = context_counts(front(&bytes, length));
+        assert!(rt;
+            counts == (wanted, wanted),
+            "{stated} contexts of {size} in {length}"
+        );
+    }
+    bytes[1] = 0x3f;
+    bytes[66] = 8;
+    bytes[67] = 0;
+    let context = Context {
+        kind: 1,
+        msr: 2,
+        mapped: 3,
+        array: &[4, 0, 0, 0, 0, 0, 0, 0],
+    };
+    assert!(rt; context_at(&bytes, 0) == Some(context));
+}
+
+#[test]
+fn unknown_sections(rt: HostRuntime) {
+    let guid = guid_at(&[
+        0x33, 0x22, 0x11, 0x00, 0x55, 0x44, 0x77, 0x66, 0x88, 0x99, 0xaa, 0xbb, 0xcc, 0xdd, 0xee,
+        0xff,
+    ]);
+    assert!(rt; read_section(guid, &[]) == Ok(Section::Unknown(guid)));
+    let mut buffer = uuid::Uuid::encode_buffer();
+    let text = guid.hyphenated().encode_lower(&mut buffer);
+    assert_eq!(rt; text, "00112233-4455-6677-8899-aabbccddeeff");
+}

@@ -1,0 +1,4 @@
+pub mod StoreLemmas
+pub mod ReadingLemmas
+pub mod DeviceLemmas
+pub mod LawLemmas

@@ -1,0 +1,89 @@
+-- What a record store is: a list of records in the order in which they first came, each under an identifier of its own.
+use Rattle.std.specs.Prelude.{◌≡◌, ℕ, ◌+◌, ◌-◌, ◌^◌, ◌<◌, ◌≤◌, Bool, ◌&&◌, ◌||◌, not, nat_eq, nat_lt, List, [], ◌∷◌, ◌++◌, if◌then◌else◌, length, map, filter, Option, None, Some, Result, Ok, Err}
+use Rattle.std.specs.List.{AllByRecursion, IsDistinct, list_any}
+use Rattle.erst_store.specs.declared.store.PutRefused.{PutRefused}
+use Rattle.erst_store.specs.declared.store.PutRefused.TheVariants.{ReservedId, TooLong, StoreFull, NoMemory}
+
+-- a record: its identifier and its bytes
+pub record Stored : Type 0 where
+  pub id : ℕ
+  pub bytes : List ℕ
+
+-- how many records a store holds at most, and how many bytes a record has at most
+abbrev pub most_records : ℕ
+most_records = 1024
+
+abbrev pub most_bytes : ℕ
+most_bytes = 16384
+
+-- the number whose 64 bits are all ones, which stands for no record
+abbrev pub all_ones : ℕ
+all_ones = 2 ^ 64 - 1
+
+-- 0 and all ones are no identifiers
+abbrev pub is_reserved : ℕ → Bool
+is_reserved id = nat_eq id 0 || nat_eq id all_ones
+
+abbrev pub ids : List Stored → List ℕ
+ids records = map (λ r. r.id) records
+
+abbrev pub contents : List Stored → List (List ℕ)
+contents records = map (λ r. r.bytes) records
+
+-- a record that a store may hold
+pub record Fits (r : Stored) : Type 0 where
+  pub above : 0 < r.id
+  pub below : r.id < all_ones
+  pub bytes : length r.bytes ≤ most_bytes
+
+-- a list of records that a store can be
+pub record IsStore (records : List Stored) : Type 0 where
+  pub count : length records ≤ most_records
+  pub each : AllByRecursion Fits records
+  pub distinct : IsDistinct nat_eq (ids records)
+
+-- whether a record is there under this identifier
+abbrev pub holds : ℕ → List Stored → Bool
+holds id records = list_any (nat_eq id) (ids records)
+
+-- the bytes under an identifier, if any
+abbrev pub bytes_under : ℕ → List Stored → Option (List ℕ)
+bytes_under id [] = None
+bytes_under id (r ∷ rs) = if nat_eq r.id id then Some r.bytes else bytes_under id rs
+
+-- a record with these bytes where it has this identifier, and else as it is
+abbrev pub rewritten : ℕ → List ℕ → Stored → Stored
+rewritten id bytes r = if nat_eq r.id id then record { id = r.id; bytes = bytes } else r
+
+-- a store after a record was put: it stands in the place of the one under its identifier, and else behind all others
+abbrev pub with_record : ℕ → List ℕ → List Stored → List Stored
+with_record id bytes records =
+    if holds id records then map (rewritten id bytes) records
+    else records ++ record { id = id; bytes = bytes } ∷ []
+
+-- all records but the one under this identifier, in their order
+abbrev pub without : ℕ → List Stored → List Stored
+without id records = filter (λ r. not (nat_eq r.id id)) records
+
+-- whether a store has no room for a record under this identifier
+abbrev pub is_full_for : ℕ → List Stored → Bool
+is_full_for id records = nat_eq (length records) most_records && not (holds id records)
+
+-- why a put is refused, if it is: the first cause that applies
+abbrev pub refusal_of : ℕ → List ℕ → List Stored → Option PutRefused
+refusal_of id bytes records =
+    if is_reserved id then Some ReservedId
+    else (if nat_lt most_bytes (length bytes) then Some TooLong
+    else (if is_full_for id records then Some StoreFull else None))
+
+-- A put answers its refusal. Where there is none, it goes well or memory runs out.
+abbrev pub Answers : {X : Type 0} → Result X PutRefused → Option PutRefused → Type 0
+Answers (Ok _) refusal = refusal ≡ None
+Answers (Err NoMemory) refusal = refusal ≡ None
+Answers (Err ReservedId) refusal = refusal ≡ Some ReservedId
+Answers (Err TooLong) refusal = refusal ≡ Some TooLong
+Answers (Err StoreFull) refusal = refusal ≡ Some StoreFull
+
+-- Two stores are the same but for the record under one identifier: all others keep their bytes and their order.
+abbrev pub SameBut : ℕ → List Stored → List Stored → Type 0
+SameBut id old new = without id new ≡ without id old

@@ -1,0 +1,35 @@
+-- The bytes of a store file.
+use Rattle.std.specs.Prelude.{◌≡◌, ℕ, List, ◌++◌, length, codes, Result, Ok, Err}
+use Rattle.std.specs.List.{flat_map}
+use Rattle.ras_base.specs.LittleEndian.{u32_bytes, u64_bytes}
+use Rattle.erst_store.specs.declared.reading.StoreRefused.{StoreRefused}
+use Rattle.erst_store.specs.declared.reading.StoreRefused.TheVariants.{Malformed, NoMemory}
+use Rattle.erst_store.specs.Store.{Stored, IsStore}
+
+-- a record: its identifier, its length, its bytes
+abbrev pub record_bytes : Stored → List ℕ
+record_bytes r = u64_bytes r.id ++ u32_bytes (length r.bytes) ++ r.bytes
+
+-- the letters that a store file begins with, and the number of its records
+abbrev pub heading : ℕ → List ℕ
+heading count = codes "RASERST1" ++ u32_bytes count
+
+-- a store: the heading, and the records in their order
+abbrev pub store_bytes : List Stored → List ℕ
+store_bytes records = heading (length records) ++ flat_map record_bytes records
+
+-- bytes that are no store file
+abbrev pub IsNoStoreFile : List ℕ → Type 0
+IsNoStoreFile bytes = (records : List Stored) → IsStore records → ¬ (bytes ≡ store_bytes records)
+
+-- A read gives the store whose bytes these are, or says that there is none, or runs out of memory.
+abbrev pub Reads : List ℕ → Result (List Stored) StoreRefused → Type 0
+Reads bytes (Ok records) = bytes ≡ store_bytes records
+Reads bytes (Err Malformed) = IsNoStoreFile bytes
+Reads bytes (Err NoMemory) = Unit {0}
+
+-- What a read gives where the bytes are those of a store: this store, unless memory runs out.
+abbrev pub ReadsBack : List Stored → Result (List Stored) StoreRefused → Type 0
+ReadsBack records (Ok found) = found ≡ records
+ReadsBack records (Err Malformed) = ⊥
+ReadsBack records (Err NoMemory) = Unit {0}

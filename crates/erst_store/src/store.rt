@@ -1,0 +1,207 @@
+// The record store.
+ghost use Rattle.std.specs.Prelude.{◌≡◌, ◌<◌, ◌≤◌, length, [], Option, Some, false, nat_eq, OnOk, OnErr, slice_get};
+ghost use Rattle.std.specs.List.{position};
+ghost use Rattle.std.specs.Bool.{IsFalse};
+ghost use Rattle.std.specs.Option.{option_map};
+ghost use Rattle.erst_store.specs.Store.{Fits, IsStore, ids, contents, holds, bytes_under, with_record, without, refusal_of, Answers, SameBut};
+ghost use Rattle.erst_store.specs.View.{StandsAt, Places, Finds};
+
+use ras_base::NoMemory;
+use std::alloc::Global;
+use std::marker::Model;
+
+/// The most records that a store holds.
+pub const MOST_RECORDS: usize = 1024;
+
+/// The most bytes that a record has.
+pub const MOST_BYTES: usize = 16_384;
+
+/// Why a record can't be put. The first cause that applies, in this order, is answered.
+#[derive(Clone, Copy, Debug, PartialEq, Eq)]
+pub enum PutRefused {
+    /// The identifier is 0 or all ones, which name no record.
+    ReservedId,
+    /// There are more than `MOST_BYTES` bytes.
+    TooLong,
+    /// The store holds `MOST_RECORDS` records, none of them under this identifier.
+    StoreFull,
+    /// Memory ran out.
+    NoMemory,
+}
+
+impl From<NoMemory> for PutRefused {
+    ghost use Rattle.erst_store.specs.declared.store.PutRefused.TheVariants.{NoMemory};
+
+    ghost from_gives = { λ _ e. e ≡ NoMemory };
+
+    fn from(_: NoMemory) -> Self {
+        PutRefused::NoMemory
+    }
+}
+
+// A record under its identifier.
+#[derive(Drop)]
+struct Record {
+    id: u64,
+    bytes: Vec<u8>,
+}
+
+/// Error records, each under an identifier of its own, in the order in which their identifiers first came.
+#[derive(Drop)]
+pub struct Store {
+    alloc: Global,
+    records: Vec<Record>,
+}
+
+impl Model for Store {
+    ghost use Rattle.std.specs.Prelude.{List};
+    ghost use Rattle.erst_store.specs.Store.{Stored, IsStore};
+    ghost use Rattle.erst_store.specs.View.{views};
+
+    ghost Value = { List Stored };
+
+    ghost view = { λ s. views s.records.items };
+
+    ghost invariant = { λ s. IsStore (views s.records.items) };
+}
+
+impl Store {
+    /// A store that holds nothing.
+    pub fn new(alloc: Global) -> Store
+        ensures { result ≡ [] }
+    {
+        Store {
+            alloc,
+            records: Vec::new(alloc),
+        }
+    }
+
+    /// Puts a record under an identifier: in the place of the record that is there under it, or else behind all others.
+    ///
+    /// Each refusal comes exactly where it is the first that applies, and leaves the store as it was.
+    pub fn put(&mut self, id: u64, bytes: &[u8]) -> Result<(), PutRefused>
+        ensures ok { OnOk result (self.new ≡ with_record id bytes.now self.old) }
+        ensures err { OnErr result (self.new ≡ self.old) }
+        ensures refused { Answers result (refusal_of id bytes.now self.old) }
+        ensures found { OnOk result (bytes_under id self.new ≡ Some bytes.now) }
+        ensures others { SameBut id self.old self.new }
+    {
+        if id == 0 || id == u64::MAX {
+            return Err(PutRefused::ReservedId);
+        }
+        if bytes.len() > MOST_BYTES {
+            return Err(PutRefused::TooLong);
+        }
+        match self.place(id) {
+            Some(place) => self.replace(id, place, bytes)?,
+            None if self.len() == MOST_RECORDS => return Err(PutRefused::StoreFull),
+            None => self.push(id, bytes)?,
+        }
+        Ok(())
+    }
+
+    /// How many records the store holds.
+    pub fn len(&self) -> usize
+        ensures count { result ≡ length self.now }
+        ensures kept { IsStore self.now }
+    {
+        self.records.len()
+    }
+
+    /// The identifier of the record at a place, from 0 in the store's order.
+    pub fn id(&self, i: usize) -> u64
+        requires { i < length self.now }
+        ensures { slice_get (ids self.now) i ≡ Some result }
+    {
+        self.records[i].id
+    }
+
+    /// The bytes of the record at a place, from 0 in the store's order.
+    pub fn bytes(&self, i: usize) -> &[u8]
+        requires { i < length self.now }
+        ensures there { slice_get (contents self.now) i ≡ Some result.now }
+        ensures short { length result.now ≤ 16384 }
+    {
+        &self.records[i].bytes
+    }
+
+    // Where the record of an identifier stands.
+    pub(crate) fn place(&self, id: u64) -> Option<usize>
+        ensures { Places id self.now result }
+    {
+        place_of(&self.records, id)
+    }
+
+    // Whether the store holds nothing.
+    pub(crate) fn is_empty(&self) -> bool
+        ensures { result ≡ nat_eq (length self.now) 0 }
+    {
+        self.len() == 0
+    }
+
+    // The bytes under an identifier.
+    pub(crate) fn find(&self, id: u64) -> Option<&[u8]>
+        ensures { Finds id self.now (option_map (λ bytes. bytes.now) result) }
+    {
+        let _kept = self.len();
+        match self.place(id) {
+            Some(place) => Some(self.bytes(place)),
+            None => None,
+        }
+    }
+
+    // Removes the record under an identifier, and says whether one was there.
+    pub(crate) fn remove(&mut self, id: u64) -> bool
+        ensures there { result ≡ holds id self.old }
+        ensures rest { self.new ≡ without id self.old }
+        ensures none { IsFalse result → self.new ≡ self.old }
+    {
+        match self.place(id) {
+            Some(place) => {
+                self.remove_at(id, place);
+                true
+            }
+            None => false,
+        }
+    }
+
+    // Removes the record at the place where its identifier stands.
+    fn remove_at(&mut self, id: u64, place: usize)
+        requires { StandsAt id self.old place }
+        ensures { self.new ≡ without id self.old }
+    {
+        let _ = self.records.remove(place);
+    }
+
+    // Puts bytes in the place of those that stand under an identifier.
+    fn replace(&mut self, id: u64, place: usize, bytes: &[u8]) -> Result<(), NoMemory>
+        requires there { StandsAt id self.old place }
+        requires short { length bytes.now ≤ 16384 }
+        ensures ok { OnOk result (self.new ≡ with_record id bytes.now self.old) }
+        ensures err { OnErr result (self.new ≡ self.old) }
+    {
+        let bytes = Vec::from_slice(self.alloc, bytes)?;
+        self.records[place] = Record { id, bytes };
+        Ok(())
+    }
+
+    // Puts a record under a new identifier behind all others.
+    fn push(&mut self, id: u64, bytes: &[u8]) -> Result<(), NoMemory>
+        requires new { holds id self.old ≡ false }
+        requires fits { Fits (record { id = id; bytes = bytes.now }) }
+        requires room { length self.old < 1024 }
+        ensures ok { OnOk result (self.new ≡ with_record id bytes.now self.old) }
+        ensures err { OnErr result (self.new ≡ self.old) }
+    {
+        let bytes = Vec::from_slice(self.alloc, bytes)?;
+        self.records.push(Record { id, bytes })?;
+        Ok(())
+    }
+}
+
+// Where the record of an identifier stands.
+fn place_of(records: &[Record], id: u64) -> Option<usize>
+    ensures { result ≡ position (λ r. nat_eq r.id id) records.now }
+{
+    records.iter().position(|record| record.id == id)
+}
