@@ -1,13 +1,12 @@
 -- What the device's commands do, by the way they end.
-use Rattle.std.proofs.Common.{◌≡◌, ℕ, zero, suc, ◌+◌, ◌-◌, ◌<◌, ◌≤◌, Bool, true, false, cond, nat_eq, nat_lt, if◌then◌else◌, List, [], ◌∷◌, ◌++◌, length, take, drop, Option, None, Some, ◌||◌, refl, sym, ap, subst, ◌∙◌, arith, true≢false}
-use Rattle.std.specs.Prelude.{Result, Ok, Err}
+use Rattle.std.proofs.Common.{◌≡◌, ℕ, ◌+◌, ◌<◌, ◌≤◌, Bool, true, false, nat_eq, nat_lt, if◌then◌else◌, List, length, take, drop, None, Some, ◌||◌, refl, sym, ap, subst, ◌∙◌, arith, true≢false}
 use Rattle.std.specs.Int.{w32, w64, from_le_bytes}
 use Rattle.std.proofs.lemmas.Bool.{lt-ltb, le-ltb}
 use Rattle.std.proofs.lemmas.List.{drop-drop, length-take-le, length-drop}
 use Rattle.erst_store.specs.declared.store.PutRefused.{PutRefused}
-use Rattle.erst_store.specs.declared.store.PutRefused.TheVariants.{ReservedId, TooLong, StoreFull, NoMemory}
-use Rattle.erst_store.specs.declared.device.Status.TheVariants.{Success, NotEnoughSpace, StoreEmpty, NotFound}
-use Rattle.erst_store.specs.Store.{Stored, most_bytes, is_reserved, is_full_for, refusal_of, with_record, holds, without, Answers}
+use Rattle.erst_store.specs.declared.store.PutRefused.TheVariants.{ReservedId, TooLong, StoreFull}
+use Rattle.erst_store.specs.declared.device.Status.TheVariants.{Success, NotEnoughSpace, NotFound}
+use Rattle.erst_store.specs.Store.{Stored, most_bytes, is_reserved, is_full_for, refusal_of, with_record, holds}
 use Rattle.erst_store.specs.Device.{Device, range_length, length_at, id_at, record_at, is_record_out, is_write_refused, written, cleared}
 use Rattle.erst_store.specs.DeviceView.{FoundRecord}
 

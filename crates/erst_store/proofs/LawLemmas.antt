@@ -1,5 +1,5 @@
 -- What each action of the device keeps, and what a listing gives.
-use Rattle.std.proofs.Common.{◌≡◌, ℕ, zero, suc, ◌+◌, ◌-◌, ◌<◌, ◌≤◌, Bool, true, false, cond, not, nat_eq, nat_lt, if◌then◌else◌, List, [], ◌∷◌, ◌++◌, length, map, filter, drop, get_or, slice_get, Option, None, Some, ◌||◌, refl, sym, ap, subst, ◌∙◌, arith, true≢false, add-one, inl, inr}
+use Rattle.std.proofs.Common.{◌≡◌, ℕ, zero, suc, ◌+◌, ◌-◌, ◌<◌, ◌≤◌, Bool, true, false, nat_eq, nat_lt, if◌then◌else◌, List, [], ◌∷◌, ◌++◌, length, drop, slice_get, Option, None, Some, refl, sym, ap, ◌∙◌, arith, add-one, inl, inr}
 use Rattle.std.specs.Prelude.{◌⊎◌}
 use Rattle.std.specs.List.{AllByRecursion}
 use Rattle.std.proofs.lemmas.Bool.{eqb-true}
@@ -8,7 +8,7 @@ use Rattle.erst_store.specs.declared.device.Command.{Command}
 use Rattle.erst_store.specs.declared.device.Command.TheVariants.{Write, Read, Clear, Dummy}
 use Rattle.erst_store.specs.declared.device.Status.TheVariants.{Success, NotEnoughSpace, StoreEmpty, NotFound}
 use Rattle.erst_store.specs.Store.{Stored, ids, all_ones, without, with_record, holds, bytes_under, SameBut}
-use Rattle.erst_store.specs.Device.{Device, actions, effect_in, act, checked, listed, listed_of, written, read, read_of, cleared, commanded, executed, is_write_refused, id_at, record_at, range_length, filled}
+use Rattle.erst_store.specs.Device.{Device, actions, effect_in, act, checked, listed_of, written, read, read_of, cleared, commanded, is_write_refused, id_at, record_at, range_length, filled}
 use Rattle.erst_store.specs.DeviceLaws.{MayChange, id_changed, listing}
 use Rattle.erst_store.proofs.StoreLemmas.{others-with_record, without-twice}
 

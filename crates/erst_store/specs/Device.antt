@@ -2,13 +2,13 @@
 -- order of a read, a write and a clear are those of ACPI 6.5, section 18.5, "Error Serialization". The places of a
 -- record's length and identifier are those of UEFI 2.10, appendix N.2.1, "Record Header". The two registers, the
 -- cursor, the busy answers and the order of the refusals are this project's own.
-use Rattle.std.specs.Prelude.{◌≡◌, ℕ, ◌+◌, ◌-◌, Bool, ◌||◌, nat_eq, nat_lt, List, [], ◌∷◌, ◌++◌, if◌then◌else◌, length, take, drop, replicate, slice_get, Option, None, Some}
+use Rattle.std.specs.Prelude.{ℕ, ◌+◌, ◌-◌, Bool, ◌||◌, nat_eq, nat_lt, List, [], ◌∷◌, ◌++◌, if◌then◌else◌, length, take, drop, replicate, slice_get, Option, None, Some}
 use Rattle.std.specs.Int.{w32, w64, from_le_bytes}
 use Rattle.erst_store.specs.declared.device.Command.{Command}
 use Rattle.erst_store.specs.declared.device.Command.TheVariants.{Write, Read, Clear, Dummy}
 use Rattle.erst_store.specs.declared.device.Status.{Status}
 use Rattle.erst_store.specs.declared.device.Status.TheVariants.{Success, NotEnoughSpace, StoreEmpty, NotFound}
-use Rattle.erst_store.specs.Store.{Stored, IsStore, all_ones, is_reserved, ids, holds, bytes_under, with_record, without, is_full_for}
+use Rattle.erst_store.specs.Store.{Stored, all_ones, is_reserved, ids, holds, bytes_under, with_record, without, is_full_for}
 
 -- the store; the action and the value last written; the command begun, if any; the identifier and the offset set; the
 -- status of the last command; how many busy answers are left; the place from which identifiers are listed; the bytes of
