@@ -1,7 +1,7 @@
 -- What a line of a script is, or why it is refused.
 use Rattle.std.specs.Prelude.{◌≡◌, ℕ, ◌-◌, ◌^◌, ◌<◌, ◌==◌, List, [], ◌∷◌, length, codes, Result, Ok, Err, ⊤, false, Option, None, Some, if◌then◌else◌, slice_index, slice_index_or}
 use Rattle.ras_daemon.specs.declared.line.Line.{Line}
-use Rattle.ras_daemon.specs.declared.line.Line.TheVariants.{Empty, Comment, Bank}
+use Rattle.ras_daemon.specs.declared.line.Line.TheVariants.{Empty, Comment, Bank, Restart}
 use Rattle.ras_daemon.specs.declared.line.LineRefused.{LineRefused}
 use Rattle.ras_daemon.specs.declared.line.LineRefused.TheVariants.{Kind, Words, Number, NoMemory}
 use Rattle.std.specs.Fmt.{decimal, digits}
@@ -43,12 +43,21 @@ bank_of words = if length words == 10 then (do
   misc ← hexadecimal_at words 9
   Ok (Bank boot seconds cpu bank tsc cap mcg status addr misc)) else Err Words
 
+-- The account is to be made again from the file; no word stands after `restart`.
+abbrev pub restart_of : List (List ℕ) → Result Line LineRefused
+restart_of words = if length words == 0 then Ok Restart else Err Words
+
+-- what a line of the kind that its first word names says
+abbrev pub event_of : List ℕ → List (List ℕ) → Result Line LineRefused
+event_of kind words =
+    if bytes_eq kind (codes "bank") then bank_of words else if bytes_eq kind (codes "restart") then restart_of words else Err Kind
+
 -- A line without words is empty. A line whose first word begins with `#` is a comment. Every other line is an event,
 -- whose kind its first word names.
 abbrev pub line_of_words : List (List ℕ) → Result Line LineRefused
 line_of_words [] = Ok Empty
 line_of_words (kind ∷ words) =
-    if slice_index kind 0 == 35 then Ok Comment else if bytes_eq kind (codes "bank") then bank_of words else Err Kind
+    if slice_index kind 0 == 35 then Ok Comment else event_of kind words
 
 abbrev pub line_of : List ℕ → Result Line LineRefused
 line_of bytes = line_of_words (words_of bytes)
@@ -64,6 +73,7 @@ InRange (Bank boot seconds cpu bank tsc cap mcg status addr misc) =
     AllByRecursion (λ n. n < 2 ^ 64) (boot ∷ seconds ∷ tsc ∷ cap ∷ mcg ∷ status ∷ addr ∷ misc ∷ []) × (cpu < 2 ^ 16) × (bank < 2 ^ 8)
 InRange Empty = ⊤
 InRange Comment = ⊤
+InRange Restart = ⊤
 
 -- for the laws: a line as text, with single spaces, no leading zeros and small hexadecimal letters
 abbrev pub hexadecimal : ℕ → List ℕ
@@ -72,6 +82,7 @@ hexadecimal n = digits 16 false n
 abbrev pub text_of : Line → List ℕ
 text_of Empty = []
 text_of Comment = codes "#"
+text_of Restart = codes "restart"
 text_of (Bank boot seconds cpu bank tsc cap mcg status addr misc) = join_with_byte 32
     (codes "bank" ∷ decimal boot ∷ decimal seconds ∷ decimal cpu ∷ decimal bank ∷ decimal tsc
     ∷ hexadecimal cap ∷ hexadecimal mcg ∷ hexadecimal status ∷ hexadecimal addr ∷ hexadecimal misc ∷ [])

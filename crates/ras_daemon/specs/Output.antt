@@ -5,18 +5,21 @@ use Rattle.ras_base.specs.Places.{places}
 use Rattle.ras_account.specs.Account.{account_of}
 use Rattle.ras_daemon.specs.declared.exit.Exit.{Exit}
 use Rattle.ras_daemon.specs.declared.line.Line.{Line}
-use Rattle.ras_daemon.specs.declared.line.Line.TheVariants.{Empty, Comment, Bank}
+use Rattle.ras_daemon.specs.declared.line.Line.TheVariants.{Empty, Comment, Bank, Restart}
 use Rattle.ras_daemon.specs.Command.{command_of}
 use Rattle.ras_daemon.specs.Reports.{Read, reads_of, made, reports}
 use Rattle.ras_daemon.specs.Status.{Place, unrefused, refusal_among, start_refusal}
-use Rattle.ras_daemon.specs.Text.{event_text, done_line, end_line, stop_line}
+use Rattle.ras_daemon.specs.Text.{detail_of, event_text, done_line, end_line, stop_line}
 
--- What a line has printed at its place: an event the text of what it makes and its done line, any other line nothing.
+-- What a line has printed at its place: an event the text of what it makes and its done line, any other line nothing. A
+-- restart makes nothing.
 abbrev pub line_output : List Read → ℕ → Line → List ℕ
 line_output before number Empty = []
 line_output before number Comment = []
 line_output before number (Bank boot seconds cpu bank tsc cap mcg status addr misc) =
-    event_text (reports before) (made (Bank boot seconds cpu bank tsc cap mcg status addr misc)) ++ done_line number
+    let line = Bank boot seconds cpu bank tsc cap mcg status addr misc in
+    event_text (reports before) (detail_of line) (made line) ++ done_line number
+line_output before number Restart = done_line number
 
 abbrev pub output_at : Place → List ℕ
 output_at (before, (number, Ok line)) = line_output before number line

@@ -1,13 +1,13 @@
 -- What the lines of a script report.
-use Rattle.std.specs.Prelude.{ℕ, List, [], map, Result, Ok, Err}
+use Rattle.std.specs.Prelude.{ℕ, List, [], map, Option, None, Some, Result, Ok, Err}
 use Rattle.std.specs.List.{enumerate_from, flat_map}
-use Rattle.std.specs.Option.{option_map, option_to_list}
-use Rattle.mca_status.specs.Classes.{class_of_rows}
-use Rattle.ras_account.specs.declared.name.Name.TheVariants.{Bank as BankName}
+use Rattle.std.specs.Option.{option_and_then, option_to_list}
+use Rattle.ras_facts.specs.declared.bank.BankReport.{BankReport}
+use Rattle.ras_facts.specs.Facts.{bank_fact}
 use Rattle.ras_account.specs.declared.entry.Entry.{Entry}
 use Rattle.ras_account.specs.declared.entry.Entry.TheVariants.{Fact}
 use Rattle.ras_daemon.specs.declared.line.Line.{Line}
-use Rattle.ras_daemon.specs.declared.line.Line.TheVariants.{Empty, Comment, Bank}
+use Rattle.ras_daemon.specs.declared.line.Line.TheVariants.{Bank}
 use Rattle.ras_daemon.specs.declared.line.LineRefused.{LineRefused}
 use Rattle.ras_daemon.specs.Line.{line_of}
 use Rattle.ras_daemon.specs.Splitting.{lines_of}
@@ -24,15 +24,25 @@ reads_from number text = enumerate_from number (map line_of (lines_of text))
 abbrev pub reads_of : List ℕ → List Read
 reads_of script = reads_from 1 script
 
--- What an event makes: a bank whose status register is valid makes one fact, of the class that the registers give.
+-- the snapshot of a bank that a line gives, if it gives one
+abbrev pub bank_in : Line → Option BankReport
+bank_in (Bank boot seconds cpu bank tsc cap mcg status addr misc) = Some (record {
+  boot = boot;
+  seconds = seconds;
+  cpu = cpu;
+  bank = bank;
+  tsc = tsc;
+  cap = cap;
+  mcg = mcg;
+  status = status;
+  addr = addr;
+  misc = misc;
+})
+bank_in line = None
+
+-- What an event makes: a bank whose status register is valid makes the fact that its registers give.
 abbrev pub made : Line → List Entry
-made Empty = []
-made Comment = []
-made (Bank boot seconds cpu bank tsc cap mcg status addr misc) =
-    option_to_list
-    (option_map
-    (λ class. Fact (record { name = BankName boot cpu bank tsc; seconds = seconds; class = class }))
-    (class_of_rows (record { 0 = cap }) (record { 0 = status })))
+made line = map Fact (option_to_list (option_and_then bank_fact (bank_in line)))
 
 abbrev pub made_by : Read → List Entry
 made_by (number, Ok line) = made line

@@ -3,14 +3,14 @@ use Rattle.std.specs.Prelude.{ℕ, ◌||◌, ◌++◌, Bool, List, [], ◌∷◌
 use Rattle.std.specs.List.{filter_map}
 use Rattle.ras_base.specs.Places.{places}
 use Rattle.ras_account.specs.declared.entry.Entry.{Entry}
-use Rattle.ras_account.specs.Account.{State, account_of, most_names, most_entries}
+use Rattle.ras_account.specs.Account.{State, account_of, most_names, most_entries, most_weight}
 use Rattle.ras_daemon.specs.declared.exit.Exit.{Exit}
 use Rattle.ras_daemon.specs.declared.exit.Exit.TheVariants.{Done, Usage, BadLine, Damaged, Full, TooLong}
 use Rattle.ras_daemon.specs.declared.exit.Reason.TheVariants.{Line as LineReason}
 use Rattle.ras_daemon.specs.declared.word.Command.{Command}
 use Rattle.ras_daemon.specs.declared.word.Command.TheVariants.{Run}
 use Rattle.ras_daemon.specs.declared.line.Line.{Line}
-use Rattle.ras_daemon.specs.declared.line.Line.TheVariants.{Empty, Comment, Bank}
+use Rattle.ras_daemon.specs.declared.line.Line.TheVariants.{Bank}
 use Rattle.ras_daemon.specs.Command.{command_of}
 use Rattle.ras_daemon.specs.Reports.{Read, reads_of, made, reports}
 
@@ -20,17 +20,17 @@ Place = List Read × Read
 
 -- whether an account is past its limits
 abbrev pub is_past : State → Bool
-is_past account = nat_lt most_names (length account.names) || nat_lt most_entries account.entries
+is_past account =
+    nat_lt most_names (length account.names) || (nat_lt most_entries account.entries || nat_lt most_weight account.total)
 
 -- an event is refused where there is no room in the account for what it makes
 abbrev pub room_refusal : List Entry → List Entry → Option Exit
 room_refusal before entries = if is_past (account_of (before ++ entries)) then Some Full else None
 
 abbrev pub line_refusal : List Read → Line → Option Exit
-line_refusal before Empty = None
-line_refusal before Comment = None
 line_refusal before (Bank boot seconds cpu bank tsc cap mcg status addr misc) =
     room_refusal (reports before) (made (Bank boot seconds cpu bank tsc cap mcg status addr misc))
+line_refusal before line = None
 
 -- why a line is refused at its place, if it is: it can't be read, or it is an event for which there is no room
 abbrev pub refusal_at : Place → Option Exit

@@ -1,35 +1,53 @@
 -- What a run leaves in file 0, and the disk calls that it makes.
-use Rattle.std.specs.Prelude.{ℕ, ◌*◌, List, [], ◌∷◌, length, Option, None, Some}
-use Rattle.std.specs.List.{flat_map, range_with_len}
+use Rattle.std.specs.Prelude.{ℕ, List, [], ◌∷◌, length, Option, None, Some, Ok, Err, if◌then◌else◌}
+use Rattle.std.specs.List.{flat_map}
 use Rattle.board_core.specs.declared.board.DiskCall.{DiskCall}
-use Rattle.board_core.specs.declared.board.DiskCall.TheVariants.{Size, WriteAt, Sync}
+use Rattle.board_core.specs.declared.board.DiskCall.TheVariants.{Size, ReadAt, WriteAt, Sync}
 use Rattle.board_core.specs.declared.board.FileNo.TheVariants.{Zero}
+use Rattle.entry_format.specs.Spelling.{entry_bytes}
+use Rattle.ras_base.specs.Places.{places, places_behind}
 use Rattle.ras_account.specs.declared.entry.Entry.{Entry}
-use Rattle.ras_account.specs.Fresh.{fresh}
+use Rattle.ras_account.specs.Fresh.{fresh, is_fresh_behind}
 use Rattle.ras_daemon.specs.declared.exit.Exit.{Exit}
+use Rattle.ras_daemon.specs.declared.line.Line.{Line}
+use Rattle.ras_daemon.specs.declared.line.Line.TheVariants.{Restart}
 use Rattle.ras_daemon.specs.declared.word.Command.{Command}
 use Rattle.ras_daemon.specs.declared.word.Command.TheVariants.{Run}
 use Rattle.ras_daemon.specs.Command.{command_of}
-use Rattle.ras_daemon.specs.PlainFile.{entry_length, plain_file}
-use Rattle.ras_daemon.specs.Reports.{reads_of, reports}
-use Rattle.ras_daemon.specs.Status.{start_refusal, taken_of}
+use Rattle.ras_daemon.specs.PlainFile.{fact_in, stored, stored_end}
+use Rattle.ras_daemon.specs.Reports.{Read, made, reads_of, reports}
+use Rattle.ras_daemon.specs.Status.{Place, start_refusal, taken_of, unrefused}
 
--- the facts that a script's lines log, each once, in order, up to the first refused line
+-- what a script's lines report, in order, up to the first refused line
+abbrev pub reported_of : List ℕ → List Entry
+reported_of script = reports (taken_of (reads_of script))
+
+-- what of it is logged: each fact once
 abbrev pub logged_of : List ℕ → List Entry
-logged_of script = fresh (reports (taken_of (reads_of script)))
+logged_of script = fresh (reported_of script)
 
--- an entry is written behind the ones before it, and synced
-abbrev pub append_calls : ℕ → List DiskCall
-append_calls place = WriteAt Zero (entry_length * place) entry_length ∷ Sync Zero ∷ []
+-- the calls for an entry that an event makes: a fresh one is written behind those before it, and synced
+abbrev pub entry_calls : List Entry → Entry → List DiskCall
+entry_calls before entry =
+    if is_fresh_behind before entry then WriteAt Zero (stored_end before) (length (entry_bytes (fact_in entry))) ∷ Sync Zero ∷ []
+    else []
 
--- the calls for so many entries
-abbrev pub append_all_calls : ℕ → List DiskCall
-append_all_calls count = flat_map append_calls (range_with_len 0 count)
+abbrev pub event_calls : List Entry → List Entry → List DiskCall
+event_calls before entries = flat_map (λ p. entry_calls p.0 p.1) (places_behind before entries)
 
--- the calls of a run: one for the file's size, and where its lines are taken those for each logged fact
+-- the calls of a line at its place: a restart asks for the file's size, and reads it whole
+abbrev pub line_calls : List Read → Line → List DiskCall
+line_calls before Restart = Size Zero ∷ ReadAt Zero 0 (stored_end (reports before)) ∷ []
+line_calls before line = event_calls (reports before) (made line)
+
+abbrev pub calls_at : Place → List DiskCall
+calls_at (before, (number, Ok line)) = line_calls before line
+calls_at (before, (number, Err refused)) = []
+
+-- the calls of a run: one for the file's size, and those of each line up to the first refused one
 abbrev pub calls_started : Option Exit → List ℕ → List DiskCall
 calls_started (Some exit) script = []
-calls_started None script = append_all_calls (length (logged_of script))
+calls_started None script = flat_map calls_at (unrefused (places (reads_of script)))
 
 abbrev pub calls_after : Option Command → List ℕ → List ℕ → List DiskCall
 calls_after None script file = []
@@ -42,7 +60,7 @@ calls_of words script file = calls_after (command_of words) script file
 -- what file 0 holds afterwards
 abbrev pub file_started : Option Exit → List ℕ → List ℕ → List ℕ
 file_started (Some exit) script file = file
-file_started None script file = plain_file (logged_of script)
+file_started None script file = stored (reported_of script)
 
 abbrev pub file_after : List (List ℕ) → List ℕ → List ℕ → List ℕ
 file_after words script file = file_started (start_refusal (command_of words) script file) script file

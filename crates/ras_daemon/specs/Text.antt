@@ -1,21 +1,39 @@
 -- The lines that are printed, each with its line feed.
-use Rattle.std.specs.Prelude.{ℕ, List, [], ◌∷◌, ◌++◌, codes, decimal, length, if◌then◌else◌}
+use Rattle.std.specs.Prelude.{ℕ, ◌*◌, Bool, List, [], ◌∷◌, ◌++◌, codes, decimal, length, Option, None, Some, if◌then◌else◌}
+use Rattle.std.specs.Int.{to_be_bytes, w64}
 use Rattle.std.specs.List.{flat_map}
-use Rattle.mca_status.specs.declared.classes.Class.{Class}
-use Rattle.mca_status.specs.declared.classes.Class.TheVariants.{Ce, Ucna, Srao, Srar, Uc, Odd}
+use Rattle.std.specs.Option.{option_map_or}
+use Rattle.hex.specs.Hex.{encode_lower}
+use Rattle.mca_codes.specs.declared.marks.Mark.{Mark}
+use Rattle.mca_codes.specs.declared.marks.Mark.TheVariants as marks
+use Rattle.mca_codes.specs.Codes.{code_of_rows}
+use Rattle.mca_codes.specs.Marks.{mark_of_number}
+use Rattle.mca_codes.specs.Texts.{text_of as code_text}
+use Rattle.mca_status.specs.declared.classes.ItemClass.{ItemClass}
+use Rattle.mca_status.specs.declared.classes.ItemClass.TheVariants.{Ce, Ucna, Srao, Srar, Uc, Odd, Corrected, Recoverable, Fatal, Informational}
+use Rattle.mca_status.specs.declared.thresholds.Threshold.{Threshold}
+use Rattle.mca_status.specs.declared.thresholds.Threshold.TheVariants.{Untold, NoTracking, Green, Yellow, Reserved}
+use Rattle.mca_status.specs.Registers.{error_code, overflow, restart_valid, error_pointer_valid, in_progress}
+use Rattle.mca_status.specs.Thresholds.{threshold_of}
 use Rattle.ras_base.specs.Places.{places_behind}
-use Rattle.ras_account.specs.declared.name.Name.{Name}
-use Rattle.ras_account.specs.declared.name.Name.TheVariants.{Bank}
+use Rattle.ras_facts.specs.declared.bank.BankReport.{BankReport}
+use Rattle.ras_facts.specs.declared.fact.Fact.{Fact}
+use Rattle.ras_facts.specs.declared.items.Item.{Item}
+use Rattle.ras_facts.specs.declared.name.Name.{Name}
+use Rattle.ras_facts.specs.declared.name.Name.TheVariants.{Bank}
+use Rattle.ras_facts.specs.Facts.{cap_in, status_in}
 use Rattle.ras_account.specs.declared.entry.Entry.{Entry}
-use Rattle.ras_account.specs.declared.entry.Entry.TheVariants.{Fact}
+use Rattle.ras_account.specs.declared.entry.Entry.TheVariants.{Fact as Report}
 use Rattle.ras_account.specs.Account.{State}
 use Rattle.ras_account.specs.Fresh.{is_fresh_behind}
 use Rattle.ras_daemon.specs.declared.exit.Exit.{Exit}
 use Rattle.ras_daemon.specs.declared.exit.Exit.TheVariants.{Done, Usage, BadLine, SourceFault, DiskFault, PrintFault, Damaged, Full, NoMemory, TooLong}
 use Rattle.ras_daemon.specs.declared.exit.Reason.{Reason}
-use Rattle.ras_daemon.specs.declared.exit.Reason.TheVariants.{Line}
+use Rattle.ras_daemon.specs.declared.exit.Reason.TheVariants.{Line as LineReason}
+use Rattle.ras_daemon.specs.declared.line.Line.{Line}
 use Rattle.ras_daemon.specs.declared.line.LineRefused.{LineRefused}
 use Rattle.ras_daemon.specs.declared.line.LineRefused.TheVariants as refused
+use Rattle.ras_daemon.specs.Reports.{bank_in}
 
 -- a line feed ends each line
 abbrev pub ended_line : List ℕ → List ℕ
@@ -25,31 +43,76 @@ abbrev pub name_text : Name → List ℕ
 name_text (Bank boot cpu bank tsc) =
     codes "bank=" ++ decimal boot ++ codes "/" ++ decimal cpu ++ codes "/" ++ decimal bank ++ codes "/" ++ decimal tsc
 
-abbrev pub class_text : Class → List ℕ
+abbrev pub class_text : ItemClass → List ℕ
 class_text Ce = codes "CE"
 class_text Ucna = codes "UCNA"
 class_text Srao = codes "SRAO"
 class_text Srar = codes "SRAR"
 class_text Uc = codes "UC"
 class_text Odd = codes "ODD"
+class_text Corrected = codes "corrected"
+class_text Recoverable = codes "recoverable"
+class_text Fatal = codes "fatal"
+class_text Informational = codes "informational"
 
--- the line of a fresh entry
-abbrev pub log_line : Entry → List ℕ
-log_line (Fact fact) =
+-- A page is printed as the address of its first byte, in 16 hexadecimal digits.
+abbrev pub page_text : Option ℕ → List ℕ
+page_text None = codes "-"
+page_text (Some page) = encode_lower (to_be_bytes w64 (4096 * page))
+
+abbrev pub threshold_text : Threshold → List ℕ
+threshold_text Untold = codes "-"
+threshold_text NoTracking = codes "none"
+threshold_text Green = codes "green"
+threshold_text Yellow = codes "yellow"
+threshold_text Reserved = codes "reserved"
+
+abbrev pub mark_text : Mark → List ℕ
+mark_text marks.Neither = codes "-"
+mark_text marks.Srao = codes "srao"
+mark_text marks.Srar = codes "srar"
+
+abbrev pub bit_text : Bool → List ℕ
+bit_text bit = if bit then codes "1" else codes "0"
+
+-- What a bank's registers tell beside the class, the weight and the page: the error's code, the threshold status, OVER,
+-- whether the code is that of a recoverable error, and of IA32_MCG_STATUS the three flags.
+abbrev pub bank_detail : BankReport → List ℕ
+bank_detail bank =
+    codes "code=" ++ code_text (code_of_rows (error_code (status_in bank)))
+    ++ codes " threshold=" ++ threshold_text (threshold_of (cap_in bank) (status_in bank))
+    ++ codes " over=" ++ bit_text (overflow (status_in bank))
+    ++ codes " mark=" ++ mark_text (mark_of_number (error_code (status_in bank)))
+    ++ codes " ripv=" ++ bit_text (restart_valid (record { 0 = bank.mcg }))
+    ++ codes " eipv=" ++ bit_text (error_pointer_valid (record { 0 = bank.mcg }))
+    ++ codes " mcip=" ++ bit_text (in_progress (record { 0 = bank.mcg }))
+
+-- what a line tells of its event beside the fact
+abbrev pub detail_of : Line → List ℕ
+detail_of line = option_map_or [] bank_detail (bank_in line)
+
+-- the line of an item of a fresh fact; no module's label is known
+abbrev pub item_line : Fact → List ℕ → Item → List ℕ
+item_line fact detail item =
     ended_line
-    (codes "log " ++ name_text fact.name ++ codes " t=" ++ decimal fact.seconds ++ codes " class=" ++ class_text fact.class)
+    (codes "log " ++ name_text fact.name ++ codes " t=" ++ decimal fact.seconds ++ codes " class=" ++ class_text item.class
+    ++ codes " weight=" ++ decimal item.weight ++ codes " label=- page=" ++ page_text item.page ++ codes " " ++ detail)
+
+-- the lines of a fresh entry, one for each item
+abbrev pub log_lines : List ℕ → Entry → List ℕ
+log_lines detail (Report fact) = flat_map (item_line fact detail) fact.items
 
 -- the line of a fact that isn't fresh
 abbrev pub repeat_line : Entry → List ℕ
-repeat_line (Fact fact) = ended_line (codes "repeat " ++ name_text fact.name)
+repeat_line (Report fact) = ended_line (codes "repeat " ++ name_text fact.name)
 
--- the line of an entry, judged behind those that were reported before it
-abbrev pub entry_text : List Entry → Entry → List ℕ
-entry_text before entry = if is_fresh_behind before entry then log_line entry else repeat_line entry
+-- the lines of an entry, judged behind those that were reported before it
+abbrev pub entry_text : List ℕ → List Entry → Entry → List ℕ
+entry_text detail before entry = if is_fresh_behind before entry then log_lines detail entry else repeat_line entry
 
 -- the lines of what an event makes, each entry judged at its place in all that is reported so far
-abbrev pub event_text : List Entry → List Entry → List ℕ
-event_text before entries = flat_map (λ p. entry_text p.0 p.1) (places_behind before entries)
+abbrev pub event_text : List Entry → List ℕ → List Entry → List ℕ
+event_text before detail entries = flat_map (λ p. entry_text detail p.0 p.1) (places_behind before entries)
 
 -- the line that an event ends with
 abbrev pub done_line : ℕ → List ℕ
@@ -69,7 +132,7 @@ refusal_text refused.Number = codes "line.3"
 refusal_text refused.NoMemory = []
 
 abbrev pub reason_text : Reason → List ℕ
-reason_text (Line refused) = refusal_text refused
+reason_text (LineReason refused) = refusal_text refused
 
 -- the line that a refused run ends with; an exit that is no refusal has none
 abbrev pub stop_line : Exit → List ℕ
