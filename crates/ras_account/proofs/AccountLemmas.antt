@@ -8,7 +8,7 @@ use Rattle.std.proofs.Math.Bool.{or-false}
 use Rattle.std.proofs.lemmas.List.{length-take-le, append_cancel_left}
 use Rattle.std.proofs.Math.Seq.{take-suc, drop-cons, take-append_seam, drop-append_seam}
 use Rattle.indexmap.specs.IndexSet.{insert_key, insert_all}
-use Rattle.ras_account.specs.declared.name.Name.{Name}
+use Rattle.ras_facts.specs.declared.name.Name.{Name}
 use Rattle.ras_account.specs.declared.entry.Entry.{Entry}
 use Rattle.ras_account.specs.declared.entry.Entry.TheVariants.{Fact}
 use Rattle.ras_account.specs.Fresh.{name_in, names_in, same_name}

@@ -6,10 +6,10 @@ use Rattle.std.proofs.lemmas.List.{map-append}
 use Rattle.std.specs.List.{list_any}
 use Rattle.ras_base.specs.Places.{places_behind, places}
 use Rattle.ras_base.specs.PlacesLaws.{places-snoc}
-use Rattle.ras_account.specs.declared.name.Name.{Name}
+use Rattle.ras_facts.specs.declared.name.Name.{Name}
 use Rattle.ras_account.specs.declared.entry.Entry.{Entry}
 use Rattle.ras_account.specs.declared.entry.Entry.TheVariants.{Fact}
-use Rattle.ras_account.specs.declared.entry.Fact.{Fact as Report}
+use Rattle.ras_facts.specs.declared.fact.Fact.{Fact as Report}
 use Rattle.ras_account.specs.Fresh.{name_in, names_in, same_name, is_fresh_behind, fresh}
 use Rattle.ras_account.specs.Account.{State, account_of, is_fresh_in, with_entry, continued, continued_all}
 use Rattle.ras_account.proofs.NameLemmas.{same_name-exact}

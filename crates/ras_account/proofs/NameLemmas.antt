@@ -5,9 +5,9 @@ use Rattle.std.specs.List.{list_any, IsDistinct}
 use Rattle.std.proofs.lemmas.Bool.Decides.{nat_tests}
 use Rattle.std.proofs.lemmas.Map.Views.{list_any-from_Contains}
 use Rattle.indexmap.proofs.CallerLemmas.{Contains-list_any}
-use Rattle.ras_account.specs.declared.name.Name.{Name}
-use Rattle.ras_account.specs.declared.name.Name.TheVariants.{Bank}
-use Rattle.ras_account.specs.contracts.name.NamePartialEq.TheImpl.{eq-value}
+use Rattle.ras_facts.specs.declared.name.Name.{Name}
+use Rattle.ras_facts.specs.declared.name.Name.TheVariants.{Bank}
+use Rattle.ras_facts.specs.contracts.name.NamePartialEq.TheImpl.{eq-value}
 use Rattle.ras_account.specs.Fresh.{same_name}
 
 pub same_name-exact : (x y : Name) → same_name x y ≡ true → x ≡ y

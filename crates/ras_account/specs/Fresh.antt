@@ -2,8 +2,9 @@
 use Rattle.std.specs.Prelude.{Bool, ◌&&◌, ◌==◌, not, List, Option, Some, filter, map}
 use Rattle.std.specs.List.{filter_map, list_any}
 use Rattle.ras_base.specs.Places.{places}
-use Rattle.ras_account.specs.declared.name.Name.{Name}
-use Rattle.ras_account.specs.declared.name.Name.TheVariants.{Bank}
+use Rattle.ras_facts.specs.declared.fact.Fact.{Fact as Report}
+use Rattle.ras_facts.specs.declared.name.Name.{Name}
+use Rattle.ras_facts.specs.declared.name.Name.TheVariants.{Bank}
 use Rattle.ras_account.specs.declared.entry.Entry.{Entry}
 use Rattle.ras_account.specs.declared.entry.Entry.TheVariants.{Fact}
 
@@ -26,3 +27,7 @@ is_fresh_behind before (Fact fact) = not (list_any (same_name fact.name) (names_
 -- the entries of a list that are fresh at their place, behind all that stand before them
 abbrev pub fresh : List Entry → List Entry
 fresh entries = map (λ p. p.1) (filter (λ p. is_fresh_behind p.0 p.1) (places entries))
+
+-- facts as entries
+abbrev pub entries_of : List Report → List Entry
+entries_of facts = map (λ fact. Fact fact) facts

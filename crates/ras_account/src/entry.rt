@@ -1,22 +1,10 @@
-// What an account is made of.
+// What an account takes.
 ghost use Rattle.std.specs.Prelude.{◌≡◌, Some};
 
-use crate::Name;
-use mca_status::Class;
-
-/// One item of a class, which was reported under a name.
-#[derive(Clone, Copy, Debug, PartialEq, Eq)]
-pub struct Fact {
-    /// The report's name.
-    pub name: Name,
-    /// When it was reported, in seconds.
-    pub seconds: u64,
-    /// The class of the error.
-    pub class: Class,
-}
+use ras_facts::{Fact, Item, Name};
 
 /// What an account takes.
-#[derive(Clone, Copy, Debug, PartialEq, Eq)]
+#[derive(Debug, Drop)]
 pub enum Entry {
     /// What a report tells.
     Fact(Fact),
@@ -24,6 +12,7 @@ pub enum Entry {
 
 impl Entry {
     ghost use Rattle.ras_account.specs.Fresh.{name_in};
+    ghost use Rattle.ras_account.specs.Account.{items_of};
 
     // The name that the entry brings.
     pub(crate) fn name(&self) -> &Name
@@ -31,5 +20,13 @@ impl Entry {
     {
         let Entry::Fact(fact) = self;
         &fact.name
+    }
+
+    // The items that the entry reports.
+    pub(crate) fn items(&self) -> &[Item]
+        ensures { result.now ≡ items_of self.now }
+    {
+        let Entry::Fact(fact) = self;
+        fact.items.as_slice()
     }
 }

@@ -1,10 +1,12 @@
 // What an account is, in other words.
-ghost use Rattle.std.specs.Prelude.{◌≡◌, ◌↔◌, List, [], ◌∷◌, ◌++◌, if◌then◌else◌, Contains};
+ghost use Rattle.std.specs.Prelude.{◌≡◌, ◌↔◌, List, [], ◌∷◌, ◌++◌, if◌then◌else◌, Contains, sum};
 ghost use Rattle.std.specs.List.{IsDistinct};
-ghost use Rattle.ras_account.specs.declared.name.Name.{Name};
+ghost use Rattle.mca_status.specs.declared.classes.ItemClass.{ItemClass};
+ghost use Rattle.ras_facts.specs.declared.name.Name.{Name};
 ghost use Rattle.ras_account.specs.declared.entry.Entry.{Entry};
 ghost use Rattle.ras_account.specs.Fresh.{names_in, same_name, is_fresh_behind, fresh};
-ghost use Rattle.ras_account.specs.Account.{State, account_of, continued, continued_all, added_by, IsWithin};
+ghost use Rattle.ras_account.specs.Account.{State, account_of, items_in, sum_in, continued, continued_all, added_by, IsWithin};
+ghost use Rattle.ras_account.specs.Weights.{weight_in, of_class};
 
 /// The laws of the account of a list of entries. The function does nothing: its clauses are what it is for.
 pub fn account_laws()
@@ -18,6 +20,13 @@ pub fn account_laws()
     // An account holds exactly the names of the list's facts, and each of them once.
     ensures held { (history : List Entry) (name : Name) → Contains (account_of history).names name ↔ Contains (names_in history) name }
     ensures once { (history : List Entry) → IsDistinct same_name (account_of history).names }
+
+    // The sum of a class is that of the weights of its items, and the ten sums together are the total.
+    ensures of_class { (history : List Entry) (class : ItemClass) → sum_in (account_of history) class ≡ weight_in (of_class class (items_in (fresh history))) }
+    ensures together { (history : List Entry) → sum (account_of history).sums ≡ (account_of history).total }
+
+    // The fresh entries of a list have the account of the list.
+    ensures again { (history : List Entry) → account_of (fresh history) ≡ account_of history }
 
     // Accounts that are equal stay equal, whatever follows.
     ensures equal { (one other more : List Entry) → account_of one ≡ account_of other → account_of (one ++ more) ≡ account_of (other ++ more) }

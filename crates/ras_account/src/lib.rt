@@ -1,4 +1,4 @@
-//! What was counted so far: each report once, by its name.
+//! What was counted so far: each report once, by its name, with the weights of its items.
 //!
 //! An account is a function of the list of entries that were taken. The definitions in `specs/` say which one, and the
 //! contracts of `Account` say that each call keeps it.
@@ -6,14 +6,15 @@
 
 mod account;
 mod entry;
+mod growth;
 mod laws;
-mod name;
 mod reserve;
+mod weights;
 
-pub use account::{Account, MOST_ENTRIES, MOST_NAMES};
-pub use entry::{Entry, Fact};
+pub use account::{Account, MOST_ENTRIES, MOST_NAMES, MOST_WEIGHT};
+pub use entry::Entry;
 pub use laws::{account_laws, reserve_laws};
-pub use name::Name;
+pub use ras_facts::{Fact, Item, Items, Name};
 pub use reserve::ReserveRefused;
 
 #[cfg(test)]

@@ -5,14 +5,16 @@ ghost use Rattle.indexmap.specs.IndexSet.{insert_all};
 ghost use Rattle.ras_account.specs.Fresh.{names_in, same_name};
 ghost use Rattle.ras_account.specs.Growth.{brings};
 
-use crate::{Entry, Name};
+use crate::Entry;
 use indexmap::IndexSet;
 use ras_base::NoMemory;
+use ras_facts::Name;
 
 /// Why a list of entries can't be taken.
 #[derive(Clone, Copy, Debug, PartialEq, Eq)]
 pub enum ReserveRefused {
-    /// With its fresh entries the account would hold more than `MOST_NAMES` names or `MOST_ENTRIES` entries.
+    /// With its fresh entries the account would hold more than `MOST_NAMES` names, `MOST_ENTRIES` entries or
+    /// `MOST_WEIGHT` of weight.
     Full,
     /// Memory ran out.
     NoMemory,

@@ -1,0 +1,75 @@
+// The weights in an account.
+ghost use Rattle.std.specs.Prelude.{◌≡◌, ◌+◌, ◌≤◌, ◌^◌, [], ◌∷◌, slice_index};
+ghost use Rattle.mca_status.specs.Classes.{class_number};
+ghost use Rattle.ras_account.specs.Weights.{weight_in, sums_of};
+ghost use Rattle.ras_account.specs.Weighed.{weighed_with};
+
+use mca_status::ItemClass;
+use ras_facts::Item;
+use std::marker::Model;
+
+// The weights of items together, and those of each class at the place of its number.
+#[derive(Drop)]
+pub(crate) struct Weights {
+    total: u64,
+    sums: [u64; 10],
+}
+
+impl Model for Weights {
+    ghost use Rattle.ras_account.specs.Weighed.{Weighed, IsBounded};
+
+    ghost Value = { Weighed };
+
+    ghost view = { λ a. record { total = a.total; sums = a.sums } };
+
+    ghost invariant = { λ a. IsBounded a.total a.sums };
+}
+
+impl Weights {
+    // The weights of no items.
+    pub(crate) fn new() -> Weights
+        ensures total { result.total ≡ 0 }
+        ensures sums { result.sums ≡ sums_of [] }
+    {
+        Weights {
+            total: 0,
+            sums: [0; 10],
+        }
+    }
+
+    // Adds the weights of more items.
+    pub(crate) fn add_all(&mut self, items: &[Item])
+        requires { self.old.total + weight_in items.now ≤ 2 ^ 62 }
+        ensures { self.new ≡ weighed_with self.old items.now }
+    {
+        for item in items {
+            self.add(item);
+        }
+    }
+
+    // Adds the weight of an item.
+    fn add(&mut self, item: &Item)
+        requires { self.old.total + item.now.weight ≤ 2 ^ 62 }
+        ensures { self.new ≡ weighed_with self.old (item.now ∷ []) }
+    {
+        let weight = u64::from(item.weight);
+        let class = usize::from(item.class.number());
+        self.total += weight;
+        self.sums[class] += weight;
+    }
+
+    // The weights together.
+    pub(crate) fn total(&self) -> u64
+        ensures { result ≡ self.now.total }
+    {
+        self.total
+    }
+
+    // The weights of a class together.
+    pub(crate) fn sum(&self, class: ItemClass) -> u64
+        ensures value { result ≡ slice_index self.now.sums (class_number class) }
+        ensures bounded { result ≤ self.now.total }
+    {
+        self.sums[usize::from(class.number())]
+    }
+}
