@@ -9,20 +9,21 @@ use Rattle.ras_account.specs.declared.entry.Entry.{Entry}
 use Rattle.ras_account.specs.Account.{account_of}
 use Rattle.ras_account.specs.Fresh.{is_fresh_behind}
 use Rattle.ras_daemon.specs.declared.exit.Exit.{Exit}
-use Rattle.ras_daemon.specs.declared.exit.Exit.TheVariants.{Done, Usage, Full}
-use Rattle.ras_daemon.specs.declared.line.Line.TheVariants.{Empty, Comment, Bank}
+use Rattle.ras_daemon.specs.declared.exit.Exit.TheVariants.{Done, Usage}
+use Rattle.ras_daemon.specs.declared.line.Line.TheVariants.{Empty, Comment, Bank, Restart}
 use Rattle.ras_daemon.specs.declared.word.Command.{Command}
 use Rattle.ras_daemon.specs.declared.word.Command.TheVariants.{Run}
 use Rattle.ras_daemon.specs.Command.{command_of}
 use Rattle.ras_daemon.specs.Output.{output_at, output_after, output_of, last_line}
-use Rattle.ras_daemon.specs.Progress.{Step, after, after_all, asks_size, writes, syncs, prints, entry_steps, entries_steps, text_steps, event_steps, read_steps, lines_course, start_course, call_course, Takes}
+use Rattle.ras_daemon.specs.Progress.{Step, after, after_all, asks_size, reads, writes, syncs, prints, entry_steps, entries_steps, text_steps, event_steps, read_steps, lines_course, start_course, call_course}
 use Rattle.ras_daemon.specs.Reports.{Read, made, reads_of, reports}
-use Rattle.ras_daemon.specs.Status.{Place, is_past, lines_status, refusal_at, refusal_among, start_refusal, status_of, unrefused}
-use Rattle.ras_daemon.specs.Text.{event_text, done_line, end_line, stop_line}
+use Rattle.ras_daemon.specs.Status.{lines_status, refusal_at, refusal_among, start_refusal, status_of, unrefused}
+use Rattle.ras_daemon.specs.Text.{detail_of, event_text, done_line, end_line, stop_line}
 
 -- what a call prints
 abbrev pub text_of : Step → List ℕ
 text_of asks_size = []
+text_of (reads count) = []
 text_of (writes place bytes) = []
 text_of syncs = []
 text_of (prints bytes) = bytes
@@ -33,6 +34,7 @@ printed_by steps = flat_map text_of steps
 pub out-after : (steps : List Step) (told : Told) → (after_all steps told).out ≡ told.out ++ printed_by steps
 out-after [] told = sym (append-nil told.out)
 out-after (asks_size ∷ steps) told = out-after steps (after asks_size told)
+out-after (reads count ∷ steps) told = out-after steps (after (reads count) told)
 out-after (writes place bytes ∷ steps) told = out-after steps (after (writes place bytes) told)
 out-after (syncs ∷ steps) told = out-after steps (after syncs told)
 out-after (prints bytes ∷ steps) told = out-after steps (after (prints bytes) told) ∙ append_assoc told.out bytes (printed_by steps)
@@ -63,13 +65,13 @@ printed-text (b ∷ bs) = by (length (b ∷ bs) == 0) refl
     by true is = absurd (grind (arith, nat_tests, is))
     by false is = rw is (append-nil (b ∷ bs))
 
-pub printed-event : (before : List Entry) (number : ℕ) (entries : List Entry) → printed_by (event_steps before number entries) ≡ event_text before entries ++ done_line number
-printed-event before number entries =
-    printed-append (entries_steps before entries) (text_steps (event_text before entries) ++ prints (done_line number) ∷ [])
-    ∙ ap (λ text. text ++ printed_by (text_steps (event_text before entries) ++ prints (done_line number) ∷ [])) (printed-entries before entries)
-    ∙ printed-append (text_steps (event_text before entries)) (prints (done_line number) ∷ [])
-    ∙ ap (λ text. text ++ (done_line number ++ [])) (printed-text (event_text before entries))
-    ∙ ap (λ text. event_text before entries ++ text) (append-nil (done_line number))
+pub printed-event : (before : List Entry) (number : ℕ) (detail : List ℕ) (entries : List Entry) → printed_by (event_steps before number detail entries) ≡ event_text before detail entries ++ done_line number
+printed-event before number detail entries =
+    printed-append (entries_steps before entries) (text_steps (event_text before detail entries) ++ prints (done_line number) ∷ [])
+    ∙ ap (λ text. text ++ printed_by (text_steps (event_text before detail entries) ++ prints (done_line number) ∷ [])) (printed-entries before entries)
+    ∙ printed-append (text_steps (event_text before detail entries)) (prints (done_line number) ∷ [])
+    ∙ ap (λ text. text ++ (done_line number ++ [])) (printed-text (event_text before detail entries))
+    ∙ ap (λ text. event_text before detail entries ++ text) (append-nil (done_line number))
 
 -- a line prints what is said of its place
 pub printed-read : (before : List Read) (read : Read) → printed_by (read_steps before read) ≡ output_at (before, read)
@@ -77,7 +79,9 @@ printed-read before (number, Err refused) = refl
 printed-read before (number, Ok Empty) = refl
 printed-read before (number, Ok Comment) = refl
 printed-read before (number, Ok (Bank boot seconds cpu bank tsc cap mcg status addr misc)) =
-    printed-event (reports before) number (made (Bank boot seconds cpu bank tsc cap mcg status addr misc))
+    let line = Bank boot seconds cpu bank tsc cap mcg status addr misc in
+    printed-event (reports before) number (detail_of line) (made line)
+printed-read before (number, Ok Restart) = append-nil (done_line number)
 
 -- the output of lines that follow others
 abbrev pub output_behind : List Read → List Read → List ℕ
@@ -133,26 +137,3 @@ exit-call words script file = by (command_of words) refl
     by : (c : Option Command) → command_of words ≡ c → (call_course (command_of words) script file).exit ≡ status_of words script file
     by None is = rw is refl
     by (Some Run) is = rw is (started (start_refusal (Some Run) script file))
-
--- no line is refused for the words of the call
-refused-usage : (place : Place) → refusal_at place ≡ Some Usage → ⊥
-refused-usage (before, (number, Err refused)) is = cc
-refused-usage (before, (number, Ok Empty)) is = cc
-refused-usage (before, (number, Ok Comment)) is = cc
-refused-usage (before, (number, Ok (Bank boot seconds cpu bank tsc cap mcg status addr misc))) is =
-    by (is_past (account_of (reports before ++ made (Bank boot seconds cpu bank tsc cap mcg status addr misc)))) is
-  where
-    by : (b : Bool) → (if b then Some Full else None) ≡ Some Usage → ⊥
-    by true is = cc
-    by false is = cc
-
-exit-usage : (before reads : List Read) → (lines_course before reads).exit ≡ Usage → ⊥
-exit-usage before [] is = cc
-exit-usage before (read ∷ reads) is = by (refusal_at (before, read)) refl (exit-usage (before ++ read ∷ []) reads)
-  where
-    by : (r : Option Exit) → refusal_at (before, read) ≡ r → ((lines_course (before ++ read ∷ []) reads).exit ≡ Usage → ⊥) → ⊥
-    by (Some exit) refused ih = refused-usage (before, read) (refused ∙ ap Some (rw refused at is))
-    by None refused ih = ih (rw refused at is)
-
-pub lines-usage : (reads : List Read) (exit : Exit) (old new : Option Told) → Takes (lines_course [] reads) exit old new → exit ≡ Usage → ⊥
-lines-usage reads exit old new taken is = exit-usage [] reads (let usage : Takes (lines_course [] reads) Usage old new = subst (λ e. Takes (lines_course [] reads) e old new) is taken in usage.0)

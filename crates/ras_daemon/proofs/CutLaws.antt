@@ -6,17 +6,18 @@ use Rattle.ras_base.specs.Places.{places_behind}
 use Rattle.ras_base.specs.Prefix.{IsPrefixOf}
 use Rattle.ras_account.specs.declared.entry.Entry.{Entry}
 use Rattle.ras_daemon.specs.declared.exit.Exit.{Exit}
-use Rattle.ras_daemon.specs.declared.line.Line.TheVariants.{Empty, Comment, Bank}
+use Rattle.ras_daemon.specs.declared.line.Line.TheVariants.{Empty, Comment, Bank, Restart}
 use Rattle.ras_daemon.specs.declared.exit.Exit.TheVariants.{Usage}
 use Rattle.ras_daemon.specs.declared.word.Command.{Command}
 use Rattle.ras_daemon.specs.declared.word.Command.TheVariants.{Run}
 use Rattle.ras_daemon.specs.Command.{command_of}
 use Rattle.ras_daemon.specs.Ended.{PrintsPart}
 use Rattle.ras_daemon.specs.Output.{output_at, output_upto}
-use Rattle.ras_daemon.specs.Progress.{Step, after_all, asks_size, writes, syncs, prints, Fails, IsDisk, IsPrint, Cut, Paused, entries_steps, text_steps, read_steps, lines_course, start_course, call_course}
+use Rattle.ras_daemon.specs.PlainFile.{stored_end}
+use Rattle.ras_daemon.specs.Progress.{Step, after_all, asks_size, reads, writes, syncs, prints, Fails, IsDisk, IsPrint, Cut, Paused, entries_steps, text_steps, event_steps, reopen_steps, read_steps, lines_course, start_course, call_course}
 use Rattle.ras_daemon.specs.Reports.{Read, made, reads_of, reports}
 use Rattle.ras_daemon.specs.Status.{refusal_at, start_refusal, unrefused}
-use Rattle.ras_daemon.specs.Text.{event_text, done_line, stop_line}
+use Rattle.ras_daemon.specs.Text.{detail_of, event_text, done_line, stop_line}
 use Rattle.ras_daemon.proofs.CourseLaws.{text_of, printed_by, printed-append, printed-entries, printed-read, out-after}
 
 -- Where a call of a list stands: in its front, or in its back.
@@ -51,6 +52,7 @@ no_disk done step rest steps is all disk = by step (print_at done step rest (sub
     by : (s : Step) → IsPrint s → IsDisk s → ⊥
     by (prints bytes) print disk = disk
     by asks_size print disk = print
+    by (reads count) print disk = print
     by syncs print disk = print
     by (writes place bytes) print disk = print
 
@@ -65,24 +67,31 @@ nil-front : (xs ys : List ℕ) → xs ++ ys ≡ [] → xs ≡ []
 nil-front [] ys is = refl
 nil-front (x ∷ xs) ys is = cc
 
+-- before a disk call of an event nothing of it is printed
+event_printed : (before : List Entry) (number : ℕ) (detail : List ℕ) (entries : List Entry) (done : List Step) (step : Step) (more : List Step) → IsDisk step
+    → done ++ step ∷ more ≡ event_steps before number detail entries → printed_by done ≡ []
+event_printed before number detail entries done step more disk is =
+    by (place_of done step more (entries_steps before entries) (text_steps (event_text before detail entries) ++ prints (done_line number) ∷ []) is)
+  where
+    by : InFront done step (entries_steps before entries) ⊎ InBack done step more (entries_steps before entries) (text_steps (event_text before detail entries) ++ prints (done_line number) ∷ []) → printed_by done ≡ []
+    by (inl there) =
+        nil-front (printed_by done) (printed_by (step ∷ there.0)) (sym (printed-append done (step ∷ there.0)) ∙ ap printed_by there.1 ∙ printed-entries before entries)
+    by (inr there) =
+        absurd (no_disk there.0 step more (text_steps (event_text before detail entries) ++ prints (done_line number) ∷ []) there.2 (all_print-text (event_text before detail entries) (done_line number)) disk)
+
 -- before a disk call of a line nothing of that line is printed
 none_printed : (before : List Read) (read : Read) (done : List Step) (step : Step) (more : List Step) → IsDisk step → done ++ step ∷ more ≡ read_steps before read → printed_by done ≡ []
 none_printed before (number, Err refused) done step more disk is = absurd (no_disk done step more [] is tt disk)
 none_printed before (number, Ok Empty) done step more disk is = absurd (no_disk done step more [] is tt disk)
 none_printed before (number, Ok Comment) done step more disk is = absurd (no_disk done step more [] is tt disk)
-none_printed before (number, Ok (Bank boot seconds cpu bank tsc cap mcg status addr misc)) done step more disk is =
-    by (place_of done step more (entries_steps (reports before) entries) (text_steps (event_text (reports before) entries) ++ prints (done_line number) ∷ []) is)
+none_printed before (number, Ok Restart) done step more disk is =
+    by (place_of done step more (reopen_steps (stored_end (reports before))) (prints (done_line number) ∷ []) is)
   where
-    entries : List Entry
-    entries = made (Bank boot seconds cpu bank tsc cap mcg status addr misc)
-
-    by : InFront done step (entries_steps (reports before) (made (Bank boot seconds cpu bank tsc cap mcg status addr misc)))
-        ⊎ InBack done step more (entries_steps (reports before) (made (Bank boot seconds cpu bank tsc cap mcg status addr misc))) (text_steps (event_text (reports before) (made (Bank boot seconds cpu bank tsc cap mcg status addr misc))) ++ prints (done_line number) ∷ [])
-        → printed_by done ≡ []
-    by (inl there) =
-        nil-front (printed_by done) (printed_by (step ∷ there.0))
-        (sym (printed-append done (step ∷ there.0)) ∙ ap printed_by there.1 ∙ printed-entries (reports before) (made (Bank boot seconds cpu bank tsc cap mcg status addr misc)))
-    by (inr there) = absurd (no_disk there.0 step more _ there.2 (all_print-text _ _) disk)
+    by : InFront done step (reopen_steps (stored_end (reports before))) ⊎ InBack done step more (reopen_steps (stored_end (reports before))) (prints (done_line number) ∷ []) → printed_by done ≡ []
+    by (inl there) = nil-front (printed_by done) (printed_by (step ∷ there.0)) (sym (printed-append done (step ∷ there.0)) ∙ ap printed_by there.1)
+    by (inr there) = absurd (no_disk there.0 step more (prints (done_line number) ∷ []) there.2 (tt, tt) disk)
+none_printed before (number, Ok (Bank boot seconds cpu bank tsc cap mcg status addr misc)) done step more disk is =
+    event_printed (reports before) number (detail_of (Bank boot seconds cpu bank tsc cap mcg status addr misc)) (made (Bank boot seconds cpu bank tsc cap mcg status addr misc)) done step more disk is
 
 -- before a disk call of a run over lines, whole lines are printed
 pub whole_printed : (before reads : List Read) (done : List Step) (step : Step) (rest : List Step) → IsDisk step → done ++ step ∷ rest ≡ (lines_course before reads).steps
@@ -117,6 +126,8 @@ out_of t = t.out
 fails-out : (step : Step) (old new : Told) → Fails step old new → (part : List ℕ) × (new.out ≡ old.out ++ part) × IsPrefixOf part (text_of step)
 fails-out asks_size old new (inl same) = ([], ap out_of same ∙ sym (append-nil old.out), ([], refl))
 fails-out asks_size old new (inr listed) = ([], ap out_of listed ∙ sym (append-nil old.out), ([], refl))
+fails-out (reads count) old new (inl same) = ([], ap out_of same ∙ sym (append-nil old.out), ([], refl))
+fails-out (reads count) old new (inr listed) = ([], ap out_of listed ∙ sym (append-nil old.out), ([], refl))
 fails-out syncs old new (inl same) = ([], ap out_of same ∙ sym (append-nil old.out), ([], refl))
 fails-out syncs old new (inr listed) = ([], ap out_of listed ∙ sym (append-nil old.out), ([], refl))
 fails-out (writes place bytes) old new fails = elim fails.2 [
@@ -178,6 +189,7 @@ fails_disk-out step old new disk fails =
   where
     silent : (s : Step) → IsDisk s → text_of s ≡ []
     silent asks_size d = refl
+    silent (reads count) d = refl
     silent syncs d = refl
     silent (writes place bytes) d = refl
     silent (prints bytes) d = absurd d

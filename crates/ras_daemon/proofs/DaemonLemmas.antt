@@ -31,9 +31,10 @@ damaged (Some script) (Some t) mid new size exit went is some taken =
     rw long (call_behind (Some t) mid new (asks_size ∷ []) (ends (stop_line (Damaged 0 0)) (Damaged 0 0)) exit (went ∙ sym (map_one asks_size (Some t))) (call_taken mid new (ends (stop_line (Damaged 0 0)) (Damaged 0 0)) exit taken))
 
 pub undamaged : (left : Option (List ℕ)) (old mid new : Option Told) (size : ℕ) (exit : Exit) → Steps (called (Size Zero)) old mid → IfSome old (λ t. size ≡ length t.file0) → size ≤ 0
-    → IfSome left (λ script. TakesCall (start_course (script_refusal script) script) exit mid new) → IsRun exit old new left
+    → OverTold (λ script t. TakesCall (start_course (script_refusal script) script) exit mid new) left mid → IsRun exit old new left
 undamaged None old mid new size exit went is none taken = tt
 undamaged (Some script) None mid new size exit went is none taken = tt
 undamaged (Some script) (Some t) mid new size exit went is none taken =
     let empty : nat_lt 0 (length t.file0) ≡ false = grind (arith, nat_tests, is) in
-    rw empty (call_behind (Some t) mid new (asks_size ∷ []) (start_course (script_refusal script) script) exit (went ∙ sym (map_one asks_size (Some t))) taken)
+    let runs : TakesCall (start_course (script_refusal script) script) exit mid new = rw went at taken in
+    rw empty (call_behind (Some t) mid new (asks_size ∷ []) (start_course (script_refusal script) script) exit (went ∙ sym (map_one asks_size (Some t))) runs)

@@ -4,6 +4,7 @@ pub mod SplittingLaws
 pub mod LineLaws
 pub mod ScriptLemmas
 pub mod StepLemmas
+pub mod FileLemmas
 pub mod EventLemmas
 pub mod RunLemmas
 pub mod DaemonLemmas

@@ -7,7 +7,7 @@ use Rattle.std.specs.Str.Parse.{digits_value}
 use Rattle.ras_daemon.specs.declared.line.Line.{Line}
 use Rattle.ras_daemon.specs.declared.line.LineRefused.{LineRefused}
 use Rattle.ras_daemon.specs.Number.{is_numeral}
-use Rattle.ras_daemon.specs.Line.{◌>>=◌, needed, decimal_at, hexadecimal_at, bank_of, line_of_words, InRange}
+use Rattle.ras_daemon.specs.Line.{◌>>=◌, needed, decimal_at, hexadecimal_at, bank_of, event_of, restart_of, line_of_words, InRange}
 
 number_within : (most value : ℕ) (numeral small : Bool) → nat_le value most ≡ small → IfOk (needed (cond (numeral && small) (Some value) None)) (λ n. n ≤ most)
 number_within most value true true h = grind (arith, nat_tests, h)
@@ -46,14 +46,23 @@ fields_within words = if_ten (length words == 10) _ (
     then_within (λ n. n ≤ 2 ^ 64 - 1) InRange (hexadecimal_at words 9) _ (hexadecimal_within words 9) (λ misc misc_in.
     ((omega arith, (omega arith, (omega arith, (omega arith, (omega arith, (omega arith, (omega arith, (omega arith, tt)))))))), omega arith, omega arith))))))))))))
 
-kind_within : (kind : List ℕ) (words : List (List ℕ)) (comment bank : Bool) → IfOk (bank_of words) InRange → IfOk (cond comment (Ok Line.Comment) (cond bank (bank_of words) (Err LineRefused.Kind))) InRange
-kind_within kind words true bank h = tt
-kind_within kind words false true h = h
-kind_within kind words false false h = tt
+if_none : (b : Bool) → IfOk (cond b (Ok Line.Restart) (Err LineRefused.Words)) InRange
+if_none true = tt
+if_none false = tt
+
+event_within : (words : List (List ℕ)) (bank restart : Bool) → IfOk (cond bank (bank_of words) (cond restart (restart_of words) (Err LineRefused.Kind))) InRange
+event_within words true restart = fields_within words
+event_within words false true = if_none (length words == 0)
+event_within words false false = tt
+
+kind_within : (comment : Bool) (event : Result Line LineRefused) → IfOk event InRange → IfOk (cond comment (Ok Line.Comment) event) InRange
+kind_within true event h = tt
+kind_within false event h = h
 
 pub line_within : (words : List (List ℕ)) → IfOk (line_of_words words) InRange
 line_within [] = tt
-line_within (kind ∷ words) = kind_within kind words (slice_index kind 0 == 35) (bytes_eq kind (codes "bank")) (fields_within words)
+line_within (kind ∷ words) =
+    kind_within (slice_index kind 0 == 35) (event_of kind words) (event_within words (bytes_eq kind (codes "bank")) (bytes_eq kind (codes "restart")))
 
 pub refused_has_words : (words : List (List ℕ)) → IsErr (line_of_words words) → 0 < length words
 refused_has_words [] h = cc

@@ -6,7 +6,7 @@ use Rattle.std.specs.Fmt.{decimal}
 use Rattle.std.specs.List.{AllByRecursion}
 use Rattle.std.specs.Str.Parse.{AllDigits}
 use Rattle.ras_daemon.specs.declared.line.Line.{Line}
-use Rattle.ras_daemon.specs.declared.line.Line.TheVariants.{Empty, Comment, Bank}
+use Rattle.ras_daemon.specs.declared.line.Line.TheVariants.{Empty, Comment, Bank, Restart}
 use Rattle.ras_daemon.specs.declared.line.LineRefused.{LineRefused}
 use Rattle.ras_daemon.specs.Splitting.{Lacks, IsWord}
 use Rattle.ras_daemon.specs.Line.{◌>>=◌, needed, bank_of, line_of_words, line_of, InRange, hexadecimal, text_of}
@@ -56,5 +56,6 @@ bank_words boot seconds cpu bank tsc cap mcg status addr misc within = (bank_wor
 pub text_read : (line : Line) → InRange line → line_of (text_of line) ≡ Ok line
 text_read Empty within = refl
 text_read Comment within = refl
+text_read Restart within = refl
 text_read (Bank boot seconds cpu bank tsc cap mcg status addr misc) within =
     ap line_of_words (words_joined (codes "bank" ∷ decimal boot ∷ decimal seconds ∷ decimal cpu ∷ decimal bank ∷ decimal tsc ∷ hexadecimal cap ∷ hexadecimal mcg ∷ hexadecimal status ∷ hexadecimal addr ∷ hexadecimal misc ∷ []) (bank_words boot seconds cpu bank tsc cap mcg status addr misc within)) ∙ bank_read boot seconds cpu bank tsc cap mcg status addr misc within

@@ -1,15 +1,16 @@
--- What a bank line reports, by VAL.
-use Rattle.std.proofs.Common.{◌≡◌, ℕ, Bool, true, false, None, Some, [], ◌∷◌, refl}
+-- What lines report.
+use Rattle.std.proofs.Common.{◌≡◌, ℕ, Bool, true, false, None, Some, List, [], ◌∷◌, ◌++◌, refl, ap, ◌∙◌, append-nil}
+use Rattle.std.proofs.lemmas.List.Concat.{flat_map-append}
 use Rattle.mca_status.specs.Classes.{class_of_rows}
 use Rattle.mca_status.specs.Registers.{valid, uncorrected, context_corrupt, recovers_in_software, signaled, enabled, action_required}
 use Rattle.mca_status.specs.declared.registers.Cap.{Cap}
 use Rattle.mca_status.specs.declared.registers.Status.{Status}
 use Rattle.mca_status.specs.declared.classes.Class.{Class}
 use Rattle.mca_status.proofs.RowLemmas.{class_by}
-use Rattle.ras_account.specs.declared.name.Name.TheVariants.{Bank as BankName}
+use Rattle.ras_facts.specs.declared.name.Name.TheVariants.{Bank as BankName}
 use Rattle.ras_account.specs.Fresh.{names_in}
 use Rattle.ras_daemon.specs.declared.line.Line.TheVariants.{Bank}
-use Rattle.ras_daemon.specs.Reports.{made}
+use Rattle.ras_daemon.specs.Reports.{Read, made, made_by, reports}
 
 -- with VAL 1 there is a class
 some_class : (u p r s e a : Bool) → (class : Class) × (class_by true u p r s e a ≡ Some class)
@@ -39,3 +40,7 @@ made-valid boot seconds cpu bank tsc cap mcg status addr misc is =
 pub made-invalid : (boot seconds cpu bank tsc cap mcg status addr misc : ℕ) → valid (record { 0 = status }) ≡ false
     → made (Bank boot seconds cpu bank tsc cap mcg status addr misc) ≡ []
 made-invalid boot seconds cpu bank tsc cap mcg status addr misc is = rw (class_invalid (record { 0 = cap }) (record { 0 = status }) is) refl
+
+-- what lines report, with one line more
+pub reports-more : (before : List Read) (read : Read) → reports (before ++ read ∷ []) ≡ reports before ++ made_by read
+reports-more before read = flat_map-append made_by before (read ∷ []) ∙ ap (λ es. reports before ++ es) (append-nil (made_by read))

@@ -1,29 +1,31 @@
 -- How far a run has come on its board. This file only carries proofs: what a run prints, keeps and answers is said by
 -- Output, Stored and Status.
-use Rattle.std.specs.Prelude.{◌≡◌, ℕ, ◌*◌, ◌==◌, List, [], ◌∷◌, ◌++◌, length, Option, None, Some, Result, Ok, Err, if◌then◌else◌}
+use Rattle.std.specs.Prelude.{◌≡◌, ℕ, ◌==◌, List, [], ◌∷◌, ◌++◌, length, Option, None, Some, Result, Ok, Err, if◌then◌else◌}
 use Rattle.std.specs.List.{flat_map}
 use Rattle.std.specs.Option.{option_map}
-use Rattle.board_core.specs.declared.board.DiskCall.TheVariants.{Size, Sync}
+use Rattle.board_core.specs.declared.board.DiskCall.TheVariants.{Size, ReadAt, Sync}
 use Rattle.board_core.specs.declared.board.FileNo.TheVariants.{Zero}
 use Rattle.board_core.specs.Told.{Told, Relates, called, written, printed, MayList, FailsWrite, FailsPrint}
+use Rattle.entry_format.specs.Spelling.{entry_bytes}
 use Rattle.ras_base.specs.Places.{places_behind}
 use Rattle.ras_account.specs.declared.entry.Entry.{Entry}
 use Rattle.ras_account.specs.Account.{account_of}
-use Rattle.ras_account.specs.Fresh.{fresh, is_fresh_behind}
+use Rattle.ras_account.specs.Fresh.{is_fresh_behind}
 use Rattle.ras_daemon.specs.declared.exit.Exit.{Exit}
 use Rattle.ras_daemon.specs.declared.exit.Exit.TheVariants.{Done, Usage, SourceFault, DiskFault, PrintFault, NoMemory}
 use Rattle.ras_daemon.specs.declared.line.Line.{Line}
-use Rattle.ras_daemon.specs.declared.line.Line.TheVariants.{Empty, Comment, Bank}
+use Rattle.ras_daemon.specs.declared.line.Line.TheVariants.{Empty, Comment, Bank, Restart}
 use Rattle.ras_daemon.specs.declared.word.Command.{Command}
 use Rattle.ras_daemon.specs.declared.word.Command.TheVariants.{Run}
-use Rattle.ras_daemon.specs.PlainFile.{entry_length, entry_bytes}
+use Rattle.ras_daemon.specs.PlainFile.{fact_in, stored_end}
 use Rattle.ras_daemon.specs.Reports.{Read, reads_of, made, reports}
 use Rattle.ras_daemon.specs.Status.{refusal_at, start_refusal}
-use Rattle.ras_daemon.specs.Text.{event_text, done_line, end_line, stop_line}
+use Rattle.ras_daemon.specs.Text.{detail_of, event_text, done_line, end_line, stop_line}
 
--- a call on a board, of its file 0 or of its output
+-- a call on a board, of its file 0 or of its output; a read asks for so many bytes from the file's first one on
 pub data Step : Type 0 where
   asks_size : Step
+  reads : ℕ → Step
   writes : ℕ → List ℕ → Step
   syncs : Step
   prints : List ℕ → Step
@@ -31,6 +33,7 @@ pub data Step : Type 0 where
 -- what a call, and what calls in order, leave
 abbrev pub after : Step → Told → Told
 after asks_size told = called (Size Zero) told
+after (reads count) told = called (ReadAt Zero 0 count) told
 after (writes place bytes) told = written Zero place bytes told
 after syncs told = called (Sync Zero) told
 after (prints bytes) told = printed bytes told
@@ -42,18 +45,21 @@ after_all (step ∷ steps) told = after_all steps (after step told)
 -- what a failed call may leave
 abbrev pub Fails : Step → Told → Told → Type 0
 Fails asks_size old new = MayList (Size Zero) old new
+Fails (reads count) old new = MayList (ReadAt Zero 0 count) old new
 Fails (writes place bytes) old new = FailsWrite Zero place (length bytes) old new
 Fails syncs old new = MayList (Sync Zero) old new
 Fails (prints bytes) old new = FailsPrint bytes old new
 
 abbrev pub IsDisk : Step → Type 0
 IsDisk asks_size = Unit {0}
+IsDisk (reads count) = Unit {0}
 IsDisk (writes place bytes) = Unit {0}
 IsDisk syncs = Unit {0}
 IsDisk (prints bytes) = ⊥
 
 abbrev pub IsPrint : Step → Type 0
 IsPrint asks_size = ⊥
+IsPrint (reads count) = ⊥
 IsPrint (writes place bytes) = ⊥
 IsPrint syncs = ⊥
 IsPrint (prints bytes) = Unit {0}
@@ -103,7 +109,7 @@ TakesCall course exit old new = Takes course exit old new
 -- the calls of an entry behind those that were reported before it: a fresh one is written and synced
 abbrev pub entry_steps : List Entry → Entry → List Step
 entry_steps before entry =
-    if is_fresh_behind before entry then writes (entry_length * length (fresh before)) (entry_bytes entry) ∷ syncs ∷ [] else []
+    if is_fresh_behind before entry then writes (stored_end before) (entry_bytes (fact_in entry)) ∷ syncs ∷ [] else []
 
 abbrev pub entries_steps : List Entry → List Entry → List Step
 entries_steps before entries = flat_map (λ p. entry_steps p.0 p.1) (places_behind before entries)
@@ -113,15 +119,21 @@ abbrev pub text_steps : List ℕ → List Step
 text_steps text = if length text == 0 then [] else prints text ∷ []
 
 -- the calls of an event that makes these entries
-abbrev pub event_steps : List Entry → ℕ → List Entry → List Step
-event_steps before number entries =
-    entries_steps before entries ++ (text_steps (event_text before entries) ++ prints (done_line number) ∷ [])
+abbrev pub event_steps : List Entry → ℕ → List ℕ → List Entry → List Step
+event_steps before number detail entries =
+    entries_steps before entries ++ (text_steps (event_text before detail entries) ++ prints (done_line number) ∷ [])
+
+-- the calls by which the account is made again from the file
+abbrev pub reopen_steps : ℕ → List Step
+reopen_steps size = asks_size ∷ reads size ∷ []
 
 abbrev pub line_steps : List Read → ℕ → Line → List Step
 line_steps before number Empty = []
 line_steps before number Comment = []
 line_steps before number (Bank boot seconds cpu bank tsc cap mcg status addr misc) =
-    event_steps (reports before) number (made (Bank boot seconds cpu bank tsc cap mcg status addr misc))
+    let line = Bank boot seconds cpu bank tsc cap mcg status addr misc in
+    event_steps (reports before) number (detail_of line) (made line)
+line_steps before number Restart = reopen_steps (stored_end (reports before)) ++ prints (done_line number) ∷ []
 
 abbrev pub read_steps : List Read → Read → List Step
 read_steps before (number, Ok line) = line_steps before number line

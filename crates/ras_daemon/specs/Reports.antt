@@ -1,11 +1,11 @@
 -- What the lines of a script report.
 use Rattle.std.specs.Prelude.{ℕ, List, [], map, Option, None, Some, Result, Ok, Err}
 use Rattle.std.specs.List.{enumerate_from, flat_map}
-use Rattle.std.specs.Option.{option_and_then, option_to_list}
+use Rattle.std.specs.Option.{option_map_or, option_to_list}
 use Rattle.ras_facts.specs.declared.bank.BankReport.{BankReport}
 use Rattle.ras_facts.specs.Facts.{bank_fact}
 use Rattle.ras_account.specs.declared.entry.Entry.{Entry}
-use Rattle.ras_account.specs.declared.entry.Entry.TheVariants.{Fact}
+use Rattle.ras_account.specs.Fresh.{entries_of}
 use Rattle.ras_daemon.specs.declared.line.Line.{Line}
 use Rattle.ras_daemon.specs.declared.line.Line.TheVariants.{Bank}
 use Rattle.ras_daemon.specs.declared.line.LineRefused.{LineRefused}
@@ -40,9 +40,13 @@ bank_in (Bank boot seconds cpu bank tsc cap mcg status addr misc) = Some (record
 })
 bank_in line = None
 
--- What an event makes: a bank whose status register is valid makes the fact that its registers give.
+-- what a bank makes: the fact that its registers give, where its status register is valid
+abbrev pub bank_entries : BankReport → List Entry
+bank_entries bank = entries_of (option_to_list (bank_fact bank))
+
+-- what a line makes
 abbrev pub made : Line → List Entry
-made line = map Fact (option_to_list (option_and_then bank_fact (bank_in line)))
+made line = option_map_or [] bank_entries (bank_in line)
 
 abbrev pub made_by : Read → List Entry
 made_by (number, Ok line) = made line

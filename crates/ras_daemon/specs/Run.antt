@@ -2,12 +2,14 @@
 use Rattle.std.specs.Prelude.{◌≡◌, ℕ, List, [], Option, Result, Ok, Err}
 use Rattle.std.specs.Option.{option_map}
 use Rattle.board_core.specs.Told.{Told}
-use Rattle.ras_account.specs.Account.{State, account_of}
+use Rattle.ras_account.specs.Account.{State}
+use Rattle.ras_daemon.specs.declared.ledger.Ledger.{Ledger}
 use Rattle.ras_daemon.specs.declared.exit.Exit.{Exit}
-use Rattle.ras_daemon.specs.declared.exit.Exit.TheVariants.{Done, BadLine, SourceFault, DiskFault, PrintFault, NoMemory}
+use Rattle.ras_daemon.specs.declared.exit.Exit.TheVariants.{Done, Usage, BadLine, SourceFault, DiskFault, PrintFault, NoMemory}
 use Rattle.ras_daemon.specs.declared.exit.Reason.TheVariants.{Line as LineReason}
 use Rattle.ras_daemon.specs.declared.line.LineRefused.{LineRefused}
 use Rattle.ras_daemon.specs.declared.line.LineRefused.TheVariants as refused
+use Rattle.ras_daemon.specs.Event.{Keeps}
 use Rattle.ras_daemon.specs.Progress.{Step, after_all, Takes, behind, ends, lines_course}
 use Rattle.ras_daemon.specs.Reports.{Read, reports}
 use Rattle.ras_daemon.specs.Text.{stop_line, end_line}
@@ -31,6 +33,13 @@ IsAnswer PrintFault = ⊥
 IsAnswer NoMemory = ⊥
 IsAnswer exit = Unit {0}
 
+-- an exit that ends a run among its lines: any but those that come before them or behind them
+abbrev pub IsStop : Exit → Type 0
+IsStop Done = ⊥
+IsStop Usage = ⊥
+IsStop SourceFault = ⊥
+IsStop exit = Unit {0}
+
 -- an exit that ends a run before its end: a refusal, or want of memory
 abbrev pub IsRefusal : Exit → Type 0
 IsRefusal Done = ⊥
@@ -51,9 +60,9 @@ RefusesLine number why result old new = Refuses (BadLine number (LineReason why)
 
 -- Of all reads, those up to a place were taken, and the rest is left: the course is the calls that were made, and behind
 -- them the course of the rest.
-pub record TookSome (reads rest : List Read) (old new : Option Told) (state : State) : Type 0 where
+pub record TookSome (reads rest : List Read) (old new : Option Told) (ledger : Ledger) : Type 0 where
   pub before : List Read
   pub steps : List Step
   pub course : lines_course [] reads ≡ behind steps (lines_course before rest)
   pub goes : new ≡ option_map (after_all steps) old
-  pub account : state ≡ account_of (reports before)
+  pub keeps : Keeps (reports before) ledger new

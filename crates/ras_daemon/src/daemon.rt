@@ -101,7 +101,7 @@ fn run_source<S: Source, B: Board>(alloc: Global, source: &mut S, board: &mut B)
     requires empty { Fits (B.told board.old) 0 }
     ensures ended { result ≡ Exit.Done → IfSome (S.left source.old) (λ script. S.left source.new ≡ Some []) }
     ensures listed { result ≡ Exit.Usage → ⊥ }
-    ensures takes { IfSome (S.left source.old) (λ script. TakesCall (start_course (script_refusal script) script) result (B.told board.old) (B.told board.new)) }
+    ensures takes { OverTold (λ script told. TakesCall (start_course (script_refusal script) script) result (B.told board.old) (B.told board.new)) (S.left source.old) (B.told board.old) }
     ensures source { SourceCause result (S.faults source.old) (S.faults source.new) }
     ensures disk { DiskCause result (B.disk_faults board.old) (B.disk_faults board.new) }
     ensures print { PrintCause result (B.print_faults board.old) (B.print_faults board.new) }

@@ -1,22 +1,25 @@
 // One event: first all that takes memory, and then all that touches the board.
-ghost use Rattle.std.specs.Prelude.{◌≡◌, ◌≤◌, ◌+◌, ℕ, List, [], ◌∷◌, IfSome, IfOk, IfErr, OnOk, IsOkUnless};
+ghost use Rattle.std.specs.Prelude.{◌≡◌, ◌≤◌, ◌<◌, ◌+◌, ◌^◌, ℕ, List, [], ◌∷◌, IfSome, IfOk, IfErr, OnOk, IsOkUnless};
 ghost use Rattle.std.specs.Option.{option_to_list};
 ghost use Rattle.ras_account.specs.declared.entry.Entry.{Entry};
 ghost use Rattle.ras_account.specs.Account.{account_of, added_by, continued, continued_all, IsWithin};
 ghost use Rattle.ras_daemon.specs.Causes.{Causes, DiskCause, PrintCause};
-ghost use Rattle.ras_daemon.specs.Event.{IsPrepared, CanTake, PrepareExit, ReserveExit, Fits, fresh_steps, prepared_steps, state_after};
+ghost use Rattle.ras_daemon.specs.Event.{AreValid, IsPrepared, CanTake, PrepareExit, ReserveExit, Fits, end_after, fresh_steps, longest_entry, prepared_steps, state_after};
 ghost use Rattle.ras_daemon.specs.Progress.{Performs};
-ghost use Rattle.ras_daemon.specs.Reports.{made};
+ghost use Rattle.ras_daemon.specs.Reports.{bank_entries};
 ghost use Rattle.ras_daemon.specs.Run.{IsRefusal};
-ghost use Rattle.ras_daemon.specs.Text.{done_line};
+ghost use Rattle.ras_daemon.specs.Text.{bank_detail, done_line};
 
-use crate::plain_file::{ENTRY_LENGTH, entry_bytes};
+use crate::Exit;
+use crate::detail::bank_detail;
+use crate::ledger::Ledger;
 use crate::step::{append, say};
-use crate::text::{done_line, log_line, repeat_line};
-use crate::{Exit, Line};
+use crate::text::{done_line, log_lines, repeat_line};
 use board_core::{Board, Failed};
-use mca_status::{Cap, Status, class_of};
-use ras_account::{Account, Entry, Fact, Name, ReserveRefused};
+use entry_format::entry_bytes;
+use ras_account::{Account, Entry, ReserveRefused};
+use ras_base::NoMemory;
+use ras_facts::{BankReport, fact_of_bank};
 use std::alloc::Global;
 
 /// An event that has all its memory: what it appends to the file, and what it prints.
@@ -34,63 +37,43 @@ pub struct FreshEntry {
     pub bytes: Vec<u8>,
 }
 
-// What an event makes: a bank whose status is valid makes one fact.
-fn made(line: &Line) -> Option<Entry>
-    ensures { option_to_list result ≡ made line.now }
-{
-    let Line::Bank {
-        boot,
-        seconds,
-        cpu,
-        bank,
-        tsc,
-        cap,
-        status,
-        ..
-    } = line
-    else {
-        return None;
-    };
-    let class = class_of(Cap(*cap), Status(*status))?;
-    let name = Name::Bank {
-        boot: *boot,
-        cpu: *cpu,
-        bank: *bank,
-        tsc: *tsc,
-    };
-    Some(Entry::Fact(Fact {
-        name,
-        seconds: *seconds,
-        class,
-    }))
-}
-
-/// Takes all the memory of an event: that of its line's number, its entry in the account, its bytes and its texts. What
-/// the account counts stays.
+/// Takes all the memory of a bank's event: that of its entry in the account, its bytes and its texts, which end with the
+/// number of its line. What the account counts stays.
 ///
 /// `Full` comes exactly where the account has no room for what the event makes, and `NoMemory` where memory ran out.
 pub fn prepare(
     alloc: Global,
     number: u64,
-    line: &Line,
+    bank: &BankReport,
     account: &mut Account,
 ) -> Result<Prepared, Exit>
-    ensures prepared { IfOk result (λ event. (before : List Entry) → account.old.state ≡ account_of before → IsPrepared before number (made line.now) event) }
+    ensures prepared { IfOk result (λ event. (before : List Entry) → account.old.state ≡ account_of before → IsPrepared before number (bank_detail bank.now) (bank_entries bank.now) event) }
     ensures can_take { IfOk result (λ event. IfSome event.fresh (CanTake account.new)) }
     ensures state { account.new.state ≡ account.old.state }
-    ensures exits { IfErr result (λ exit. (before : List Entry) → account.old.state ≡ account_of before → PrepareExit before (made line.now) exit) }
+    ensures exits { IfErr result (λ exit. (before : List Entry) → account.old.state ≡ account_of before → PrepareExit before (bank_entries bank.now) exit) }
     ensures refused { IfErr result IsRefusal }
 {
     let done = done_line(alloc, number)?;
-    let made = made(line);
+    let made = made(alloc, bank)?;
     reserve(account, made.as_slice())?;
     match made {
-        Some(entry) => prepare_entry(alloc, entry, done, account),
+        Some(entry) => prepare_entry(alloc, bank, entry, done, account),
         None => Ok(Prepared {
             fresh: None,
             text: Vec::new(alloc),
             done,
         }),
+    }
+}
+
+// What the event of a bank makes.
+fn made(alloc: Global, bank: &BankReport) -> Result<Option<Entry>, NoMemory>
+    ensures made { IfOk result (λ made. option_to_list made ≡ bank_entries bank.now) }
+    ensures valid { IfOk result (λ made. AreValid (bank_entries bank.now)) }
+{
+    match fact_of_bank(alloc, bank)? {
+        Some(fact) => Ok(Some(Entry::Fact(fact))),
+        None => Ok(None),
     }
 }
 
@@ -109,16 +92,19 @@ fn reserve(account: &mut Account, entries: &[Entry]) -> Result<(), Exit>
     }
 }
 
-// Takes the memory of an event that makes one entry, for which there is room.
+// Takes the memory of a bank's event that makes an entry, for which there is room.
 fn prepare_entry(
     alloc: Global,
+    bank: &BankReport,
     entry: Entry,
     done: Vec<u8>,
     account: &Account,
 ) -> Result<Prepared, Exit>
+    requires made { entry ∷ [] ≡ bank_entries bank.now }
+    requires valid { AreValid (entry ∷ []) }
     requires waits { account.now.waiting ≡ added_by account.now.state (entry ∷ []) }
     requires within { IsWithin (continued account.now.state entry) }
-    ensures prepared { IfOk result (λ event. (before : List Entry) (number : ℕ) → account.now.state ≡ account_of before → done.items ≡ done_line number → IsPrepared before number (entry ∷ []) event) }
+    ensures prepared { IfOk result (λ event. (before : List Entry) (number : ℕ) → account.now.state ≡ account_of before → done.items ≡ done_line number → IsPrepared before number (bank_detail bank.now) (entry ∷ []) event) }
     ensures can_take { IfOk result (λ event. IfSome event.fresh (CanTake account.now)) }
     ensures exits { IsOkUnless result Exit.NoMemory }
 {
@@ -130,8 +116,10 @@ fn prepare_entry(
             done,
         });
     }
-    let text = log_line(alloc, &entry)?;
-    let bytes = entry_bytes(alloc, &entry)?;
+    let detail = bank_detail(alloc, bank)?;
+    let text = log_lines(alloc, &detail, &entry)?;
+    let Entry::Fact(fact) = &entry;
+    let bytes = entry_bytes(alloc, fact)?;
     Ok(Prepared {
         fresh: Some(FreshEntry { entry, bytes }),
         text,
@@ -142,18 +130,19 @@ fn prepare_entry(
 /// Does an event: appends its entry to the file, counts it, and prints its text and its done line. It takes no memory.
 ///
 /// `DiskFault` and `PrintFault` come only where such a call failed.
-pub fn commit<B: Board>(event: Prepared, account: &mut Account, board: &mut B) -> Result<(), Exit>
-    requires can_take { IfSome event.fresh (CanTake account.old) }
-    requires few { account.old.state.entries ≤ 40000 }
-    requires fits { Fits (B.told board.old) account.old.state.entries }
-    ensures performs { Performs (prepared_steps account.old.state.entries event) result (B.told board.old) (B.told board.new) }
-    ensures account { OnOk result (account.new.state ≡ state_after event.fresh account.old.state) }
-    ensures grows { OnOk result (account.new.state.entries ≤ account.old.state.entries + 1) }
-    ensures fits { OnOk result (Fits (B.told board.new) account.new.state.entries) }
+pub fn commit<B: Board>(event: Prepared, ledger: &mut Ledger, board: &mut B) -> Result<(), Exit>
+    requires can_take { IfSome event.fresh (CanTake ledger.old.account) }
+    requires small { ledger.old.end + longest_entry < 2 ^ 64 }
+    requires fits { Fits (B.told board.old) ledger.old.end }
+    ensures performs { Performs (prepared_steps ledger.old.end event) result (B.told board.old) (B.told board.new) }
+    ensures account { OnOk result (ledger.new.account.state ≡ state_after event.fresh ledger.old.account.state) }
+    ensures end { OnOk result (ledger.new.end ≡ end_after event.fresh ledger.old.end) }
+    ensures grows { OnOk result (ledger.new.end ≤ ledger.old.end + longest_entry) }
+    ensures fits { OnOk result (Fits (B.told board.new) ledger.new.end) }
     ensures disk { Causes DiskCause result (B.disk_faults board.old) (B.disk_faults board.new) }
     ensures print { Causes PrintCause result (B.print_faults board.old) (B.print_faults board.new) }
 {
-    if let Err(exit) = count(event.fresh, account, board) {
+    if let Err(exit) = count(event.fresh, ledger, board) {
         return Err(exit);
     }
     if let Err(exit) = say(board, &event.text) {
@@ -168,26 +157,27 @@ pub fn commit<B: Board>(event: Prepared, account: &mut Account, board: &mut B) -
 // Appends a fresh entry to the file, and counts it.
 fn count<B: Board>(
     fresh: Option<FreshEntry>,
-    account: &mut Account,
+    ledger: &mut Ledger,
     board: &mut B,
 ) -> Result<(), Exit>
-    requires can_take { IfSome fresh (CanTake account.old) }
-    requires few { account.old.state.entries ≤ 40000 }
-    requires fits { Fits (B.told board.old) account.old.state.entries }
-    ensures performs { Performs (fresh_steps account.old.state.entries fresh) result (B.told board.old) (B.told board.new) }
-    ensures account { OnOk result (account.new.state ≡ state_after fresh account.old.state) }
-    ensures grows { OnOk result (account.new.state.entries ≤ account.old.state.entries + 1) }
-    ensures fits { OnOk result (Fits (B.told board.new) account.new.state.entries) }
+    requires can_take { IfSome fresh (CanTake ledger.old.account) }
+    requires small { ledger.old.end + longest_entry < 2 ^ 64 }
+    requires fits { Fits (B.told board.old) ledger.old.end }
+    ensures performs { Performs (fresh_steps ledger.old.end fresh) result (B.told board.old) (B.told board.new) }
+    ensures account { OnOk result (ledger.new.account.state ≡ state_after fresh ledger.old.account.state) }
+    ensures end { OnOk result (ledger.new.end ≡ end_after fresh ledger.old.end) }
+    ensures grows { OnOk result (ledger.new.end ≤ ledger.old.end + longest_entry) }
+    ensures fits { OnOk result (Fits (B.told board.new) ledger.new.end) }
     ensures disk { Causes DiskCause result (B.disk_faults board.old) (B.disk_faults board.new) }
     ensures print { Causes PrintCause result (B.print_faults board.old) (B.print_faults board.new) }
 {
     let Some(fresh) = fresh else {
         return Ok(());
     };
-    let place = ENTRY_LENGTH * account.entries();
-    if let Err(exit) = append(board, place, &fresh.bytes) {
+    if let Err(exit) = append(board, ledger.end, &fresh.bytes) {
         return Err(exit);
     }
-    account.take(fresh.entry);
+    ledger.end += fresh.bytes.len() as u64;
+    ledger.account.take(fresh.entry);
     Ok(())
 }

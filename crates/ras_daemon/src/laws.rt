@@ -3,20 +3,19 @@ ghost use Rattle.std.specs.Prelude.{◌≡◌, ◌↔◌, ℕ, List, [], ◌∷�
 ghost use Rattle.std.specs.Bool.{IsFalse};
 ghost use Rattle.std.specs.List.{IsDistinct};
 ghost use Rattle.mca_status.specs.Registers.{valid};
-ghost use Rattle.ras_account.specs.declared.name.Name.{Name};
-ghost use Rattle.ras_account.specs.declared.name.Name.TheVariants.{Bank as BankName};
+ghost use Rattle.ras_facts.specs.declared.name.Name.{Name};
+ghost use Rattle.ras_facts.specs.declared.name.Name.TheVariants.{Bank as BankName};
 ghost use Rattle.ras_account.specs.Fresh.{names_in, same_name};
 ghost use Rattle.ras_daemon.specs.declared.line.Line.TheVariants.{Bank};
-ghost use Rattle.ras_daemon.specs.Reports.{made, reads_of, reports};
-ghost use Rattle.ras_daemon.specs.Status.{taken_of};
-ghost use Rattle.ras_daemon.specs.Stored.{logged_of};
+ghost use Rattle.ras_daemon.specs.Reports.{made};
+ghost use Rattle.ras_daemon.specs.Stored.{logged_of, reported_of};
 
 /// The laws of what a script logs. The function does nothing: its clauses are what it is for.
 pub fn logging_laws()
     // Each name is logged once, whatever the script, and those logged are the names of all that the lines before the
     // first refused one report.
     ensures once { (script : List ℕ) → IsDistinct same_name (names_in (logged_of script)) }
-    ensures all { (script : List ℕ) (name : Name) → Contains (names_in (logged_of script)) name ↔ Contains (names_in (reports (taken_of (reads_of script)))) name }
+    ensures all { (script : List ℕ) (name : Name) → Contains (names_in (logged_of script)) name ↔ Contains (names_in (reported_of script)) name }
 
     // A bank line reports one fact under its name where VAL, bit 63 of its status register, is 1, and else nothing.
     ensures reported { (boot seconds cpu bank tsc cap mcg status addr misc : ℕ) → IsTrue (valid (record { 0 = status }))

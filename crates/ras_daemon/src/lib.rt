@@ -2,12 +2,13 @@
 #![tactic(auto)]
 
 mod daemon;
+mod detail;
 mod event;
 mod exit;
 mod laws;
+mod ledger;
 mod line;
 mod number;
-mod plain_file;
 mod run;
 mod script;
 mod splitting;

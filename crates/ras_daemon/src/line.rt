@@ -1,6 +1,6 @@
 // The lines of a script.
 ghost use Rattle.std.specs.Prelude.{◌≡◌, ℕ, ◌<◌, ◌≤◌, List, length, map, IfOk, IsErr};
-ghost use Rattle.ras_daemon.specs.Line.{ReadsLine, InRange, text_of, line_of, line_of_words, bank_of, decimal_at, hexadecimal_at};
+ghost use Rattle.ras_daemon.specs.Line.{ReadsLine, InRange, text_of, line_of, line_of_words, bank_of, restart_of, decimal_at, hexadecimal_at};
 ghost use Rattle.ras_daemon.specs.Splitting.{words_of};
 ghost use Rattle.ras_daemon.specs.declared.line.LineRefused.TheVariants as RefusedFor;
 
@@ -16,6 +16,8 @@ pub enum Line {
     Empty,
     /// A line whose first word begins with `#`.
     Comment,
+    /// The account is to be made again from the file.
+    Restart,
     /// A snapshot of a machine-check bank: the boot's number, seconds, the CPU, the bank, the time-stamp counter, and
     /// the registers IA32_MCG_CAP, IA32_MCG_STATUS, IA32_MCi_STATUS, IA32_MCi_ADDR and IA32_MCi_MISC.
     Bank {
@@ -98,8 +100,19 @@ fn line_of_words(words: &[&[u8]]) -> Result<Line, LineRefused>
     }
     match *kind {
         b"bank" => bank_of(rest),
+        b"restart" => restart_of(rest),
         _ => Err(LineRefused::Kind),
     }
+}
+
+// No word stands after `restart`.
+fn restart_of(words: &[&[u8]]) -> Result<Line, LineRefused>
+    ensures { result ≡ restart_of (map (λ word. word.now) words.now) }
+{
+    if !words.is_empty() {
+        return Err(LineRefused::Words);
+    }
+    Ok(Line::Restart)
 }
 
 // The snapshot of a bank, from the words after `bank`.
@@ -168,7 +181,7 @@ mod tests {
             addr: 0x1234_5040,
             misc: 0x86,
         };
-        let cases: [(&[u8], Result<Line, LineRefused>); 15] = [
+        let cases: [(&[u8], Result<Line, LineRefused>); 17] = [
             (b"", Ok(Line::Empty)),
             (b"   ", Ok(Line::Empty)),
             (b"# comment", Ok(Line::Comment)),
@@ -200,7 +213,9 @@ mod tests {
                 b"banks 1 100 0 7 1000 1000c14 0 8c00004000010090 12345040 86",
                 Err(LineRefused::Kind),
             ),
-            (b"restart", Err(LineRefused::Kind)),
+            (b"restart", Ok(Line::Restart)),
+            (b" restart  ", Ok(Line::Restart)),
+            (b"restart 1", Err(LineRefused::Words)),
             (b"Bank 1", Err(LineRefused::Kind)),
         ];
         for (bytes, want) in cases {

@@ -1,34 +1,38 @@
 // The run over a script.
-ghost use Rattle.std.specs.Prelude.{◌≡◌, ◌≤◌, ◌+◌, ◌<◌, ◌⊎◌, ℕ, [], List, length, IfOk, OnOk};
+ghost use Rattle.std.specs.Prelude.{◌≡◌, ◌≤◌, ◌+◌, ◌<◌, ◌^◌, ◌⊎◌, ℕ, [], List, length, max, Ok, IfErr, IfSome, OnOk};
 ghost use Rattle.ras_account.specs.declared.entry.Entry.{Entry};
-ghost use Rattle.ras_account.specs.Account.{account_of};
 ghost use Rattle.ras_daemon.specs.Causes.{Causes, DiskCause, PrintCause};
-ghost use Rattle.ras_daemon.specs.Event.{Fits, TakesEvent, TakesLine};
+ghost use Rattle.ras_daemon.specs.Event.{Fits, Keeps, TakesEvent, TakesLine, longest_entry};
 ghost use Rattle.ras_daemon.specs.Line.{line_of};
 ghost use Rattle.ras_daemon.specs.Progress.{Takes, ends, lines_course};
-ghost use Rattle.ras_daemon.specs.Reports.{Read, made, reads_of, reports};
-ghost use Rattle.ras_daemon.specs.Run.{TakesLines, IsAnswer, IsRefusal, Refuses, RefusesLine};
+ghost use Rattle.ras_daemon.specs.Reports.{Read, bank_entries, reads_of, reports};
+ghost use Rattle.ras_daemon.specs.Run.{TakesLines, IsAnswer, IsRefusal, IsStop, Refuses, RefusesLine};
+ghost use Rattle.ras_daemon.specs.Text.{bank_detail};
+ghost use Rattle.ras_daemon.specs.declared.line.Line.TheVariants.{Restart};
 
 use crate::event::{commit, prepare};
+use crate::ledger::{Ledger, reopen};
 use crate::splitting::first_line;
 use crate::{Exit, Line, LineRefused, Reason, read_line, text};
 use board_core::{Board, Failed};
-use ras_account::Account;
+use ras_facts::BankReport;
 use std::alloc::Global;
 
 /// Takes a script's lines over an empty file, to the first refused one or to its end, and prints the last line.
 pub fn run_script<B: Board>(alloc: Global, script: &[u8], board: &mut B) -> Exit
     requires short { length script.now ≤ 40000 }
     requires empty { Fits (B.told board.old) 0 }
-    ensures takes { Takes (lines_course [] (reads_of script.now)) result (B.told board.old) (B.told board.new) }
+    ensures takes { IfSome (B.told board.old) (λ told. Takes (lines_course [] (reads_of script.now)) result (B.told board.old) (B.told board.new)) }
     ensures listed { result ≡ Exit.Usage → ⊥ }
+    ensures source { result ≡ Exit.SourceFault → ⊥ }
     ensures disk { DiskCause result (B.disk_faults board.old) (B.disk_faults board.new) }
     ensures print { PrintCause result (B.print_faults board.old) (B.print_faults board.new) }
 {
-    let mut account = Account::new(alloc);
-    if let Err(exit) = take_lines(alloc, script, &mut account, board) {
+    let mut ledger = Ledger::new(alloc);
+    if let Err(exit) = take_lines(alloc, script, &mut ledger, board) {
         return exit;
     }
+    let account = &ledger.account;
     match text::end_line(alloc, account.entries(), account.names_len()) {
         Ok(line) => last_line(&line, Exit::Done, board),
         Err(_) => Exit::NoMemory,
@@ -39,13 +43,14 @@ pub fn run_script<B: Board>(alloc: Global, script: &[u8], board: &mut B) -> Exit
 fn take_lines<B: Board>(
     alloc: Global,
     script: &[u8],
-    account: &mut Account,
+    ledger: &mut Ledger,
     board: &mut B,
 ) -> Result<(), Exit>
     requires short { length script.now ≤ 40000 }
-    requires new { account.old.state ≡ account_of [] }
     requires empty { Fits (B.told board.old) 0 }
-    ensures takes { TakesLines (reads_of script.now) result (B.told board.old) (B.told board.new) account.new.state }
+    requires end { ledger.old.end ≡ 0 }
+    ensures takes { Keeps [] ledger.old (B.told board.old) → TakesLines (reads_of script.now) result (B.told board.old) (B.told board.new) ledger.new.account.state }
+    ensures stops { IfErr result IsStop }
     ensures disk { Causes DiskCause result (B.disk_faults board.old) (B.disk_faults board.new) }
     ensures print { Causes PrintCause result (B.print_faults board.old) (B.print_faults board.new) }
 {
@@ -54,7 +59,7 @@ fn take_lines<B: Board>(
     while !rest.is_empty() {
         let (line, after) = first_line(rest);
         number += 1;
-        if let Err(exit) = take_line(alloc, number, line, account, board) {
+        if let Err(exit) = take_line(alloc, number, line, ledger, board) {
             return Err(exit);
         }
         rest = after;
@@ -67,14 +72,15 @@ fn take_line<B: Board>(
     alloc: Global,
     number: u64,
     bytes: &[u8],
-    account: &mut Account,
+    ledger: &mut Ledger,
     board: &mut B,
 ) -> Result<(), Exit>
-    requires few { account.old.state.entries ≤ 40000 }
-    requires fits { Fits (B.told board.old) account.old.state.entries }
-    ensures takes { (before : List Read) → account.old.state ≡ account_of (reports before) → TakesLine before (number, line_of bytes.now) result (B.told board.old) (B.told board.new) account.new.state }
-    ensures grows { OnOk result (account.new.state.entries ≤ account.old.state.entries + 1) }
-    ensures fits { OnOk result (Fits (B.told board.new) account.new.state.entries) }
+    requires small { ledger.old.end + longest_entry < 2 ^ 64 }
+    requires fits { Fits (B.told board.old) ledger.old.end }
+    ensures takes { (before : List Read) → Keeps (reports before) ledger.old (B.told board.old) → TakesLine before (number, line_of bytes.now) result (B.told board.old) (B.told board.new) ledger.new }
+    ensures grows { OnOk result (ledger.new.end ≤ max ledger.old.end (2 ^ 63) + longest_entry) }
+    ensures fits { OnOk result (Fits (B.told board.new) ledger.new.end) }
+    ensures stops { IfErr result IsStop }
     ensures disk { Causes DiskCause result (B.disk_faults board.old) (B.disk_faults board.new) }
     ensures print { Causes PrintCause result (B.print_faults board.old) (B.print_faults board.new) }
 {
@@ -84,30 +90,86 @@ fn take_line<B: Board>(
     };
     match line {
         Line::Empty | Line::Comment => Ok(()),
-        Line::Bank { .. } => take_event(alloc, number, &line, account, board),
+        Line::Restart => take_restart(alloc, number, ledger, board),
+        Line::Bank {
+            boot,
+            seconds,
+            cpu,
+            bank,
+            tsc,
+            cap,
+            mcg,
+            status,
+            addr,
+            misc,
+        } => {
+            let report = BankReport {
+                boot,
+                seconds,
+                cpu,
+                bank,
+                tsc,
+                cap,
+                mcg,
+                status,
+                addr,
+                misc,
+            };
+            take_bank(alloc, number, &report, ledger, board)
+        }
     }
 }
 
-// Takes the event of the line of this number.
-fn take_event<B: Board>(
+// Takes a bank's snapshot, from the line of this number.
+fn take_bank<B: Board>(
     alloc: Global,
     number: u64,
-    line: &Line,
-    account: &mut Account,
+    bank: &BankReport,
+    ledger: &mut Ledger,
     board: &mut B,
 ) -> Result<(), Exit>
-    requires few { account.old.state.entries ≤ 40000 }
-    requires fits { Fits (B.told board.old) account.old.state.entries }
-    ensures takes { (before : List Entry) → account.old.state ≡ account_of before → TakesEvent before number (made line.now) result (B.told board.old) (B.told board.new) account.new.state }
-    ensures grows { OnOk result (account.new.state.entries ≤ account.old.state.entries + 1) }
-    ensures fits { OnOk result (Fits (B.told board.new) account.new.state.entries) }
+    requires small { ledger.old.end + longest_entry < 2 ^ 64 }
+    requires fits { Fits (B.told board.old) ledger.old.end }
+    ensures takes { (before : List Entry) → Keeps before ledger.old (B.told board.old) → TakesEvent before number (bank_detail bank.now) (bank_entries bank.now) result (B.told board.old) (B.told board.new) ledger.new }
+    ensures grows { OnOk result (ledger.new.end ≤ ledger.old.end + longest_entry) }
+    ensures fits { OnOk result (Fits (B.told board.new) ledger.new.end) }
+    ensures stops { IfErr result IsStop }
     ensures disk { Causes DiskCause result (B.disk_faults board.old) (B.disk_faults board.new) }
     ensures print { Causes PrintCause result (B.print_faults board.old) (B.print_faults board.new) }
 {
-    match prepare(alloc, number, line, account) {
-        Ok(event) => commit(event, account, board),
+    match prepare(alloc, number, bank, &mut ledger.account) {
+        Ok(event) => commit(event, ledger, board),
         Err(exit) => Err(refuse(alloc, exit, board)),
     }
+}
+
+// Makes the account again from the file, by the line of this number.
+fn take_restart<B: Board>(
+    alloc: Global,
+    number: u64,
+    ledger: &mut Ledger,
+    board: &mut B,
+) -> Result<(), Exit>
+    ensures takes { (before : List Read) → Keeps (reports before) ledger.old (B.told board.old) → TakesLine before (number, Ok Restart) result (B.told board.old) (B.told board.new) ledger.new }
+    ensures small { OnOk result (ledger.new.end < 2 ^ 63) }
+    ensures fits { OnOk result (Fits (B.told board.new) ledger.new.end) }
+    ensures stops { IfErr result IsStop }
+    ensures disk { Causes DiskCause result (B.disk_faults board.old) (B.disk_faults board.new) }
+    ensures print { Causes PrintCause result (B.print_faults board.old) (B.print_faults board.new) }
+{
+    let done = match text::done_line(alloc, number) {
+        Ok(done) => done,
+        Err(_) => return Err(Exit::NoMemory),
+    };
+    match reopen(alloc, board) {
+        Ok(opened) => *ledger = opened,
+        Err(Exit::DiskFault) => return Err(Exit::DiskFault),
+        Err(exit) => return Err(refuse(alloc, exit, board)),
+    }
+    if let Err(Failed) = board.print(&done) {
+        return Err(Exit::PrintFault);
+    }
+    Ok(())
 }
 
 // Ends the run at a line that can't be read.

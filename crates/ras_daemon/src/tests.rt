@@ -9,7 +9,10 @@ use std::test::Fail;
 const EVERYDAY: &str = "bank 1 100 0 7 1000 1000c14 0 8c00004000010090 12345040 86\n";
 
 // The same as a line of the log, and of a repeat.
-const LOGGED: &str = "log bank=1/0/7/1000 t=100 class=CE\n";
+const LOGGED: &str = concat!(
+    "log bank=1/0/7/1000 t=100 class=CE weight=1 label=- page=0000000012345000 code=memory:RD:0 ",
+    "threshold=none over=0 mark=- ripv=0 eipv=0 mcip=0\n"
+);
 
 const REPEATED: &str = "repeat bank=1/0/7/1000\n";
 

@@ -1,13 +1,18 @@
 // The lines that are printed.
-ghost use Rattle.std.specs.Prelude.{◌≡◌, ◌++◌, decimal, IfOk, OnOk};
-ghost use Rattle.ras_daemon.specs.Text.{name_text, class_text, log_line, repeat_line, done_line, end_text, stop_line, reason_text};
+ghost use Rattle.std.specs.Prelude.{◌≡◌, ◌++◌, decimal, IfOk, IfSome, OnOk};
+ghost use Rattle.ras_facts.specs.Valid.{IsPage, IsValidItem, IsValidFact};
+ghost use Rattle.ras_daemon.specs.PlainFile.{fact_in};
+ghost use Rattle.ras_daemon.specs.Text.{name_text, class_text, page_text, item_line, log_lines, repeat_line, done_line, end_text, stop_line, reason_text};
 
 use crate::{Exit, LineRefused, Reason};
 use itoa::Buffer;
-use mca_status::Class;
-use ras_account::{Entry, Name};
+use mca_status::ItemClass;
+use ras_account::{Entry, Fact, Item, Name};
 use ras_base::NoMemory;
 use std::alloc::Global;
+
+// How many bytes a page has.
+const PAGE_BYTES: u64 = 4096;
 
 // Adds a number in decimal.
 fn push_number(text: &mut Vec<u8>, number: u64) -> Result<(), NoMemory>
@@ -42,35 +47,76 @@ fn push_name(text: &mut Vec<u8>, name: &Name) -> Result<(), NoMemory>
 }
 
 // The text of a class.
-fn class_word(class: Class) -> &'static [u8]
+fn class_word(class: ItemClass) -> &'static [u8]
     ensures { result.now ≡ class_text class }
 {
     match class {
-        Class::Ce => b"CE",
-        Class::Ucna => b"UCNA",
-        Class::Srao => b"SRAO",
-        Class::Srar => b"SRAR",
-        Class::Uc => b"UC",
-        Class::Odd => b"ODD",
+        ItemClass::Ce => b"CE",
+        ItemClass::Ucna => b"UCNA",
+        ItemClass::Srao => b"SRAO",
+        ItemClass::Srar => b"SRAR",
+        ItemClass::Uc => b"UC",
+        ItemClass::Odd => b"ODD",
+        ItemClass::Corrected => b"corrected",
+        ItemClass::Recoverable => b"recoverable",
+        ItemClass::Fatal => b"fatal",
+        ItemClass::Informational => b"informational",
     }
 }
 
-/// The line of a fresh entry.
-pub fn log_line(alloc: Global, entry: &Entry) -> Result<Vec<u8>, NoMemory>
-    ensures { IfOk result (λ text. text.items ≡ log_line entry.now) }
+// Adds a page, as the address of its first byte.
+fn push_page(alloc: Global, text: &mut Vec<u8>, page: Option<u64>) -> Result<(), NoMemory>
+    requires { IfSome page IsPage }
+    ensures { OnOk result (text.new.items ≡ text.old.items ++ page_text page) }
 {
-    match entry {
-        Entry::Fact(fact) => {
-            let mut text = Vec::from_slice(alloc, b"log ")?;
-            push_name(&mut text, &fact.name)?;
-            text.extend_from_slice(b" t=")?;
-            push_number(&mut text, fact.seconds)?;
-            text.extend_from_slice(b" class=")?;
-            text.extend_from_slice(class_word(fact.class))?;
-            text.extend_from_slice(b"\n")?;
-            Ok(text)
+    match page {
+        None => text.extend_from_slice(b"-")?,
+        Some(page) => {
+            let address = PAGE_BYTES * page;
+            text.extend_from_slice(hex::encode(alloc, address.to_be_bytes())?.as_bytes())?;
         }
     }
+    Ok(())
+}
+
+// Adds the line of an item of a fresh fact.
+fn push_item(
+    alloc: Global,
+    text: &mut Vec<u8>,
+    fact: &Fact,
+    detail: &[u8],
+    item: &Item,
+) -> Result<(), NoMemory>
+    requires { IsValidItem item.now }
+    ensures { OnOk result (text.new.items ≡ text.old.items ++ item_line fact.now detail.now item.now) }
+{
+    text.extend_from_slice(b"log ")?;
+    push_name(text, &fact.name)?;
+    text.extend_from_slice(b" t=")?;
+    push_number(text, fact.seconds)?;
+    text.extend_from_slice(b" class=")?;
+    text.extend_from_slice(class_word(item.class))?;
+    text.extend_from_slice(b" weight=")?;
+    push_number(text, u64::from(item.weight))?;
+    text.extend_from_slice(b" label=- page=")?;
+    push_page(alloc, text, item.page)?;
+    text.extend_from_slice(b" ")?;
+    text.extend_from_slice(detail)?;
+    text.extend_from_slice(b"\n")?;
+    Ok(())
+}
+
+/// The lines of a fresh entry, one for each item, with what is told beside the items.
+pub fn log_lines(alloc: Global, detail: &[u8], entry: &Entry) -> Result<Vec<u8>, NoMemory>
+    requires { IsValidFact (fact_in entry.now) }
+    ensures { IfOk result (λ text. text.items ≡ log_lines detail.now entry.now) }
+{
+    let Entry::Fact(fact) = entry;
+    let mut text = Vec::new(alloc);
+    for item in fact.items.as_slice() {
+        push_item(alloc, &mut text, fact, detail, item)?;
+    }
+    Ok(text)
 }
 
 /// The line of a fact whose name was reported before.

@@ -7,7 +7,7 @@ use Rattle.ras_daemon.proofs.event.commit.Goals as goal
 pub returns-in-Err-clause-performs : goal.returns-in-Err-clause-performs
 returns-in-Err-clause-performs g c =
     performs_first _ _
-    (fresh_steps c.args.account.now.state.entries c.args.event.fresh)
+    (fresh_steps c.args.ledger.now.end c.args.event.fresh)
     (text_steps c.args.event.text.items ++ prints c.args.event.done.items ∷ [])
     c.in-Err.exit
     c.in-Err.ensures.performs
@@ -16,7 +16,7 @@ pub returns-in-Err-print-clause-performs : goal.returns-in-Err-print-clause-perf
 returns-in-Err-print-clause-performs g c =
     rw (← c.deref.ensures.value, ← c.deref-2.ensures.value)
     (cut_behind
-    (fresh_steps c.args.account.now.state.entries c.args.event.fresh)
+    (fresh_steps c.args.ledger.now.end c.args.event.fresh)
     (text_steps c.deref.result.now ++ prints c.deref-2.result.now ∷ [])
     c.in_default.ensures.performs
     (cut_behind

@@ -1,7 +1,7 @@
 use Rattle.std.proofs.Common.{◌∙◌}
 use Rattle.ras_daemon.specs.Reports.{made}
 use Rattle.ras_daemon.proofs.RunLemmas.{event_taken}
-use Rattle.ras_daemon.proofs.run.take_event.Goals as goal
+use Rattle.ras_daemon.proofs.run.take_bank.Goals as goal
 
 pub returns-in-Ok-clause-takes : goal.returns-in-Ok-clause-takes
 returns-in-Ok-clause-takes g c = λ before is.
