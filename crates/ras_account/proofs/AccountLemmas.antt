@@ -1,5 +1,5 @@
 -- How entries continue an account.
-use Rattle.std.proofs.Common.{◌≡◌, ℕ, ◌+◌, ◌≤◌, Bool, true, false, not, if◌then◌else◌, List, [], ◌∷◌, ◌++◌, length, ◌||◌, refl, sym, ap, subst, ◌∙◌, length-append, add-zero, append_assoc, append-nil, true≢false, Some, take, get_or, add-one, ◌<◌, arith, ◌&&◌, drop, zero, suc}
+use Rattle.std.proofs.Common.{◌≡◌, ℕ, ◌+◌, ◌≤◌, Bool, true, false, not, if◌then◌else◌, List, [], ◌∷◌, ◌++◌, length, ◌||◌, refl, sym, ap, subst, ◌∙◌, length-append, add-zero, append_assoc, append-nil, true≢false, Some, take, get_or, add-one, ◌<◌, arith, ◌&&◌, drop, zero, suc, inl, inr}
 use Rattle.std.specs.List.{list_any, cons_option, IsDistinct}
 use Rattle.std.proofs.lemmas.Map.Keys.{IsDistinct-push}
 use Rattle.std.proofs.lemmas.List.Sums.{fold-append}
@@ -8,16 +8,23 @@ use Rattle.std.proofs.Math.Bool.{or-false}
 use Rattle.std.proofs.lemmas.List.{length-take-le, append_cancel_left}
 use Rattle.std.proofs.Math.Seq.{take-suc, drop-cons, take-append_seam, drop-append_seam}
 use Rattle.indexmap.specs.IndexSet.{insert_key, insert_all}
+use Rattle.ras_facts.specs.declared.items.Item.{Item}
 use Rattle.ras_facts.specs.declared.name.Name.{Name}
 use Rattle.ras_account.specs.declared.entry.Entry.{Entry}
 use Rattle.ras_account.specs.declared.entry.Entry.TheVariants.{Fact}
 use Rattle.ras_account.specs.Fresh.{name_in, names_in, same_name}
-use Rattle.ras_account.specs.Account.{State, is_fresh_in, with_entry, continued, continued_all, added_by, IsWithin}
+use Rattle.ras_account.specs.Account.{State, items_of, items_in, is_fresh_in, sums_with, with_entry, continued, continued_all, added_by, IsWithin, IsPast}
 use Rattle.ras_account.specs.View.{View}
+use Rattle.ras_account.specs.Weighed.{Weighed, weighed_with}
+use Rattle.ras_account.specs.Weights.{weight_in}
+use Rattle.ras_account.specs.Saturated.{saturated}
 use Rattle.ras_base.specs.Prefix.{IsPrefixOf}
-use Rattle.ras_account.specs.Growth.{brings, GrowsBy}
+use Rattle.ras_account.specs.Growth.{brings, GrowsBy, IsGrowth, IsRoom}
+use Rattle.ras_account.specs.Kept.{IsKept}
+use Rattle.ras_account.specs.declared.growth.Growth.{Growth}
 use Rattle.ras_account.proofs.FreshLemmas.{names_in-append}
 use Rattle.ras_account.proofs.NameLemmas.{same_name-exact, same_name-laws}
+use Rattle.ras_account.proofs.WeightLemmas.{weight_in-append, length-sums_with}
 
 -- the names of an account are those inserted in turn
 pub names-continued_all : (a : State) (entries : List Entry) → (continued_all a entries).names ≡ insert_all same_name a.names (names_in entries)
@@ -103,30 +110,58 @@ is_fresh_in-continued_all a entries (Fact fact) name is =
     named = cc
 
 -- one entry more is counted where it is fresh
-pub grows_more : (n : ℕ) (old a : State) (e : Entry) → is_fresh_in a e ≡ true → GrowsBy n old a → GrowsBy (n + 1) old (continued a e)
-grows_more n old a (Fact fact) fresh grown = subst (λ b. GrowsBy (n + 1) old (if b then with_entry a (Fact fact) else a)) (sym fresh) (record {
-  names = omega (arith, grown.names, length-append a.names (fact.name ∷ []));
-  entries = omega (arith, grown.entries);
-})
+pub grows_more : (n w : ℕ) (old a : State) (e : Entry) → is_fresh_in a e ≡ true → GrowsBy n w old a → GrowsBy (n + 1) (w + weight_in (items_of e)) old (continued a e)
+grows_more n w old a (Fact fact) fresh grown =
+    subst (λ b. GrowsBy (n + 1) (w + weight_in fact.items) old (if b then with_entry a (Fact fact) else a)) (sym fresh) (record {
+      names = omega (arith, grown.names, length-append a.names (fact.name ∷ []));
+      entries = omega (arith, grown.entries);
+      total = omega (arith, grown.total);
+    })
 
-pub grows_same : (n : ℕ) (old a : State) (e : Entry) → is_fresh_in a e ≡ false → GrowsBy n old a → GrowsBy n old (continued a e)
-grows_same n old a e repeat grown = subst (λ b. GrowsBy n old (if b then with_entry a e else a)) (sym repeat) grown
+pub grows_same : (n w : ℕ) (old a : State) (e : Entry) → is_fresh_in a e ≡ false → GrowsBy n w old a → GrowsBy n w old (continued a e)
+grows_same n w old a e repeat grown = subst (λ b. GrowsBy n w old (if b then with_entry a e else a)) (sym repeat) grown
 
--- so by at most as many as there are
-pub growth : (a : State) (entries : List Entry) → (n : ℕ) × (n ≤ length entries) × GrowsBy n a (continued_all a entries)
-growth a [] = (0, omega arith, record { names = sym (add-zero (length a.names)); entries = sym (add-zero a.entries) })
+-- with no entry the account stays
+pub grows_none : (a : State) → GrowsBy 0 0 a a
+grows_none a = record { names = sym (add-zero (length a.names)); entries = sym (add-zero a.entries); total = sym (add-zero a.total) }
+
+grows_both : (n m v w : ℕ) (a b c : State) → GrowsBy n v a b → GrowsBy m w b c → GrowsBy (n + m) (v + w) a c
+grows_both n m v w a b c first second = record {
+  names = omega (arith, first.names, second.names);
+  entries = omega (arith, first.entries, second.entries);
+  total = omega (arith, first.total, second.total);
+}
+
+-- what a list of entries adds: at most as many as there are, and at most what their items weigh
+pub record Adds (a : State) (entries : List Entry) : Type 0 where
+  pub number : ℕ
+  pub weight : ℕ
+  pub few : number ≤ length entries
+  pub light : weight ≤ weight_in (items_in entries)
+  pub grows : GrowsBy number weight a (continued_all a entries)
+
+pub growth : (a : State) (entries : List Entry) → Adds a entries
+growth a [] = record { number = 0; weight = 0; few = omega arith; light = omega arith; grows = grows_none a }
 growth a (e ∷ entries) = by (is_fresh_in a e) refl (growth (continued a e) entries)
   where
-    Grown : Type 0
-    Grown = (n : ℕ) × (n ≤ length (e ∷ entries)) × GrowsBy n a (continued_all (continued a e) entries)
+    weighs : weight_in (items_in (e ∷ entries)) ≡ weight_in (items_of e) + weight_in (items_in entries)
+    weighs = weight_in-append (items_of e) (items_in entries)
 
-    by : (b : Bool) → is_fresh_in a e ≡ b → (n : ℕ) × (n ≤ length entries) × GrowsBy n (continued a e) (continued_all (continued a e) entries) → Grown
-    by true fresh rest =
-        let one : GrowsBy (0 + 1) a (continued a e) = grows_more 0 a a e fresh (record { names = sym (add-zero (length a.names)); entries = sym (add-zero a.entries) }) in
-        (rest.0 + 1, omega arith, record { names = omega (arith, one.names, rest.2.names); entries = omega (arith, one.entries, rest.2.entries) })
-    by false repeat rest =
-        let none : GrowsBy 0 a (continued a e) = grows_same 0 a a e repeat (record { names = sym (add-zero (length a.names)); entries = sym (add-zero a.entries) }) in
-        (rest.0, omega arith, record { names = omega (arith, none.names, rest.2.names); entries = omega (arith, none.entries, rest.2.entries) })
+    by : (b : Bool) → is_fresh_in a e ≡ b → Adds (continued a e) entries → Adds a (e ∷ entries)
+    by true fresh rest = record {
+      number = 0 + 1 + rest.number;
+      weight = 0 + weight_in (items_of e) + rest.weight;
+      few = omega (arith, rest.few);
+      light = omega (arith, rest.light, weighs);
+      grows = grows_both (0 + 1) rest.number (0 + weight_in (items_of e)) rest.weight a (continued a e) (continued_all (continued a e) entries) (grows_more 0 0 a a e fresh (grows_none a)) rest.grows;
+    }
+    by false repeat rest = record {
+      number = 0 + rest.number;
+      weight = 0 + rest.weight;
+      few = omega (arith, rest.few);
+      light = omega (arith, rest.light, weighs);
+      grows = grows_both 0 rest.number 0 rest.weight a (continued a e) (continued_all (continued a e) entries) (grows_same 0 0 a a e repeat (grows_none a)) rest.grows;
+    }
 
 -- the entries up to a place, and the one there
 pub continued_all-more : (a : State) (entries : List Entry) (i : ℕ) (d : Entry) → i < length entries
@@ -141,49 +176,110 @@ stays_known a entries (Fact fact) known =
     is_fresh_in-continued_all a entries (Fact fact) fact.name refl
     ∙ ap (λ b. b && not (list_any (brings fact.name) entries)) known
 
--- a step of the count: m is the count with the entry at a place, n without it
-module _ (a : State) (entries : List Entry) (i n m : ℕ) (d : Entry) (within : i < length entries) (small : n ≤ i) (grown : GrowsBy n a (continued_all a (take i entries))) where
-  pub counted_fresh : is_fresh_in (continued_all a (take i entries)) (get_or entries i d) ≡ true → m ≡ n + 1 → (m ≤ i + 1) × GrowsBy m a (continued_all a (take (i + 1) entries))
-  counted_fresh fresh more = (omega arith, rw (more, continued_all-more a entries i d within) (grows_more n a _ _ fresh grown))
+-- a step of the count: n entries and the weight w are those before a place, m and v those with the entry e there
+module _ (a : State) (entries : List Entry) (i n w : ℕ) (e : Entry) (within : i < length entries) (at : e ≡ get_or entries i e) (small : n ≤ i)
+    (grown : IsGrowth (record { entries = n; weight = w }) a (continued_all a (take i entries))) where
+  more_so : continued_all a (take (i + 1) entries) ≡ continued (continued_all a (take i entries)) e
+  more_so = continued_all-more a entries i e within ∙ ap (continued (continued_all a (take i entries))) (sym at)
 
-  pub counted_same : is_fresh_in (continued_all a (take i entries)) (get_or entries i d) ≡ false → m ≡ n → (m ≤ i + 1) × GrowsBy m a (continued_all a (take (i + 1) entries))
-  counted_same repeat same = (omega arith, rw (same, continued_all-more a entries i d within) (grows_same n a _ _ repeat grown))
+  pub counted_fresh : (m v : ℕ) (items : List Item) → is_fresh_in (continued_all a (take i entries)) e ≡ true
+      → m ≡ n + 1 → items ≡ items_of e → v ≡ saturated (w + weight_in items)
+      → (m ≤ i + 1) × IsGrowth (record { entries = m; weight = v }) a (continued_all a (take (i + 1) entries))
+  counted_fresh m v items fresh more are weighs = (
+    omega (arith, small, more),
+    (
+      grown.0 + weight_in (items_of e),
+      omega (arith, weighs, grown.1, ap weight_in are),
+      rw (more, more_so) (grows_more n grown.0 a _ _ fresh grown.2),
+    ),
+  )
+
+  pub counted_same : (m v : ℕ) → is_fresh_in (continued_all a (take i entries)) e ≡ false → m ≡ n → v ≡ w
+      → (m ≤ i + 1) × IsGrowth (record { entries = m; weight = v }) a (continued_all a (take (i + 1) entries))
+  counted_same m v repeat same weighs = (
+    omega (arith, small, same),
+    (grown.0, weighs ∙ grown.1, rw (same, more_so) (grows_same n grown.0 a _ _ repeat grown.2)),
+  )
+
+-- where there is room for all entries they can be taken
+pub room_for_all : (a : State) (entries : List Entry) (room most : Growth) → IsRoom room a → IsWithin a
+    → most.entries ≡ length entries → most.weight ≡ saturated (weight_in (items_in entries)) → most.entries ≤ room.entries → most.weight ≤ room.weight
+    → IsWithin (continued_all a entries)
+room_for_all a entries room most are within number weight few light =
+    let added : Adds a entries = growth a entries in record {
+      names = omega (arith, are.entries, within.names, number, few, added.few, added.grows.names);
+      entries = omega (arith, are.entries, within.entries, number, few, added.few, added.grows.entries);
+      total = omega (arith, are.weight, within.total, weight, light, added.light, added.grows.total);
+    }
+
+-- no account is within the limits and past one
+pub apart : (a : State) → IsWithin a → IsPast a → ⊥
+apart a within (inl names) = omega (arith, within.names, names)
+apart a within (inr (inl number)) = omega (arith, within.entries, number)
+apart a within (inr (inr weight)) = omega (arith, within.total, weight)
 
 -- what an account's fields show
-abbrev pub viewed : ℕ → List Name → ℕ → View
-viewed counted keys entries = record { state = record { names = take counted keys; entries = entries }; waiting = drop counted keys }
+abbrev pub viewed : ℕ → List Name → ℕ → Weighed → View
+viewed counted keys entries weights = record {
+  state = record { names = take counted keys; entries = entries; total = weights.total; sums = weights.sums };
+  waiting = drop counted keys;
+}
 
 -- the next name that waits, if the first of what waits is known
-split_next : {X : Type 0} (n : ℕ) (xs : List X) (y : X) (rest : List X) → drop n xs ≡ y ∷ rest → (take (suc n) xs ≡ take n xs ++ y ∷ []) × (drop (suc n) xs ≡ rest)
+split_next : {X : Type 0} (n : ℕ) (xs : List X) (y : X) (rest : List X) → drop n xs ≡ y ∷ rest
+    → (take (suc n) xs ≡ take n xs ++ y ∷ []) × (drop (suc n) xs ≡ rest) × (n < length xs)
 split_next zero [] y rest is = cc
-split_next zero (x ∷ xs) y rest is = (cc, cc)
+split_next zero (x ∷ xs) y rest is = (cc, cc, omega arith)
 split_next (suc n) [] y rest is = cc
 split_next {X} (suc n) (x ∷ xs) y rest is =
-    let next : (take (suc n) xs ≡ take n xs ++ y ∷ []) × (drop (suc n) xs ≡ rest) = split_next n xs y rest is in
-    (ap (λ (ys : List X). x ∷ ys) next.0, next.1)
+    let next : (take (suc n) xs ≡ take n xs ++ y ∷ []) × (drop (suc n) xs ≡ rest) × (n < length xs) = split_next n xs y rest is in
+    (ap (λ (ys : List X). x ∷ ys) next.0, next.1, omega (arith, next.2))
 
--- a fresh entry whose name waits first is counted by counting that name
-takes_here : (counted : ℕ) (keys : List Name) (entries : ℕ) (e : Entry)
-    → is_fresh_in (viewed counted keys entries).state e ≡ true → IsPrefixOf (added_by (viewed counted keys entries).state (e ∷ [])) (drop counted keys)
-    → ((viewed (counted + 1) keys (entries + 1)).state ≡ continued (viewed counted keys entries).state e)
-    × (drop counted keys ≡ added_by (viewed counted keys entries).state (e ∷ []) ++ drop (counted + 1) keys)
-takes_here counted keys entries (Fact fact) fresh (rest, starts) =
-    let a : State = (viewed counted keys entries).state in
+-- what taking a fresh entry leaves, and that its name was there
+pub record Taken (counted : ℕ) (keys : List Name) (entries : ℕ) (after : Weighed) (v : View) (e : Entry) : Type 0 where
+  pub state : (viewed (counted + 1) keys (entries + 1) after).state ≡ continued v.state e
+  pub waiting : v.waiting ≡ added_by v.state (e ∷ []) ++ drop (counted + 1) keys
+  pub there : counted + 1 ≤ length keys
+
+-- a fresh entry whose name waits first is counted by counting that name and adding its items' weights
+takes_here : (counted : ℕ) (keys : List Name) (entries : ℕ) (weights : Weighed) (e : Entry)
+    → is_fresh_in (viewed counted keys entries weights).state e ≡ true → IsPrefixOf (added_by (viewed counted keys entries weights).state (e ∷ [])) (drop counted keys)
+    → Taken counted keys entries (weighed_with weights (items_of e)) (viewed counted keys entries weights) e
+takes_here counted keys entries weights (Fact fact) fresh (rest, starts) =
+    let a : State = (viewed counted keys entries weights).state in
     let goes : continued a (Fact fact) ≡ with_entry a (Fact fact) = ap (λ b. if b then with_entry a (Fact fact) else a) fresh in
     let adds : added_by a (Fact fact ∷ []) ≡ fact.name ∷ [] = ap (λ (s : State). drop (length a.names) s.names) goes ∙ drop-append_seam a.names (fact.name ∷ []) in
-    let next : (take (suc counted) keys ≡ take counted keys ++ fact.name ∷ []) × (drop (suc counted) keys ≡ rest) = split_next counted keys fact.name rest (sym starts ∙ ap (λ names. names ++ rest) adds) in
+    let next : (take (suc counted) keys ≡ take counted keys ++ fact.name ∷ []) × (drop (suc counted) keys ≡ rest) × (counted < length keys) =
+    split_next counted keys fact.name rest (sym starts ∙ ap (λ names. names ++ rest) adds) in
     let names : take (counted + 1) keys ≡ take counted keys ++ fact.name ∷ [] = ap (λ n. take n keys) (add-one counted) ∙ next.0 in
-    let waits : drop (counted + 1) keys ≡ rest = ap (λ n. drop n keys) (add-one counted) ∙ next.1 in
-    ((λ i. record { names = names i; entries = entries + 1 }) ∙ sym goes, sym starts ∙ ap (λ behind. added_by a (Fact fact ∷ []) ++ behind) (sym waits))
+    let waits : drop (counted + 1) keys ≡ rest = ap (λ n. drop n keys) (add-one counted) ∙ next.1 in record {
+      state = (λ i. record { names = names i; entries = entries + 1; total = weights.total + weight_in fact.items; sums = sums_with weights.sums fact.items }) ∙ sym goes;
+      waiting = sym starts ∙ ap (λ behind. added_by a (Fact fact ∷ []) ++ behind) (sym waits);
+      there = omega (arith, next.2);
+    }
 
-pub takes : (counted : ℕ) (keys : List Name) (entries : ℕ) (e : Entry) (v : View) → viewed counted keys entries ≡ v
-    → is_fresh_in v.state e ≡ true → IsPrefixOf (added_by v.state (e ∷ [])) v.waiting
-    → ((viewed (counted + 1) keys (entries + 1)).state ≡ continued v.state e) × (v.waiting ≡ added_by v.state (e ∷ []) ++ drop (counted + 1) keys)
-takes counted keys entries e v is = subst Takes is (takes_here counted keys entries e)
+pub takes : (counted : ℕ) (keys : List Name) (entries : ℕ) (weights after : Weighed) (items : List Item) (e : Entry) (v : View)
+    → viewed counted keys entries weights ≡ v → items ≡ items_of e → after ≡ weighed_with weights items
+    → is_fresh_in v.state e ≡ true → IsPrefixOf (added_by v.state (e ∷ [])) v.waiting → Taken counted keys entries after v e
+takes counted keys entries weights after items e v is are weighed = subst Takes is here
   where
+    here : is_fresh_in (viewed counted keys entries weights).state e ≡ true → IsPrefixOf (added_by (viewed counted keys entries weights).state (e ∷ [])) (drop counted keys)
+        → Taken counted keys entries after (viewed counted keys entries weights) e
+    here fresh waits = subst (λ to. Taken counted keys entries to (viewed counted keys entries weights) e) (sym (weighed ∙ ap (weighed_with weights) are)) (takes_here counted keys entries weights e fresh waits)
+
     Takes : View → Type 0
-    Takes w = is_fresh_in w.state e ≡ true → IsPrefixOf (added_by w.state (e ∷ [])) w.waiting
-        → ((viewed (counted + 1) keys (entries + 1)).state ≡ continued w.state e) × (w.waiting ≡ added_by w.state (e ∷ []) ++ drop (counted + 1) keys)
+    Takes w = is_fresh_in w.state e ≡ true → IsPrefixOf (added_by w.state (e ∷ [])) w.waiting → Taken counted keys entries after w e
+
+-- what holds of an account's fields holds once an entry was taken within the limits
+pub keeps : (counted : ℕ) (keys : List Name) (entries : ℕ) (weights after : Weighed) (items : List Item) (e : Entry) (v : View)
+    → Taken counted keys entries after v e → after ≡ weighed_with weights items → IsWithin (continued v.state e) → IsKept (counted + 1) keys (entries + 1) after
+keeps counted keys entries weights after items e v taken weighed within = record {
+  first = taken.there;
+  names = omega (arith, within.names, ap (λ (s : State). length s.names) taken.state, length-take-le (counted + 1) keys taken.there);
+  number = omega (arith, within.entries, ap (λ (s : State). s.entries) taken.state);
+  weight = omega (arith, within.total, ap (λ (s : State). s.total) taken.state);
+  ten = ap (λ (w : Weighed). length w.sums) weighed ∙ length-sums_with weights.sums items;
+}
 
 -- what is counted stays where names are inserted behind, and what waits is what the entries add
 pub record Reserves (counted : ℕ) (after : List Name) (a : State) (entries : List Entry) : Type 0 where
@@ -227,8 +323,23 @@ added_by-cons a e entries =
 -- an account that is within the limits with more entries is within them
 pub IsWithin-continued_all : (a : State) (entries : List Entry) → IsWithin (continued_all a entries) → IsWithin a
 IsWithin-continued_all a entries within =
-    let grown : (n : ℕ) × (n ≤ length entries) × GrowsBy n a (continued_all a entries) = growth a entries in
-    record { names = omega (arith, within.names, grown.2.names); entries = omega (arith, within.entries, grown.2.entries) }
+    let grown : GrowsBy (growth a entries).number (growth a entries).weight a (continued_all a entries) = (growth a entries).grows in record {
+      names = omega (arith, within.names, grown.names);
+      entries = omega (arith, within.entries, grown.entries);
+      total = omega (arith, within.total, grown.total);
+    }
+
+-- an account that is past a limit is past it with more entries
+pub IsPast-continued_all : (a : State) (entries : List Entry) → IsPast a → IsPast (continued_all a entries)
+IsPast-continued_all a entries past = by past
+  where
+    grown : GrowsBy (growth a entries).number (growth a entries).weight a (continued_all a entries)
+    grown = (growth a entries).grows
+
+    by : IsPast a → IsPast (continued_all a entries)
+    by (inl names) = inl (omega (arith, names, grown.names))
+    by (inr (inl number)) = inr (inl (omega (arith, number, grown.entries)))
+    by (inr (inr weight)) = inr (inr (omega (arith, weight, grown.total)))
 
 -- the first entry of what was reserved can be taken
 pub waits_first : (v : View) (e : Entry) (entries : List Entry) → v.waiting ≡ added_by v.state (e ∷ entries) → IsPrefixOf (added_by v.state (e ∷ [])) v.waiting

@@ -11,8 +11,10 @@ use Rattle.ras_account.specs.declared.entry.Entry.{Entry}
 use Rattle.ras_account.specs.declared.entry.Entry.TheVariants.{Fact}
 use Rattle.ras_facts.specs.declared.fact.Fact.{Fact as Report}
 use Rattle.ras_account.specs.Fresh.{name_in, names_in, same_name, is_fresh_behind, fresh}
-use Rattle.ras_account.specs.Account.{State, account_of, is_fresh_in, with_entry, continued, continued_all}
+use Rattle.ras_account.specs.Account.{State, counted, account_of, items_of, items_in, is_fresh_in, with_entry, continued, continued_all}
+use Rattle.ras_account.specs.Weights.{weight_in, sums_of}
 use Rattle.ras_account.proofs.NameLemmas.{same_name-exact}
+use Rattle.ras_account.proofs.WeightLemmas.{items_in-snoc, weight_in-append, sums_of-append}
 
 pub names_in-append : (xs ys : List Entry) → names_in (xs ++ ys) ≡ names_in xs ++ names_in ys
 names_in-append xs ys = filter_map-append name_in xs ys
@@ -88,13 +90,43 @@ module _ (name : Name) where
 pub is_fresh_in-account_of : (h : List Entry) (e : Entry) → is_fresh_in (account_of h) e ≡ is_fresh_behind h e
 is_fresh_in-account_of h (Fact fact) = ap not (among_fresh fact.name h)
 
+-- the fresh entries of a list are all fresh
+again-append : (before entries : List Entry) → fresh (fresh before) ≡ fresh before → fresh (fresh (before ++ entries)) ≡ fresh (before ++ entries)
+again-append before [] so_far = rw append-nil so_far
+again-append before (e ∷ entries) so_far =
+    ap (λ es. fresh (fresh es)) (sym (append_assoc before (e ∷ []) entries))
+    ∙ again-append (before ++ e ∷ []) entries (by (is_fresh_behind before e) refl)
+    ∙ ap fresh (append_assoc before (e ∷ []) entries)
+  where
+    grown : (b : Bool) → is_fresh_behind before e ≡ b → fresh (before ++ e ∷ []) ≡ fresh before ++ (if b then e ∷ [] else [])
+    grown b is = fresh-snoc before e ∙ ap (λ c. fresh before ++ (if c then e ∷ [] else [])) is
+
+    by : (b : Bool) → is_fresh_behind before e ≡ b → fresh (fresh (before ++ e ∷ [])) ≡ fresh (before ++ e ∷ [])
+    by true is =
+        ap fresh (grown true is)
+        ∙ fresh-snoc (fresh before) e
+        ∙ (λ i. so_far i ++ (if (is_fresh_in-account_of before e ∙ is) i then e ∷ [] else []))
+        ∙ sym (grown true is)
+    by false is =
+        let stays : fresh (before ++ e ∷ []) ≡ fresh before = grown false is ∙ append-nil (fresh before) in
+        ap fresh stays ∙ so_far ∙ sym stays
+
+pub fresh-fresh : (entries : List Entry) → fresh (fresh entries) ≡ fresh entries
+fresh-fresh entries = again-append [] entries refl
+
+-- one entry more is counted
+pub counted-snoc : (es : List Entry) (e : Entry) → counted (es ++ e ∷ []) ≡ with_entry (counted es) e
+counted-snoc es e = λ i. record {
+  names = names_in-append es (e ∷ []) i;
+  entries = length-append es (e ∷ []) i;
+  total = (ap weight_in (items_in-snoc es e) ∙ weight_in-append (items_in es) (items_of e)) i;
+  sums = (ap sums_of (items_in-snoc es e) ∙ sums_of-append (items_in es) (items_of e)) i;
+}
+
 -- an entry more continues the account
 pub account_of-snoc : (h : List Entry) (e : Entry) → account_of (h ++ e ∷ []) ≡ continued (account_of h) e
 account_of-snoc h e = by (is_fresh_behind h e) refl
   where
-    summed : List Entry → State
-    summed es = record { names = names_in es; entries = length es }
-
     grown : (b : Bool) → is_fresh_behind h e ≡ b → fresh (h ++ e ∷ []) ≡ fresh h ++ (if b then e ∷ [] else [])
     grown b is = fresh-snoc h e ∙ ap (λ c. fresh h ++ (if c then e ∷ [] else [])) is
 
@@ -102,8 +134,8 @@ account_of-snoc h e = by (is_fresh_behind h e) refl
     goes_on b is = ap (λ c. if c then with_entry (account_of h) e else account_of h) (is_fresh_in-account_of h e ∙ is)
 
     by : (b : Bool) → is_fresh_behind h e ≡ b → account_of (h ++ e ∷ []) ≡ continued (account_of h) e
-    by true is = ap summed (grown true is) ∙ (λ i. record { names = names_in-append (fresh h) (e ∷ []) i; entries = length-append (fresh h) (e ∷ []) i }) ∙ sym (goes_on true is)
-    by false is = ap summed (grown false is ∙ append-nil (fresh h)) ∙ sym (goes_on false is)
+    by true is = ap counted (grown true is) ∙ counted-snoc (fresh h) e ∙ sym (goes_on true is)
+    by false is = ap counted (grown false is ∙ append-nil (fresh h)) ∙ sym (goes_on false is)
 
 pub account_of-append : (h es : List Entry) → account_of (h ++ es) ≡ continued_all (account_of h) es
 account_of-append h [] = ap account_of (append-nil h)

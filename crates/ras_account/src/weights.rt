@@ -1,6 +1,7 @@
 // The weights in an account.
-ghost use Rattle.std.specs.Prelude.{◌≡◌, ◌+◌, ◌≤◌, ◌^◌, [], ◌∷◌, slice_index};
+ghost use Rattle.std.specs.Prelude.{◌≡◌, ◌+◌, ◌≤◌, [], ◌∷◌, length, slice_index};
 ghost use Rattle.mca_status.specs.Classes.{class_number};
+ghost use Rattle.ras_account.specs.Account.{most_weight};
 ghost use Rattle.ras_account.specs.Weights.{weight_in, sums_of};
 ghost use Rattle.ras_account.specs.Weighed.{weighed_with};
 
@@ -39,7 +40,8 @@ impl Weights {
 
     // Adds the weights of more items.
     pub(crate) fn add_all(&mut self, items: &[Item])
-        requires { self.old.total + weight_in items.now ≤ 2 ^ 62 }
+        requires ten { length self.old.sums ≡ 10 }
+        requires room { self.old.total + weight_in items.now ≤ most_weight }
         ensures { self.new ≡ weighed_with self.old items.now }
     {
         for item in items {
@@ -49,7 +51,7 @@ impl Weights {
 
     // Adds the weight of an item.
     fn add(&mut self, item: &Item)
-        requires { self.old.total + item.now.weight ≤ 2 ^ 62 }
+        requires { self.old.total + item.now.weight ≤ most_weight }
         ensures { self.new ≡ weighed_with self.old (item.now ∷ []) }
     {
         let weight = u64::from(item.weight);

@@ -1,10 +1,11 @@
 use Rattle.std.proofs.Common.{[], ap, sym, subst, ◌∙◌}
-use Rattle.ras_account.specs.Account.{account_of, continued_all}
+use Rattle.ras_account.specs.Account.{counted, account_of, items_in, continued_all}
 use Rattle.ras_account.specs.Fresh.{names_in, fresh, same_name}
 use Rattle.std.specs.List.{IsDistinct}
-use Rattle.ras_account.proofs.FreshLemmas.{account_of-snoc, account_of-append, fresh-snoc, among_fresh}
+use Rattle.ras_account.proofs.FreshLemmas.{account_of-snoc, account_of-append, fresh-snoc, fresh-fresh, among_fresh}
 use Rattle.ras_account.proofs.AccountLemmas.{once-continued_all}
 use Rattle.ras_account.proofs.NameLemmas.{found, IsDistinct-nil}
+use Rattle.ras_account.proofs.WeightLemmas.{sum-sums_of, slice_index-sums_of}
 use Rattle.ras_account.proofs.laws.account_laws.Goals as goal
 
 pub returns-clause-appended : goal.returns-clause-appended
@@ -29,3 +30,12 @@ returns-clause-once c = λ history.
 
 pub returns-clause-equal : goal.returns-clause-equal
 returns-clause-equal c = λ one other more same. account_of-append one more ∙ ap (λ a. continued_all a more) same ∙ sym (account_of-append other more)
+
+pub returns-clause-of_class : goal.returns-clause-of_class
+returns-clause-of_class c = λ history class. slice_index-sums_of (items_in (fresh history)) class
+
+pub returns-clause-together : goal.returns-clause-together
+returns-clause-together c = λ history. sum-sums_of (items_in (fresh history))
+
+pub returns-clause-again : goal.returns-clause-again
+returns-clause-again c = λ history. ap counted (fresh-fresh history)

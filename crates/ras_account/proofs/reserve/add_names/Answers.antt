@@ -1,6 +1,6 @@
 use Rattle.std.proofs.Common.{length, take, ◌∙◌, sym, ap, Result, Ok, Err, OnErr}
 use Rattle.indexmap.specs.IndexSet.{insert_key}
-use Rattle.ras_account.specs.Fresh.{names_in, same_name}
+use Rattle.ras_account.specs.Fresh.{name_in, names_in, same_name}
 use Rattle.ras_account.proofs.AccountLemmas.{insert_all-more, take-insert_all}
 use Rattle.ras_account.proofs.NameLemmas.{eq-same_name}
 use Rattle.ras_account.proofs.reserve.add_names.Goals as goal
@@ -15,7 +15,7 @@ loop-entry-preserved c =
     c.in_ok-insert.ensures.keys
     ∙ ap (λ eq. insert_key eq c.loop-entry.names.keys c.name.result.now) eq-same_name
     ∙ ap (λ keys. insert_key same_name keys c.name.result.now) c.loop-entry.invariant
-    ∙ sym (insert_all-more _ _ _ _ _ c.loop-entry-test.true c.name.ensures)
+    ∙ sym (insert_all-more _ _ _ _ _ c.loop-entry-test.true (ap name_in (sym c.entry-item.is) ∙ c.name.ensures))
 
 pub returns-in_err-insert-clause-err : goal.returns-in_err-insert-clause-err
 returns-in_err-insert-clause-err c =

@@ -1,12 +1,13 @@
-use Rattle.std.proofs.Common.{◌∙◌, sym}
+use Rattle.std.proofs.Common.{◌∙◌, sym, ap}
+use Rattle.ras_account.specs.Account.{items_of}
 use Rattle.ras_account.proofs.AccountLemmas.{counted_fresh, counted_same}
-use Rattle.ras_account.proofs.account.Account.count_fresh.Goals.{then-is_fresh_after, else-is_fresh_after}
-use Rattle.ras_account.proofs.account.Account.count_fresh.Goals as goal
+use Rattle.ras_account.proofs.account.Account.growth_by.Goals.{then-is_fresh_after, else-is_fresh_after}
+use Rattle.ras_account.proofs.account.Account.growth_by.Goals as goal
 
 pub loop-i-preserved : goal.loop-i-preserved
 loop-i-preserved c = elim c.if-is_fresh_after.branch [
-  | then-is_fresh_after w ↦ counted_fresh c.args.self.now.state c.args.entries.now c.loop-i.i c.loop-i.count c.if-is_fresh_after.count _ c.loop-i-test.true c.loop-i.invariant.0 c.loop-i.invariant.1
-      (sym c.is_fresh_after.ensures ∙ w.if-is_fresh_after.true) w.count-is
-  | else-is_fresh_after w ↦ counted_same c.args.self.now.state c.args.entries.now c.loop-i.i c.loop-i.count c.if-is_fresh_after.count _ c.loop-i-test.true c.loop-i.invariant.0 c.loop-i.invariant.1
-      (sym c.is_fresh_after.ensures ∙ w.if-is_fresh_after.false) w.count-is
+  | then-is_fresh_after w ↦ counted_fresh c.args.self.now.state c.args.entries.now c.loop-i.i c.loop-i.count c.loop-i.weight c.index-entries-i.result c.loop-i-test.true c.index-entries-i.is c.loop-i.invariant.0 c.loop-i.invariant.1
+      c.if-is_fresh_after.count c.if-is_fresh_after.weight w.items.result.now (sym c.is_fresh_after.ensures ∙ w.if-is_fresh_after.true) w.count-is w.items.ensures (w.weight-is ∙ w.weight_with-weight.ensures)
+  | else-is_fresh_after w ↦ counted_same c.args.self.now.state c.args.entries.now c.loop-i.i c.loop-i.count c.loop-i.weight c.index-entries-i.result c.loop-i-test.true c.index-entries-i.is c.loop-i.invariant.0 c.loop-i.invariant.1
+      c.if-is_fresh_after.count c.if-is_fresh_after.weight (sym c.is_fresh_after.ensures ∙ w.if-is_fresh_after.false) w.count-is w.weight-is
 ]

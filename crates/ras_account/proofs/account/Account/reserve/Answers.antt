@@ -9,10 +9,21 @@ added c =
     c.self.invariant.first (ap (λ v. v.state.names) c.self.view_is) c.truncate.ensures.keys c.in-Ok.ensures.ok
 
 pub invariant_of-self-in-Ok : goal.invariant_of-self-in-Ok
-invariant_of-self-in-Ok c = record { first = (added c).first; names = c.self.invariant.names; total = c.self.invariant.total }
+invariant_of-self-in-Ok c = record {
+  first = (added c).first;
+  names = c.self.invariant.names;
+  number = c.self.invariant.number;
+  weight = c.self.invariant.weight;
+  ten = c.self.invariant.ten;
+}
 
 pub returns-in-Ok-clause-state : goal.returns-in-Ok-clause-state
-returns-in-Ok-clause-state c = λ i. record { names = (added c).names i; entries = (c.self.view_is i).state.entries }
+returns-in-Ok-clause-state c = λ i. record {
+  names = (added c).names i;
+  entries = (c.self.view_is i).state.entries;
+  total = (c.self.view_is i).state.total;
+  sums = (c.self.view_is i).state.sums;
+}
 
 pub returns-in-Ok-clause-ok : goal.returns-in-Ok-clause-ok
 returns-in-Ok-clause-ok c = (added c).waiting
