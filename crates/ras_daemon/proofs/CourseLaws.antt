@@ -15,7 +15,7 @@ use Rattle.ras_daemon.specs.declared.word.Command.{Command}
 use Rattle.ras_daemon.specs.declared.word.Command.TheVariants.{Run}
 use Rattle.ras_daemon.specs.Command.{command_of}
 use Rattle.ras_daemon.specs.Output.{output_at, output_after, output_of, last_line}
-use Rattle.ras_daemon.specs.Progress.{Step, after, after_all, asks_size, reads, writes, syncs, prints, entry_steps, entries_steps, text_steps, event_steps, read_steps, lines_course, start_course, call_course}
+use Rattle.ras_daemon.specs.Progress.{Step, after, after_all, asks_size, reads_file, writes, syncs, prints, entry_steps, entries_steps, text_steps, event_steps, read_steps, lines_course, start_course, call_course}
 use Rattle.ras_daemon.specs.Reports.{Read, made, reads_of, reports}
 use Rattle.ras_daemon.specs.Status.{lines_status, refusal_at, refusal_among, start_refusal, status_of, unrefused}
 use Rattle.ras_daemon.specs.Text.{detail_of, event_text, done_line, end_line, stop_line}
@@ -23,7 +23,7 @@ use Rattle.ras_daemon.specs.Text.{detail_of, event_text, done_line, end_line, st
 -- what a call prints
 abbrev pub text_of : Step → List ℕ
 text_of asks_size = []
-text_of (reads count) = []
+text_of (reads_file count) = []
 text_of (writes place bytes) = []
 text_of syncs = []
 text_of (prints bytes) = bytes
@@ -34,7 +34,7 @@ printed_by steps = flat_map text_of steps
 pub out-after : (steps : List Step) (told : Told) → (after_all steps told).out ≡ told.out ++ printed_by steps
 out-after [] told = sym (append-nil told.out)
 out-after (asks_size ∷ steps) told = out-after steps (after asks_size told)
-out-after (reads count ∷ steps) told = out-after steps (after (reads count) told)
+out-after (reads_file count ∷ steps) told = out-after steps (after (reads_file count) told)
 out-after (writes place bytes ∷ steps) told = out-after steps (after (writes place bytes) told)
 out-after (syncs ∷ steps) told = out-after steps (after syncs told)
 out-after (prints bytes ∷ steps) told = out-after steps (after (prints bytes) told) ∙ append_assoc told.out bytes (printed_by steps)

@@ -14,7 +14,7 @@ use Rattle.ras_daemon.specs.Command.{command_of}
 use Rattle.ras_daemon.specs.Ended.{PrintsPart}
 use Rattle.ras_daemon.specs.Output.{output_at, output_upto}
 use Rattle.ras_daemon.specs.PlainFile.{stored_end}
-use Rattle.ras_daemon.specs.Progress.{Step, after_all, asks_size, reads, writes, syncs, prints, Fails, IsDisk, IsPrint, Cut, Paused, entries_steps, text_steps, event_steps, reopen_steps, read_steps, lines_course, start_course, call_course}
+use Rattle.ras_daemon.specs.Progress.{Step, after_all, asks_size, reads_file, writes, syncs, prints, Fails, IsDisk, IsPrint, Cut, Paused, entries_steps, text_steps, event_steps, reopen_steps, read_steps, lines_course, start_course, call_course}
 use Rattle.ras_daemon.specs.Reports.{Read, made, reads_of, reports}
 use Rattle.ras_daemon.specs.Status.{refusal_at, start_refusal, unrefused}
 use Rattle.ras_daemon.specs.Text.{detail_of, event_text, done_line, stop_line}
@@ -52,7 +52,7 @@ no_disk done step rest steps is all disk = by step (print_at done step rest (sub
     by : (s : Step) → IsPrint s → IsDisk s → ⊥
     by (prints bytes) print disk = disk
     by asks_size print disk = print
-    by (reads count) print disk = print
+    by (reads_file count) print disk = print
     by syncs print disk = print
     by (writes place bytes) print disk = print
 
@@ -126,8 +126,8 @@ out_of t = t.out
 fails-out : (step : Step) (old new : Told) → Fails step old new → (part : List ℕ) × (new.out ≡ old.out ++ part) × IsPrefixOf part (text_of step)
 fails-out asks_size old new (inl same) = ([], ap out_of same ∙ sym (append-nil old.out), ([], refl))
 fails-out asks_size old new (inr listed) = ([], ap out_of listed ∙ sym (append-nil old.out), ([], refl))
-fails-out (reads count) old new (inl same) = ([], ap out_of same ∙ sym (append-nil old.out), ([], refl))
-fails-out (reads count) old new (inr listed) = ([], ap out_of listed ∙ sym (append-nil old.out), ([], refl))
+fails-out (reads_file count) old new (inl same) = ([], ap out_of same ∙ sym (append-nil old.out), ([], refl))
+fails-out (reads_file count) old new (inr listed) = ([], ap out_of listed ∙ sym (append-nil old.out), ([], refl))
 fails-out syncs old new (inl same) = ([], ap out_of same ∙ sym (append-nil old.out), ([], refl))
 fails-out syncs old new (inr listed) = ([], ap out_of listed ∙ sym (append-nil old.out), ([], refl))
 fails-out (writes place bytes) old new fails = elim fails.2 [
@@ -189,7 +189,7 @@ fails_disk-out step old new disk fails =
   where
     silent : (s : Step) → IsDisk s → text_of s ≡ []
     silent asks_size d = refl
-    silent (reads count) d = refl
+    silent (reads_file count) d = refl
     silent syncs d = refl
     silent (writes place bytes) d = refl
     silent (prints bytes) d = absurd d

@@ -1,5 +1,5 @@
 -- The start of a call.
-use Rattle.std.proofs.Common.{◌≡◌, ℕ, ◌<◌, ◌≤◌, true, false, List, [], ◌∷◌, length, Option, None, Some, nat_lt, sym, ◌∙◌, arith, IfSome}
+use Rattle.std.proofs.Common.{◌≡◌, ℕ, ◌<◌, ◌≤◌, true, false, List, [], ◌∷◌, length, Option, None, Some, nat_lt, sym, subst, ◌∙◌, arith, IfSome}
 use Rattle.std.proofs.lemmas.Bool.Decides.{nat_tests}
 use Rattle.board_core.specs.declared.board.DiskCall.TheVariants.{Size}
 use Rattle.board_core.specs.declared.board.FileNo.TheVariants.{Zero}
@@ -36,5 +36,5 @@ undamaged None old mid new size exit went is none taken = tt
 undamaged (Some script) None mid new size exit went is none taken = tt
 undamaged (Some script) (Some t) mid new size exit went is none taken =
     let empty : nat_lt 0 (length t.file0) ≡ false = grind (arith, nat_tests, is) in
-    let runs : TakesCall (start_course (script_refusal script) script) exit mid new = rw went at taken in
+    let runs : OverTold (λ text t. TakesCall (start_course (script_refusal text) text) exit mid new) (Some script) (Some (called (Size Zero) t)) = subst (λ m. OverTold (λ text t. TakesCall (start_course (script_refusal text) text) exit mid new) (Some script) m) went taken in
     rw empty (call_behind (Some t) mid new (asks_size ∷ []) (start_course (script_refusal script) script) exit (went ∙ sym (map_one asks_size (Some t))) runs)

@@ -7,7 +7,7 @@ use Rattle.ras_daemon.specs.declared.exit.Exit.TheVariants.{Done, Usage, BadLine
 use Rattle.ras_daemon.specs.Command.{command_of}
 use Rattle.ras_daemon.specs.Ended.{OnAnswer, OverBoth, OverTold, PrintsPart}
 use Rattle.ras_daemon.specs.Output.{output_of, output_upto}
-use Rattle.ras_daemon.specs.Progress.{Step, after_all, asks_size, reads, syncs, writes, prints, Fails, Cut, Course, TakesCall, call_course}
+use Rattle.ras_daemon.specs.Progress.{Step, after_all, asks_size, reads_file, syncs, writes, prints, Fails, Cut, Course, TakesCall, call_course}
 use Rattle.ras_daemon.specs.Reports.{reads_of}
 use Rattle.ras_daemon.specs.Status.{status_of}
 use Rattle.ras_daemon.specs.Stored.{calls_of, file_after}
@@ -66,8 +66,8 @@ part-out course TooLong t new taken = whole course t new taken.1
 fails-file1 : (step : Step) (old new : Told) → Fails step old new → new.file1 ≡ old.file1
 fails-file1 asks_size old new (inl same) = ap file1_of same
 fails-file1 asks_size old new (inr listed) = ap file1_of listed
-fails-file1 (reads count) old new (inl same) = ap file1_of same
-fails-file1 (reads count) old new (inr listed) = ap file1_of listed
+fails-file1 (reads_file count) old new (inl same) = ap file1_of same
+fails-file1 (reads_file count) old new (inr listed) = ap file1_of listed
 fails-file1 syncs old new (inl same) = ap file1_of same
 fails-file1 syncs old new (inr listed) = ap file1_of listed
 fails-file1 (writes place bytes) old new fails = elim fails.2 [ inl same ↦ ap file1_of same | inr listed ↦ ap file1_of listed ]

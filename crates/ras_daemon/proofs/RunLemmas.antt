@@ -1,20 +1,21 @@
 -- Lines taken one after another.
-use Rattle.std.proofs.Common.{◌≡◌, ℕ, ◌+◌, List, [], ◌∷◌, ◌++◌, length, Option, None, Some, IsSomeAnd, Result, Ok, Err, map, refl, ap, sym, ◌∙◌, subst, append_assoc}
+use Rattle.std.proofs.Common.{◌≡◌, ℕ, ◌+◌, List, [], ◌∷◌, ◌++◌, length, Option, None, Some, IfSome, IsSomeAnd, Result, Ok, Err, map, refl, ap, sym, ◌∙◌, subst, append_assoc, append-nil, arith}
 use Rattle.std.specs.List.{enumerate_from}
 use Rattle.std.specs.Option.{option_map}
 use Rattle.std.specs.Result.{OnOk}
-use Rattle.board_core.specs.Told.{Told}
+use Rattle.board_core.specs.Told.{Told, Relates, FailsPrint, printed}
 use Rattle.ras_account.specs.declared.entry.Entry.{Entry}
 use Rattle.ras_account.specs.Account.{State, account_of}
 use Rattle.ras_daemon.specs.declared.event.Prepared.{Prepared}
 use Rattle.ras_daemon.specs.declared.exit.Exit.{Exit}
-use Rattle.ras_daemon.specs.declared.exit.Exit.TheVariants.{Done, DiskFault, NoMemory}
+use Rattle.ras_daemon.specs.declared.exit.Exit.TheVariants.{Done, DiskFault, PrintFault, NoMemory}
 use Rattle.ras_daemon.specs.declared.ledger.Ledger.{Ledger}
+use Rattle.ras_daemon.specs.declared.ledger.OpenRefused.TheVariants.{Disk, NoMemory as OutOfMemory}
 use Rattle.ras_daemon.specs.declared.line.Line.TheVariants.{Bank, Restart}
-use Rattle.ras_daemon.specs.Event.{IsKept, IsPrepared, Keeps, TakesEvent, TakesLine, end_after, state_after, prepared_steps}
+use Rattle.ras_daemon.specs.Event.{Fits, IsKept, IsPrepared, Keeps, Reopens, TakesEvent, TakesLine, end_after, state_after, prepared_steps}
 use Rattle.ras_daemon.specs.Line.{line_of}
 use Rattle.ras_daemon.specs.PlainFile.{stored, stored_end}
-use Rattle.ras_daemon.specs.Progress.{Step, after_all, prints, Cut, IsDisk, Performs, Course, Takes, behind, ends, event_steps, reopen_steps, read_steps, line_course, lines_course}
+use Rattle.ras_daemon.specs.Progress.{Step, after_all, prints, Performs, Course, Takes, behind, ends, event_steps, reopen_steps, read_steps, line_course, lines_course}
 use Rattle.ras_daemon.specs.Reports.{Read, made, reads_from, reports}
 use Rattle.ras_daemon.specs.Run.{TookAll, TookSome}
 use Rattle.ras_daemon.specs.Splitting.{lines_of}
@@ -22,7 +23,7 @@ use Rattle.ras_daemon.specs.Status.{refusal_at}
 use Rattle.ras_daemon.specs.Text.{detail_of, done_line, end_line}
 use Rattle.ras_daemon.proofs.FileLemmas.{valid-more}
 use Rattle.ras_daemon.proofs.ReportLaws.{reports-more}
-use Rattle.ras_daemon.proofs.StepLemmas.{cut_before, cut_behind, cut_first, map_none, map_append, takes_behind, takes_first}
+use Rattle.ras_daemon.proofs.StepLemmas.{cut_before, cut_behind, cut_first, map_none, map_one, map_append, paused_before, takes_behind, takes_first}
 use Rattle.ras_daemon.proofs.StoredLaws.{event-file}
 
 -- an event that was prepared and done, as far as its calls went well
@@ -125,3 +126,63 @@ pub run_ends : (reads : List Read) (old mid new : Option Told) (state : State) (
 run_ends reads old mid new state line exit took is takes =
     let last : Takes (ends (end_line state) Done) exit mid new = subst (λ text. Takes (ends text Done) exit mid new) is takes in
     rw took.course (takes_behind old mid new took.steps (ends (end_line state) Done) exit took.goes last)
+
+-- what is kept at the start, over an empty file
+pub started : (told : Option Told) (ledger : Ledger) (P : Type 0) → Fits told 0 → ledger.account.state ≡ account_of [] → ledger.end ≡ 0 → (Keeps [] ledger told → P) → IfSome told (λ _. P)
+started None ledger P empty account end keeps = tt
+started (Some t) ledger P empty account end keeps = keeps (record {
+  account = account;
+  end = end;
+  room = refl;
+  valid = tt;
+  file = none t.file0 empty;
+})
+  where
+    none : (file : List ℕ) → length file ≡ 0 → file ≡ []
+    none [] is = refl
+    none (b ∷ bs) is = absurd (omega (arith, is))
+
+-- a restart that went well
+module _ (before : List Read) (number : ℕ) (ledger : Ledger) where
+  abbrev pub restart_line : Read
+  restart_line = (number, Ok Restart)
+
+  -- what was kept is what the file holds
+  pub kept : (told : Option Told) → Keeps (reports before) ledger told → IsKept (reports before) told
+  kept told keeps = record { room = keeps.room; valid = keeps.valid; file = keeps.file }
+
+  said-file : (old new : Option Told) (text : List ℕ) → IsSomeAnd old (λ t. t.file0 ≡ stored (reports before)) → new ≡ option_map (printed text) old → IsSomeAnd new (λ t. t.file0 ≡ stored (reports before))
+  said-file None new text file went = absurd file
+  said-file (Some t) new text file went = rw went file
+
+  pub restarted : (opened : Ledger) (old mid new : Option Told) → Reopens (reports before) (Ok opened) old mid → new ≡ option_map (printed (done_line number)) mid
+      → TakesLine {T = Unit {0}} before restart_line (Ok tt) old new opened
+  restarted opened old mid new reopens said = (
+    refl,
+    said ∙ sym (map_one (prints (done_line number)) mid) ∙ ap (option_map (after_all (prints (done_line number) ∷ []))) reopens.0
+        ∙ sym (map_append (reopen_steps (stored_end (reports before))) (prints (done_line number) ∷ []) old),
+    keeps_line before restart_line [] opened new (reports-more before restart_line)
+        (subst (λ es. Keeps es opened new) (sym (append-nil (reports before)))
+        (record {
+          account = reopens.1.account;
+          end = reopens.1.end;
+          room = reopens.1.room;
+          valid = reopens.1.valid;
+          file = said-file mid new (done_line number) reopens.1.file said;
+        })),
+  )
+
+  -- one that was cut short
+  pub restart_cut : (old new : Option Told) (more : Ledger) → Reopens (reports before) (Err Disk) old new → TakesLine {T = Unit {0}} before restart_line (Err DiskFault) old new more
+  restart_cut old new more cut = λ rest.
+      cut_before (reopen_steps (stored_end (reports before)) ++ prints (done_line number) ∷ []) rest.steps (cut_before (reopen_steps (stored_end (reports before))) (prints (done_line number) ∷ []) cut)
+
+  pub restart_paused : (old new : Option Told) (more : Ledger) → Reopens (reports before) (Err OutOfMemory) old new → TakesLine {T = Unit {0}} before restart_line (Err NoMemory) old new more
+  restart_paused old new more paused = λ rest.
+      paused_before (reopen_steps (stored_end (reports before)) ++ prints (done_line number) ∷ []) rest.steps (paused_before (reopen_steps (stored_end (reports before))) (prints (done_line number) ∷ []) paused)
+
+  pub restart_unsaid : (opened more : Ledger) (old mid new : Option Told) → Reopens (reports before) (Ok opened) old mid → Relates (FailsPrint (done_line number)) mid new
+      → TakesLine {T = Unit {0}} before restart_line (Err PrintFault) old new more
+  restart_unsaid opened more old mid new reopens fails = λ rest.
+      cut_before (reopen_steps (stored_end (reports before)) ++ prints (done_line number) ∷ []) rest.steps
+      (cut_behind (reopen_steps (stored_end (reports before))) (prints (done_line number) ∷ []) reopens.0 (cut_first (prints (done_line number)) [] tt fails))

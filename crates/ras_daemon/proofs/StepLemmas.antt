@@ -58,6 +58,15 @@ paused_behind {old} front steps went paused = record {
   leaves = paused.leaves ∙ ap (option_map (after_all paused.done)) went ∙ sym (map_append front paused.done old);
 }
 
+-- more calls would have come
+pub paused_before : {old new : Option Told} (steps more : List Step) → Paused steps old new → Paused (steps ++ more) old new
+paused_before steps more paused = record {
+  done = paused.done;
+  rest = paused.rest ++ more;
+  splits = sym (append_assoc paused.done paused.rest more) ∙ ap (λ xs. xs ++ more) paused.splits;
+  leaves = paused.leaves;
+}
+
 -- no call was made
 pub paused_at_once : {old new : Option Told} (steps : List Step) → new ≡ old → Paused steps old new
 paused_at_once {old} steps same = record { done = []; rest = steps; splits = refl; leaves = same ∙ sym (map_none old) }

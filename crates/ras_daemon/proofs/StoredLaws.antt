@@ -1,5 +1,5 @@
 -- What the course of a run leaves in file 0, and its disk calls.
-use Rattle.std.proofs.Common.{◌≡◌, ℕ, ◌+◌, Bool, true, false, List, [], ◌∷◌, ◌++◌, length, drop, map, Option, None, Some, Ok, Err, refl, ap, sym, ◌∙◌, append_assoc, append-nil, nat_lt, arith}
+use Rattle.std.proofs.Common.{◌≡◌, ℕ, ◌+◌, Bool, true, false, List, [], ◌∷◌, ◌++◌, length, drop, map, Option, None, Some, Ok, Err, refl, ap, sym, ◌∙◌, append_assoc, append-nil, nat_lt, arith, if◌then◌else◌}
 use Rattle.std.proofs.lemmas.Bool.Decides.{nat_tests}
 use Rattle.std.proofs.lemmas.List.{take_all, drop_all}
 use Rattle.std.proofs.lemmas.List.Concat.{flat_map-append}
@@ -19,7 +19,7 @@ use Rattle.ras_daemon.specs.declared.word.Command.{Command}
 use Rattle.ras_daemon.specs.declared.word.Command.TheVariants.{Run}
 use Rattle.ras_daemon.specs.Command.{command_of}
 use Rattle.ras_daemon.specs.PlainFile.{fact_in, stored, stored_end}
-use Rattle.ras_daemon.specs.Progress.{Step, after, after_all, asks_size, reads, writes, syncs, prints, entry_steps, entries_steps, text_steps, event_steps, read_steps, lines_course, start_course, call_course}
+use Rattle.ras_daemon.specs.Progress.{Step, after, after_all, asks_size, reads_file, writes, syncs, prints, entry_steps, entries_steps, text_steps, event_steps, read_steps, lines_course, start_course, call_course}
 use Rattle.ras_daemon.specs.Reports.{Read, made, made_by, reads_of, reports}
 use Rattle.ras_daemon.specs.Status.{Place, refusal_at, script_refusal, start_refusal, unrefused}
 use Rattle.ras_daemon.specs.Stored.{calls_at, calls_of, calls_started, entry_calls, event_calls, file_after, file_started}
@@ -35,7 +35,7 @@ file_of told = told.file0
 -- the disk call of a step
 abbrev pub call_of : Step → List DiskCall
 call_of asks_size = Size Zero ∷ []
-call_of (reads count) = ReadAt Zero 0 count ∷ []
+call_of (reads_file count) = ReadAt Zero 0 count ∷ []
 call_of (writes place bytes) = WriteAt Zero place (length bytes) ∷ []
 call_of syncs = Sync Zero ∷ []
 call_of (prints bytes) = []
@@ -46,7 +46,7 @@ calls_by steps = flat_map call_of steps
 pub calls-after : (steps : List Step) (told : Told) → (after_all steps told).calls ≡ told.calls ++ calls_by steps
 calls-after [] told = sym (append-nil told.calls)
 calls-after (asks_size ∷ steps) told = calls-after steps (after asks_size told) ∙ append_assoc told.calls (Size Zero ∷ []) (calls_by steps)
-calls-after (reads count ∷ steps) told = calls-after steps (after (reads count) told) ∙ append_assoc told.calls (ReadAt Zero 0 count ∷ []) (calls_by steps)
+calls-after (reads_file count ∷ steps) told = calls-after steps (after (reads_file count) told) ∙ append_assoc told.calls (ReadAt Zero 0 count ∷ []) (calls_by steps)
 calls-after (writes place bytes ∷ steps) told = calls-after steps (after (writes place bytes) told) ∙ append_assoc told.calls (WriteAt Zero place (length bytes) ∷ []) (calls_by steps)
 calls-after (syncs ∷ steps) told = calls-after steps (after syncs told) ∙ append_assoc told.calls (Sync Zero ∷ []) (calls_by steps)
 calls-after (prints bytes ∷ steps) told = calls-after steps (after (prints bytes) told)
@@ -55,7 +55,7 @@ calls-after (prints bytes ∷ steps) told = calls-after steps (after (prints byt
 pub file1-after : (steps : List Step) (told : Told) → (after_all steps told).file1 ≡ told.file1
 file1-after [] told = refl
 file1-after (asks_size ∷ steps) told = file1-after steps (after asks_size told)
-file1-after (reads count ∷ steps) told = file1-after steps (after (reads count) told)
+file1-after (reads_file count ∷ steps) told = file1-after steps (after (reads_file count) told)
 file1-after (writes place bytes ∷ steps) told = file1-after steps (after (writes place bytes) told)
 file1-after (syncs ∷ steps) told = file1-after steps (after syncs told)
 file1-after (prints bytes ∷ steps) told = file1-after steps (after (prints bytes) told)
@@ -63,7 +63,7 @@ file1-after (prints bytes ∷ steps) told = file1-after steps (after (prints byt
 prints-file : (steps : List Step) (told : Told) → AllPrint steps → (after_all steps told).file0 ≡ told.file0
 prints-file [] told all = refl
 prints-file (asks_size ∷ steps) told all = absurd all.0
-prints-file (reads count ∷ steps) told all = absurd all.0
+prints-file (reads_file count ∷ steps) told all = absurd all.0
 prints-file (syncs ∷ steps) told all = absurd all.0
 prints-file (writes place bytes ∷ steps) told all = absurd all.0
 prints-file (prints bytes ∷ steps) told all = prints-file steps (after (prints bytes) told) all.1
@@ -71,7 +71,7 @@ prints-file (prints bytes ∷ steps) told all = prints-file steps (after (prints
 prints-calls : (steps : List Step) → AllPrint steps → calls_by steps ≡ []
 prints-calls [] all = refl
 prints-calls (asks_size ∷ steps) all = absurd all.0
-prints-calls (reads count ∷ steps) all = absurd all.0
+prints-calls (reads_file count ∷ steps) all = absurd all.0
 prints-calls (syncs ∷ steps) all = absurd all.0
 prints-calls (writes place bytes ∷ steps) all = absurd all.0
 prints-calls (prints bytes ∷ steps) all = prints-calls steps all.1

@@ -2,6 +2,7 @@
 use Rattle.std.specs.Prelude.{◌≡◌, ℕ, ◌+◌, ◌≤◌, true, false, List, [], ◌∷◌, ◌++◌, length, map, Option, None, Some, IfSome, IsSomeAnd, Result, Ok, Err, ⊤}
 use Rattle.std.specs.List.{AllByRecursion}
 use Rattle.std.specs.Option.{option_map}
+use Rattle.board_core.specs.Cause.{Rose}
 use Rattle.board_core.specs.Told.{Told}
 use Rattle.ras_base.specs.Prefix.{IsPrefixOf}
 use Rattle.ras_facts.specs.Valid.{IsValidFact}
@@ -12,8 +13,10 @@ use Rattle.ras_account.specs.View.{View}
 use Rattle.ras_daemon.specs.declared.event.FreshEntry.{FreshEntry}
 use Rattle.ras_daemon.specs.declared.event.Prepared.{Prepared}
 use Rattle.ras_daemon.specs.declared.ledger.Ledger.{Ledger}
+use Rattle.ras_daemon.specs.declared.ledger.OpenRefused.{OpenRefused}
+use Rattle.ras_daemon.specs.declared.ledger.OpenRefused.TheVariants.{Disk, Full as NoRoom, NoMemory as OutOfMemory}
 use Rattle.ras_daemon.specs.declared.exit.Exit.{Exit}
-use Rattle.ras_daemon.specs.declared.exit.Exit.TheVariants.{DiskFault, Damaged, Full, NoMemory}
+use Rattle.ras_daemon.specs.declared.exit.Exit.TheVariants.{Full, NoMemory}
 use Rattle.ras_daemon.specs.PlainFile.{fact_in, stored, stored_end}
 use Rattle.ras_daemon.specs.Progress.{Step, writes, syncs, prints, text_steps, entries_steps, reopen_steps, after_all, IsDisk, Cut, Paused, Course, Takes, line_course, event_steps, read_steps}
 use Rattle.ras_daemon.specs.Reports.{Read, reports}
@@ -108,16 +111,19 @@ pub record IsKept (reported : List Entry) (told : Option Told) : Type 0 where
   pub file : IsSomeAnd told (λ t. t.file0 ≡ stored reported)
 
 -- The account was made again from a file that holds it, or as far as a fault or want of memory let.
-abbrev pub Reopens : List Entry → Result Ledger Exit → Option Told → Option Told → Type 0
+abbrev pub Reopens : List Entry → Result Ledger OpenRefused → Option Told → Option Told → Type 0
 Reopens reported (Ok ledger) old new = (new ≡ option_map (after_all (reopen_steps (stored_end reported))) old) × Keeps reported ledger new
-Reopens reported (Err DiskFault) old new = Cut IsDisk (reopen_steps (stored_end reported)) old new
-Reopens reported (Err NoMemory) old new = Paused (reopen_steps (stored_end reported)) old new
-Reopens reported (Err exit) old new = ⊥
+Reopens reported (Err Disk) old new = Cut IsDisk (reopen_steps (stored_end reported)) old new
+Reopens reported (Err OutOfMemory) old new = Paused (reopen_steps (stored_end reported)) old new
+Reopens reported (Err refused) old new = ⊥
 
--- how making the account again may end
-abbrev pub IsOpenExit : Exit → Type 0
-IsOpenExit DiskFault = Unit {0}
-IsOpenExit (Damaged file place) = Unit {0}
-IsOpenExit Full = Unit {0}
-IsOpenExit NoMemory = Unit {0}
-IsOpenExit exit = ⊥
+-- Where making the account again failed at the disk the count of faults rose, and else it is as it was.
+abbrev pub OpenCause : Result Ledger OpenRefused → ℕ → ℕ → Type 0
+OpenCause (Err Disk) before now = Rose before now
+OpenCause result before now = now ≡ before
+
+-- a refusal that isn't for what the file's bytes are
+abbrev pub IsRoomRefusal : OpenRefused → Type 0
+IsRoomRefusal NoRoom = Unit {0}
+IsRoomRefusal OutOfMemory = Unit {0}
+IsRoomRefusal refused = ⊥

@@ -25,7 +25,7 @@ use Rattle.ras_daemon.specs.Text.{detail_of, event_text, done_line, end_line, st
 -- a call on a board, of its file 0 or of its output; a read asks for so many bytes from the file's first one on
 pub data Step : Type 0 where
   asks_size : Step
-  reads : ℕ → Step
+  reads_file : ℕ → Step
   writes : ℕ → List ℕ → Step
   syncs : Step
   prints : List ℕ → Step
@@ -33,7 +33,7 @@ pub data Step : Type 0 where
 -- what a call, and what calls in order, leave
 abbrev pub after : Step → Told → Told
 after asks_size told = called (Size Zero) told
-after (reads count) told = called (ReadAt Zero 0 count) told
+after (reads_file count) told = called (ReadAt Zero 0 count) told
 after (writes place bytes) told = written Zero place bytes told
 after syncs told = called (Sync Zero) told
 after (prints bytes) told = printed bytes told
@@ -45,21 +45,21 @@ after_all (step ∷ steps) told = after_all steps (after step told)
 -- what a failed call may leave
 abbrev pub Fails : Step → Told → Told → Type 0
 Fails asks_size old new = MayList (Size Zero) old new
-Fails (reads count) old new = MayList (ReadAt Zero 0 count) old new
+Fails (reads_file count) old new = MayList (ReadAt Zero 0 count) old new
 Fails (writes place bytes) old new = FailsWrite Zero place (length bytes) old new
 Fails syncs old new = MayList (Sync Zero) old new
 Fails (prints bytes) old new = FailsPrint bytes old new
 
 abbrev pub IsDisk : Step → Type 0
 IsDisk asks_size = Unit {0}
-IsDisk (reads count) = Unit {0}
+IsDisk (reads_file count) = Unit {0}
 IsDisk (writes place bytes) = Unit {0}
 IsDisk syncs = Unit {0}
 IsDisk (prints bytes) = ⊥
 
 abbrev pub IsPrint : Step → Type 0
 IsPrint asks_size = ⊥
-IsPrint (reads count) = ⊥
+IsPrint (reads_file count) = ⊥
 IsPrint (writes place bytes) = ⊥
 IsPrint syncs = ⊥
 IsPrint (prints bytes) = Unit {0}
@@ -125,7 +125,7 @@ event_steps before number detail entries =
 
 -- the calls by which the account is made again from the file
 abbrev pub reopen_steps : ℕ → List Step
-reopen_steps size = asks_size ∷ reads size ∷ []
+reopen_steps size = asks_size ∷ reads_file size ∷ []
 
 abbrev pub line_steps : List Read → ℕ → Line → List Step
 line_steps before number Empty = []

@@ -1,7 +1,7 @@
 -- What the lines of a script report.
-use Rattle.std.specs.Prelude.{ℕ, List, [], map, Option, None, Some, Result, Ok, Err}
+use Rattle.std.specs.Prelude.{ℕ, List, [], map, Option, None, Some, unwrap_or, Result, Ok, Err}
 use Rattle.std.specs.List.{enumerate_from, flat_map}
-use Rattle.std.specs.Option.{option_map_or, option_to_list}
+use Rattle.std.specs.Option.{option_map, option_to_list}
 use Rattle.ras_facts.specs.declared.bank.BankReport.{BankReport}
 use Rattle.ras_facts.specs.Facts.{bank_fact}
 use Rattle.ras_account.specs.declared.entry.Entry.{Entry}
@@ -46,7 +46,7 @@ bank_entries bank = entries_of (option_to_list (bank_fact bank))
 
 -- what a line makes
 abbrev pub made : Line → List Entry
-made line = option_map_or [] bank_entries (bank_in line)
+made line = unwrap_or (option_map bank_entries (bank_in line)) []
 
 abbrev pub made_by : Read → List Entry
 made_by (number, Ok line) = made line

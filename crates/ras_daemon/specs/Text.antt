@@ -1,8 +1,8 @@
 -- The lines that are printed, each with its line feed.
-use Rattle.std.specs.Prelude.{ℕ, ◌*◌, Bool, List, [], ◌∷◌, ◌++◌, codes, decimal, length, Option, None, Some, if◌then◌else◌}
+use Rattle.std.specs.Prelude.{ℕ, ◌*◌, Bool, List, [], ◌∷◌, ◌++◌, codes, decimal, length, Option, None, Some, unwrap_or, if◌then◌else◌}
 use Rattle.std.specs.Int.{to_be_bytes, w64}
 use Rattle.std.specs.List.{flat_map}
-use Rattle.std.specs.Option.{option_map_or}
+use Rattle.std.specs.Option.{option_map}
 use Rattle.hex.specs.Hex.{encode_lower}
 use Rattle.mca_codes.specs.declared.marks.Mark.{Mark}
 use Rattle.mca_codes.specs.declared.marks.Mark.TheVariants as marks
@@ -11,6 +11,9 @@ use Rattle.mca_codes.specs.Marks.{mark_of_number}
 use Rattle.mca_codes.specs.Texts.{text_of as code_text}
 use Rattle.mca_status.specs.declared.classes.ItemClass.{ItemClass}
 use Rattle.mca_status.specs.declared.classes.ItemClass.TheVariants.{Ce, Ucna, Srao, Srar, Uc, Odd, Corrected, Recoverable, Fatal, Informational}
+use Rattle.mca_status.specs.declared.registers.Cap.{Cap}
+use Rattle.mca_status.specs.declared.registers.GlobalStatus.{GlobalStatus}
+use Rattle.mca_status.specs.declared.registers.Status.{Status}
 use Rattle.mca_status.specs.declared.thresholds.Threshold.{Threshold}
 use Rattle.mca_status.specs.declared.thresholds.Threshold.TheVariants.{Untold, NoTracking, Green, Yellow, Reserved}
 use Rattle.mca_status.specs.Registers.{error_code, overflow, restart_valid, error_pointer_valid, in_progress}
@@ -75,28 +78,40 @@ mark_text marks.Srar = codes "srar"
 abbrev pub bit_text : Bool → List ℕ
 bit_text bit = if bit then codes "1" else codes "0"
 
--- What a bank's registers tell beside the class, the weight and the page: the error's code, the threshold status, OVER,
--- whether the code is that of a recoverable error, and of IA32_MCG_STATUS the three flags.
+-- what an error's registers tell beside the class, the weight and the page: the error's code, the threshold status, OVER,
+-- and whether the code is that of a recoverable error
+unfoldable pub error_detail : Cap → Status → List ℕ
+error_detail cap status =
+    codes "code=" ++ code_text (code_of_rows (error_code status))
+    ++ codes " threshold=" ++ threshold_text (threshold_of cap status)
+    ++ codes " over=" ++ bit_text (overflow status)
+    ++ codes " mark=" ++ mark_text (mark_of_number (error_code status))
+
+-- the flags of IA32_MCG_STATUS
+unfoldable pub flags_detail : GlobalStatus → List ℕ
+flags_detail global =
+    codes " ripv=" ++ bit_text (restart_valid global)
+    ++ codes " eipv=" ++ bit_text (error_pointer_valid global)
+    ++ codes " mcip=" ++ bit_text (in_progress global)
+
+-- what a bank's snapshot tells beside its item
 abbrev pub bank_detail : BankReport → List ℕ
-bank_detail bank =
-    codes "code=" ++ code_text (code_of_rows (error_code (status_in bank)))
-    ++ codes " threshold=" ++ threshold_text (threshold_of (cap_in bank) (status_in bank))
-    ++ codes " over=" ++ bit_text (overflow (status_in bank))
-    ++ codes " mark=" ++ mark_text (mark_of_number (error_code (status_in bank)))
-    ++ codes " ripv=" ++ bit_text (restart_valid (record { 0 = bank.mcg }))
-    ++ codes " eipv=" ++ bit_text (error_pointer_valid (record { 0 = bank.mcg }))
-    ++ codes " mcip=" ++ bit_text (in_progress (record { 0 = bank.mcg }))
+bank_detail bank = error_detail (cap_in bank) (status_in bank) ++ flags_detail (record { 0 = bank.mcg })
 
 -- what a line tells of its event beside the fact
 abbrev pub detail_of : Line → List ℕ
-detail_of line = option_map_or [] bank_detail (bank_in line)
+detail_of line = unwrap_or (option_map bank_detail (bank_in line)) []
 
--- the line of an item of a fresh fact; no module's label is known
-abbrev pub item_line : Fact → List ℕ → Item → List ℕ
+-- the name, the time, the class and the weight of an item
+unfoldable pub item_head : Fact → Item → List ℕ
+item_head fact item =
+    codes "log " ++ name_text fact.name ++ codes " t=" ++ decimal fact.seconds ++ codes " class=" ++ class_text item.class
+    ++ codes " weight=" ++ decimal item.weight
+
+-- the line of an item of a fresh fact, with what is told beside it; no module's label is known
+unfoldable pub item_line : Fact → List ℕ → Item → List ℕ
 item_line fact detail item =
-    ended_line
-    (codes "log " ++ name_text fact.name ++ codes " t=" ++ decimal fact.seconds ++ codes " class=" ++ class_text item.class
-    ++ codes " weight=" ++ decimal item.weight ++ codes " label=- page=" ++ page_text item.page ++ codes " " ++ detail)
+    ended_line (item_head fact item ++ codes " label=- page=" ++ page_text item.page ++ codes " " ++ detail)
 
 -- the lines of a fresh entry, one for each item
 abbrev pub log_lines : List ℕ → Entry → List ℕ

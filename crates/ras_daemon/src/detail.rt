@@ -1,6 +1,6 @@
 // What a log line tells of a bank's registers.
 ghost use Rattle.std.specs.Prelude.{◌≡◌, ◌++◌, IfOk, OnOk};
-ghost use Rattle.ras_daemon.specs.Text.{bank_detail, bit_text, mark_text, threshold_text};
+ghost use Rattle.ras_daemon.specs.Text.{bank_detail, bit_text, error_detail, flags_detail, mark_text, threshold_text};
 
 use mca_codes::{Mark, code_of, code_text, mark_of};
 use mca_status::{Cap, GlobalStatus, Status, Threshold, threshold_of};
@@ -12,27 +12,47 @@ use std::alloc::Global;
 pub fn bank_detail(alloc: Global, bank: &BankReport) -> Result<Vec<u8>, NoMemory>
     ensures { IfOk result (λ text. text.items ≡ bank_detail bank.now) }
 {
-    let (cap, status, global) = (
-        Cap(bank.cap),
-        Status(bank.status),
-        GlobalStatus(bank.mcg),
-    );
+    let mut text = Vec::new(alloc);
+    push_error(alloc, &mut text, Cap(bank.cap), Status(bank.status))?;
+    push_flags(&mut text, GlobalStatus(bank.mcg))?;
+    Ok(text)
+}
+
+// Adds what an error's registers tell.
+#[tactic(auto, unfolding(crate::specs::Text::error_detail))]
+fn push_error(
+    alloc: Global,
+    text: &mut Vec<u8>,
+    cap: Cap,
+    status: Status,
+) -> Result<(), NoMemory>
+    ensures { OnOk result (text.new.items ≡ text.old.items ++ error_detail cap status) }
+{
     let code = status.error_code();
-    let mut text = Vec::from_slice(alloc, b"code=")?;
-    text.extend_from_slice(code_text(alloc, code_of(code))?.bytes())?;
+    let words = code_text(alloc, code_of(code))?;
+    text.extend_from_slice(b"code=")?;
+    text.extend_from_slice(words.bytes())?;
     text.extend_from_slice(b" threshold=")?;
     text.extend_from_slice(threshold_word(threshold_of(cap, status)))?;
     text.extend_from_slice(b" over=")?;
     text.extend_from_slice(bit_word(status.overflow()))?;
     text.extend_from_slice(b" mark=")?;
     text.extend_from_slice(mark_word(mark_of(code)))?;
+    Ok(())
+}
+
+// Adds the flags of IA32_MCG_STATUS.
+#[tactic(auto, unfolding(crate::specs::Text::flags_detail))]
+fn push_flags(text: &mut Vec<u8>, global: GlobalStatus) -> Result<(), NoMemory>
+    ensures { OnOk result (text.new.items ≡ text.old.items ++ flags_detail global) }
+{
     text.extend_from_slice(b" ripv=")?;
     text.extend_from_slice(bit_word(global.is_restart_valid()))?;
     text.extend_from_slice(b" eipv=")?;
     text.extend_from_slice(bit_word(global.is_error_pointer_valid()))?;
     text.extend_from_slice(b" mcip=")?;
     text.extend_from_slice(bit_word(global.is_in_progress()))?;
-    Ok(text)
+    Ok(())
 }
 
 // The word of a bank's threshold status.

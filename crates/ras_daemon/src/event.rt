@@ -5,6 +5,7 @@ ghost use Rattle.ras_account.specs.declared.entry.Entry.{Entry};
 ghost use Rattle.ras_account.specs.Account.{account_of, added_by, continued, continued_all, IsWithin};
 ghost use Rattle.ras_daemon.specs.Causes.{Causes, DiskCause, PrintCause};
 ghost use Rattle.ras_daemon.specs.Event.{AreValid, IsPrepared, CanTake, PrepareExit, ReserveExit, Fits, end_after, fresh_steps, longest_entry, prepared_steps, state_after};
+ghost use Rattle.ras_daemon.specs.PlainFile.{fact_in};
 ghost use Rattle.ras_daemon.specs.Progress.{Performs};
 ghost use Rattle.ras_daemon.specs.Reports.{bank_entries};
 ghost use Rattle.ras_daemon.specs.Run.{IsRefusal};
@@ -17,7 +18,7 @@ use crate::step::{append, say};
 use crate::text::{done_line, log_lines, repeat_line};
 use board_core::{Board, Failed};
 use entry_format::entry_bytes;
-use ras_account::{Account, Entry, ReserveRefused};
+use ras_account::{Account, Entry, Fact, ReserveRefused};
 use ras_base::NoMemory;
 use ras_facts::{BankReport, fact_of_bank};
 use std::alloc::Global;
@@ -77,6 +78,14 @@ fn made(alloc: Global, bank: &BankReport) -> Result<Option<Entry>, NoMemory>
     }
 }
 
+// The fact that an entry tells.
+fn fact_in(entry: &Entry) -> &Fact
+    ensures { result.now ≡ fact_in entry.now }
+{
+    let Entry::Fact(fact) = entry;
+    fact
+}
+
 // Makes room in the account for what an event makes.
 fn reserve(account: &mut Account, entries: &[Entry]) -> Result<(), Exit>
     ensures state { account.new.state ≡ account.old.state }
@@ -118,8 +127,7 @@ fn prepare_entry(
     }
     let detail = bank_detail(alloc, bank)?;
     let text = log_lines(alloc, &detail, &entry)?;
-    let Entry::Fact(fact) = &entry;
-    let bytes = entry_bytes(alloc, fact)?;
+    let bytes = entry_bytes(alloc, fact_in(&entry))?;
     Ok(Prepared {
         fresh: Some(FreshEntry { entry, bytes }),
         text,

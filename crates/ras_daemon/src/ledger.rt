@@ -1,18 +1,12 @@
 // The account, and the file that keeps it.
-ghost use Rattle.std.specs.Prelude.{◌≡◌, ◌<◌, ◌^◌, ℕ, List, length, IfErr, IfOk, IfSome};
-ghost use Rattle.board_core.specs.Told.{Steps, called};
-ghost use Rattle.board_core.specs.declared.board.DiskCall.TheVariants.{ReadAt};
-ghost use Rattle.board_core.specs.declared.board.FileNo.TheVariants.{Zero};
+ghost use Rattle.std.specs.Prelude.{◌≡◌, ◌<◌, ◌^◌, ℕ, List, [], length, Err, IfErr, IfOk};
 ghost use Rattle.entry_format.specs.File.{AreEntriesOf, BreaksOffAt};
 ghost use Rattle.ras_facts.specs.declared.fact.Fact.{Fact};
 ghost use Rattle.ras_account.specs.declared.entry.Entry.{Entry};
-ghost use Rattle.ras_account.specs.Account.{account_of, IsWithin};
+ghost use Rattle.ras_account.specs.Account.{account_of, IsPast};
 ghost use Rattle.ras_account.specs.Fresh.{entries_of};
-ghost use Rattle.ras_daemon.specs.Causes.{Causes, DiskCause, PrintCause};
-ghost use Rattle.ras_daemon.specs.Event.{Fits, IsKept, IsOpenExit, Reopens};
-ghost use Rattle.ras_daemon.specs.Progress.{Performs, reads};
+ghost use Rattle.ras_daemon.specs.Event.{Fits, IsKept, IsRoomRefusal, OpenCause, Reopens};
 
-use crate::Exit;
 use board_core::{Board, Failed, FileNo};
 use entry_format::{EntriesRefused, read_entries};
 use ras_account::{Account, ReserveRefused};
@@ -39,27 +33,45 @@ impl Ledger {
     }
 }
 
+/// Why the account can't be made again from its file.
+#[derive(Clone, Copy, Debug, PartialEq, Eq)]
+pub enum OpenRefused {
+    /// A disk call failed.
+    Disk,
+    /// The file isn't a list of entries: which file, and the place of the first byte that is of none.
+    Damaged { file: u8, place: u64 },
+    /// The account of the entries is past its limits.
+    Full,
+    /// Memory ran out.
+    NoMemory,
+}
+
+impl From<NoMemory> for OpenRefused {
+    ghost use Rattle.ras_daemon.specs.declared.ledger.OpenRefused.TheVariants as RefusedFor;
+
+    ghost from_gives = { λ _ refused. refused ≡ RefusedFor.NoMemory };
+
+    fn from(_: NoMemory) -> Self {
+        OpenRefused::NoMemory
+    }
+}
+
 /// Makes the account again from the entries in the file, and from nothing else.
-///
-/// `Damaged` comes where the file isn't a list of entries, with the place of the first byte that is not of one. `Full`
-/// comes where the account of the entries is past its limits, `DiskFault` where a disk call failed, and `NoMemory` for
-/// want of memory.
-pub fn reopen<B: Board>(alloc: Global, board: &mut B) -> Result<Ledger, Exit>
+pub fn reopen<B: Board>(alloc: Global, board: &mut B) -> Result<Ledger, OpenRefused>
     ensures reopens { (reported : List Entry) → IsKept reported (B.told board.old) → Reopens reported result (B.told board.old) (B.told board.new) }
     ensures fits { IfOk result (λ ledger. Fits (B.told board.new) ledger.end) }
     ensures small { IfOk result (λ ledger. ledger.end < 2 ^ 63) }
-    ensures exits { IfErr result IsOpenExit }
-    ensures disk { Causes DiskCause result (B.disk_faults board.old) (B.disk_faults board.new) }
-    ensures print { Causes PrintCause result (B.print_faults board.old) (B.print_faults board.new) }
+    ensures disk { OpenCause result (B.disk_faults board.old) (B.disk_faults board.new) }
+    ensures print { B.print_faults board.new ≡ B.print_faults board.old }
 {
     let size = match board.size(FileNo::Zero) {
         Ok(size) => size,
-        Err(Failed) => return Err(Exit::DiskFault),
+        Err(Failed) => return Err(OpenRefused::Disk),
     };
     let mut bytes = buffer(alloc, size)?;
     let count = match board.read_at(FileNo::Zero, 0, &mut bytes) {
         Ok(count) => count,
-        Err(Failed) => return Err(Exit::DiskFault),
+        Err(Failed) => return Err(OpenRefused::Disk),
     };
     ledger_of(alloc, &bytes[..count])
 }
@@ -72,25 +84,25 @@ fn buffer(alloc: Global, size: u64) -> Result<Vec<u8>, NoMemory>
 }
 
 // The ledger of a file of these bytes.
-fn ledger_of(alloc: Global, bytes: &[u8]) -> Result<Ledger, Exit>
-    ensures account { IfOk result (λ ledger. (facts : List Fact) → AreEntriesOf facts bytes.now → ledger.account.state ≡ account_of (entries_of facts)) }
+fn ledger_of(alloc: Global, bytes: &[u8]) -> Result<Ledger, OpenRefused>
+    ensures entries { (facts : List Fact) → AreEntriesOf facts bytes.now → IfOk result (λ ledger. ledger.account.state ≡ account_of (entries_of facts)) }
     ensures end { IfOk result (λ ledger. ledger.end ≡ length bytes.now) }
     ensures small { length bytes.now < 2 ^ 63 }
-    ensures entries { (facts : List Fact) → AreEntriesOf facts bytes.now → IsWithin (account_of (entries_of facts)) → IfErr result (λ exit. exit ≡ Exit.NoMemory) }
-    ensures damaged { (file place : ℕ) → result ≡ Err (Exit.Damaged file place) → (file ≡ 0) × BreaksOffAt bytes.now place }
-    ensures exits { IfErr result IsOpenExit }
+    ensures damaged { (file place : ℕ) → result ≡ Err (OpenRefused.Damaged file place) → (file ≡ 0) × BreaksOffAt bytes.now place }
+    ensures full { result ≡ Err OpenRefused.Full → (facts : List Fact) → AreEntriesOf facts bytes.now → IsPast (account_of (entries_of facts)) }
+    ensures undamaged { IfErr result (λ refused. (facts : List Fact) → AreEntriesOf facts bytes.now → IsRoomRefusal refused) }
 {
     let facts = match read_entries(alloc, bytes) {
         Ok(facts) => facts,
-        Err(EntriesRefused::Bad { place }) => return Err(Exit::Damaged { file: 0, place }),
-        Err(EntriesRefused::NoMemory) => return Err(Exit::NoMemory),
+        Err(EntriesRefused::Bad { place }) => return Err(OpenRefused::Damaged { file: 0, place }),
+        Err(EntriesRefused::NoMemory) => return Err(OpenRefused::NoMemory),
     };
     match Account::of_facts(alloc, facts) {
         Ok(account) => Ok(Ledger {
             account,
             end: bytes.len() as u64,
         }),
-        Err(ReserveRefused::Full) => Err(Exit::Full),
-        Err(ReserveRefused::NoMemory) => Err(Exit::NoMemory),
+        Err(ReserveRefused::Full) => Err(OpenRefused::Full),
+        Err(ReserveRefused::NoMemory) => Err(OpenRefused::NoMemory),
     }
 }

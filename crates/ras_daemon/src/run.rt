@@ -11,7 +11,7 @@ ghost use Rattle.ras_daemon.specs.Text.{bank_detail};
 ghost use Rattle.ras_daemon.specs.declared.line.Line.TheVariants.{Restart};
 
 use crate::event::{commit, prepare};
-use crate::ledger::{Ledger, reopen};
+use crate::ledger::{Ledger, OpenRefused, reopen};
 use crate::splitting::first_line;
 use crate::{Exit, Line, LineRefused, Reason, read_line, text};
 use board_core::{Board, Failed};
@@ -163,8 +163,12 @@ fn take_restart<B: Board>(
     };
     match reopen(alloc, board) {
         Ok(opened) => *ledger = opened,
-        Err(Exit::DiskFault) => return Err(Exit::DiskFault),
-        Err(exit) => return Err(refuse(alloc, exit, board)),
+        Err(OpenRefused::Disk) => return Err(Exit::DiskFault),
+        Err(OpenRefused::Damaged { file, place }) => {
+            return Err(refuse(alloc, Exit::Damaged { file, place }, board));
+        }
+        Err(OpenRefused::Full) => return Err(refuse(alloc, Exit::Full, board)),
+        Err(OpenRefused::NoMemory) => return Err(Exit::NoMemory),
     }
     if let Err(Failed) = board.print(&done) {
         return Err(Exit::PrintFault);

@@ -1,8 +1,8 @@
 // The lines that are printed.
 ghost use Rattle.std.specs.Prelude.{◌≡◌, ◌++◌, decimal, IfOk, IfSome, OnOk};
-ghost use Rattle.ras_facts.specs.Valid.{IsPage, IsValidItem, IsValidFact};
+ghost use Rattle.ras_facts.specs.Valid.{IsPage, IsValidFact};
 ghost use Rattle.ras_daemon.specs.PlainFile.{fact_in};
-ghost use Rattle.ras_daemon.specs.Text.{name_text, class_text, page_text, item_line, log_lines, repeat_line, done_line, end_text, stop_line, reason_text};
+ghost use Rattle.ras_daemon.specs.Text.{name_text, class_text, page_text, item_head, item_line, log_lines, repeat_line, done_line, end_text, stop_line, reason_text};
 
 use crate::{Exit, LineRefused, Reason};
 use itoa::Buffer;
@@ -79,16 +79,10 @@ fn push_page(alloc: Global, text: &mut Vec<u8>, page: Option<u64>) -> Result<(),
     Ok(())
 }
 
-// Adds the line of an item of a fresh fact.
-fn push_item(
-    alloc: Global,
-    text: &mut Vec<u8>,
-    fact: &Fact,
-    detail: &[u8],
-    item: &Item,
-) -> Result<(), NoMemory>
-    requires { IsValidItem item.now }
-    ensures { OnOk result (text.new.items ≡ text.old.items ++ item_line fact.now detail.now item.now) }
+// Adds the name, the time, the class and the weight of an item.
+#[tactic(auto, unfolding(crate::specs::Text::item_head))]
+fn push_head(text: &mut Vec<u8>, fact: &Fact, item: &Item) -> Result<(), NoMemory>
+    ensures { OnOk result (text.new.items ≡ text.old.items ++ item_head fact.now item.now) }
 {
     text.extend_from_slice(b"log ")?;
     push_name(text, &fact.name)?;
@@ -97,7 +91,22 @@ fn push_item(
     text.extend_from_slice(b" class=")?;
     text.extend_from_slice(class_word(item.class))?;
     text.extend_from_slice(b" weight=")?;
-    push_number(text, u64::from(item.weight))?;
+    push_number(text, u64::from(item.weight))
+}
+
+// Adds the line of an item of a fresh fact, with what is told beside it.
+#[tactic(auto, unfolding(crate::specs::Text::item_line))]
+fn push_item(
+    alloc: Global,
+    text: &mut Vec<u8>,
+    fact: &Fact,
+    detail: &[u8],
+    item: &Item,
+) -> Result<(), NoMemory>
+    requires { IfSome item.now.page IsPage }
+    ensures { OnOk result (text.new.items ≡ text.old.items ++ item_line fact.now detail.now item.now) }
+{
+    push_head(text, fact, item)?;
     text.extend_from_slice(b" label=- page=")?;
     push_page(alloc, text, item.page)?;
     text.extend_from_slice(b" ")?;

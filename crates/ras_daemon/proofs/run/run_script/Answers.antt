@@ -1,18 +1,17 @@
 use Rattle.std.proofs.Common.{ap, ◌∙◌}
 use Rattle.ras_daemon.specs.Reports.{reads_of}
 use Rattle.ras_daemon.specs.Text.{end_text}
-use Rattle.ras_daemon.proofs.RunLemmas.{run_ends}
-use Rattle.ras_daemon.proofs.CourseLaws.{lines-usage}
+use Rattle.ras_daemon.proofs.RunLemmas.{run_ends, started}
 use Rattle.ras_daemon.proofs.run.run_script.Goals as goal
 
 pub returns-in-Ok-clause-takes : goal.returns-in-Ok-clause-takes
-returns-in-Ok-clause-takes g c =
-    run_ends (reads_of c.args.script.now) _ _ _ c.take_lines.new.account.state c.deref.result.now c.last_line.result c.in_default.ensures.takes
+returns-in-Ok-clause-takes g c = started _ _ _ c.requires.empty c.new-ledger.ensures.account c.new-ledger.ensures.end (λ keeps.
+    run_ends (reads_of c.args.script.now) _ _ _ c.take_lines.new.ledger.account.state c.deref.result.now c.last_line.result (c.in_default.ensures.takes keeps)
     (c.deref.ensures.value
     ∙ c.in-Ok.ensures
     ∙ ap (λ n. end_text n c.names_len.result) c.entries.ensures.count
-    ∙ ap (λ n. end_text c.take_lines.new.account.state.entries n) c.names_len.ensures.count)
-    c.last_line.ensures.takes
+    ∙ ap (λ n. end_text c.take_lines.new.ledger.account.state.entries n) c.names_len.ensures.count)
+    c.last_line.ensures.takes)
 
-pub returns-in-Err-clause-listed : goal.returns-in-Err-clause-listed
-returns-in-Err-clause-listed g c = lines-usage (reads_of c.args.script.now) c.in-Err.exit _ _ c.in-Err.ensures.takes
+pub returns-in-Err-clause-takes : goal.returns-in-Err-clause-takes
+returns-in-Err-clause-takes g c = started _ _ _ c.requires.empty c.new-ledger.ensures.account c.new-ledger.ensures.end c.in-Err.ensures.takes

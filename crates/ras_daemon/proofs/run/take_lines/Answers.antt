@@ -1,38 +1,35 @@
-use Rattle.std.proofs.Common.{◌≡◌, ◌+◌, ◌∙◌, ap, refl, arith}
-use Rattle.ras_account.specs.Account.{State}
+use Rattle.std.proofs.Common.{◌≡◌, ◌+◌, ◌∙◌, refl, arith}
 use Rattle.ras_daemon.specs.Line.{line_of}
 use Rattle.ras_daemon.specs.Reports.{reads_from, reads_of}
 use Rattle.ras_daemon.proofs.RunLemmas.{took_none, took_line, took_stop, reads-first}
 use Rattle.ras_daemon.proofs.run.take_lines.Goals as goal
 
 pub loop-rest-init : goal.loop-rest-init
-loop-rest-init g c =
-    let none : c.args.account.now.state.entries ≡ 0 = ap (λ (a : State). a.entries) c.requires.new in
-    record {
-      took = took_none (reads_of c.args.script.now) _ _ c.requires.new;
-      short = omega arith;
-      few = omega arith;
-      fits = rw none c.requires.empty;
-      disk = refl;
-      print = refl;
-    }
+loop-rest-init g c = record {
+  took = took_none (reads_of c.args.script.now) _ c.args.ledger.now;
+  short = omega arith;
+  small = (let none = c.requires.end in omega arith);
+  fits = rw c.requires.end c.requires.empty;
+  disk = refl;
+  print = refl;
+}
 
 pub returns-in-Err-clause-takes : goal.returns-in-Err-clause-takes
-returns-in-Err-clause-takes g c =
+returns-in-Err-clause-takes g c = λ keeps.
     took_stop (reads_of c.args.script.now) (reads_from (c.loop-rest.number + 1 + 1) c.first_line.result.1.now) (reads_from (c.loop-rest.number + 1) c.loop-rest.rest.now)
-    (c.loop-rest.number + 1, line_of c.first_line.result.0.now) _ _ _ _ c.take_line.new.account.state c.in-Err.exit c.loop-rest.invariant.took
+    (c.loop-rest.number + 1, line_of c.first_line.result.0.now) _ _ _ _ c.take_line.new.ledger c.in-Err.exit (c.loop-rest.invariant.took keeps)
     (reads-first (c.loop-rest.number + 1) c.loop-rest.rest.now c.first_line.result.0.now c.first_line.result.1.now c.first_line.ensures.lines)
     c.in-Err.ensures.takes
 
 pub loop-rest-preserved : goal.loop-rest-preserved
 loop-rest-preserved g c = record {
-  took =
+  took = λ keeps.
       took_line (reads_of c.args.script.now) (reads_from (c.loop-rest.number + 1 + 1) c.first_line.result.1.now) (reads_from (c.loop-rest.number + 1) c.loop-rest.rest.now)
-      (c.loop-rest.number + 1, line_of c.first_line.result.0.now) _ _ _ _ c.take_line.new.account.state c.loop-rest.invariant.took
+      (c.loop-rest.number + 1, line_of c.first_line.result.0.now) _ _ _ _ c.take_line.new.ledger (c.loop-rest.invariant.took keeps)
       (reads-first (c.loop-rest.number + 1) c.loop-rest.rest.now c.first_line.result.0.now c.first_line.result.1.now c.first_line.ensures.lines)
       c.in_default.ensures.takes;
   short = (let shorter = c.first_line.ensures.shorter in omega arith);
-  few = (let grows = c.in_default.ensures.grows in omega arith);
+  small = (let grows = c.in_default.ensures.grows in let small = c.loop-rest.invariant.small in omega arith);
   fits = c.in_default.ensures.fits;
   disk = c.in_default.ensures.disk ∙ c.loop-rest.invariant.disk;
   print = c.in_default.ensures.print ∙ c.loop-rest.invariant.print;
