@@ -6,6 +6,7 @@ pub mod ScriptLemmas
 pub mod StepLemmas
 pub mod FileLemmas
 pub mod EventLemmas
+pub mod LedgerLemmas
 pub mod RunLemmas
 pub mod DaemonLemmas
 pub mod CourseLaws

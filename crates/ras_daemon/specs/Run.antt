@@ -43,6 +43,7 @@ IsStop exit = Unit {0}
 -- an exit that ends a run before its end: a refusal, or want of memory
 abbrev pub IsRefusal : Exit → Type 0
 IsRefusal Done = ⊥
+IsRefusal Usage = ⊥
 IsRefusal SourceFault = ⊥
 IsRefusal DiskFault = ⊥
 IsRefusal PrintFault = ⊥

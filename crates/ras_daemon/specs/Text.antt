@@ -78,11 +78,15 @@ mark_text marks.Srar = codes "srar"
 abbrev pub bit_text : Bool → List ℕ
 bit_text bit = if bit then codes "1" else codes "0"
 
+-- what an error code says
+unfoldable pub code_detail : ℕ → List ℕ
+code_detail code = codes "code=" ++ code_text (code_of_rows code)
+
 -- what an error's registers tell beside the class, the weight and the page: the error's code, the threshold status, OVER,
 -- and whether the code is that of a recoverable error
 unfoldable pub error_detail : Cap → Status → List ℕ
 error_detail cap status =
-    codes "code=" ++ code_text (code_of_rows (error_code status))
+    code_detail (error_code status)
     ++ codes " threshold=" ++ threshold_text (threshold_of cap status)
     ++ codes " over=" ++ bit_text (overflow status)
     ++ codes " mark=" ++ mark_text (mark_of_number (error_code status))

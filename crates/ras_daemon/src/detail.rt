@@ -1,6 +1,6 @@
 // What a log line tells of a bank's registers.
 ghost use Rattle.std.specs.Prelude.{◌≡◌, ◌++◌, IfOk, OnOk};
-ghost use Rattle.ras_daemon.specs.Text.{bank_detail, bit_text, error_detail, flags_detail, mark_text, threshold_text};
+ghost use Rattle.ras_daemon.specs.Text.{bank_detail, bit_text, code_detail, error_detail, flags_detail, mark_text, threshold_text};
 
 use mca_codes::{Mark, code_of, code_text, mark_of};
 use mca_status::{Cap, GlobalStatus, Status, Threshold, threshold_of};
@@ -29,15 +29,23 @@ fn push_error(
     ensures { OnOk result (text.new.items ≡ text.old.items ++ error_detail cap status) }
 {
     let code = status.error_code();
-    let words = code_text(alloc, code_of(code))?;
-    text.extend_from_slice(b"code=")?;
-    text.extend_from_slice(words.bytes())?;
+    push_code(alloc, text, code)?;
     text.extend_from_slice(b" threshold=")?;
     text.extend_from_slice(threshold_word(threshold_of(cap, status)))?;
     text.extend_from_slice(b" over=")?;
     text.extend_from_slice(bit_word(status.overflow()))?;
     text.extend_from_slice(b" mark=")?;
     text.extend_from_slice(mark_word(mark_of(code)))?;
+    Ok(())
+}
+
+// Adds what an error code says.
+#[tactic(auto, unfolding(crate::specs::Text::code_detail))]
+fn push_code(alloc: Global, text: &mut Vec<u8>, code: u16) -> Result<(), NoMemory>
+    ensures { OnOk result (text.new.items ≡ text.old.items ++ code_detail code) }
+{
+    text.extend_from_slice(b"code=")?;
+    text.extend_from_slice(code_text(alloc, code_of(code))?.bytes())?;
     Ok(())
 }
 

@@ -1,5 +1,5 @@
 // The account, and the file that keeps it.
-ghost use Rattle.std.specs.Prelude.{◌≡◌, ◌<◌, ◌^◌, ℕ, List, [], length, Err, IfErr, IfOk};
+ghost use Rattle.std.specs.Prelude.{◌≡◌, ◌≢◌, ◌<◌, ◌^◌, ℕ, List, [], length, Err, IfErr, IfOk};
 ghost use Rattle.entry_format.specs.File.{AreEntriesOf, BreaksOffAt};
 ghost use Rattle.ras_facts.specs.declared.fact.Fact.{Fact};
 ghost use Rattle.ras_account.specs.declared.entry.Entry.{Entry};
@@ -91,6 +91,7 @@ fn ledger_of(alloc: Global, bytes: &[u8]) -> Result<Ledger, OpenRefused>
     ensures damaged { (file place : ℕ) → result ≡ Err (OpenRefused.Damaged file place) → (file ≡ 0) × BreaksOffAt bytes.now place }
     ensures full { result ≡ Err OpenRefused.Full → (facts : List Fact) → AreEntriesOf facts bytes.now → IsPast (account_of (entries_of facts)) }
     ensures undamaged { IfErr result (λ refused. (facts : List Fact) → AreEntriesOf facts bytes.now → IsRoomRefusal refused) }
+    ensures disk { result ≢ Err OpenRefused.Disk }
 {
     let facts = match read_entries(alloc, bytes) {
         Ok(facts) => facts,

@@ -178,6 +178,7 @@ fn take_restart<B: Board>(
 
 // Ends the run at a line that can't be read.
 fn refuse_line<B: Board>(alloc: Global, number: u64, refused: LineRefused, board: &mut B) -> Exit
+    ensures stops { IsStop result }
     ensures refuses { RefusesLine number refused result (B.told board.old) (B.told board.new) }
     ensures disk { DiskCause result (B.disk_faults board.old) (B.disk_faults board.new) }
     ensures print { PrintCause result (B.print_faults board.old) (B.print_faults board.new) }
@@ -197,6 +198,7 @@ pub fn refuse<B: Board>(alloc: Global, exit: Exit, board: &mut B) -> Exit
     requires { IsRefusal exit }
     ensures refuses { Refuses exit result (B.told board.old) (B.told board.new) }
     ensures answers { (result ≡ exit) ⊎ ((result ≡ Exit.PrintFault) ⊎ (result ≡ Exit.NoMemory)) }
+    ensures stops { IsStop result }
     ensures disk { DiskCause result (B.disk_faults board.old) (B.disk_faults board.new) }
     ensures print { PrintCause result (B.print_faults board.old) (B.print_faults board.new) }
 {

@@ -4,4 +4,4 @@ use Rattle.ras_daemon.specs.Text.{item_line}
 use Rattle.ras_daemon.proofs.text.log_lines.Given as goal
 
 abbrev pub invariant-loop-item : goal.invariant-loop-item
-invariant-loop-item l = l.text.items ≡ flat_map (item_line l.fact.now l.fn.detail.now) (take l.item-index l.fact.items)
+invariant-loop-item l = l.text.items ≡ flat_map (item_line l.fact l.fn.detail) (take l.item-index l.fact.items)
