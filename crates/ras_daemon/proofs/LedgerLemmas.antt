@@ -100,13 +100,16 @@ module _ (reported : List Entry) (old new : Option Told) (bytes : List ℕ) (kep
       let not : is_past (account_of reported) ≡ false = kept.room in cc
 
   pub reopened : (result : Result Ledger OpenRefused) → IsRead bytes result → Reopens reported result old new
-  reopened (Ok ledger) read = (went, record {
-    account = read.entries (facts_stored reported) are ∙ account-again reported;
-    end = read.end ∙ ap length same;
-    room = kept.room;
-    valid = kept.valid;
-    file = told;
-  })
+  reopened (Ok ledger) read = (
+    went,
+    record {
+      account = read.entries (facts_stored reported) are ∙ account-again reported;
+      end = read.end ∙ ap length same;
+      room = kept.room;
+      valid = kept.valid;
+      file = told;
+    },
+  )
   reopened (Err Disk) read = absurd (read.disk refl)
   reopened (Err (Damaged file place)) read = read.undamaged (facts_stored reported) are
   reopened (Err Full) read = past (read.full refl (facts_stored reported) are)

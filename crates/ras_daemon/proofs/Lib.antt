@@ -13,6 +13,7 @@ pub mod CourseLaws
 pub mod CutLaws
 pub mod StoredLaws
 pub mod EndLaws
+pub mod CompleteLaws
 pub mod NumberLaws
 pub mod LineTexts
 pub mod ReportLaws

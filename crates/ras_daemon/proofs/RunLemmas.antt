@@ -43,7 +43,7 @@ pub event_taken : (before : List Entry) (number : ℕ) (detail : List ℕ) (entr
     → TakesEvent before number detail entries result old new more
 event_taken before number detail entries event ledger more old new (Ok done) keeps prepared performs counted ended =
     let went : new ≡ option_map (after_all (event_steps before number detail entries)) old =
-        performs ∙ ap (λ steps. option_map (after_all steps) old) (prepared-steps before number detail entries event ledger.end keeps.end prepared) in (
+    performs ∙ ap (λ steps. option_map (after_all steps) old) (prepared-steps before number detail entries event ledger.end keeps.end prepared) in (
       rw prepared.room refl,
       went,
       record {

@@ -1,9 +1,22 @@
 -- What an exit says of how far a call came.
-use Rattle.std.specs.Prelude.{◌≡◌, ℕ, List, ◌++◌, Option, IfSome, IsSomeAnd, ⊤}
+use Rattle.std.specs.Prelude.{◌≡◌, ℕ, ◌≤◌, List, ◌++◌, length, Option, IsOk, IfSome, IsSomeAnd, ⊤}
+use Rattle.std.specs.List.{AllByRecursion}
+use Rattle.board_core.specs.Cause.{Rose}
 use Rattle.board_core.specs.Told.{Told}
 use Rattle.ras_base.specs.Prefix.{IsPrefixOf}
 use Rattle.ras_daemon.specs.declared.exit.Exit.{Exit}
 use Rattle.ras_daemon.specs.declared.exit.Exit.TheVariants.{SourceFault, DiskFault, PrintFault, NoMemory}
+use Rattle.ras_daemon.specs.Reports.{Read, reads_of}
+use Rattle.ras_daemon.specs.Status.{longest_script}
+
+-- a count of faults didn't rise
+abbrev pub IsQuiet : ℕ → ℕ → Type 0
+IsQuiet before now = ¬ Rose before now
+
+-- nothing stands in the way of a script: it isn't too long, and each of its lines can be read
+pub record IsReadable (script : List ℕ) : Type 0 where
+  pub short : length script ≤ longest_script
+  pub lines : AllByRecursion (λ (read : Read). IsOk read.1) (reads_of script)
 
 -- P holds where the call came to its end or to a refusal. A fault or want of memory cuts a call short.
 abbrev pub OnAnswer : Exit → Type 0 → Type 0

@@ -1,8 +1,8 @@
 // The top call.
-ghost use Rattle.std.specs.Prelude.{◌≡◌, ◌⊎◌, ◌++◌, ℕ, [], Some, None, IfSome, IfNone, IsSomeAnd};
+ghost use Rattle.std.specs.Prelude.{◌≡◌, ◌≢◌, ◌⊎◌, ◌++◌, ℕ, [], Some, None, IfSome, IfNone, IsSomeAnd};
 ghost use Rattle.ras_daemon.specs.Causes.{DiskCause, PrintCause, SourceCause};
 ghost use Rattle.ras_daemon.specs.Command.{command_of};
-ghost use Rattle.ras_daemon.specs.Ended.{OnAnswer, OverBoth, OverTold, PrintsPart};
+ghost use Rattle.ras_daemon.specs.Ended.{IsQuiet, IsReadable, OnAnswer, OverBoth, OverTold, PrintsPart};
 ghost use Rattle.ras_daemon.specs.Event.{Fits};
 ghost use Rattle.ras_daemon.specs.Output.{output_of, output_upto};
 ghost use Rattle.ras_daemon.specs.Progress.{TakesCall, call_course, start_course};
@@ -38,6 +38,11 @@ pub fn rasd<S: Source, B: Board>(
     // No line of an event is printed before its entry is written and synced: where one of these fails, what is printed
     // ends with a whole event.
     ensures synced { result ≡ Exit.DiskFault → OverBoth (λ script told now. (count : ℕ) × (now.out ≡ told.out ++ output_upto (reads_of script) count)) (S.left source.old) (B.told board.old) (B.told board.new) }
+
+    // Over an empty file a readable script is taken to its end, unless a fault came, the account is full, or memory ran
+    // out.
+    ensures complete { command_of words.now ≡ Some Run → IsQuiet (S.faults source.old) (S.faults source.new) → IsQuiet (B.disk_faults board.old) (B.disk_faults board.new) → IsQuiet (B.print_faults board.old) (B.print_faults board.new)
+        → OverTold (λ script told. told.file0 ≡ [] → IsReadable script → result ≢ Exit.Full → (result ≡ Exit.Done) ⊎ (result ≡ Exit.NoMemory)) (S.left source.old) (B.told board.old) }
 
     // A run is done once its source is read to its end.
     ensures ended { result ≡ Exit.Done → IfSome (S.left source.old) (λ script. S.left source.new ≡ Some []) }

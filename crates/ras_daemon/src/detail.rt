@@ -20,12 +20,7 @@ pub fn bank_detail(alloc: Global, bank: &BankReport) -> Result<Vec<u8>, NoMemory
 
 // Adds what an error's registers tell.
 #[tactic(auto, unfolding(crate::specs::Text::error_detail))]
-fn push_error(
-    alloc: Global,
-    text: &mut Vec<u8>,
-    cap: Cap,
-    status: Status,
-) -> Result<(), NoMemory>
+fn push_error(alloc: Global, text: &mut Vec<u8>, cap: Cap, status: Status) -> Result<(), NoMemory>
     ensures { OnOk result (text.new.items ≡ text.old.items ++ error_detail cap status) }
 {
     let code = status.error_code();

@@ -1,3 +1,4 @@
+use Rattle.ras_daemon.proofs.CompleteLaws.{completes}
 use Rattle.ras_daemon.proofs.EndLaws.{status-taken, out-taken, part-taken, file-taken, calls-taken, file1-taken, disk-taken}
 use Rattle.ras_daemon.proofs.daemon.rasd.Goals as goal
 
@@ -21,3 +22,8 @@ returns-clause-other g c = file1-taken c.args.words.now c.call.result _ (g.B.Boa
 
 pub returns-clause-synced : goal.returns-clause-synced
 returns-clause-synced g c = λ is. disk-taken c.args.words.now c.call.result _ (g.B.Board.told c.args.board.now) (g.B.Board.told c.call.new.board) c.call.ensures.takes is
+
+pub returns-clause-complete : goal.returns-clause-complete
+returns-clause-complete g c =
+    completes c.args.words.now c.call.result _ _ _ _ _ _ c.call.ensures.source c.call.ensures.disk c.call.ensures.print _ (g.B.Board.told c.args.board.now)
+    (status-taken c.args.words.now c.call.result _ (g.B.Board.told c.args.board.now) (g.B.Board.told c.call.new.board) c.call.ensures.takes)
