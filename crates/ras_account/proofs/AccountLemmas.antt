@@ -6,7 +6,7 @@ use Rattle.std.proofs.lemmas.List.Sums.{fold-append}
 use Rattle.std.proofs.lemmas.List.Folds.{list_any-append}
 use Rattle.std.proofs.Math.Bool.{or-false}
 use Rattle.std.proofs.lemmas.List.{length-take-le, append_cancel_left}
-use Rattle.std.proofs.Math.Seq.{take-suc, drop-cons, take-append_seam, drop-append_seam}
+use Rattle.std.proofs.Math.Seq.{take-suc, take-append_seam, drop-append_seam}
 use Rattle.indexmap.specs.IndexSet.{insert_key, insert_all}
 use Rattle.ras_facts.specs.declared.items.Item.{Item}
 use Rattle.ras_facts.specs.declared.name.Name.{Name}
@@ -345,35 +345,37 @@ IsPast-continued_all a entries past = by past
 pub waits_first : (v : View) (e : Entry) (entries : List Entry) → v.waiting ≡ added_by v.state (e ∷ entries) → IsPrefixOf (added_by v.state (e ∷ [])) v.waiting
 waits_first v e entries waits = (added_by (continued v.state e) entries, sym (waits ∙ added_by-cons v.state e entries))
 
--- the entries from a place on: the one there, and those behind it
-pub drop-next : (entries : List Entry) (i : ℕ) (d : Entry) → i < length entries → drop i entries ≡ get_or entries i d ∷ drop (i + 1) entries
-drop-next entries i d within = drop-cons entries i d within ∙ ap (λ n. get_or entries i d ∷ drop n entries) (sym (add-one i))
+-- the state of a run over a list that was reserved: some entries were taken, the others are left and their names wait
+pub record TakesInTurn (start : State) (all taken left : List Entry) (number : ℕ) (account : View) : Type 0 where
+  pub entries : taken ++ left ≡ all
+  pub count : number ≡ length left
+  pub state : account.state ≡ continued_all start taken
+  pub waiting : account.waiting ≡ added_by account.state left
+  pub within : IsWithin (continued_all account.state left)
 
--- the state of a run over a list that was reserved: the entries before place i were taken, the others wait
-pub record TakesInTurn (start : State) (v : View) (entries : List Entry) (i : ℕ) : Type 0 where
-  pub state : v.state ≡ continued_all start (take i entries)
-  pub waiting : v.waiting ≡ added_by v.state (drop i entries)
-  pub within : IsWithin (continued_all v.state (drop i entries))
+module _ (start : State) (all taken left rest : List Entry) (number : ℕ) (old : View) (e : Entry)
+    (turn : TakesInTurn start all taken left number old) (is : left ≡ e ∷ rest) where
+  waits_so : old.waiting ≡ added_by old.state (e ∷ rest)
+  waits_so = turn.waiting ∙ ap (added_by old.state) is
 
-module _ (start : State) (old : View) (entries : List Entry) (i : ℕ) (d : Entry) (there : i < length entries) (turn : TakesInTurn start old entries i) where
-  waits_so : old.waiting ≡ added_by old.state (get_or entries i d ∷ drop (i + 1) entries)
-  waits_so = turn.waiting ∙ ap (added_by old.state) (drop-next entries i d there)
+  within_so : IsWithin (continued_all (continued old.state e) rest)
+  within_so = subst (λ es. IsWithin (continued_all old.state es)) is turn.within
 
-  within_so : IsWithin (continued_all (continued old.state (get_or entries i d)) (drop (i + 1) entries))
-  within_so = subst (λ es. IsWithin (continued_all old.state es)) (drop-next entries i d there) turn.within
+  pub turn_waits : IsPrefixOf (added_by old.state (e ∷ [])) old.waiting
+  turn_waits = waits_first old e rest waits_so
 
-  pub turn_waits : IsPrefixOf (added_by old.state (get_or entries i d ∷ [])) old.waiting
-  turn_waits = waits_first old (get_or entries i d) (drop (i + 1) entries) waits_so
+  pub turn_within : IsWithin (continued old.state e)
+  turn_within = IsWithin-continued_all _ rest within_so
 
-  pub turn_within : IsWithin (continued old.state (get_or entries i d))
-  turn_within = IsWithin-continued_all _ (drop (i + 1) entries) within_so
-
-  pub turn_next : (new : View) → new.state ≡ continued old.state (get_or entries i d) → old.waiting ≡ added_by old.state (get_or entries i d ∷ []) ++ new.waiting → TakesInTurn start new entries (i + 1)
-  turn_next new taken waits = record {
-    state = taken ∙ ap (λ a. continued a (get_or entries i d)) turn.state ∙ sym (continued_all-more start entries i d there);
+  pub turn_next : (fewer : ℕ) (new : View) → fewer + 1 ≡ number → new.state ≡ continued old.state e
+      → old.waiting ≡ added_by old.state (e ∷ []) ++ new.waiting → TakesInTurn start all (taken ++ e ∷ []) rest fewer new
+  turn_next fewer new one continues waits = record {
+    entries = append_assoc taken (e ∷ []) rest ∙ ap (λ es. taken ++ es) (sym is) ∙ turn.entries;
+    count = omega (arith, turn.count, one, ap length is);
+    state = continues ∙ ap (λ a. continued a e) turn.state ∙ sym (fold-append continued start taken (e ∷ []));
     waiting =
-        append_cancel_left (added_by old.state (get_or entries i d ∷ [])) new.waiting (added_by (continued old.state (get_or entries i d)) (drop (i + 1) entries))
-        (sym waits ∙ waits_so ∙ added_by-cons old.state (get_or entries i d) (drop (i + 1) entries))
-        ∙ ap (λ a. added_by a (drop (i + 1) entries)) (sym taken);
-    within = subst (λ a. IsWithin (continued_all a (drop (i + 1) entries))) (sym taken) within_so;
+        append_cancel_left (added_by old.state (e ∷ [])) new.waiting (added_by (continued old.state e) rest)
+        (sym waits ∙ waits_so ∙ added_by-cons old.state e rest)
+        ∙ ap (λ a. added_by a rest) (sym continues);
+    within = subst (λ a. IsWithin (continued_all a rest)) (sym continues) within_so;
   }
