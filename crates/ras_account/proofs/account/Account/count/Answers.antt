@@ -30,7 +30,7 @@ invariant_of-self c = record {
     ap (λ (w : Weighed). w.total) c.add_all.ensures,
     ap weight_in c.items.ensures,
   );
-  ten = ap (λ (w : Weighed). length w.sums) c.add_all.ensures ∙ length-sums_with c.self.inside.weights.sums c.items.result.now;
+  ten = ap (λ (w : Weighed). length w.sums) c.add_all.ensures ∙ length-sums_with _ _;
 }
 
 pub returns-clause-names : goal.returns-clause-names
