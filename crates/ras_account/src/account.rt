@@ -27,7 +27,7 @@ pub const MOST_NAMES: usize = 200_000;
 /// The most entries that an account counts.
 pub const MOST_ENTRIES: u64 = 1 << 62;
 
-/// The greatest weight that an account counts, of all items together.
+/// The most that the items that an account counts weigh together.
 pub const MOST_WEIGHT: u64 = 1 << 62;
 
 /// What was counted so far: the names of the reports in the order in which they came, the number of entries, and the
@@ -205,7 +205,7 @@ impl Account {
         self.weights.add_all(entry.items());
     }
 
-    // Makes room for one entry and takes it, where nothing waits.
+    // Makes room for one entry and takes it. What waited before is given up.
     fn append(&mut self, entry: Entry) -> Result<(), ReserveRefused>
         ensures state { OnOk result (self.new.state ≡ continued self.old.state entry) }
         ensures waiting { OnOk result (self.new.waiting ≡ []) }
