@@ -6,25 +6,23 @@ use Rattle.std.proofs.lemmas.List.Sums.{fold-append}
 use Rattle.std.proofs.lemmas.List.Folds.{list_any-append}
 use Rattle.std.proofs.Math.Bool.{or-false}
 use Rattle.std.proofs.lemmas.List.{length-take-le, append_cancel_left}
-use Rattle.std.proofs.Math.Seq.{take-suc, drop-cons, take-append_seam, drop-append_seam}
+use Rattle.std.proofs.Math.Seq.{take-suc, take-append_seam, drop-append_seam}
 use Rattle.indexmap.specs.IndexSet.{insert_key, insert_all}
 use Rattle.ras_facts.specs.declared.items.Item.{Item}
 use Rattle.ras_facts.specs.declared.name.Name.{Name}
 use Rattle.ras_account.specs.declared.entry.Entry.{Entry}
 use Rattle.ras_account.specs.declared.entry.Entry.TheVariants.{Fact}
 use Rattle.ras_account.specs.Fresh.{name_in, names_in, same_name}
-use Rattle.ras_account.specs.Account.{State, items_of, items_in, is_fresh_in, sums_with, with_entry, continued, continued_all, added_by, IsWithin, IsPast}
+use Rattle.ras_account.specs.Account.{State, items_of, items_in, is_fresh_in, with_entry, continued, continued_all, added_by, IsWithin, IsPast}
 use Rattle.ras_account.specs.View.{View}
-use Rattle.ras_account.specs.Weighed.{Weighed, weighed_with}
 use Rattle.ras_account.specs.Weights.{weight_in}
 use Rattle.ras_account.specs.Saturated.{saturated}
 use Rattle.ras_base.specs.Prefix.{IsPrefixOf}
 use Rattle.ras_account.specs.Growth.{brings, GrowsBy, IsGrowth, IsRoom}
-use Rattle.ras_account.specs.Kept.{IsKept}
 use Rattle.ras_account.specs.declared.growth.Growth.{Growth}
 use Rattle.ras_account.proofs.FreshLemmas.{names_in-append}
 use Rattle.ras_account.proofs.NameLemmas.{same_name-exact, same_name-laws}
-use Rattle.ras_account.proofs.WeightLemmas.{weight_in-append, length-sums_with}
+use Rattle.ras_account.proofs.WeightLemmas.{weight_in-append}
 
 -- the names of an account are those inserted in turn
 pub names-continued_all : (a : State) (entries : List Entry) → (continued_all a entries).names ≡ insert_all same_name a.names (names_in entries)
@@ -218,13 +216,6 @@ apart a within (inl names) = omega (arith, within.names, names)
 apart a within (inr (inl number)) = omega (arith, within.entries, number)
 apart a within (inr (inr weight)) = omega (arith, within.total, weight)
 
--- what an account's fields show
-abbrev pub viewed : ℕ → List Name → ℕ → Weighed → View
-viewed counted keys entries weights = record {
-  state = record { names = take counted keys; entries = entries; total = weights.total; sums = weights.sums };
-  waiting = drop counted keys;
-}
-
 -- the next name that waits, if the first of what waits is known
 split_next : {X : Type 0} (n : ℕ) (xs : List X) (y : X) (rest : List X) → drop n xs ≡ y ∷ rest
     → (take (suc n) xs ≡ take n xs ++ y ∷ []) × (drop (suc n) xs ≡ rest) × (n < length xs)
@@ -235,51 +226,27 @@ split_next {X} (suc n) (x ∷ xs) y rest is =
     let next : (take (suc n) xs ≡ take n xs ++ y ∷ []) × (drop (suc n) xs ≡ rest) × (n < length xs) = split_next n xs y rest is in
     (ap (λ (ys : List X). x ∷ ys) next.0, next.1, omega (arith, next.2))
 
--- what taking a fresh entry leaves, and that its name was there
-pub record Taken (counted : ℕ) (keys : List Name) (entries : ℕ) (after : Weighed) (v : View) (e : Entry) : Type 0 where
-  pub state : (viewed (counted + 1) keys (entries + 1) after).state ≡ continued v.state e
-  pub waiting : v.waiting ≡ added_by v.state (e ∷ []) ++ drop (counted + 1) keys
+-- where the name of an entry waits first, one name more is counted, and the others wait on
+pub record NextWaits (counted : ℕ) (keys : List Name) (e : Entry) : Type 0 where
   pub there : counted + 1 ≤ length keys
+  pub names : take (counted + 1) keys ≡ take counted keys ++ names_in (e ∷ [])
+  pub waiting : drop counted keys ≡ names_in (e ∷ []) ++ drop (counted + 1) keys
 
--- a fresh entry whose name waits first is counted by counting that name and adding its items' weights
-takes_here : (counted : ℕ) (keys : List Name) (entries : ℕ) (weights : Weighed) (e : Entry)
-    → is_fresh_in (viewed counted keys entries weights).state e ≡ true → IsPrefixOf (added_by (viewed counted keys entries weights).state (e ∷ [])) (drop counted keys)
-    → Taken counted keys entries (weighed_with weights (items_of e)) (viewed counted keys entries weights) e
-takes_here counted keys entries weights (Fact fact) fresh (rest, starts) =
-    let a : State = (viewed counted keys entries weights).state in
-    let goes : continued a (Fact fact) ≡ with_entry a (Fact fact) = ap (λ b. if b then with_entry a (Fact fact) else a) fresh in
-    let adds : added_by a (Fact fact ∷ []) ≡ fact.name ∷ [] = ap (λ (s : State). drop (length a.names) s.names) goes ∙ drop-append_seam a.names (fact.name ∷ []) in
+pub next_waits : (counted : ℕ) (keys waiting : List Name) (e : Entry) → drop counted keys ≡ waiting → IsPrefixOf (names_in (e ∷ [])) waiting → NextWaits counted keys e
+next_waits counted keys waiting (Fact fact) are (rest, starts) =
     let next : (take (suc counted) keys ≡ take counted keys ++ fact.name ∷ []) × (drop (suc counted) keys ≡ rest) × (counted < length keys) =
-    split_next counted keys fact.name rest (sym starts ∙ ap (λ names. names ++ rest) adds) in
-    let names : take (counted + 1) keys ≡ take counted keys ++ fact.name ∷ [] = ap (λ n. take n keys) (add-one counted) ∙ next.0 in
-    let waits : drop (counted + 1) keys ≡ rest = ap (λ n. drop n keys) (add-one counted) ∙ next.1 in record {
-      state = (λ i. record { names = names i; entries = entries + 1; total = weights.total + weight_in fact.items; sums = sums_with weights.sums fact.items }) ∙ sym goes;
-      waiting = sym starts ∙ ap (λ behind. added_by a (Fact fact ∷ []) ++ behind) (sym waits);
+    split_next counted keys fact.name rest (are ∙ sym starts) in record {
       there = omega (arith, next.2);
+      names = ap (λ n. take n keys) (add-one counted) ∙ next.0;
+      waiting = are ∙ sym starts ∙ ap (λ (names : List Name). fact.name ∷ names) (sym (ap (λ n. drop n keys) (add-one counted) ∙ next.1));
     }
 
-pub takes : (counted : ℕ) (keys : List Name) (entries : ℕ) (weights after : Weighed) (items : List Item) (e : Entry) (v : View)
-    → viewed counted keys entries weights ≡ v → items ≡ items_of e → after ≡ weighed_with weights items
-    → is_fresh_in v.state e ≡ true → IsPrefixOf (added_by v.state (e ∷ [])) v.waiting → Taken counted keys entries after v e
-takes counted keys entries weights after items e v is are weighed = subst Takes is here
-  where
-    here : is_fresh_in (viewed counted keys entries weights).state e ≡ true → IsPrefixOf (added_by (viewed counted keys entries weights).state (e ∷ [])) (drop counted keys)
-        → Taken counted keys entries after (viewed counted keys entries weights) e
-    here fresh waits = subst (λ to. Taken counted keys entries to (viewed counted keys entries weights) e) (sym (weighed ∙ ap (weighed_with weights) are)) (takes_here counted keys entries weights e fresh waits)
+-- a fresh entry continues an account, and adds its name
+pub goes_on : (a : State) (e : Entry) → is_fresh_in a e ≡ true → continued a e ≡ with_entry a e
+goes_on a e fresh = ap (λ b. if b then with_entry a e else a) fresh
 
-    Takes : View → Type 0
-    Takes w = is_fresh_in w.state e ≡ true → IsPrefixOf (added_by w.state (e ∷ [])) w.waiting → Taken counted keys entries after w e
-
--- what holds of an account's fields holds once an entry was taken within the limits
-pub keeps : (counted : ℕ) (keys : List Name) (entries : ℕ) (weights after : Weighed) (items : List Item) (e : Entry) (v : View)
-    → Taken counted keys entries after v e → after ≡ weighed_with weights items → IsWithin (continued v.state e) → IsKept (counted + 1) keys (entries + 1) after
-keeps counted keys entries weights after items e v taken weighed within = record {
-  first = taken.there;
-  names = omega (arith, within.names, ap (λ (s : State). length s.names) taken.state, length-take-le (counted + 1) keys taken.there);
-  number = omega (arith, within.entries, ap (λ (s : State). s.entries) taken.state);
-  weight = omega (arith, within.total, ap (λ (s : State). s.total) taken.state);
-  ten = ap (λ (w : Weighed). length w.sums) weighed ∙ length-sums_with weights.sums items;
-}
+pub adds_name : (a : State) (e : Entry) → is_fresh_in a e ≡ true → added_by a (e ∷ []) ≡ names_in (e ∷ [])
+adds_name a e fresh = ap (λ (s : State). drop (length a.names) s.names) (goes_on a e fresh) ∙ drop-append_seam a.names (names_in (e ∷ []))
 
 -- what is counted stays where names are inserted behind, and what waits is what the entries add
 pub record Reserves (counted : ℕ) (after : List Name) (a : State) (entries : List Entry) : Type 0 where
@@ -345,35 +312,37 @@ IsPast-continued_all a entries past = by past
 pub waits_first : (v : View) (e : Entry) (entries : List Entry) → v.waiting ≡ added_by v.state (e ∷ entries) → IsPrefixOf (added_by v.state (e ∷ [])) v.waiting
 waits_first v e entries waits = (added_by (continued v.state e) entries, sym (waits ∙ added_by-cons v.state e entries))
 
--- the entries from a place on: the one there, and those behind it
-pub drop-next : (entries : List Entry) (i : ℕ) (d : Entry) → i < length entries → drop i entries ≡ get_or entries i d ∷ drop (i + 1) entries
-drop-next entries i d within = drop-cons entries i d within ∙ ap (λ n. get_or entries i d ∷ drop n entries) (sym (add-one i))
+-- the state of a run over a list that was reserved: some entries were taken, the others are left and their names wait
+pub record TakesInTurn (start : State) (all taken left : List Entry) (number : ℕ) (account : View) : Type 0 where
+  pub entries : taken ++ left ≡ all
+  pub count : number ≡ length left
+  pub state : account.state ≡ continued_all start taken
+  pub waiting : account.waiting ≡ added_by account.state left
+  pub within : IsWithin (continued_all account.state left)
 
--- the state of a run over a list that was reserved: the entries before place i were taken, the others wait
-pub record TakesInTurn (start : State) (v : View) (entries : List Entry) (i : ℕ) : Type 0 where
-  pub state : v.state ≡ continued_all start (take i entries)
-  pub waiting : v.waiting ≡ added_by v.state (drop i entries)
-  pub within : IsWithin (continued_all v.state (drop i entries))
+module _ (start : State) (all taken left rest : List Entry) (number : ℕ) (old : View) (e : Entry)
+    (turn : TakesInTurn start all taken left number old) (is : left ≡ e ∷ rest) where
+  waits_so : old.waiting ≡ added_by old.state (e ∷ rest)
+  waits_so = turn.waiting ∙ ap (added_by old.state) is
 
-module _ (start : State) (old : View) (entries : List Entry) (i : ℕ) (d : Entry) (there : i < length entries) (turn : TakesInTurn start old entries i) where
-  waits_so : old.waiting ≡ added_by old.state (get_or entries i d ∷ drop (i + 1) entries)
-  waits_so = turn.waiting ∙ ap (added_by old.state) (drop-next entries i d there)
+  within_so : IsWithin (continued_all (continued old.state e) rest)
+  within_so = subst (λ es. IsWithin (continued_all old.state es)) is turn.within
 
-  within_so : IsWithin (continued_all (continued old.state (get_or entries i d)) (drop (i + 1) entries))
-  within_so = subst (λ es. IsWithin (continued_all old.state es)) (drop-next entries i d there) turn.within
+  pub turn_waits : IsPrefixOf (added_by old.state (e ∷ [])) old.waiting
+  turn_waits = waits_first old e rest waits_so
 
-  pub turn_waits : IsPrefixOf (added_by old.state (get_or entries i d ∷ [])) old.waiting
-  turn_waits = waits_first old (get_or entries i d) (drop (i + 1) entries) waits_so
+  pub turn_within : IsWithin (continued old.state e)
+  turn_within = IsWithin-continued_all _ rest within_so
 
-  pub turn_within : IsWithin (continued old.state (get_or entries i d))
-  turn_within = IsWithin-continued_all _ (drop (i + 1) entries) within_so
-
-  pub turn_next : (new : View) → new.state ≡ continued old.state (get_or entries i d) → old.waiting ≡ added_by old.state (get_or entries i d ∷ []) ++ new.waiting → TakesInTurn start new entries (i + 1)
-  turn_next new taken waits = record {
-    state = taken ∙ ap (λ a. continued a (get_or entries i d)) turn.state ∙ sym (continued_all-more start entries i d there);
+  pub turn_next : (fewer : ℕ) (new : View) → fewer + 1 ≡ number → new.state ≡ continued old.state e
+      → old.waiting ≡ added_by old.state (e ∷ []) ++ new.waiting → TakesInTurn start all (taken ++ e ∷ []) rest fewer new
+  turn_next fewer new one continues waits = record {
+    entries = append_assoc taken (e ∷ []) rest ∙ ap (λ es. taken ++ es) (sym is) ∙ turn.entries;
+    count = omega (arith, turn.count, one, ap length is);
+    state = continues ∙ ap (λ a. continued a e) turn.state ∙ sym (fold-append continued start taken (e ∷ []));
     waiting =
-        append_cancel_left (added_by old.state (get_or entries i d ∷ [])) new.waiting (added_by (continued old.state (get_or entries i d)) (drop (i + 1) entries))
-        (sym waits ∙ waits_so ∙ added_by-cons old.state (get_or entries i d) (drop (i + 1) entries))
-        ∙ ap (λ a. added_by a (drop (i + 1) entries)) (sym taken);
-    within = subst (λ a. IsWithin (continued_all a (drop (i + 1) entries))) (sym taken) within_so;
+        append_cancel_left (added_by old.state (e ∷ [])) new.waiting (added_by (continued old.state e) rest)
+        (sym waits ∙ waits_so ∙ added_by-cons old.state e rest)
+        ∙ ap (λ a. added_by a rest) (sym continues);
+    within = subst (λ a. IsWithin (continued_all a rest)) (sym continues) within_so;
   }

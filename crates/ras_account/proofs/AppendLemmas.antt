@@ -1,10 +1,9 @@
 -- How facts are taken one by one.
-use Rattle.std.proofs.Common.{◌≡◌, ℕ, ◌+◌, List, [], ◌∷◌, ◌++◌, length, refl, sym, ap, subst, ◌∙◌, append_assoc, append-nil, arith}
+use Rattle.std.proofs.Common.{◌≡◌, ℕ, ◌+◌, List, [], ◌∷◌, ◌++◌, length, sym, ap, subst, ◌∙◌, append_assoc, arith}
 use Rattle.std.proofs.lemmas.List.{map-append}
 use Rattle.ras_facts.specs.declared.fact.Fact.{Fact as Report}
-use Rattle.ras_account.specs.declared.entry.Entry.{Entry}
 use Rattle.ras_account.specs.declared.entry.Entry.TheVariants.{Fact}
-use Rattle.ras_account.specs.Account.{State, account_of, continued, continued_all, IsPast, IsWithin}
+use Rattle.ras_account.specs.Account.{account_of, continued, continued_all, IsPast, IsWithin}
 use Rattle.ras_account.specs.Fresh.{entries_of}
 use Rattle.ras_account.specs.View.{View}
 use Rattle.ras_account.proofs.FreshLemmas.{account_of-snoc, account_of-append}

@@ -1,10 +1,10 @@
 -- What items weigh, where lists of them are joined.
-use Rattle.std.proofs.Common.{◌≡◌, ℕ, ◌+◌, ◌≤◌, ◌<◌, ◌==◌, min, cond, Bool, true, false, List, [], ◌∷◌, ◌++◌, length, take, get_or, set, refl, sym, ap, ◌∙◌, subst, add_assoc, add-one, add-zero, zero-add, append-nil, arith, get_or-set_other, get_or-set_same}
+use Rattle.std.proofs.Common.{◌≡◌, ℕ, ◌+◌, ◌<◌, ◌==◌, cond, Bool, true, false, List, [], ◌∷◌, ◌++◌, length, take, get_or, set, refl, sym, ap, ◌∙◌, add_assoc, add-one, add-zero, zero-add, append-nil, arith}
 use Rattle.std.proofs.lemmas.List.Sums.{sum_by-append, sum_by-cons}
 use Rattle.std.proofs.lemmas.List.Elements.{filter-append}
 use Rattle.std.proofs.Math.Seq.{take-suc}
 use Rattle.std.proofs.lemmas.Grind.{flat_map-append}
-use Rattle.std.specs.Prelude.{sum, sum_by, slice_index, slice_set}
+use Rattle.std.specs.Prelude.{sum, slice_index}
 use Rattle.mca_status.specs.Classes.{class_number}
 use Rattle.mca_status.specs.declared.classes.ItemClass.{ItemClass}
 use Rattle.mca_status.specs.declared.classes.ItemClass.TheVariants.{Ce, Ucna, Srao, Srar, Uc, Odd, Corrected, Recoverable, Fatal, Informational}
@@ -12,7 +12,7 @@ use Rattle.ras_facts.specs.declared.items.Item.{Item}
 use Rattle.ras_account.specs.declared.entry.Entry.{Entry}
 use Rattle.ras_account.specs.Account.{items_of, items_in, sums_with}
 use Rattle.ras_account.specs.Saturated.{saturated}
-use Rattle.ras_account.specs.Weighed.{Weighed, weighed_with, IsBounded}
+use Rattle.ras_account.specs.Weighed.{Weighed, weighed_with}
 use Rattle.ras_account.specs.Weights.{weight_in, of_class, sums_of}
 
 pub weight_in-append : (xs ys : List Item) → weight_in (xs ++ ys) ≡ weight_in xs + weight_in ys
@@ -172,19 +172,21 @@ weighed_with-append weights xs ys = λ i. record {
 pub weighed_with-nil : (weights : Weighed) → length weights.sums ≡ 10 → weighed_with weights [] ≡ weights
 weighed_with-nil weights ten = λ i. record { total = add-zero weights.total i; sums = sums_with-nil weights.sums ten i }
 
--- one item more at the place of its class
-pub weighed_with-one : (weights : Weighed) (total : ℕ) (sums : List ℕ) (item : Item) (w place : ℕ) → record { total = total; sums = sums } ≡ weights
-    → length sums ≡ 10 → w ≡ item.weight → place ≡ class_number item.class
-    → ◌≡◌ {A = Weighed} (record { total = total + w; sums = set sums place (get_or sums place 0 + w) }) (weighed_with weights (item ∷ []))
-weighed_with-one weights total sums item w place is ten weighs at = rw (weighs, at)
-    ((λ i. record { total = (ap (λ n. total + n) (sym (zero-add item.weight))) i; sums = sums_with-one sums item ten i }) ∙ ap (λ v. weighed_with v (item ∷ [])) is)
-
--- the weights with the items up to a place, and with the one there
-pub weighed_with-more : (weights : Weighed) (items : List Item) (i : ℕ) (d : Item) (before after : Weighed) → i < length items
-    → before ≡ weighed_with weights (take i items) → after ≡ weighed_with before (get_or items i d ∷ []) → after ≡ weighed_with weights (take (i + 1) items)
-weighed_with-more weights items i d before after within so_far one =
-    one ∙ ap (λ v. weighed_with v (get_or items i d ∷ [])) so_far
-    ∙ weighed_with-append weights (take i items) (get_or items i d ∷ [])
+-- the weights with the items up to a place, and with the one there, which is added at the place of its class
+pub weighed_with-more : (weights : Weighed) (items : List Item) (i : ℕ) (d : Item) (before after : Weighed) → length weights.sums ≡ 10 → i < length items
+    → before ≡ weighed_with weights (take i items)
+    → after.total ≡ before.total + (get_or items i d).weight
+    → after.sums ≡ set before.sums (class_number (get_or items i d).class) (get_or before.sums (class_number (get_or items i d).class) 0 + (get_or items i d).weight)
+    → after ≡ weighed_with weights (take (i + 1) items)
+weighed_with-more weights items i d before after ten within so_far total sums =
+    let item : Item = get_or items i d in
+    let still_ten : length before.sums ≡ 10 = ap (λ w. length w.sums) so_far ∙ length-sums_with weights.sums (take i items) in
+    let one : after ≡ weighed_with before (item ∷ []) = λ k. record {
+      total = (total ∙ ap (λ n. before.total + n) (sym (zero-add item.weight))) k;
+      sums = (sums ∙ sums_with-one before.sums item still_ten) k;
+    } in
+    one ∙ ap (λ v. weighed_with v (item ∷ [])) so_far
+    ∙ weighed_with-append weights (take i items) (item ∷ [])
     ∙ ap (weighed_with weights) (sym (ap (λ n. take n items) (add-one i) ∙ take-suc items i d within))
 
 -- a weight with the items up to a place, and with the one there, as 64 bits hold it

@@ -1,5 +1,5 @@
 -- What contracts see of the weights in an account. It only carries proofs.
-use Rattle.std.specs.Prelude.{ℕ, ◌+◌, ◌≤◌, List, length, slice_index}
+use Rattle.std.specs.Prelude.{ℕ, ◌+◌, ◌≤◌, List, slice_index}
 use Rattle.ras_facts.specs.declared.items.Item.{Item}
 use Rattle.ras_account.specs.Account.{sums_with}
 use Rattle.ras_account.specs.Weights.{weight_in}

@@ -1,12 +1,13 @@
 // The account.
-ghost use Rattle.std.specs.Prelude.{◌≡◌, ◌↔◌, ◌<◌, ◌≤◌, ◌++◌, List, [], ◌∷◌, length, Some, slice_get, Err, OnOk, OnErr, IfOk};
+ghost use Rattle.std.specs.Prelude.{◌≡◌, ◌↔◌, ◌<◌, ◌≤◌, ◌+◌, ◌++◌, List, [], ◌∷◌, length, Some, slice_get, Err, OnOk, OnErr, IfOk};
 ghost use Rattle.std.specs.Bool.{IsFalse, OnTrue};
 ghost use Rattle.std.specs.List.{list_any};
 ghost use Rattle.ras_base.specs.Prefix.{IsPrefixOf};
 ghost use Rattle.ras_account.specs.declared.entry.Entry.{Entry};
-ghost use Rattle.ras_account.specs.Fresh.{same_name, is_fresh_behind, entries_of};
-ghost use Rattle.ras_account.specs.Account.{account_of, is_fresh_in, sum_in, continued, continued_all, added_by, IsWithin, IsPast};
+ghost use Rattle.ras_account.specs.Fresh.{names_in, same_name, is_fresh_behind, entries_of};
+ghost use Rattle.ras_account.specs.Account.{account_of, items_of, is_fresh_in, sum_in, sums_with, with_entry, continued, continued_all, added_by, IsWithin, IsPast};
 ghost use Rattle.ras_account.specs.Growth.{IsGrowth, IsRoom};
+ghost use Rattle.ras_account.specs.Weights.{weight_in};
 
 use crate::growth::{Growth, weight_with};
 use crate::reserve::{add_names, some_brings};
@@ -26,7 +27,7 @@ pub const MOST_NAMES: usize = 200_000;
 /// The most entries that an account counts.
 pub const MOST_ENTRIES: u64 = 1 << 62;
 
-/// The greatest weight that an account counts, of all items together.
+/// The most that the items that an account counts weigh together.
 pub const MOST_WEIGHT: u64 = 1 << 62;
 
 /// What was counted so far: the names of the reports in the order in which they came, the number of entries, and the
@@ -135,9 +136,7 @@ impl Account {
         ensures history { (history : List Entry) → self.old.state ≡ account_of history → self.new.state ≡ account_of (history ++ entry ∷ []) }
     {
         if self.is_fresh(&entry) {
-            self.counted += 1;
-            self.entries += 1;
-            self.weights.add_all(entry.items());
+            self.count(&entry);
         }
     }
 
@@ -191,7 +190,22 @@ impl Account {
         }
     }
 
-    // Makes room for one entry and takes it, where nothing waits.
+    // Counts a fresh entry. Its name waits before any other, and there is room for it.
+    fn count(&mut self, entry: &Entry)
+        requires waits { IsPrefixOf (names_in (entry.now ∷ [])) self.old.waiting }
+        requires within { IsWithin (with_entry self.old.state entry.now) }
+        ensures names { self.new.state.names ≡ self.old.state.names ++ names_in (entry.now ∷ []) }
+        ensures waiting { self.old.waiting ≡ names_in (entry.now ∷ []) ++ self.new.waiting }
+        ensures entries { self.new.state.entries ≡ self.old.state.entries + 1 }
+        ensures total { self.new.state.total ≡ self.old.state.total + weight_in (items_of entry.now) }
+        ensures sums { self.new.state.sums ≡ sums_with self.old.state.sums (items_of entry.now) }
+    {
+        self.counted += 1;
+        self.entries += 1;
+        self.weights.add_all(entry.items());
+    }
+
+    // Makes room for one entry and takes it. What waited before is given up.
     fn append(&mut self, entry: Entry) -> Result<(), ReserveRefused>
         ensures state { OnOk result (self.new.state ≡ continued self.old.state entry) }
         ensures waiting { OnOk result (self.new.waiting ≡ []) }

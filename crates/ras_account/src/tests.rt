@@ -1,32 +1,64 @@
-// What no clause says: that the calls succeed, and what a row of the everyday bank line gives.
+// What no clause says: that the calls succeed, and what reports that were worked out by hand give.
 ghost use Rattle.std.specs.Prelude.{◌≡◌, OnOk};
 ghost use Rattle.ras_account.specs.Account.{continued_all};
 
 use super::*;
-use mca_status::Class;
+use mca_status::ItemClass;
+use ras_base::NoMemory;
+use std::alloc::Global;
 use std::test::Fail;
 
-// A corrected error of bank 7, found in boot 1 on processor 0.
-fn report(tsc: u64, seconds: u64) -> Entry {
-    Entry::Fact(Fact {
+const CLASSES: [ItemClass; 10] = [
+    ItemClass::Ce,
+    ItemClass::Ucna,
+    ItemClass::Srao,
+    ItemClass::Srar,
+    ItemClass::Uc,
+    ItemClass::Odd,
+    ItemClass::Corrected,
+    ItemClass::Recoverable,
+    ItemClass::Fatal,
+    ItemClass::Informational,
+];
+
+// A report of bank 7, found in boot 1 on processor 0, with an item for each class and weight.
+fn fact(alloc: Global, tsc: u64, weights: &[(ItemClass, u16)]) -> Result<Fact, NoMemory> {
+    let mut items = Items::new(alloc);
+    for (class, weight) in weights {
+        items.push(Item {
+            class: *class,
+            page: None,
+            weight: *weight,
+        })?;
+    }
+    Ok(Fact {
         name: Name::Bank {
             boot: 1,
             cpu: 0,
             bank: 7,
             tsc,
         },
-        seconds,
-        class: Class::Ce,
+        seconds: 100,
+        items,
     })
 }
 
+// A corrected error at each of these times.
+fn reports(alloc: Global, tscs: &[u64]) -> Result<Vec<Entry>, NoMemory> {
+    let mut entries = Vec::new(alloc);
+    for tsc in tscs {
+        entries.push(Entry::Fact(fact(alloc, *tsc, &[(ItemClass::Ce, 1)])?))?;
+    }
+    Ok(entries)
+}
+
 // Reserves the entries and takes each in turn.
-fn take_all(account: &mut Account, entries: &[Entry]) -> Result<(), ReserveRefused>
-    ensures { OnOk result (account.new.state ≡ continued_all account.old.state entries.now) }
+fn take_all(account: &mut Account, entries: Vec<Entry>) -> Result<(), ReserveRefused>
+    ensures { OnOk result (account.new.state ≡ continued_all account.old.state entries.items) }
 {
-    account.reserve(entries)?;
+    account.reserve(entries.as_slice())?;
     for entry in entries {
-        account.take(*entry);
+        account.take(entry);
     }
     Ok(())
 }
@@ -34,22 +66,18 @@ fn take_all(account: &mut Account, entries: &[Entry]) -> Result<(), ReserveRefus
 #[test]
 fn counts_each_name_once(rt: HostRuntime) -> Result<(), Fail> {
     let mut account = Account::new(rt.alloc());
-    assert!(rt; account.is_fresh(&report(1000, 100)));
-    assert_eq!(rt; account.entries(), 0);
-
-    // A name that comes again in the same list is counted once, and so is one that comes again later.
-    take_all(
-        &mut account,
-        &[report(1000, 100), report(1001, 101), report(1000, 102)],
-    )?;
-    take_all(&mut account, &[report(1001, 103), report(999, 104)])?;
-    assert_eq!(rt; account.entries(), 3);
-    assert_eq!(rt; account.names_len(), 3);
-    for (entry, is_fresh) in [
-        (report(1000, 200), false),
-        (report(999, 100), false),
-        (report(1002, 100), true),
+    for (tscs, entries) in [
+        // A name that comes again in the same list is counted once, and so is one that comes again later.
+        ([1000, 1001, 1000], 2),
+        ([1001, 999, 1001], 3),
     ] {
+        take_all(&mut account, reports(rt.alloc(), &tscs)?)?;
+        assert_eq!(rt; account.entries(), entries);
+        assert_eq!(rt; account.names_len() as u64, entries);
+        assert_eq!(rt; account.total(), entries);
+    }
+    for (tsc, is_fresh) in [(1000, false), (999, false), (1002, true)] {
+        let entry = Entry::Fact(fact(rt.alloc(), tsc, &[])?);
         assert_eq!(rt; account.is_fresh(&entry), is_fresh);
     }
     Ok(())
@@ -58,11 +86,10 @@ fn counts_each_name_once(rt: HostRuntime) -> Result<(), Fail> {
 #[test]
 fn gives_up_what_waited(rt: HostRuntime) -> Result<(), Fail> {
     let mut account = Account::new(rt.alloc());
-    account.reserve(&[report(1, 100), report(2, 100)])?;
-    assert!(rt; account.is_fresh(&report(1, 100)));
+    account.reserve(reports(rt.alloc(), &[1, 2])?.as_slice())?;
     assert_eq!(rt; account.names_len(), 0);
 
-    take_all(&mut account, &[report(3, 100), report(1, 100)])?;
+    take_all(&mut account, reports(rt.alloc(), &[3, 1])?)?;
     let mut tscs = [0; 2];
     for (i, tsc) in tscs.iter_mut().enumerate() {
         assert!(rt; i < account.names_len());
@@ -70,5 +97,31 @@ fn gives_up_what_waited(rt: HostRuntime) -> Result<(), Fail> {
         *tsc = *counted;
     }
     assert_eq!(rt; tscs, [3, 1]);
+    Ok(())
+}
+
+#[test]
+fn weighs_by_class(rt: HostRuntime) -> Result<(), Fail> {
+    let mut facts = Vec::new(rt.alloc());
+    let several = [
+        (ItemClass::Ce, 300),
+        (ItemClass::Informational, 7),
+        (ItemClass::Ce, 32_767),
+        (ItemClass::Uc, 1),
+    ];
+    facts.push(fact(rt.alloc(), 1, &several)?)?;
+    facts.push(fact(rt.alloc(), 2, &[])?)?;
+    // A name that comes again adds nothing, whatever it weighs.
+    facts.push(fact(rt.alloc(), 1, &[(ItemClass::Fatal, 9)])?)?;
+    facts.push(fact(rt.alloc(), 3, &[(ItemClass::Recoverable, 2)])?)?;
+
+    let account = Account::of_facts(rt.alloc(), facts)?;
+    assert_eq!(rt; (account.entries(), account.names_len()), (3, 3));
+    assert_eq!(rt; account.total(), 33_077);
+    let mut sums = [0; 10];
+    for (sum, class) in sums.iter_mut().zip(CLASSES) {
+        *sum = account.sum(class);
+    }
+    assert_eq!(rt; sums, [33_067, 0, 0, 0, 1, 0, 0, 2, 0, 7]);
     Ok(())
 }

@@ -1,5 +1,5 @@
 // The weights in an account.
-ghost use Rattle.std.specs.Prelude.{◌≡◌, ◌+◌, ◌≤◌, [], ◌∷◌, length, slice_index};
+ghost use Rattle.std.specs.Prelude.{◌≡◌, ◌+◌, ◌≤◌, [], length, slice_index, slice_set};
 ghost use Rattle.mca_status.specs.Classes.{class_number};
 ghost use Rattle.ras_account.specs.Account.{most_weight};
 ghost use Rattle.ras_account.specs.Weights.{weight_in, sums_of};
@@ -52,7 +52,9 @@ impl Weights {
     // Adds the weight of an item.
     fn add(&mut self, item: &Item)
         requires { self.old.total + item.now.weight ≤ most_weight }
-        ensures { self.new ≡ weighed_with self.old (item.now ∷ []) }
+        ensures total { self.new.total ≡ self.old.total + item.now.weight }
+        ensures sums { let place = class_number item.now.class in
+            self.new.sums ≡ slice_set self.old.sums place (slice_index self.old.sums place + item.now.weight) }
     {
         let weight = u64::from(item.weight);
         let class = usize::from(item.class.number());

@@ -1,5 +1,4 @@
-use Rattle.std.proofs.Common.{◌∙◌, sym, ap}
-use Rattle.ras_account.specs.Account.{items_of}
+use Rattle.std.proofs.Common.{◌∙◌, sym}
 use Rattle.ras_account.proofs.AccountLemmas.{counted_fresh, counted_same}
 use Rattle.ras_account.proofs.account.Account.growth_by.Goals.{then-is_fresh_after, else-is_fresh_after}
 use Rattle.ras_account.proofs.account.Account.growth_by.Goals as goal

@@ -1,4 +1,4 @@
-use Rattle.std.proofs.Common.{◌≡◌, ◌≤◌, Bool, true, false, sym, ◌∙◌, true≢false, rules}
+use Rattle.std.proofs.Common.{◌≡◌, ◌≤◌, Bool, true, false, sym, true≢false, rules}
 use Rattle.std.specs.Bool.{OnTrue, IsFalse}
 use Rattle.ras_account.specs.Account.{continued_all, IsWithin, IsPast}
 use Rattle.ras_account.proofs.AccountLemmas.{room_for_all, apart}

@@ -1,7 +1,4 @@
-use Rattle.std.proofs.Common.{◌≡◌, ◌++◌, [], length}
 use Rattle.std.specs.Vec.Iter.{into_iter_items, into_iter_len}
-use Rattle.ras_account.specs.Account.{account_of}
-use Rattle.ras_account.specs.Fresh.{entries_of}
 use Rattle.ras_account.proofs.AppendLemmas.{TakesFacts}
 use Rattle.ras_account.proofs.account.Account.of_facts.Given as goal
 
