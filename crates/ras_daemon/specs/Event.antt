@@ -1,40 +1,62 @@
 -- An event that has all its memory. This file only carries proofs.
-use Rattle.std.specs.Prelude.{◌≡◌, ℕ, ◌+◌, ◌≤◌, true, false, List, [], ◌∷◌, ◌++◌, length, map, Option, None, Some, IfSome, IsSomeAnd, Result, Ok, Err, ⊤}
-use Rattle.std.specs.List.{AllByRecursion}
+use Rattle.std.specs.Prelude.{◌≡◌, ℕ, ◌+◌, ◌*◌, ◌≤◌, true, false, List, [], ◌∷◌, ◌++◌, length, Option, None, Some, IfSome, IsSomeAnd, Result, Ok, Err, ⊤}
+use Rattle.std.specs.Global.{Vec}
+use Rattle.std.specs.List.{AllByRecursion, flat_map}
 use Rattle.std.specs.Option.{option_map}
+use Rattle.std.specs.Vec.{vec_capacity, vec_len}
 use Rattle.board_core.specs.Cause.{Rose}
 use Rattle.board_core.specs.Told.{Told}
-use Rattle.ras_base.specs.Prefix.{IsPrefixOf}
-use Rattle.ras_facts.specs.Valid.{IsValidFact}
+use Rattle.dimm_topology.specs.declared.topology.TopologyRefused.{TopologyRefused}
+use Rattle.entry_format.specs.Spelling.{entry_bytes}
+use Rattle.page_policy.specs.declared.rows.Order.{Order}
 use Rattle.ras_account.specs.declared.entry.Entry.{Entry}
-use Rattle.ras_account.specs.Account.{State, account_of, continued, continued_all, added_by, is_fresh_in, IsWithin, IsPast}
+use Rattle.ras_account.specs.Account.{State, account_of}
+use Rattle.ras_account.specs.Continued.{continued, continued_all, is_fresh_in, IsWithin, IsPast}
 use Rattle.ras_account.specs.Fresh.{fresh}
-use Rattle.ras_account.specs.View.{View}
+use Rattle.ras_account.specs.Orders.{orders_at}
+use Rattle.ras_account.specs.Valid.{IsValidEntry, items_in}
+use Rattle.ras_account.specs.View.{View, WaitsFirst, added_by}
 use Rattle.ras_daemon.specs.declared.event.FreshEntry.{FreshEntry}
 use Rattle.ras_daemon.specs.declared.event.Prepared.{Prepared}
 use Rattle.ras_daemon.specs.declared.ledger.Ledger.{Ledger}
 use Rattle.ras_daemon.specs.declared.ledger.OpenRefused.{OpenRefused}
 use Rattle.ras_daemon.specs.declared.ledger.OpenRefused.TheVariants.{Disk, Full as NoRoom, NoMemory as OutOfMemory}
+use Rattle.ras_daemon.specs.declared.run.Run.{Run}
 use Rattle.ras_daemon.specs.declared.exit.Exit.{Exit}
-use Rattle.ras_daemon.specs.declared.exit.Exit.TheVariants.{Full, NoMemory}
-use Rattle.ras_daemon.specs.PlainFile.{fact_in, stored, stored_end}
-use Rattle.ras_daemon.specs.Progress.{Step, writes, syncs, prints, text_steps, entries_steps, reopen_steps, after_all, IsDisk, Cut, Paused, Course, Takes, line_course, event_steps, read_steps}
-use Rattle.ras_daemon.specs.Reports.{Read, reports}
+use Rattle.ras_daemon.specs.declared.exit.Exit.TheVariants.{BadLine, Full, NoMemory}
+use Rattle.ras_daemon.specs.declared.exit.Reason.TheVariants.{Topology as TopologyReason}
+use Rattle.ras_daemon.specs.PlainFile.{stored, stored_end}
+use Rattle.ras_daemon.specs.Progress.{Step, writes, syncs, prints, text_steps, entries_steps, reopen_steps, say_steps, after_all, behind, IsDisk, Cut, Paused, Course, Takes, line_course, count_steps, read_steps}
+use Rattle.ras_daemon.specs.Reports.{Read, reports, rows_of}
 use Rattle.ras_daemon.specs.Status.{is_past, room_refusal, refusal_at}
-use Rattle.ras_daemon.specs.Text.{event_text, done_line}
+use Rattle.ras_daemon.specs.Text.{entries_text, done_line, held_text, order_line, orders_of}
 
--- how many bytes the entry of a bank's report has at most
+-- how many bytes the entry of an event has at most: a bank's with a label of 32 bytes and a page
 abbrev pub longest_entry : ℕ
-longest_entry = 44
+longest_entry = 76
+
+-- how many bytes the line of an order has
+abbrev pub order_length : ℕ
+order_length = 33
 
 -- the calls that append a fresh entry at a place
 abbrev pub fresh_steps : ℕ → Option FreshEntry → List Step
 fresh_steps place None = []
 fresh_steps place (Some fresh) = writes place fresh.bytes.items ∷ syncs ∷ []
 
--- the calls of an event that is prepared
-abbrev pub prepared_steps : ℕ → Prepared → List Step
-prepared_steps place event = fresh_steps place event.fresh ++ (text_steps event.text.items ++ prints event.done.items ∷ [])
+-- the orders that a fresh entry gives in an account, and their lines
+abbrev pub orders_given : Option FreshEntry → State → List Order
+orders_given None state = []
+orders_given (Some fresh) state = orders_at state fresh.entry
+
+abbrev pub order_lines : List Order → List ℕ
+order_lines orders = flat_map order_line orders
+
+-- the calls of an event that is prepared, whose entry is appended at a place and counted in an account
+abbrev pub prepared_steps : ℕ → State → Prepared → List Step
+prepared_steps place state event =
+    fresh_steps place event.fresh
+    ++ (text_steps (event.text.items ++ order_lines (orders_given event.fresh state)) ++ prints event.done.items ∷ [])
 
 -- where the file ends once a fresh entry stands in it
 abbrev pub end_after : Option FreshEntry → ℕ → ℕ
@@ -46,26 +68,48 @@ abbrev pub state_after : Option FreshEntry → State → State
 state_after None state = state
 state_after (Some fresh) state = continued state fresh.entry
 
--- the facts that entries tell are valid, so that they can be read from the file again
+-- the entries are valid, so that they can be read from the file again
 abbrev pub AreValid : List Entry → Type 0
-AreValid entries = AllByRecursion IsValidFact (map fact_in entries)
+AreValid entries = AllByRecursion IsValidEntry entries
+
+-- an entry is valid and short
+pub record IsFit (entry : Entry) : Type 0 where
+  pub valid : IsValidEntry entry
+  pub short : length (entry_bytes entry) ≤ longest_entry
+  pub items : length (items_in entry) ≤ 65535
+
+abbrev pub AreFit : List Entry → Type 0
+AreFit entries = AllByRecursion IsFit entries
 
 -- the event's calls and its account are those of these entries, behind those that were reported before
 pub record IsPrepared (before : List Entry) (number : ℕ) (detail : List ℕ) (entries : List Entry) (event : Prepared) : Type 0 where
   pub appends : fresh_steps (stored_end before) event.fresh ≡ entries_steps before entries
   pub ends_at : end_after event.fresh (stored_end before) ≡ stored_end (before ++ entries)
-  pub texts : event.text.items ≡ event_text before detail entries
+  pub texts : event.text.items ≡ entries_text before detail entries
+  pub orders : orders_given event.fresh (account_of before) ≡ orders_of before entries
   pub ends : event.done.items ≡ done_line number
   pub account : state_after event.fresh (account_of before) ≡ account_of (before ++ entries)
   pub room : is_past (account_of (before ++ entries)) ≡ false
   pub valid : AreValid entries
 
--- the account can take the fresh entry with no memory, and its bytes are few
+-- The account can take the fresh entry with no memory, and its bytes are few. There is room for its orders.
 pub record CanTake (account : View) (fresh : FreshEntry) : Type 0 where
-  pub waits : IsPrefixOf (added_by account.state (fresh.entry ∷ [])) account.waiting
+  pub waits : WaitsFirst (added_by account.state (fresh.entry ∷ [])) account.waiting
   pub within : IsWithin (continued account.state fresh.entry)
   pub is_fresh : is_fresh_in account.state fresh.entry ≡ true
+  pub valid : IsValidEntry fresh.entry
   pub short : length fresh.bytes.items ≤ longest_entry
+  pub none : fresh.orders.orders ≡ []
+  pub room : length (items_in fresh.entry) ≤ fresh.orders.room
+
+-- the text has room for the lines of so many orders
+abbrev pub HasRoomFor : ℕ → Vec ℕ → Type 0
+HasRoomFor orders text = vec_len text + order_length * orders ≤ vec_capacity text
+
+-- an event that is prepared can be done with no memory
+pub record CanDo (account : View) (event : Prepared) : Type 0 where
+  pub fresh : IfSome event.fresh (CanTake account)
+  pub room : IfSome event.fresh (λ fresh. HasRoomFor fresh.orders.room event.text)
 
 -- how preparing an event may end
 abbrev pub PrepareExit : List Entry → List Entry → Exit → Type 0
@@ -91,18 +135,23 @@ pub record Keeps (reported : List Entry) (ledger : Ledger) (told : Option Told) 
   pub valid : AreValid (fresh reported)
   pub file : IsSomeAnd told (λ t. t.file0 ≡ stored reported)
 
--- A line was taken at its place, or the run ends there, whatever would have followed.
-abbrev pub TakesLine : {T : Type 0} → List Read → Read → Result T Exit → Option Told → Option Told → Ledger → Type 0
-TakesLine before read (Ok done) old new ledger =
-    (refusal_at (before, read) ≡ None) × (new ≡ option_map (after_all (read_steps before read)) old) × Keeps (reports (before ++ read ∷ [])) ledger new
-TakesLine before read (Err exit) old new ledger = (rest : Course) → Takes (line_course (refusal_at (before, read)) (read_steps before read) rest) exit old new
+-- What a run has at hand behind these lines: the rows that they told, and the account of what they reported.
+pub record Stands (before : List Read) (run : Run) (told : Option Told) : Type 0 where
+  pub rows : run.topology ≡ rows_of before
+  pub keeps : Keeps (reports before) run.ledger told
 
--- The same of an event that makes these entries.
-abbrev pub TakesEvent : {T : Type 0} → List Entry → ℕ → List ℕ → List Entry → Result T Exit → Option Told → Option Told → Ledger → Type 0
-TakesEvent before number detail entries (Ok done) old new ledger =
-    (room_refusal before entries ≡ None) × (new ≡ option_map (after_all (event_steps before number detail entries)) old) × Keeps (before ++ entries) ledger new
-TakesEvent before number detail entries (Err exit) old new ledger =
-    (rest : Course) → Takes (line_course (room_refusal before entries) (event_steps before number detail entries) rest) exit old new
+-- A line was taken at its place, or the run ends there, whatever would have followed.
+abbrev pub TakesLine : {T : Type 0} → List Read → Read → Result T Exit → Option Told → Option Told → Run → Type 0
+TakesLine before read (Ok done) old new run =
+    (refusal_at (before, read) ≡ None) × (new ≡ option_map (after_all (read_steps before read)) old) × Stands (before ++ read ∷ []) run new
+TakesLine before read (Err exit) old new run = (rest : Course) → Takes (line_course (refusal_at (before, read)) (read_steps before read) rest) exit old new
+
+-- The same of entries that an event makes.
+abbrev pub TakesEntries : {T : Type 0} → List Entry → ℕ → List ℕ → List Entry → Result T Exit → Option Told → Option Told → Ledger → Type 0
+TakesEntries before number detail entries (Ok done) old new ledger =
+    (room_refusal before entries ≡ None) × (new ≡ option_map (after_all (count_steps before number detail entries)) old) × Keeps (before ++ entries) ledger new
+TakesEntries before number detail entries (Err exit) old new ledger =
+    (rest : Course) → Takes (line_course (room_refusal before entries) (count_steps before number detail entries) rest) exit old new
 
 -- What was reported stands in the file, as the board tells, and can be read from it and counted again.
 pub record IsKept (reported : List Entry) (told : Option Told) : Type 0 where
@@ -127,3 +176,17 @@ abbrev pub IsRoomRefusal : OpenRefused → Type 0
 IsRoomRefusal NoRoom = Unit {0}
 IsRoomRefusal OutOfMemory = Unit {0}
 IsRoomRefusal refused = ⊥
+
+-- A row of the machine was taken at its place, or refused for this, whatever would have followed.
+abbrev pub TakesRow : {T : Type 0} → ℕ → Option TopologyRefused → Result T Exit → Option Told → Option Told → Type 0
+TakesRow number refusal (Ok done) old new = (refusal ≡ None) × (new ≡ option_map (after_all (prints (done_line number) ∷ [])) old)
+TakesRow number refusal (Err exit) old new =
+    (rest : Course) → Takes (line_course (option_map (λ refused. BadLine number (TopologyReason refused)) refusal) (prints (done_line number) ∷ []) rest) exit old new
+
+-- The account was made again at its place, and its pages told, or the run ends there, whatever would have followed.
+abbrev pub restart_steps : List Entry → ℕ → List Step
+restart_steps before number = reopen_steps (stored_end before) ++ say_steps (held_text (account_of before)) number
+
+abbrev pub Reopened : {T : Type 0} → List Entry → ℕ → Result T Exit → Option Told → Option Told → Ledger → Type 0
+Reopened before number (Ok done) old new ledger = (new ≡ option_map (after_all (restart_steps before number)) old) × Keeps before ledger new
+Reopened before number (Err exit) old new ledger = (rest : Course) → Takes (behind (restart_steps before number) rest) exit old new

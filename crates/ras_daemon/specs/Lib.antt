@@ -3,6 +3,7 @@ pub mod Splitting
 pub mod Line
 pub mod Command
 pub mod ExitStatus
+pub mod Detail
 pub mod Reports
 pub mod PlainFile
 pub mod Text

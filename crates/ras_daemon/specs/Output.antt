@@ -4,25 +4,20 @@ use Rattle.std.specs.List.{flat_map}
 use Rattle.ras_base.specs.Places.{places}
 use Rattle.ras_account.specs.Account.{account_of}
 use Rattle.ras_daemon.specs.declared.exit.Exit.{Exit}
-use Rattle.ras_daemon.specs.declared.line.Line.{Line}
-use Rattle.ras_daemon.specs.declared.line.Line.TheVariants.{Empty, Comment, Bank, Restart}
 use Rattle.ras_daemon.specs.Command.{command_of}
-use Rattle.ras_daemon.specs.Reports.{Read, reads_of, made, reports}
+use Rattle.ras_daemon.specs.Reports.{Event, Read, nothing, reopens, adds, counts, event_in, reads_of, reports, rows_of}
 use Rattle.ras_daemon.specs.Status.{Place, unrefused, refusal_among, start_refusal}
-use Rattle.ras_daemon.specs.Text.{detail_of, event_text, done_line, end_line, stop_line}
+use Rattle.ras_daemon.specs.Text.{event_text, held_text, done_line, end_line, stop_line}
 
--- What a line has printed at its place: an event the text of what it makes and its done line, any other line nothing. A
--- restart makes nothing.
-abbrev pub line_output : List Read → ℕ → Line → List ℕ
-line_output before number Empty = []
-line_output before number Comment = []
-line_output before number (Bank boot seconds cpu bank tsc cap mcg status addr misc) =
-    let line = Bank boot seconds cpu bank tsc cap mcg status addr misc in
-    event_text (reports before) (detail_of line) (made line) ++ done_line number
-line_output before number Restart = done_line number
+-- What an event has printed at its place: its text, and its done line. A restart tells which pages are ordered out of use.
+abbrev pub event_output : List Read → ℕ → Event → List ℕ
+event_output before number nothing = []
+event_output before number reopens = held_text (account_of (reports before)) ++ done_line number
+event_output before number (adds row) = done_line number
+event_output before number (counts detail entries) = event_text (reports before) detail entries ++ done_line number
 
 abbrev pub output_at : Place → List ℕ
-output_at (before, (number, Ok line)) = line_output before number line
+output_at (before, (number, Ok line)) = event_output before number (event_in (rows_of before) line)
 output_at (before, (number, Err refused)) = []
 
 -- the last line: the stop line of the first refusal, or the end line of all that was reported

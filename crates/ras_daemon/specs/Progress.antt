@@ -13,14 +13,12 @@ use Rattle.ras_account.specs.Account.{account_of}
 use Rattle.ras_account.specs.Fresh.{is_fresh_behind}
 use Rattle.ras_daemon.specs.declared.exit.Exit.{Exit}
 use Rattle.ras_daemon.specs.declared.exit.Exit.TheVariants.{Done, Usage, SourceFault, DiskFault, PrintFault, NoMemory}
-use Rattle.ras_daemon.specs.declared.line.Line.{Line}
-use Rattle.ras_daemon.specs.declared.line.Line.TheVariants.{Empty, Comment, Bank, Restart}
 use Rattle.ras_daemon.specs.declared.word.Command.{Command}
 use Rattle.ras_daemon.specs.declared.word.Command.TheVariants.{Run}
-use Rattle.ras_daemon.specs.PlainFile.{fact_in, stored_end}
-use Rattle.ras_daemon.specs.Reports.{Read, reads_of, made, reports}
+use Rattle.ras_daemon.specs.PlainFile.{stored_end}
+use Rattle.ras_daemon.specs.Reports.{Event, Read, nothing, reopens, adds, counts, event_in, reads_of, reports, rows_of}
 use Rattle.ras_daemon.specs.Status.{refusal_at, start_refusal}
-use Rattle.ras_daemon.specs.Text.{detail_of, event_text, done_line, end_line, stop_line}
+use Rattle.ras_daemon.specs.Text.{event_text, held_text, done_line, end_line, stop_line}
 
 -- a call on a board, of its file 0 or of its output; a read asks for so many bytes from the file's first one on
 pub data Step : Type 0 where
@@ -109,7 +107,7 @@ TakesCall course exit old new = Takes course exit old new
 -- the calls of an entry behind those that were reported before it: a fresh one is written and synced
 abbrev pub entry_steps : List Entry → Entry → List Step
 entry_steps before entry =
-    if is_fresh_behind before entry then writes (stored_end before) (entry_bytes (fact_in entry)) ∷ syncs ∷ [] else []
+    if is_fresh_behind before entry then writes (stored_end before) (entry_bytes entry) ∷ syncs ∷ [] else []
 
 abbrev pub entries_steps : List Entry → List Entry → List Step
 entries_steps before entries = flat_map (λ p. entry_steps p.0 p.1) (places_behind before entries)
@@ -118,25 +116,28 @@ entries_steps before entries = flat_map (λ p. entry_steps p.0 p.1) (places_behi
 abbrev pub text_steps : List ℕ → List Step
 text_steps text = if length text == 0 then [] else prints text ∷ []
 
+-- the calls by which a text is printed, and a done line behind it
+abbrev pub say_steps : List ℕ → ℕ → List Step
+say_steps text number = text_steps text ++ prints (done_line number) ∷ []
+
 -- the calls of an event that makes these entries
-abbrev pub event_steps : List Entry → ℕ → List ℕ → List Entry → List Step
-event_steps before number detail entries =
-    entries_steps before entries ++ (text_steps (event_text before detail entries) ++ prints (done_line number) ∷ [])
+abbrev pub count_steps : List Entry → ℕ → List ℕ → List Entry → List Step
+count_steps before number detail entries =
+    entries_steps before entries ++ say_steps (event_text before detail entries) number
 
 -- the calls by which the account is made again from the file
 abbrev pub reopen_steps : ℕ → List Step
 reopen_steps size = asks_size ∷ reads_file size ∷ []
 
-abbrev pub line_steps : List Read → ℕ → Line → List Step
-line_steps before number Empty = []
-line_steps before number Comment = []
-line_steps before number (Bank boot seconds cpu bank tsc cap mcg status addr misc) =
-    let line = Bank boot seconds cpu bank tsc cap mcg status addr misc in
-    event_steps (reports before) number (detail_of line) (made line)
-line_steps before number Restart = reopen_steps (stored_end (reports before)) ++ prints (done_line number) ∷ []
+-- the calls of an event
+abbrev pub event_steps : List Read → ℕ → Event → List Step
+event_steps before number nothing = []
+event_steps before number reopens = reopen_steps (stored_end (reports before)) ++ say_steps (held_text (account_of (reports before))) number
+event_steps before number (adds row) = prints (done_line number) ∷ []
+event_steps before number (counts detail entries) = count_steps (reports before) number detail entries
 
 abbrev pub read_steps : List Read → Read → List Step
-read_steps before (number, Ok line) = line_steps before number line
+read_steps before (number, Ok line) = event_steps before number (event_in (rows_of before) line)
 read_steps before (number, Err refused) = []
 
 -- a course that prints a last line and ends

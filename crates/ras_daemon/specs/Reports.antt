@@ -1,14 +1,18 @@
 -- What the lines of a script report.
-use Rattle.std.specs.Prelude.{ℕ, List, [], map, Option, None, Some, unwrap_or, Result, Ok, Err}
-use Rattle.std.specs.List.{enumerate_from, flat_map}
-use Rattle.std.specs.Option.{option_map, option_to_list}
+use Rattle.std.specs.Prelude.{ℕ, List, [], ◌∷◌, map, Option, None, Some, Result, Ok, Err}
+use Rattle.std.specs.List.{enumerate_from, filter_map, flat_map}
+use Rattle.std.specs.Option.{option_map, option_map_or, option_to_list}
+use Rattle.dimm_topology.specs.declared.row.Row.{Row}
+use Rattle.dimm_topology.specs.declared.row.Row.TheVariants.{Cpu as CpuRow, Module as ModuleRow, Range as RangeRow}
+use Rattle.ras_base.specs.Places.{places}
 use Rattle.ras_facts.specs.declared.bank.BankReport.{BankReport}
 use Rattle.ras_facts.specs.Facts.{bank_fact}
 use Rattle.ras_account.specs.declared.entry.Entry.{Entry}
-use Rattle.ras_account.specs.Fresh.{entries_of}
+use Rattle.ras_account.specs.declared.entry.Entry.TheVariants.{Fact as Report, Limit as Settles}
 use Rattle.ras_daemon.specs.declared.line.Line.{Line}
-use Rattle.ras_daemon.specs.declared.line.Line.TheVariants.{Bank}
+use Rattle.ras_daemon.specs.declared.line.Line.TheVariants.{Bank, Cpu, Module, Range, Limit, Restart}
 use Rattle.ras_daemon.specs.declared.line.LineRefused.{LineRefused}
+use Rattle.ras_daemon.specs.Detail.{bank_detail}
 use Rattle.ras_daemon.specs.Line.{line_of}
 use Rattle.ras_daemon.specs.Splitting.{lines_of}
 
@@ -24,34 +28,62 @@ reads_from number text = enumerate_from number (map line_of (lines_of text))
 abbrev pub reads_of : List ℕ → List Read
 reads_of script = reads_from 1 script
 
--- the snapshot of a bank that a line gives, if it gives one
-abbrev pub bank_in : Line → Option BankReport
-bank_in (Bank boot seconds cpu bank tsc cap mcg status addr misc) = Some (record {
-  boot = boot;
-  seconds = seconds;
-  cpu = cpu;
-  bank = bank;
-  tsc = tsc;
-  cap = cap;
-  mcg = mcg;
-  status = status;
-  addr = addr;
-  misc = misc;
-})
-bank_in line = None
+-- the row of the machine that a line tells, if it tells one
+abbrev pub row_in : Line → Option Row
+row_in (Cpu cpu socket) = Some (CpuRow cpu socket)
+row_in (Module label socket bank channel) = Some (ModuleRow label socket bank channel)
+row_in (Range label first last) = Some (RangeRow label first last)
+row_in line = None
 
--- what a bank makes: the fact that its registers give, where its status register is valid
-abbrev pub bank_entries : BankReport → List Entry
-bank_entries bank = entries_of (option_to_list (bank_fact bank))
+abbrev pub row_by : Read → Option Row
+row_by (number, Ok line) = row_in line
+row_by (number, Err refused) = None
 
--- what a line makes
-abbrev pub made : Line → List Entry
-made line = unwrap_or (option_map bank_entries (bank_in line)) []
+-- the rows that lines tell, in order
+abbrev pub rows_of : List Read → List Row
+rows_of reads = filter_map row_by reads
 
-abbrev pub made_by : Read → List Entry
-made_by (number, Ok line) = made line
-made_by (number, Err refused) = []
+-- What an event asks for: nothing; to make the account again from its file; to take a row; to count entries, with what is
+-- told beside them.
+pub data Event : Type 0 where
+  nothing : Event
+  reopens : Event
+  adds : Row → Event
+  counts : List ℕ → List Entry → Event
 
--- all that lines report, in order
+-- what a bank makes under the rows of a machine: the fact that its registers give, where its status register is valid
+abbrev pub bank_entries : BankReport → List Row → List Entry
+bank_entries bank rows = map Report (option_to_list (bank_fact bank rows))
+
+-- what a line asks for under the rows that the lines before it tell
+abbrev pub event_in : List Row → Line → Event
+event_in rows (Bank boot seconds cpu bank tsc cap mcg status addr misc) =
+    let report = record {
+      boot = boot;
+      seconds = seconds;
+      cpu = cpu;
+      bank = bank;
+      tsc = tsc;
+      cap = cap;
+      mcg = mcg;
+      status = status;
+      addr = addr;
+      misc = misc;
+    } in
+    counts (bank_detail report) (bank_entries report rows)
+event_in rows (Limit capacity period) = counts [] (Settles (record { capacity = capacity; period = period }) ∷ [])
+event_in rows Restart = reopens
+event_in rows line = option_map_or adds (row_in line) nothing
+
+-- what an event reports
+abbrev pub reported_in : Event → List Entry
+reported_in (counts detail entries) = entries
+reported_in event = []
+
+abbrev pub reported_at : List Read × Read → List Entry
+reported_at (before, (number, Ok line)) = reported_in (event_in (rows_of before) line)
+reported_at (before, (number, Err refused)) = []
+
+-- all that lines report, in order, each under the rows that the lines before it tell
 abbrev pub reports : List Read → List Entry
-reports reads = flat_map made_by reads
+reports reads = flat_map reported_at (places reads)

@@ -3,15 +3,15 @@ use Rattle.std.specs.Prelude.{◌≡◌, ℕ, List, [], Option, Result, Ok, Err}
 use Rattle.std.specs.Option.{option_map}
 use Rattle.board_core.specs.Told.{Told}
 use Rattle.ras_account.specs.Account.{State}
-use Rattle.ras_daemon.specs.declared.ledger.Ledger.{Ledger}
+use Rattle.ras_daemon.specs.declared.run.Run.{Run}
 use Rattle.ras_daemon.specs.declared.exit.Exit.{Exit}
 use Rattle.ras_daemon.specs.declared.exit.Exit.TheVariants.{Done, Usage, BadLine, SourceFault, DiskFault, PrintFault, NoMemory}
 use Rattle.ras_daemon.specs.declared.exit.Reason.TheVariants.{Line as LineReason}
 use Rattle.ras_daemon.specs.declared.line.LineRefused.{LineRefused}
 use Rattle.ras_daemon.specs.declared.line.LineRefused.TheVariants as refused
-use Rattle.ras_daemon.specs.Event.{Keeps}
+use Rattle.ras_daemon.specs.Event.{Stands}
 use Rattle.ras_daemon.specs.Progress.{Step, after_all, Takes, behind, ends, lines_course}
-use Rattle.ras_daemon.specs.Reports.{Read, reports}
+use Rattle.ras_daemon.specs.Reports.{Read}
 use Rattle.ras_daemon.specs.Text.{stop_line, end_line}
 
 -- The lines were all taken: the course is the calls that were made, and behind them the last line of their account.
@@ -61,9 +61,9 @@ RefusesLine number why result old new = Refuses (BadLine number (LineReason why)
 
 -- Of all reads, those up to a place were taken, and the rest is left: the course is the calls that were made, and behind
 -- them the course of the rest.
-pub record TookSome (reads rest : List Read) (old new : Option Told) (ledger : Ledger) : Type 0 where
+pub record TookSome (reads rest : List Read) (old new : Option Told) (run : Run) : Type 0 where
   pub before : List Read
   pub steps : List Step
   pub course : lines_course [] reads ≡ behind steps (lines_course before rest)
   pub goes : new ≡ option_map (after_all steps) old
-  pub keeps : Keeps (reports before) ledger new
+  pub stands : Stands before run new

@@ -1,18 +1,19 @@
 -- How a run ends: with its first refusal in order, or at its script's end.
 use Rattle.std.specs.Prelude.{ℕ, ◌||◌, ◌++◌, Bool, List, [], ◌∷◌, length, map, nat_lt, Option, None, Some, Ok, Err, is_some, unwrap_or, if◌then◌else◌}
 use Rattle.std.specs.List.{filter_map}
+use Rattle.std.specs.Option.{option_map}
+use Rattle.dimm_topology.specs.declared.row.Row.{Row}
+use Rattle.dimm_topology.specs.Refusals.{refusal_of}
 use Rattle.ras_base.specs.Places.{places}
 use Rattle.ras_account.specs.declared.entry.Entry.{Entry}
 use Rattle.ras_account.specs.Account.{State, account_of, most_names, most_entries, most_weight}
 use Rattle.ras_daemon.specs.declared.exit.Exit.{Exit}
 use Rattle.ras_daemon.specs.declared.exit.Exit.TheVariants.{Done, Usage, BadLine, Damaged, Full, TooLong}
-use Rattle.ras_daemon.specs.declared.exit.Reason.TheVariants.{Line as LineReason}
+use Rattle.ras_daemon.specs.declared.exit.Reason.TheVariants.{Line as LineReason, Topology as TopologyReason}
 use Rattle.ras_daemon.specs.declared.word.Command.{Command}
 use Rattle.ras_daemon.specs.declared.word.Command.TheVariants.{Run}
-use Rattle.ras_daemon.specs.declared.line.Line.{Line}
-use Rattle.ras_daemon.specs.declared.line.Line.TheVariants.{Bank}
 use Rattle.ras_daemon.specs.Command.{command_of}
-use Rattle.ras_daemon.specs.Reports.{Read, reads_of, made, reports}
+use Rattle.ras_daemon.specs.Reports.{Event, Read, nothing, reopens, adds, counts, event_in, reads_of, reports, rows_of}
 
 -- a line with all the lines before it
 abbrev pub Place : Type 0
@@ -23,19 +24,25 @@ abbrev pub is_past : State → Bool
 is_past account =
     nat_lt most_names (length account.names) || (nat_lt most_entries account.entries || nat_lt most_weight account.total)
 
--- an event is refused where there is no room in the account for what it makes
+-- entries are refused where there is no room in the account for them
 abbrev pub room_refusal : List Entry → List Entry → Option Exit
 room_refusal before entries = if is_past (account_of (before ++ entries)) then Some Full else None
 
-abbrev pub line_refusal : List Read → Line → Option Exit
-line_refusal before (Bank boot seconds cpu bank tsc cap mcg status addr misc) =
-    room_refusal (reports before) (made (Bank boot seconds cpu bank tsc cap mcg status addr misc))
-line_refusal before line = None
+-- a row is refused where the rows before it can't take it
+abbrev pub row_refusal : ℕ → List Row → Row → Option Exit
+row_refusal number rows row = option_map (λ refused. BadLine number (TopologyReason refused)) (refusal_of rows row)
 
--- why a line is refused at its place, if it is: it can't be read, or it is an event for which there is no room
+-- why an event is refused at its place, if it is
+abbrev pub event_refusal : List Read → ℕ → Event → Option Exit
+event_refusal before number nothing = None
+event_refusal before number reopens = None
+event_refusal before number (adds row) = row_refusal number (rows_of before) row
+event_refusal before number (counts detail entries) = room_refusal (reports before) entries
+
+-- why a line is refused at its place, if it is: it can't be read, or what it asks for can't be done
 abbrev pub refusal_at : Place → Option Exit
 refusal_at (before, (number, Err refused)) = Some (BadLine number (LineReason refused))
-refusal_at (before, (number, Ok line)) = line_refusal before line
+refusal_at (before, (number, Ok line)) = event_refusal before number (event_in (rows_of before) line)
 
 -- the places that stand before the first refused one
 abbrev pub unrefused : List Place → List Place

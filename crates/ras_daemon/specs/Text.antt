@@ -1,42 +1,33 @@
 -- The lines that are printed, each with its line feed.
-use Rattle.std.specs.Prelude.{ℕ, ◌*◌, Bool, List, [], ◌∷◌, ◌++◌, codes, decimal, length, Option, None, Some, unwrap_or, if◌then◌else◌}
+use Rattle.std.specs.Prelude.{ℕ, ◌==◌, List, [], ◌∷◌, ◌++◌, codes, decimal, drop, length, Option, None, Some, if◌then◌else◌}
 use Rattle.std.specs.Int.{to_be_bytes, w64}
-use Rattle.std.specs.List.{flat_map}
-use Rattle.std.specs.Option.{option_map}
+use Rattle.std.specs.List.{filter_map, flat_map}
 use Rattle.hex.specs.Hex.{encode_lower}
-use Rattle.mca_codes.specs.declared.marks.Mark.{Mark}
-use Rattle.mca_codes.specs.declared.marks.Mark.TheVariants as marks
-use Rattle.mca_codes.specs.Codes.{code_of_rows}
-use Rattle.mca_codes.specs.Marks.{mark_of_number}
-use Rattle.mca_codes.specs.Texts.{text_of as code_text}
+use Rattle.dimm_topology.specs.declared.topology.TopologyRefused.{TopologyRefused}
+use Rattle.dimm_topology.specs.declared.topology.TopologyRefused.TheVariants as rows
 use Rattle.mca_status.specs.declared.classes.ItemClass.{ItemClass}
 use Rattle.mca_status.specs.declared.classes.ItemClass.TheVariants.{Ce, Ucna, Srao, Srar, Uc, Odd, Corrected, Recoverable, Fatal, Informational}
-use Rattle.mca_status.specs.declared.registers.Cap.{Cap}
-use Rattle.mca_status.specs.declared.registers.GlobalStatus.{GlobalStatus}
-use Rattle.mca_status.specs.declared.registers.Status.{Status}
-use Rattle.mca_status.specs.declared.thresholds.Threshold.{Threshold}
-use Rattle.mca_status.specs.declared.thresholds.Threshold.TheVariants.{Untold, NoTracking, Green, Yellow, Reserved}
-use Rattle.mca_status.specs.Registers.{error_code, overflow, restart_valid, error_pointer_valid, in_progress}
-use Rattle.mca_status.specs.Thresholds.{threshold_of}
+use Rattle.page_policy.specs.declared.buckets.Limit.{Limit}
+use Rattle.page_policy.specs.declared.rows.Order.{Order}
+use Rattle.page_policy.specs.declared.rows.Order.TheVariants.{Soft, Hard}
+use Rattle.page_policy.specs.declared.rows.Row.{Row}
+use Rattle.page_policy.specs.Rows.{order_to}
 use Rattle.ras_base.specs.Places.{places_behind}
-use Rattle.ras_facts.specs.declared.bank.BankReport.{BankReport}
 use Rattle.ras_facts.specs.declared.fact.Fact.{Fact}
 use Rattle.ras_facts.specs.declared.items.Item.{Item}
 use Rattle.ras_facts.specs.declared.name.Name.{Name}
 use Rattle.ras_facts.specs.declared.name.Name.TheVariants.{Bank}
-use Rattle.ras_facts.specs.Facts.{cap_in, status_in}
 use Rattle.ras_account.specs.declared.entry.Entry.{Entry}
-use Rattle.ras_account.specs.declared.entry.Entry.TheVariants.{Fact as Report}
+use Rattle.ras_account.specs.declared.entry.Entry.TheVariants.{Fact as Report, Limit as Settles}
 use Rattle.ras_account.specs.Account.{State}
 use Rattle.ras_account.specs.Fresh.{is_fresh_behind}
+use Rattle.ras_account.specs.Orders.{orders_behind}
 use Rattle.ras_daemon.specs.declared.exit.Exit.{Exit}
 use Rattle.ras_daemon.specs.declared.exit.Exit.TheVariants.{Done, Usage, BadLine, SourceFault, DiskFault, PrintFault, Damaged, Full, NoMemory, TooLong}
 use Rattle.ras_daemon.specs.declared.exit.Reason.{Reason}
-use Rattle.ras_daemon.specs.declared.exit.Reason.TheVariants.{Line as LineReason}
-use Rattle.ras_daemon.specs.declared.line.Line.{Line}
+use Rattle.ras_daemon.specs.declared.exit.Reason.TheVariants.{Line as LineReason, Topology as TopologyReason}
 use Rattle.ras_daemon.specs.declared.line.LineRefused.{LineRefused}
 use Rattle.ras_daemon.specs.declared.line.LineRefused.TheVariants as refused
-use Rattle.ras_daemon.specs.Reports.{bank_in}
 
 -- a line feed ends each line
 abbrev pub ended_line : List ℕ → List ℕ
@@ -58,53 +49,18 @@ class_text Recoverable = codes "recoverable"
 class_text Fatal = codes "fatal"
 class_text Informational = codes "informational"
 
--- A page is printed as the address of its first byte, in 16 hexadecimal digits.
+-- A page is printed as the address of its first byte in 16 hexadecimal digits: the page's number in 13, and behind it the
+-- three zeros of its 4,096 bytes.
+abbrev pub address_text : ℕ → List ℕ
+address_text page = drop 3 (encode_lower (to_be_bytes w64 page)) ++ codes "000"
+
 abbrev pub page_text : Option ℕ → List ℕ
 page_text None = codes "-"
-page_text (Some page) = encode_lower (to_be_bytes w64 (4096 * page))
+page_text (Some page) = address_text page
 
-abbrev pub threshold_text : Threshold → List ℕ
-threshold_text Untold = codes "-"
-threshold_text NoTracking = codes "none"
-threshold_text Green = codes "green"
-threshold_text Yellow = codes "yellow"
-threshold_text Reserved = codes "reserved"
-
-abbrev pub mark_text : Mark → List ℕ
-mark_text marks.Neither = codes "-"
-mark_text marks.Srao = codes "srao"
-mark_text marks.Srar = codes "srar"
-
-abbrev pub bit_text : Bool → List ℕ
-bit_text bit = if bit then codes "1" else codes "0"
-
--- what an error code says
-unfoldable pub code_detail : ℕ → List ℕ
-code_detail code = codes "code=" ++ code_text (code_of_rows code)
-
--- what an error's registers tell beside the class, the weight and the page: the error's code, the threshold status, OVER,
--- and whether the code is that of a recoverable error
-unfoldable pub error_detail : Cap → Status → List ℕ
-error_detail cap status =
-    code_detail (error_code status)
-    ++ codes " threshold=" ++ threshold_text (threshold_of cap status)
-    ++ codes " over=" ++ bit_text (overflow status)
-    ++ codes " mark=" ++ mark_text (mark_of_number (error_code status))
-
--- the flags of IA32_MCG_STATUS
-unfoldable pub flags_detail : GlobalStatus → List ℕ
-flags_detail global =
-    codes " ripv=" ++ bit_text (restart_valid global)
-    ++ codes " eipv=" ++ bit_text (error_pointer_valid global)
-    ++ codes " mcip=" ++ bit_text (in_progress global)
-
--- what a bank's snapshot tells beside its item
-abbrev pub bank_detail : BankReport → List ℕ
-bank_detail bank = error_detail (cap_in bank) (status_in bank) ++ flags_detail (record { 0 = bank.mcg })
-
--- what a line tells of its event beside the fact
-abbrev pub detail_of : Line → List ℕ
-detail_of line = unwrap_or (option_map bank_detail (bank_in line)) []
+-- a module's label, where one is known
+abbrev pub label_text : List ℕ → List ℕ
+label_text label = if length label == 0 then codes "-" else label
 
 -- the name, the time, the class and the weight of an item
 unfoldable pub item_head : Fact → Item → List ℕ
@@ -112,26 +68,53 @@ item_head fact item =
     codes "log " ++ name_text fact.name ++ codes " t=" ++ decimal fact.seconds ++ codes " class=" ++ class_text item.class
     ++ codes " weight=" ++ decimal item.weight
 
--- the line of an item of a fresh fact, with what is told beside it; no module's label is known
+-- the line of an item of a fresh fact, with what is told beside it
 unfoldable pub item_line : Fact → List ℕ → Item → List ℕ
 item_line fact detail item =
-    ended_line (item_head fact item ++ codes " label=- page=" ++ page_text item.page ++ codes " " ++ detail)
+    ended_line (item_head fact item ++ codes " label=" ++ label_text item.label ++ codes " page=" ++ page_text item.page ++ codes " " ++ detail)
 
--- the lines of a fresh entry, one for each item
+-- the line of a fresh limit
+abbrev pub limit_line : Limit → List ℕ
+limit_line limit = ended_line (codes "limit capacity=" ++ decimal limit.capacity ++ codes " period=" ++ decimal limit.period)
+
+-- the lines of a fresh entry: of a fact one for each item, of a limit one
 abbrev pub log_lines : List ℕ → Entry → List ℕ
 log_lines detail (Report fact) = flat_map (item_line fact detail) fact.items
+log_lines detail (Settles limit) = limit_line limit
 
--- the line of a fact that isn't fresh
+-- the line of a fact that isn't fresh; a limit that isn't has none
 abbrev pub repeat_line : Entry → List ℕ
 repeat_line (Report fact) = ended_line (codes "repeat " ++ name_text fact.name)
+repeat_line (Settles limit) = []
 
 -- the lines of an entry, judged behind those that were reported before it
 abbrev pub entry_text : List ℕ → List Entry → Entry → List ℕ
 entry_text detail before entry = if is_fresh_behind before entry then log_lines detail entry else repeat_line entry
 
+-- the line of an order to take a page out of use
+abbrev pub order_line : Order → List ℕ
+order_line (Soft page) = ended_line (codes "order soft page=" ++ address_text page)
+order_line (Hard page) = ended_line (codes "order hard page=" ++ address_text page)
+
 -- the lines of what an event makes, each entry judged at its place in all that is reported so far
+abbrev pub entries_text : List Entry → List ℕ → List Entry → List ℕ
+entries_text before detail entries = flat_map (λ p. entry_text detail p.0 p.1) (places_behind before entries)
+
+-- the orders that the entries of an event give, in order
+abbrev pub orders_of : List Entry → List Entry → List Order
+orders_of before entries = flat_map (λ p. orders_behind p.0 p.1) (places_behind before entries)
+
+-- the text of an event: the lines of its entries, and then those of its orders
 abbrev pub event_text : List Entry → List ℕ → List Entry → List ℕ
-event_text before detail entries = flat_map (λ p. entry_text detail p.0 p.1) (places_behind before entries)
+event_text before detail entries = entries_text before detail entries ++ flat_map order_line (orders_of before entries)
+
+-- the order that a page of an account stands under, if any
+abbrev pub standing_order : ℕ × Row → Option Order
+standing_order (page, row) = order_to page row.state
+
+-- the lines of the pages of an account that are ordered out of use, in the order in which they were first seen
+abbrev pub held_text : State → List ℕ
+held_text account = flat_map order_line (filter_map standing_order account.pages)
 
 -- the line that an event ends with
 abbrev pub done_line : ℕ → List ℕ
@@ -148,10 +131,18 @@ abbrev pub refusal_text : LineRefused → List ℕ
 refusal_text refused.Kind = codes "line.1"
 refusal_text refused.Words = codes "line.2"
 refusal_text refused.Number = codes "line.3"
+refusal_text refused.Label = codes "line.6"
 refusal_text refused.NoMemory = []
+
+abbrev pub row_refusal_text : TopologyRefused → List ℕ
+row_refusal_text rows.Label = codes "topology.1"
+row_refusal_text rows.Overlap = codes "topology.2"
+row_refusal_text rows.Full = codes "topology.3"
+row_refusal_text rows.NoMemory = []
 
 abbrev pub reason_text : Reason → List ℕ
 reason_text (LineReason refused) = refusal_text refused
+reason_text (TopologyReason refused) = row_refusal_text refused
 
 -- the line that a refused run ends with; an exit that is no refusal has none
 abbrev pub stop_line : Exit → List ℕ

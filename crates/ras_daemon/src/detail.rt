@@ -1,6 +1,6 @@
 // What a log line tells of a bank's registers.
 ghost use Rattle.std.specs.Prelude.{◌≡◌, ◌++◌, IfOk, OnOk};
-ghost use Rattle.ras_daemon.specs.Text.{bank_detail, bit_text, code_detail, error_detail, flags_detail, mark_text, threshold_text};
+ghost use Rattle.ras_daemon.specs.Detail.{bank_detail, bit_text, code_detail, error_detail, flags_detail, mark_text, threshold_text};
 
 use mca_codes::{Mark, code_of, code_text, mark_of};
 use mca_status::{Cap, GlobalStatus, Status, Threshold, threshold_of};
@@ -19,7 +19,7 @@ pub fn bank_detail(alloc: Global, bank: &BankReport) -> Result<Vec<u8>, NoMemory
 }
 
 // Adds what an error's registers tell.
-#[tactic(auto, unfolding(crate::specs::Text::error_detail))]
+#[tactic(auto, unfolding(crate::specs::Detail::error_detail))]
 fn push_error(alloc: Global, text: &mut Vec<u8>, cap: Cap, status: Status) -> Result<(), NoMemory>
     ensures { OnOk result (text.new.items ≡ text.old.items ++ error_detail cap status) }
 {
@@ -35,7 +35,7 @@ fn push_error(alloc: Global, text: &mut Vec<u8>, cap: Cap, status: Status) -> Re
 }
 
 // Adds what an error code says.
-#[tactic(auto, unfolding(crate::specs::Text::code_detail))]
+#[tactic(auto, unfolding(crate::specs::Detail::code_detail))]
 fn push_code(alloc: Global, text: &mut Vec<u8>, code: u16) -> Result<(), NoMemory>
     ensures { OnOk result (text.new.items ≡ text.old.items ++ code_detail code) }
 {
@@ -45,7 +45,7 @@ fn push_code(alloc: Global, text: &mut Vec<u8>, code: u16) -> Result<(), NoMemor
 }
 
 // Adds the flags of IA32_MCG_STATUS.
-#[tactic(auto, unfolding(crate::specs::Text::flags_detail))]
+#[tactic(auto, unfolding(crate::specs::Detail::flags_detail))]
 fn push_flags(text: &mut Vec<u8>, global: GlobalStatus) -> Result<(), NoMemory>
     ensures { OnOk result (text.new.items ≡ text.old.items ++ flags_detail global) }
 {

@@ -1,29 +1,30 @@
-// One event: first all that takes memory, and then all that touches the board.
-ghost use Rattle.std.specs.Prelude.{◌≡◌, ◌≤◌, ◌<◌, ◌+◌, ◌^◌, ℕ, List, [], ◌∷◌, IfSome, IfOk, IfErr, OnOk, IsOkUnless};
+// An event that counts an entry: first all that takes memory, and then all that touches the board.
+ghost use Rattle.std.specs.Prelude.{◌≡◌, ◌≤◌, ◌<◌, ◌+◌, ◌++◌, ◌^◌, ℕ, List, [], ◌∷◌, length, IfSome, IfOk, IfErr, OnOk, IsOkUnless};
 ghost use Rattle.std.specs.Option.{option_to_list};
 ghost use Rattle.ras_account.specs.declared.entry.Entry.{Entry};
-ghost use Rattle.ras_account.specs.Account.{account_of, added_by, continued, continued_all, IsWithin};
+ghost use Rattle.ras_account.specs.Account.{account_of};
+ghost use Rattle.ras_account.specs.Continued.{continued, continued_all, IsWithin};
+ghost use Rattle.ras_account.specs.Orders.{orders_at};
+ghost use Rattle.ras_account.specs.Valid.{items_in};
+ghost use Rattle.ras_account.specs.View.{added_by};
 ghost use Rattle.ras_daemon.specs.Causes.{Causes, DiskCause, PrintCause};
-ghost use Rattle.ras_daemon.specs.Event.{AreValid, IsPrepared, CanTake, PrepareExit, ReserveExit, Fits, end_after, fresh_steps, longest_entry, prepared_steps, state_after};
-ghost use Rattle.ras_daemon.specs.PlainFile.{fact_in};
-ghost use Rattle.ras_daemon.specs.Progress.{Performs};
-ghost use Rattle.ras_daemon.specs.Reports.{bank_entries};
+ghost use Rattle.ras_daemon.specs.Event.{AreFit, CanDo, CanTake, Fits, HasRoomFor, IsFit, IsPrepared, PrepareExit, ReserveExit, end_after, longest_entry, order_lines, prepared_steps, state_after};
+ghost use Rattle.ras_daemon.specs.Progress.{Performs, syncs, writes};
 ghost use Rattle.ras_daemon.specs.Run.{IsRefusal};
-ghost use Rattle.ras_daemon.specs.Text.{bank_detail, done_line};
+ghost use Rattle.ras_daemon.specs.Text.{done_line, log_lines};
 
 use crate::Exit;
-use crate::detail::bank_detail;
 use crate::ledger::Ledger;
-use crate::step::{append, say};
-use crate::text::{done_line, log_lines, repeat_line};
-use board_core::{Board, Failed};
+use crate::step::{append, say_done};
+use crate::text::{ORDER_LENGTH, done_line, push_fresh, push_orders, repeat_line};
+use board_core::Board;
 use entry_format::entry_bytes;
-use ras_account::{Account, Entry, Fact, ReserveRefused};
+use ras_account::{Account, Entry, Orders, ReserveRefused};
 use ras_base::NoMemory;
-use ras_facts::{BankReport, fact_of_bank};
 use std::alloc::Global;
 
-/// An event that has all its memory: what it appends to the file, and what it prints.
+/// An event that has all its memory: what it appends to the file, and what it prints. Its text has room for the lines of
+/// the orders that its entry may give.
 #[derive(Drop)]
 pub struct Prepared {
     pub fresh: Option<FreshEntry>,
@@ -31,59 +32,42 @@ pub struct Prepared {
     pub done: Vec<u8>,
 }
 
-/// An entry that is fresh, and its bytes.
+/// An entry that is fresh, its bytes, and the place for its orders.
 #[derive(Drop)]
 pub struct FreshEntry {
     pub entry: Entry,
     pub bytes: Vec<u8>,
+    pub orders: Orders,
 }
 
-/// Takes all the memory of a bank's event: that of its entry in the account, its bytes and its texts, which end with the
-/// number of its line. What the account counts stays.
+/// Takes all the memory of an event that makes an entry or none: that of the entry in the account, its bytes and its texts,
+/// with what is told beside its items. The texts end with the number of the event's line. What the account counts stays.
 ///
-/// `Full` comes exactly where the account has no room for what the event makes, and `NoMemory` where memory ran out.
+/// `Full` comes exactly where the account has no room for the entry, and `NoMemory` where memory ran out.
 pub fn prepare(
     alloc: Global,
     number: u64,
-    bank: &BankReport,
+    detail: &[u8],
+    made: Option<Entry>,
     account: &mut Account,
 ) -> Result<Prepared, Exit>
-    ensures prepared { IfOk result (λ event. (before : List Entry) → account.old.state ≡ account_of before → IsPrepared before number (bank_detail bank.now) (bank_entries bank.now) event) }
-    ensures can_take { IfOk result (λ event. IfSome event.fresh (CanTake account.new)) }
+    requires { AreFit (option_to_list made) }
+    ensures prepared { IfOk result (λ event. (before : List Entry) → account.old.state ≡ account_of before → IsPrepared before number detail.now (option_to_list made) event) }
+    ensures can_do { IfOk result (CanDo account.new) }
     ensures state { account.new.state ≡ account.old.state }
-    ensures exits { IfErr result (λ exit. (before : List Entry) → account.old.state ≡ account_of before → PrepareExit before (bank_entries bank.now) exit) }
+    ensures exits { IfErr result (λ exit. (before : List Entry) → account.old.state ≡ account_of before → PrepareExit before (option_to_list made) exit) }
     ensures refused { IfErr result IsRefusal }
 {
     let done = done_line(alloc, number)?;
-    let made = made(alloc, bank)?;
     reserve(account, made.as_slice())?;
     match made {
-        Some(entry) => prepare_entry(alloc, bank, entry, done, account),
+        Some(entry) => prepare_entry(alloc, detail, entry, done, account),
         None => Ok(Prepared {
             fresh: None,
             text: Vec::new(alloc),
             done,
         }),
     }
-}
-
-// What the event of a bank makes.
-fn made(alloc: Global, bank: &BankReport) -> Result<Option<Entry>, NoMemory>
-    ensures made { IfOk result (λ made. option_to_list made ≡ bank_entries bank.now) }
-    ensures valid { IfOk result (λ made. AreValid (bank_entries bank.now)) }
-{
-    match fact_of_bank(alloc, bank)? {
-        Some(fact) => Ok(Some(Entry::Fact(fact))),
-        None => Ok(None),
-    }
-}
-
-// The fact that an entry tells.
-fn fact_in(entry: &Entry) -> &Fact
-    ensures { result.now ≡ fact_in entry.now }
-{
-    let Entry::Fact(fact) = entry;
-    fact
 }
 
 // Makes room in the account for what an event makes.
@@ -101,20 +85,19 @@ fn reserve(account: &mut Account, entries: &[Entry]) -> Result<(), Exit>
     }
 }
 
-// Takes the memory of a bank's event that makes an entry, for which there is room.
+// Takes the memory of an event that makes an entry, for which there is room.
 fn prepare_entry(
     alloc: Global,
-    bank: &BankReport,
+    detail: &[u8],
     entry: Entry,
     done: Vec<u8>,
     account: &Account,
 ) -> Result<Prepared, Exit>
-    requires made { entry ∷ [] ≡ bank_entries bank.now }
-    requires valid { AreValid (entry ∷ []) }
+    requires fit { IsFit entry }
     requires waits { account.now.waiting ≡ added_by account.now.state (entry ∷ []) }
     requires within { IsWithin (continued account.now.state entry) }
-    ensures prepared { IfOk result (λ event. (before : List Entry) (number : ℕ) → account.now.state ≡ account_of before → done.items ≡ done_line number → IsPrepared before number (bank_detail bank.now) (entry ∷ []) event) }
-    ensures can_take { IfOk result (λ event. IfSome event.fresh (CanTake account.now)) }
+    ensures prepared { IfOk result (λ event. (before : List Entry) (number : ℕ) → account.now.state ≡ account_of before → done.items ≡ done_line number → IsPrepared before number detail.now (entry ∷ []) event) }
+    ensures can_do { IfOk result (CanDo account.now) }
     ensures exits { IsOkUnless result Exit.NoMemory }
 {
     if !account.is_fresh(&entry) {
@@ -125,24 +108,57 @@ fn prepare_entry(
             done,
         });
     }
-    let detail = bank_detail(alloc, bank)?;
-    let text = log_lines(alloc, &detail, &entry)?;
-    let bytes = entry_bytes(alloc, fact_in(&entry))?;
+    let count = item_count(&entry);
+    let text = fresh_text(alloc, detail, &entry, count)?;
+    let bytes = entry_bytes(alloc, &entry)?;
+    let orders = Orders::new(alloc, count)?;
     Ok(Prepared {
-        fresh: Some(FreshEntry { entry, bytes }),
+        fresh: Some(FreshEntry {
+            entry,
+            bytes,
+            orders,
+        }),
         text,
         done,
     })
 }
 
-/// Does an event: appends its entry to the file, counts it, and prints its text and its done line. It takes no memory.
+// How many items an entry has.
+fn item_count(entry: &Entry) -> usize
+    ensures { result ≡ length (items_in entry.now) }
+{
+    match entry {
+        Entry::Fact(fact) => fact.items.as_slice().len(),
+        Entry::Limit(_) => 0,
+    }
+}
+
+// The lines of a fresh entry, with room behind them for those of so many orders.
+fn fresh_text(
+    alloc: Global,
+    detail: &[u8],
+    entry: &Entry,
+    orders: usize,
+) -> Result<Vec<u8>, NoMemory>
+    requires { orders ≤ 65535 }
+    ensures text { IfOk result (λ text. text.items ≡ log_lines detail.now entry.now) }
+    ensures room { IfOk result (HasRoomFor orders) }
+{
+    let mut text = Vec::new(alloc);
+    push_fresh(&mut text, detail, entry)?;
+    text.reserve(ORDER_LENGTH * orders)?;
+    Ok(text)
+}
+
+/// Does an event: appends its entry to the file, counts it, and prints its text, the lines of its orders behind it, and its
+/// done line. It takes no memory.
 ///
 /// `DiskFault` and `PrintFault` come only where such a call failed.
 pub fn commit<B: Board>(event: Prepared, ledger: &mut Ledger, board: &mut B) -> Result<(), Exit>
-    requires can_take { IfSome event.fresh (CanTake ledger.old.account) }
+    requires can_do { CanDo ledger.old.account event }
     requires small { ledger.old.end + longest_entry < 2 ^ 64 }
     requires fits { Fits (B.told board.old) ledger.old.end }
-    ensures performs { Performs (prepared_steps ledger.old.end event) result (B.told board.old) (B.told board.new) }
+    ensures performs { Performs (prepared_steps ledger.old.end ledger.old.account.state event) result (B.told board.old) (B.told board.new) }
     ensures account { OnOk result (ledger.new.account.state ≡ state_after event.fresh ledger.old.account.state) }
     ensures end { OnOk result (ledger.new.end ≡ end_after event.fresh ledger.old.end) }
     ensures grows { OnOk result (ledger.new.end ≤ ledger.old.end + longest_entry) }
@@ -150,42 +166,48 @@ pub fn commit<B: Board>(event: Prepared, ledger: &mut Ledger, board: &mut B) -> 
     ensures disk { Causes DiskCause result (B.disk_faults board.old) (B.disk_faults board.new) }
     ensures print { Causes PrintCause result (B.print_faults board.old) (B.print_faults board.new) }
 {
-    if let Err(exit) = count(event.fresh, ledger, board) {
-        return Err(exit);
+    let Prepared {
+        fresh,
+        mut text,
+        done,
+    } = event;
+    if let Some(fresh) = fresh {
+        if let Err(exit) = count(fresh, &mut text, ledger, board) {
+            return Err(exit);
+        }
     }
-    if let Err(exit) = say(board, &event.text) {
-        return Err(exit);
-    }
-    if let Err(Failed) = board.print(&event.done) {
-        return Err(Exit::PrintFault);
-    }
-    Ok(())
+    say_done(&text, &done, board)
 }
 
-// Appends a fresh entry to the file, and counts it.
+// Appends a fresh entry to the file, counts it, and puts the lines of its orders behind a text.
 fn count<B: Board>(
-    fresh: Option<FreshEntry>,
+    fresh: FreshEntry,
+    text: &mut Vec<u8>,
     ledger: &mut Ledger,
     board: &mut B,
 ) -> Result<(), Exit>
-    requires can_take { IfSome fresh (CanTake ledger.old.account) }
+    requires can_take { CanTake ledger.old.account fresh }
+    requires room { HasRoomFor fresh.orders.room text.old }
     requires small { ledger.old.end + longest_entry < 2 ^ 64 }
     requires fits { Fits (B.told board.old) ledger.old.end }
-    ensures performs { Performs (fresh_steps ledger.old.end fresh) result (B.told board.old) (B.told board.new) }
-    ensures account { OnOk result (ledger.new.account.state ≡ state_after fresh ledger.old.account.state) }
-    ensures end { OnOk result (ledger.new.end ≡ end_after fresh ledger.old.end) }
-    ensures grows { OnOk result (ledger.new.end ≤ ledger.old.end + longest_entry) }
+    ensures performs { Performs (writes ledger.old.end fresh.bytes.items ∷ syncs ∷ []) result (B.told board.old) (B.told board.new) }
+    ensures text { OnOk result (text.new.items ≡ text.old.items ++ order_lines (orders_at ledger.old.account.state fresh.entry)) }
+    ensures account { OnOk result (ledger.new.account.state ≡ continued ledger.old.account.state fresh.entry) }
+    ensures end { OnOk result (ledger.new.end ≡ ledger.old.end + length fresh.bytes.items) }
     ensures fits { OnOk result (Fits (B.told board.new) ledger.new.end) }
     ensures disk { Causes DiskCause result (B.disk_faults board.old) (B.disk_faults board.new) }
     ensures print { Causes PrintCause result (B.print_faults board.old) (B.print_faults board.new) }
 {
-    let Some(fresh) = fresh else {
-        return Ok(());
-    };
     if let Err(exit) = append(board, ledger.end, &fresh.bytes) {
         return Err(exit);
     }
-    ledger.end += fresh.bytes.len() as u64;
-    ledger.account.take(fresh.entry);
+    let FreshEntry {
+        entry,
+        bytes,
+        mut orders,
+    } = fresh;
+    ledger.end += bytes.len() as u64;
+    ledger.account.take(entry, &mut orders);
+    push_orders(text, &orders);
     Ok(())
 }

@@ -2,6 +2,7 @@
 ghost use Rattle.std.specs.Prelude.{◌≡◌};
 
 use crate::LineRefused;
+use dimm_topology::TopologyRefused;
 use ras_base::NoMemory;
 
 /// Why a line is refused: by its reader.
@@ -9,6 +10,8 @@ use ras_base::NoMemory;
 pub enum Reason {
     /// The line itself doesn't read.
     Line(LineRefused),
+    /// The rows of the machine don't take the line's row.
+    Topology(TopologyRefused),
 }
 
 /// How a call ends.

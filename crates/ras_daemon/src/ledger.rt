@@ -1,10 +1,9 @@
 // The account, and the file that keeps it.
 ghost use Rattle.std.specs.Prelude.{◌≡◌, ◌≢◌, ◌<◌, ◌^◌, ℕ, List, [], length, Err, IfErr, IfOk};
 ghost use Rattle.entry_format.specs.File.{AreEntriesOf, BreaksOffAt};
-ghost use Rattle.ras_facts.specs.declared.fact.Fact.{Fact};
 ghost use Rattle.ras_account.specs.declared.entry.Entry.{Entry};
-ghost use Rattle.ras_account.specs.Account.{account_of, IsPast};
-ghost use Rattle.ras_account.specs.Fresh.{entries_of};
+ghost use Rattle.ras_account.specs.Account.{account_of};
+ghost use Rattle.ras_account.specs.Continued.{IsPast};
 ghost use Rattle.ras_daemon.specs.Event.{Fits, IsKept, IsRoomRefusal, OpenCause, Reopens};
 
 use board_core::{Board, Failed, FileNo};
@@ -85,20 +84,20 @@ fn buffer(alloc: Global, size: u64) -> Result<Vec<u8>, NoMemory>
 
 // The ledger of a file of these bytes.
 fn ledger_of(alloc: Global, bytes: &[u8]) -> Result<Ledger, OpenRefused>
-    ensures entries { (facts : List Fact) → AreEntriesOf facts bytes.now → IfOk result (λ ledger. ledger.account.state ≡ account_of (entries_of facts)) }
+    ensures entries { (entries : List Entry) → AreEntriesOf entries bytes.now → IfOk result (λ ledger. ledger.account.state ≡ account_of entries) }
     ensures end { IfOk result (λ ledger. ledger.end ≡ length bytes.now) }
     ensures small { length bytes.now < 2 ^ 63 }
     ensures damaged { (file place : ℕ) → result ≡ Err (OpenRefused.Damaged file place) → (file ≡ 0) × BreaksOffAt bytes.now place }
-    ensures full { result ≡ Err OpenRefused.Full → (facts : List Fact) → AreEntriesOf facts bytes.now → IsPast (account_of (entries_of facts)) }
-    ensures undamaged { IfErr result (λ refused. (facts : List Fact) → AreEntriesOf facts bytes.now → IsRoomRefusal refused) }
+    ensures full { result ≡ Err OpenRefused.Full → (entries : List Entry) → AreEntriesOf entries bytes.now → IsPast (account_of entries) }
+    ensures undamaged { IfErr result (λ refused. (entries : List Entry) → AreEntriesOf entries bytes.now → IsRoomRefusal refused) }
     ensures disk { result ≢ Err OpenRefused.Disk }
 {
-    let facts = match read_entries(alloc, bytes) {
-        Ok(facts) => facts,
+    let entries = match read_entries(alloc, bytes) {
+        Ok(entries) => entries,
         Err(EntriesRefused::Bad { place }) => return Err(OpenRefused::Damaged { file: 0, place }),
         Err(EntriesRefused::NoMemory) => return Err(OpenRefused::NoMemory),
     };
-    match Account::of_facts(alloc, facts) {
+    match Account::of_entries(alloc, entries) {
         Ok(account) => Ok(Ledger {
             account,
             end: bytes.len() as u64,

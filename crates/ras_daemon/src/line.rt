@@ -1,21 +1,35 @@
 // The lines of a script.
 ghost use Rattle.std.specs.Prelude.{◌≡◌, ℕ, ◌<◌, ◌≤◌, List, length, map, IfOk, IsErr};
-ghost use Rattle.ras_daemon.specs.Line.{ReadsLine, InRange, text_of, line_of, line_of_words, bank_of, restart_of, decimal_at, hexadecimal_at};
+ghost use Rattle.ras_daemon.specs.Line.{Gives, ReadsLine, InRange, text_of, line_of, line_of_words, bank_of, cpu_of, module_of, range_of, limit_of, restart_of, label_at, positive_at, decimal_at, hexadecimal_at};
 ghost use Rattle.ras_daemon.specs.Splitting.{words_of};
 ghost use Rattle.ras_daemon.specs.declared.line.LineRefused.TheVariants as RefusedFor;
 
 use crate::number::{decimal, hexadecimal};
 use crate::splitting::words;
+use dimm_topology::{Label, LabelRefused};
 use ras_base::NoMemory;
 use std::alloc::Global;
 
 /// A line of a script.
-#[derive(Clone, Copy, Debug, PartialEq, Eq)]
+#[derive(Debug, Drop, PartialEq, Eq)]
 pub enum Line {
     /// A line without words.
     Empty,
     /// A line whose first word begins with `#`.
     Comment,
+    /// Which socket a CPU is in.
+    Cpu { cpu: u16, socket: u8 },
+    /// The socket, the bank and the memory channel by which errors of a memory module are reported.
+    Module {
+        label: Label,
+        socket: u8,
+        bank: u8,
+        channel: u8,
+    },
+    /// The first and the last of the physical addresses of a memory module.
+    Range { label: Label, first: u64, last: u64 },
+    /// How many corrected errors of a page, within how many seconds, are too many.
+    Limit { capacity: u32, period: u32 },
     /// The account is to be made again from the file.
     Restart,
     /// A snapshot of a machine-check bank: the boot's number, seconds, the CPU, the bank, the time-stamp counter, and
@@ -41,27 +55,45 @@ pub enum LineRefused {
     Kind,
     /// 2: the number of words isn't that of the kind.
     Words,
-    /// 3: a decimal or hexadecimal word is no number, or isn't in its range.
+    /// 3: a decimal or hexadecimal word is no number, or isn't in its range, or a range has its first address above its
+    /// last.
     Number,
+    /// 6: a word that has to be a label is none.
+    Label,
     /// Memory ran out.
     NoMemory,
 }
 
-// How many words stand after `bank`.
+// How many words stand after `bank`, `cpu`, `module`, `range` and `limit`.
 const BANK_WORDS: usize = 10;
+
+const CPU_WORDS: usize = 2;
+
+const MODULE_WORDS: usize = 4;
+
+const RANGE_WORDS: usize = 3;
+
+const LIMIT_WORDS: usize = 2;
+
+// The greatest number of a memory channel, and the greatest capacity and period (in seconds) of a limit.
+const LAST_CHANNEL: u64 = 14;
+
+const MOST_CAPACITY: u64 = 1_000_000;
+
+const LONGEST_PERIOD: u64 = 10_000_000;
 
 /// What a line says, whose bytes these are without its line feed.
 ///
 /// # Errors
 ///
 /// The first that applies: `Kind` where its first word is no kind of line, `Words` where the number of words isn't the
-/// kind's, `Number` where a word that has to be a number is none or is out of its range. `NoMemory` comes for want of
-/// memory alone.
+/// kind's; then from left to right `Number` where a word that has to be a number is none or is out of its range, and
+/// `Label` where a word that has to be a label is none. `NoMemory` comes for want of memory alone.
 pub fn read_line(alloc: Global, bytes: &[u8]) -> Result<Line, LineRefused>
     ensures { ReadsLine result bytes.now }
 {
     let words = words(alloc, bytes)?;
-    line_of_words(&words)
+    line_of_words(alloc, &words)
 }
 
 /// The numbers of a line that is read are within their ranges: those of a bank's snapshot below 2^64, its CPU's below
@@ -89,8 +121,8 @@ impl From<NoMemory> for LineRefused {
 }
 
 // What a line says whose words these are.
-fn line_of_words(words: &[&[u8]]) -> Result<Line, LineRefused>
-    ensures { result ≡ line_of_words (map (λ word. word.now) words.now) }
+fn line_of_words(alloc: Global, words: &[&[u8]]) -> Result<Line, LineRefused>
+    ensures { Gives result (line_of_words (map (λ word. word.now) words.now)) }
 {
     let [kind, rest @ ..] = words else {
         return Ok(Line::Empty);
@@ -100,6 +132,10 @@ fn line_of_words(words: &[&[u8]]) -> Result<Line, LineRefused>
     }
     match *kind {
         b"bank" => bank_of(rest),
+        b"cpu" => cpu_of(rest),
+        b"module" => module_of(alloc, rest),
+        b"range" => range_of(alloc, rest),
+        b"limit" => limit_of(rest),
         b"restart" => restart_of(rest),
         _ => Err(LineRefused::Kind),
     }
@@ -113,6 +149,90 @@ fn restart_of(words: &[&[u8]]) -> Result<Line, LineRefused>
         return Err(LineRefused::Words);
     }
     Ok(Line::Restart)
+}
+
+// A CPU and its socket, from the words after `cpu`.
+fn cpu_of(words: &[&[u8]]) -> Result<Line, LineRefused>
+    ensures { result ≡ cpu_of (map (λ word. word.now) words.now) }
+{
+    if words.len() != CPU_WORDS {
+        return Err(LineRefused::Words);
+    }
+    let cpu = decimal_at(words, 0, u64::from(u16::MAX))? as u16;
+    let socket = decimal_at(words, 1, u64::from(u8::MAX))? as u8;
+    Ok(Line::Cpu { cpu, socket })
+}
+
+// A memory module, from the words after `module`.
+fn module_of(alloc: Global, words: &[&[u8]]) -> Result<Line, LineRefused>
+    ensures { Gives result (module_of (map (λ word. word.now) words.now)) }
+{
+    if words.len() != MODULE_WORDS {
+        return Err(LineRefused::Words);
+    }
+    let label = label_at(alloc, words, 0)?;
+    let socket = decimal_at(words, 1, u64::from(u8::MAX))? as u8;
+    let bank = decimal_at(words, 2, u64::from(u8::MAX))? as u8;
+    let channel = decimal_at(words, 3, LAST_CHANNEL)? as u8;
+    Ok(Line::Module {
+        label,
+        socket,
+        bank,
+        channel,
+    })
+}
+
+// A range of addresses, from the words after `range`.
+fn range_of(alloc: Global, words: &[&[u8]]) -> Result<Line, LineRefused>
+    ensures { Gives result (range_of (map (λ word. word.now) words.now)) }
+{
+    if words.len() != RANGE_WORDS {
+        return Err(LineRefused::Words);
+    }
+    let label = label_at(alloc, words, 0)?;
+    let first = hexadecimal_at(words, 1)?;
+    let last = hexadecimal_at(words, 2)?;
+    if first > last {
+        return Err(LineRefused::Number);
+    }
+    Ok(Line::Range { label, first, last })
+}
+
+// A limit, from the words after `limit`.
+fn limit_of(words: &[&[u8]]) -> Result<Line, LineRefused>
+    ensures { result ≡ limit_of (map (λ word. word.now) words.now) }
+{
+    if words.len() != LIMIT_WORDS {
+        return Err(LineRefused::Words);
+    }
+    let capacity = positive_at(words, 0, MOST_CAPACITY)? as u32;
+    let period = positive_at(words, 1, LONGEST_PERIOD)? as u32;
+    Ok(Line::Limit { capacity, period })
+}
+
+// The word at a place as a label.
+fn label_at(alloc: Global, words: &[&[u8]], place: usize) -> Result<Label, LineRefused>
+    requires { place < length words.now }
+    ensures { Gives result (label_at (map (λ word. word.now) words.now) place) }
+{
+    match Label::new(alloc, words[place]) {
+        Ok(label) => Ok(label),
+        Err(LabelRefused::Bad) => Err(LineRefused::Label),
+        Err(LabelRefused::NoMemory) => Err(LineRefused::NoMemory),
+    }
+}
+
+// The word at a place as a decimal number from 1 to `most`.
+fn positive_at(words: &[&[u8]], place: usize, most: u64) -> Result<u64, LineRefused>
+    requires { place < length words.now }
+    ensures value { result ≡ positive_at (map (λ word. word.now) words.now) place most }
+    ensures within { IfOk result (λ n. (1 ≤ n) × (n ≤ most)) }
+{
+    let number = decimal_at(words, place, most)?;
+    if number == 0 {
+        return Err(LineRefused::Number);
+    }
+    Ok(number)
 }
 
 // The snapshot of a bank, from the words after `bank`.

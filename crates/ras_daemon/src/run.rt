@@ -1,22 +1,38 @@
 // The run over a script.
-ghost use Rattle.std.specs.Prelude.{◌≡◌, ◌≤◌, ◌+◌, ◌<◌, ◌^◌, ◌⊎◌, ℕ, [], List, length, max, Ok, IfErr, IfSome, OnOk};
+ghost use Rattle.std.specs.Prelude.{◌≡◌, ◌≤◌, ◌+◌, ◌<◌, ◌^◌, ◌⊎◌, ◌++◌, ◌×◌, ℕ, [], ◌∷◌, List, length, max, Ok, IfErr, IfOk, IfSome, OnOk, Option};
+ghost use Rattle.std.specs.Option.{option_to_list};
+ghost use Rattle.dimm_topology.specs.Refusals.{Answers};
+ghost use Rattle.dimm_topology.specs.declared.topology.TopologyRefused.{TopologyRefused};
 ghost use Rattle.ras_account.specs.declared.entry.Entry.{Entry};
 ghost use Rattle.ras_daemon.specs.Causes.{Causes, DiskCause, PrintCause};
-ghost use Rattle.ras_daemon.specs.Event.{Fits, Keeps, TakesEvent, TakesLine, longest_entry};
+ghost use Rattle.ras_daemon.specs.Detail.{bank_detail};
+ghost use Rattle.ras_daemon.specs.Event.{AreFit, Fits, Keeps, Reopened, Stands, TakesEntries, TakesLine, TakesRow, longest_entry};
 ghost use Rattle.ras_daemon.specs.Line.{line_of};
 ghost use Rattle.ras_daemon.specs.Progress.{Takes, ends, lines_course};
 ghost use Rattle.ras_daemon.specs.Reports.{Read, bank_entries, reads_of, reports};
+ghost use Rattle.ras_daemon.specs.Text.{done_line, held_text};
 ghost use Rattle.ras_daemon.specs.Run.{TakesLines, IsAnswer, IsRefusal, IsStop, Refuses, RefusesLine};
-ghost use Rattle.ras_daemon.specs.Text.{bank_detail};
-ghost use Rattle.ras_daemon.specs.declared.line.Line.TheVariants.{Restart};
 
+use crate::detail::bank_detail;
 use crate::event::{commit, prepare};
 use crate::ledger::{Ledger, OpenRefused, reopen};
 use crate::splitting::first_line;
+use crate::step::say_done;
 use crate::{Exit, Line, LineRefused, Reason, read_line, text};
 use board_core::{Board, Failed};
-use ras_facts::BankReport;
+use dimm_topology::{Topology, TopologyRefused};
+use page_policy::Limit;
+use ras_account::Entry;
+use ras_base::NoMemory;
+use ras_facts::{BankReport, fact_of_bank};
 use std::alloc::Global;
+
+/// What a run has at hand: the rows of the machine that the lines so far told, and the account with its file.
+#[derive(Drop)]
+pub struct Run {
+    pub topology: Topology,
+    pub ledger: Ledger,
+}
 
 /// Takes a script's lines over an empty file, to the first refused one or to its end, and prints the last line.
 pub fn run_script<B: Board>(alloc: Global, script: &[u8], board: &mut B) -> Exit
@@ -28,11 +44,14 @@ pub fn run_script<B: Board>(alloc: Global, script: &[u8], board: &mut B) -> Exit
     ensures disk { DiskCause result (B.disk_faults board.old) (B.disk_faults board.new) }
     ensures print { PrintCause result (B.print_faults board.old) (B.print_faults board.new) }
 {
-    let mut ledger = Ledger::new(alloc);
-    if let Err(exit) = take_lines(alloc, script, &mut ledger, board) {
+    let mut run = Run {
+        topology: Topology::new(alloc),
+        ledger: Ledger::new(alloc),
+    };
+    if let Err(exit) = take_lines(alloc, script, &mut run, board) {
         return exit;
     }
-    let account = &ledger.account;
+    let account = &run.ledger.account;
     match text::end_line(alloc, account.entries(), account.names_len()) {
         Ok(line) => last_line(&line, Exit::Done, board),
         Err(_) => Exit::NoMemory,
@@ -43,13 +62,13 @@ pub fn run_script<B: Board>(alloc: Global, script: &[u8], board: &mut B) -> Exit
 fn take_lines<B: Board>(
     alloc: Global,
     script: &[u8],
-    ledger: &mut Ledger,
+    run: &mut Run,
     board: &mut B,
 ) -> Result<(), Exit>
     requires short { length script.now ≤ 40000 }
     requires empty { Fits (B.told board.old) 0 }
-    requires end { ledger.old.end ≡ 0 }
-    ensures takes { Keeps [] ledger.old (B.told board.old) → TakesLines (reads_of script.now) result (B.told board.old) (B.told board.new) ledger.new.account.state }
+    requires end { run.old.ledger.end ≡ 0 }
+    ensures takes { Stands [] run.old (B.told board.old) → TakesLines (reads_of script.now) result (B.told board.old) (B.told board.new) run.new.ledger.account.state }
     ensures stops { IfErr result IsStop }
     ensures disk { Causes DiskCause result (B.disk_faults board.old) (B.disk_faults board.new) }
     ensures print { Causes PrintCause result (B.print_faults board.old) (B.print_faults board.new) }
@@ -59,7 +78,7 @@ fn take_lines<B: Board>(
     while !rest.is_empty() {
         let (line, after) = first_line(rest);
         number += 1;
-        if let Err(exit) = take_line(alloc, number, line, ledger, board) {
+        if let Err(exit) = take_line(alloc, number, line, run, board) {
             return Err(exit);
         }
         rest = after;
@@ -72,14 +91,14 @@ fn take_line<B: Board>(
     alloc: Global,
     number: u64,
     bytes: &[u8],
-    ledger: &mut Ledger,
+    run: &mut Run,
     board: &mut B,
 ) -> Result<(), Exit>
-    requires small { ledger.old.end + longest_entry < 2 ^ 64 }
-    requires fits { Fits (B.told board.old) ledger.old.end }
-    ensures takes { (before : List Read) → Keeps (reports before) ledger.old (B.told board.old) → TakesLine before (number, line_of bytes.now) result (B.told board.old) (B.told board.new) ledger.new }
-    ensures grows { OnOk result (ledger.new.end ≤ max ledger.old.end (2 ^ 63) + longest_entry) }
-    ensures fits { OnOk result (Fits (B.told board.new) ledger.new.end) }
+    requires small { run.old.ledger.end + longest_entry < 2 ^ 64 }
+    requires fits { Fits (B.told board.old) run.old.ledger.end }
+    ensures takes { (before : List Read) → Stands before run.old (B.told board.old) → TakesLine before (number, line_of bytes.now) result (B.told board.old) (B.told board.new) run.new }
+    ensures grows { OnOk result (run.new.ledger.end ≤ max run.old.ledger.end (2 ^ 63) + longest_entry) }
+    ensures fits { OnOk result (Fits (B.told board.new) run.new.ledger.end) }
     ensures stops { IfErr result IsStop }
     ensures disk { Causes DiskCause result (B.disk_faults board.old) (B.disk_faults board.new) }
     ensures print { Causes PrintCause result (B.print_faults board.old) (B.print_faults board.new) }
@@ -90,7 +109,28 @@ fn take_line<B: Board>(
     };
     match line {
         Line::Empty | Line::Comment => Ok(()),
-        Line::Restart => take_restart(alloc, number, ledger, board),
+        Line::Cpu { cpu, socket } => {
+            let added = run.topology.add_cpu(cpu, socket);
+            take_row(alloc, number, added, board)
+        }
+        Line::Module {
+            label,
+            socket,
+            bank,
+            channel,
+        } => {
+            let added = run.topology.add_module(label, socket, bank, channel);
+            take_row(alloc, number, added, board)
+        }
+        Line::Range { label, first, last } => {
+            let added = run.topology.add_range(label, first, last);
+            take_row(alloc, number, added, board)
+        }
+        Line::Limit { capacity, period } => {
+            let entry = Entry::Limit(Limit { capacity, period });
+            take_entry(alloc, number, b"", Some(entry), &mut run.ledger, board)
+        }
+        Line::Restart => take_restart(alloc, number, &mut run.ledger, board),
         Line::Bank {
             boot,
             seconds,
@@ -115,8 +155,38 @@ fn take_line<B: Board>(
                 addr,
                 misc,
             };
-            take_bank(alloc, number, &report, ledger, board)
+            take_bank(alloc, number, &report, run, board)
         }
+    }
+}
+
+// Ends the event of a row of the machine, which was taken or refused.
+fn take_row<B: Board>(
+    alloc: Global,
+    number: u64,
+    added: Result<(), TopologyRefused>,
+    board: &mut B,
+) -> Result<(), Exit>
+    ensures takes { (refusal : Option TopologyRefused) → Answers added refusal → TakesRow number refusal result (B.told board.old) (B.told board.new) }
+    ensures fits { (end : ℕ) → Fits (B.told board.old) end → OnOk result (Fits (B.told board.new) end) }
+    ensures stops { IfErr result IsStop }
+    ensures disk { Causes DiskCause result (B.disk_faults board.old) (B.disk_faults board.new) }
+    ensures print { Causes PrintCause result (B.print_faults board.old) (B.print_faults board.new) }
+{
+    match added {
+        Ok(()) => {}
+        Err(TopologyRefused::NoMemory) => return Err(Exit::NoMemory),
+        Err(refused) => {
+            let exit = Exit::BadLine {
+                line: number,
+                reason: Reason::Topology(refused),
+            };
+            return Err(refuse(alloc, exit, board));
+        }
+    }
+    match text::done_line(alloc, number) {
+        Ok(done) => say_done(b"", &done, board),
+        Err(_) => Err(Exit::NoMemory),
     }
 }
 
@@ -125,42 +195,81 @@ fn take_bank<B: Board>(
     alloc: Global,
     number: u64,
     bank: &BankReport,
+    run: &mut Run,
+    board: &mut B,
+) -> Result<(), Exit>
+    requires small { run.old.ledger.end + longest_entry < 2 ^ 64 }
+    requires fits { Fits (B.told board.old) run.old.ledger.end }
+    ensures takes { (before : List Entry) → Keeps before run.old.ledger (B.told board.old) → TakesEntries before number (bank_detail bank.now) (bank_entries bank.now run.old.topology) result (B.told board.old) (B.told board.new) run.new.ledger }
+    ensures rows { run.new.topology ≡ run.old.topology }
+    ensures grows { OnOk result (run.new.ledger.end ≤ run.old.ledger.end + longest_entry) }
+    ensures fits { OnOk result (Fits (B.told board.new) run.new.ledger.end) }
+    ensures stops { IfErr result IsStop }
+    ensures disk { Causes DiskCause result (B.disk_faults board.old) (B.disk_faults board.new) }
+    ensures print { Causes PrintCause result (B.print_faults board.old) (B.print_faults board.new) }
+{
+    match told_by(alloc, bank, &run.topology) {
+        Ok((detail, made)) => take_entry(alloc, number, &detail, made, &mut run.ledger, board),
+        Err(_) => Err(Exit::NoMemory),
+    }
+}
+
+// What a bank makes under the rows of the machine, and what is told beside it.
+fn told_by(
+    alloc: Global,
+    bank: &BankReport,
+    topology: &Topology,
+) -> Result<(Vec<u8>, Option<Entry>), NoMemory>
+    ensures detail { IfOk result (λ told. told.0.items ≡ bank_detail bank.now) }
+    ensures made { IfOk result (λ told. option_to_list told.1 ≡ bank_entries bank.now topology.now) }
+    ensures fit { IfOk result (λ told. AreFit (option_to_list told.1)) }
+{
+    let detail = bank_detail(alloc, bank)?;
+    match fact_of_bank(alloc, bank, topology)? {
+        Some(fact) => Ok((detail, Some(Entry::Fact(fact)))),
+        None => Ok((detail, None)),
+    }
+}
+
+// Takes an event that makes an entry or none, from the line of this number.
+fn take_entry<B: Board>(
+    alloc: Global,
+    number: u64,
+    detail: &[u8],
+    made: Option<Entry>,
     ledger: &mut Ledger,
     board: &mut B,
 ) -> Result<(), Exit>
+    requires fit { AreFit (option_to_list made) }
     requires small { ledger.old.end + longest_entry < 2 ^ 64 }
     requires fits { Fits (B.told board.old) ledger.old.end }
-    ensures takes { (before : List Entry) → Keeps before ledger.old (B.told board.old) → TakesEvent before number (bank_detail bank.now) (bank_entries bank.now) result (B.told board.old) (B.told board.new) ledger.new }
+    ensures takes { (before : List Entry) → Keeps before ledger.old (B.told board.old) → TakesEntries before number detail.now (option_to_list made) result (B.told board.old) (B.told board.new) ledger.new }
     ensures grows { OnOk result (ledger.new.end ≤ ledger.old.end + longest_entry) }
     ensures fits { OnOk result (Fits (B.told board.new) ledger.new.end) }
     ensures stops { IfErr result IsStop }
     ensures disk { Causes DiskCause result (B.disk_faults board.old) (B.disk_faults board.new) }
     ensures print { Causes PrintCause result (B.print_faults board.old) (B.print_faults board.new) }
 {
-    match prepare(alloc, number, bank, &mut ledger.account) {
+    match prepare(alloc, number, detail, made, &mut ledger.account) {
         Ok(event) => commit(event, ledger, board),
         Err(exit) => Err(refuse(alloc, exit, board)),
     }
 }
 
-// Makes the account again from the file, by the line of this number.
+// Makes the account again from the file, by the line of this number, and tells which pages are ordered out of use.
 fn take_restart<B: Board>(
     alloc: Global,
     number: u64,
     ledger: &mut Ledger,
     board: &mut B,
 ) -> Result<(), Exit>
-    ensures takes { (before : List Read) → Keeps (reports before) ledger.old (B.told board.old) → TakesLine before (number, Ok Restart) result (B.told board.old) (B.told board.new) ledger.new }
+    ensures takes { (before : List Entry) → Keeps before ledger.old (B.told board.old) → Reopened before number result (B.told board.old) (B.told board.new) ledger.new }
     ensures small { OnOk result (ledger.new.end < 2 ^ 63) }
     ensures fits { OnOk result (Fits (B.told board.new) ledger.new.end) }
     ensures stops { IfErr result IsStop }
     ensures disk { Causes DiskCause result (B.disk_faults board.old) (B.disk_faults board.new) }
     ensures print { Causes PrintCause result (B.print_faults board.old) (B.print_faults board.new) }
 {
-    let done = match text::done_line(alloc, number) {
-        Ok(done) => done,
-        Err(_) => return Err(Exit::NoMemory),
-    };
     match reopen(alloc, board) {
         Ok(opened) => *ledger = opened,
         Err(OpenRefused::Disk) => return Err(Exit::DiskFault),
@@ -170,10 +279,24 @@ fn take_restart<B: Board>(
         Err(OpenRefused::Full) => return Err(refuse(alloc, Exit::Full, board)),
         Err(OpenRefused::NoMemory) => return Err(Exit::NoMemory),
     }
-    if let Err(Failed) = board.print(&done) {
-        return Err(Exit::PrintFault);
+    match restart_texts(alloc, number, ledger) {
+        Ok((text, done)) => say_done(&text, &done, board),
+        Err(_) => Err(Exit::NoMemory),
     }
-    Ok(())
+}
+
+// What a restart prints: the lines of the pages that are ordered out of use, and the done line.
+fn restart_texts(
+    alloc: Global,
+    number: u64,
+    ledger: &Ledger,
+) -> Result<(Vec<u8>, Vec<u8>), NoMemory>
+    ensures text { IfOk result (λ texts. texts.0.items ≡ held_text ledger.now.account.state) }
+    ensures done { IfOk result (λ texts. texts.1.items ≡ done_line number) }
+{
+    let text = text::held_text(alloc, &ledger.account)?;
+    let done = text::done_line(alloc, number)?;
+    Ok((text, done))
 }
 
 // Ends the run at a line that can't be read.
@@ -185,10 +308,12 @@ fn refuse_line<B: Board>(alloc: Global, number: u64, refused: LineRefused, board
 {
     let exit = match refused {
         LineRefused::NoMemory => Exit::NoMemory,
-        LineRefused::Kind | LineRefused::Words | LineRefused::Number => Exit::BadLine {
-            line: number,
-            reason: Reason::Line(refused),
-        },
+        LineRefused::Kind | LineRefused::Words | LineRefused::Number | LineRefused::Label => {
+            Exit::BadLine {
+                line: number,
+                reason: Reason::Line(refused),
+            }
+        }
     };
     refuse(alloc, exit, board)
 }

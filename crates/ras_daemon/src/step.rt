@@ -1,8 +1,9 @@
 // The calls on a board that the daemon makes.
-ghost use Rattle.std.specs.Prelude.{◌≡◌, ◌≤◌, [], ◌∷◌, length, IfSome, IfErr};
+ghost use Rattle.std.specs.Prelude.{◌≡◌, ◌≤◌, ℕ, [], ◌∷◌, ◌++◌, length, IfSome, OnOk};
 ghost use Rattle.board_core.specs.declared.board.FileNo.TheVariants.{Zero};
 ghost use Rattle.ras_daemon.specs.Causes.{Causes, DiskCause, PrintCause};
-ghost use Rattle.ras_daemon.specs.Progress.{Performs, writes, syncs, text_steps};
+ghost use Rattle.ras_daemon.specs.Event.{Fits};
+ghost use Rattle.ras_daemon.specs.Progress.{Performs, prints, writes, syncs, text_steps};
 
 use crate::Exit;
 use board_core::{Board, Failed, FileNo};
@@ -29,6 +30,7 @@ pub fn append<B: Board>(board: &mut B, place: u64, bytes: &[u8]) -> Result<(), E
 ///
 /// `PrintFault` comes only where printing failed.
 pub fn say<B: Board>(board: &mut B, text: &[u8]) -> Result<(), Exit>
+    ensures fits { (end : ℕ) → Fits (B.told board.old) end → OnOk result (Fits (B.told board.new) end) }
     ensures performs { Performs (text_steps text.now) result (B.told board.old) (B.told board.new) }
     ensures disk { Causes DiskCause result (B.disk_faults board.old) (B.disk_faults board.new) }
     ensures print { Causes PrintCause result (B.print_faults board.old) (B.print_faults board.new) }
@@ -37,6 +39,24 @@ pub fn say<B: Board>(board: &mut B, text: &[u8]) -> Result<(), Exit>
         return Ok(());
     }
     if let Err(Failed) = board.print(text) {
+        return Err(Exit::PrintFault);
+    }
+    Ok(())
+}
+
+/// Prints a text by one call, where there is one, and then a done line.
+///
+/// `PrintFault` comes only where printing failed.
+pub fn say_done<B: Board>(text: &[u8], done: &[u8], board: &mut B) -> Result<(), Exit>
+    ensures performs { Performs (text_steps text.now ++ prints done.now ∷ []) result (B.told board.old) (B.told board.new) }
+    ensures fits { (end : ℕ) → Fits (B.told board.old) end → OnOk result (Fits (B.told board.new) end) }
+    ensures disk { Causes DiskCause result (B.disk_faults board.old) (B.disk_faults board.new) }
+    ensures print { Causes PrintCause result (B.print_faults board.old) (B.print_faults board.new) }
+{
+    if let Err(exit) = say(board, text) {
+        return Err(exit);
+    }
+    if let Err(Failed) = board.print(done) {
         return Err(Exit::PrintFault);
     }
     Ok(())

@@ -1,5 +1,5 @@
 use Rattle.std.proofs.Common.{append_assoc, refl}
-use Rattle.ras_daemon.specs.Text.{error_detail}
+use Rattle.ras_daemon.specs.Detail.{error_detail}
 use Rattle.ras_daemon.proofs.detail.push_error.Goals as goal
 
 pub returns : goal.returns
