@@ -1,6 +1,5 @@
 -- A readable script over an empty file is taken to its end.
 use Rattle.std.proofs.Common.{◌≡◌, ◌≢◌, ℕ, ◌⊎◌, Bool, true, false, List, [], ◌∷◌, ◌++◌, length, nat_lt, Option, None, Some, Ok, Err, refl, ap, sym, ◌∙◌, inl, inr, arith, unwrap_or, if◌then◌else◌}
-use Rattle.std.specs.Prelude.{IsOk}
 use Rattle.std.specs.List.{AllByRecursion}
 use Rattle.std.proofs.lemmas.Bool.Decides.{nat_tests}
 use Rattle.board_core.specs.Told.{Told}
@@ -8,32 +7,33 @@ use Rattle.ras_base.specs.Places.{places_behind}
 use Rattle.ras_account.specs.Account.{account_of}
 use Rattle.ras_daemon.specs.declared.exit.Exit.{Exit}
 use Rattle.ras_daemon.specs.declared.exit.Exit.TheVariants.{Done, Usage, BadLine, SourceFault, DiskFault, PrintFault, Damaged, Full, NoMemory, TooLong}
-use Rattle.ras_daemon.specs.declared.line.Line.TheVariants.{Empty, Comment, Bank, Restart}
 use Rattle.ras_daemon.specs.declared.word.Command.TheVariants.{Run}
 use Rattle.ras_daemon.specs.Causes.{SourceCause, DiskCause, PrintCause}
 use Rattle.ras_daemon.specs.Command.{command_of}
-use Rattle.ras_daemon.specs.Ended.{IsQuiet, IsReadable, OnAnswer, OverTold}
-use Rattle.ras_daemon.specs.Reports.{Read, made, reads_of, reports}
-use Rattle.ras_daemon.specs.Status.{is_past, lines_status, longest_script, refusal_at, refusal_among, status_of}
+use Rattle.ras_daemon.specs.Ended.{IsAccepted, IsQuiet, IsReadable, OnAnswer, OverTold, Passes}
+use Rattle.ras_daemon.specs.Reports.{Event, Read, nothing, reopens, adds, counts, event_in, reads_of, reports, rows_of}
+use Rattle.ras_daemon.specs.Status.{event_refusal, is_past, lines_status, longest_script, refusal_at, refusal_among, status_of}
 
 -- done, or without room
 abbrev pub IsEnd : Exit → Type 0
 IsEnd exit = (exit ≡ Done) ⊎ (exit ≡ Full)
 
--- a line that can be read is refused for want of room alone
-read-refusal : (before : List Read) (read : Read) → IsOk read.1 → (refusal_at (before, read) ≡ None) ⊎ (refusal_at (before, read) ≡ Some Full)
-read-refusal before (number, Err refused) never = absurd (let no : false ≡ true = never in cc)
-read-refusal before (number, Ok Empty) ok = inl refl
-read-refusal before (number, Ok Comment) ok = inl refl
-read-refusal before (number, Ok Restart) ok = inl refl
-read-refusal before (number, Ok (Bank boot seconds cpu bank tsc cap mcg status addr misc)) ok =
-    by (is_past (account_of (reports before ++ made (Bank boot seconds cpu bank tsc cap mcg status addr misc))))
+-- what is accepted is refused for want of room alone
+event-refusal : (before : List Read) (number : ℕ) (event : Event) → Passes before event → (event_refusal before number event ≡ None) ⊎ (event_refusal before number event ≡ Some Full)
+event-refusal before number nothing ok = inl refl
+event-refusal before number reopens ok = inl refl
+event-refusal before number (adds row) ok = inl (rw ok refl)
+event-refusal before number (counts detail entries) ok = by (is_past (account_of (reports before ++ entries)))
   where
     by : (b : Bool) → ((if b then Some Full else None) ≡ None) ⊎ ((if b then Some Full else None) ≡ Some Full)
     by true = inr refl
     by false = inl refl
 
-lines-end : (before lines : List Read) → AllByRecursion (λ (read : Read). IsOk read.1) lines → IsEnd (unwrap_or (refusal_among (places_behind before lines)) Done)
+read-refusal : (before : List Read) (read : Read) → IsAccepted (before, read) → (refusal_at (before, read) ≡ None) ⊎ (refusal_at (before, read) ≡ Some Full)
+read-refusal before (number, Err refused) never = absurd never
+read-refusal before (number, Ok line) ok = event-refusal before number (event_in (rows_of before) line) ok
+
+lines-end : (before lines : List Read) → AllByRecursion IsAccepted (places_behind before lines) → IsEnd (unwrap_or (refusal_among (places_behind before lines)) Done)
 lines-end before [] all = inl refl
 lines-end before (read ∷ lines) all = by (read-refusal before read all.0) (lines-end (before ++ read ∷ []) lines all.1)
   where

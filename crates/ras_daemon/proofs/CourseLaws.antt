@@ -10,15 +10,14 @@ use Rattle.ras_account.specs.Account.{account_of}
 use Rattle.ras_account.specs.Fresh.{is_fresh_behind}
 use Rattle.ras_daemon.specs.declared.exit.Exit.{Exit}
 use Rattle.ras_daemon.specs.declared.exit.Exit.TheVariants.{Done, Usage}
-use Rattle.ras_daemon.specs.declared.line.Line.TheVariants.{Empty, Comment, Bank, Restart}
 use Rattle.ras_daemon.specs.declared.word.Command.{Command}
 use Rattle.ras_daemon.specs.declared.word.Command.TheVariants.{Run}
 use Rattle.ras_daemon.specs.Command.{command_of}
-use Rattle.ras_daemon.specs.Output.{output_at, output_after, output_of, last_line}
-use Rattle.ras_daemon.specs.Progress.{Step, after, after_all, asks_size, reads_file, writes, syncs, prints, entry_steps, entries_steps, text_steps, event_steps, read_steps, lines_course, start_course, call_course}
-use Rattle.ras_daemon.specs.Reports.{Read, made, reads_of, reports}
+use Rattle.ras_daemon.specs.Output.{event_output, output_at, output_after, output_of, last_line}
+use Rattle.ras_daemon.specs.Progress.{Step, after, after_all, asks_size, reads_file, writes, syncs, prints, entry_steps, entries_steps, text_steps, say_steps, count_steps, event_steps, read_steps, lines_course, start_course, call_course}
+use Rattle.ras_daemon.specs.Reports.{Event, Read, nothing, reopens, adds, counts, event_in, reads_of, reports, rows_of}
 use Rattle.ras_daemon.specs.Status.{lines_status, refusal_at, refusal_among, start_refusal, status_of, unrefused}
-use Rattle.ras_daemon.specs.Text.{detail_of, event_text, done_line, end_line, stop_line}
+use Rattle.ras_daemon.specs.Text.{event_text, held_text, done_line, end_line, stop_line}
 
 -- what a call prints
 abbrev pub text_of : Step → List ℕ
@@ -65,23 +64,28 @@ printed-text (b ∷ bs) = by (length (b ∷ bs) == 0) refl
     by true is = absurd (grind (arith, nat_tests, is))
     by false is = rw is (append-nil (b ∷ bs))
 
-pub printed-event : (before : List Entry) (number : ℕ) (detail : List ℕ) (entries : List Entry) → printed_by (event_steps before number detail entries) ≡ event_text before detail entries ++ done_line number
-printed-event before number detail entries =
-    printed-append (entries_steps before entries) (text_steps (event_text before detail entries) ++ prints (done_line number) ∷ [])
-    ∙ ap (λ text. text ++ printed_by (text_steps (event_text before detail entries) ++ prints (done_line number) ∷ [])) (printed-entries before entries)
-    ∙ printed-append (text_steps (event_text before detail entries)) (prints (done_line number) ∷ [])
-    ∙ ap (λ text. text ++ (done_line number ++ [])) (printed-text (event_text before detail entries))
-    ∙ ap (λ text. event_text before detail entries ++ text) (append-nil (done_line number))
+pub printed-say : (text : List ℕ) (number : ℕ) → printed_by (say_steps text number) ≡ text ++ done_line number
+printed-say text number =
+    printed-append (text_steps text) (prints (done_line number) ∷ [])
+    ∙ ap (λ said. said ++ (done_line number ++ [])) (printed-text text)
+    ∙ ap (λ said. text ++ said) (append-nil (done_line number))
+
+pub printed-count : (before : List Entry) (number : ℕ) (detail : List ℕ) (entries : List Entry) → printed_by (count_steps before number detail entries) ≡ event_text before detail entries ++ done_line number
+printed-count before number detail entries =
+    printed-append (entries_steps before entries) (say_steps (event_text before detail entries) number)
+    ∙ ap (λ text. text ++ printed_by (say_steps (event_text before detail entries) number)) (printed-entries before entries)
+    ∙ printed-say (event_text before detail entries) number
+
+printed-event : (before : List Read) (number : ℕ) (event : Event) → printed_by (event_steps before number event) ≡ event_output before number event
+printed-event before number nothing = refl
+printed-event before number reopens = printed-say (held_text (account_of (reports before))) number
+printed-event before number (adds row) = append-nil (done_line number)
+printed-event before number (counts detail entries) = printed-count (reports before) number detail entries
 
 -- a line prints what is said of its place
 pub printed-read : (before : List Read) (read : Read) → printed_by (read_steps before read) ≡ output_at (before, read)
 printed-read before (number, Err refused) = refl
-printed-read before (number, Ok Empty) = refl
-printed-read before (number, Ok Comment) = refl
-printed-read before (number, Ok (Bank boot seconds cpu bank tsc cap mcg status addr misc)) =
-    let line = Bank boot seconds cpu bank tsc cap mcg status addr misc in
-    printed-event (reports before) number (detail_of line) (made line)
-printed-read before (number, Ok Restart) = append-nil (done_line number)
+printed-read before (number, Ok line) = printed-event before number (event_in (rows_of before) line)
 
 -- the output of lines that follow others
 abbrev pub output_behind : List Read → List Read → List ℕ

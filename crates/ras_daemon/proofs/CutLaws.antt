@@ -4,9 +4,8 @@ use Rattle.std.specs.List.{flat_map}
 use Rattle.board_core.specs.Told.{Told}
 use Rattle.ras_base.specs.Places.{places_behind}
 use Rattle.ras_base.specs.Prefix.{IsPrefixOf}
-use Rattle.ras_account.specs.declared.entry.Entry.{Entry}
+use Rattle.ras_account.specs.Account.{account_of}
 use Rattle.ras_daemon.specs.declared.exit.Exit.{Exit}
-use Rattle.ras_daemon.specs.declared.line.Line.TheVariants.{Empty, Comment, Bank, Restart}
 use Rattle.ras_daemon.specs.declared.exit.Exit.TheVariants.{Usage}
 use Rattle.ras_daemon.specs.declared.word.Command.{Command}
 use Rattle.ras_daemon.specs.declared.word.Command.TheVariants.{Run}
@@ -14,10 +13,10 @@ use Rattle.ras_daemon.specs.Command.{command_of}
 use Rattle.ras_daemon.specs.Ended.{PrintsPart}
 use Rattle.ras_daemon.specs.Output.{output_at, output_upto}
 use Rattle.ras_daemon.specs.PlainFile.{stored_end}
-use Rattle.ras_daemon.specs.Progress.{Step, after_all, asks_size, reads_file, writes, syncs, prints, Fails, IsDisk, IsPrint, Cut, Paused, entries_steps, text_steps, event_steps, reopen_steps, read_steps, lines_course, start_course, call_course}
-use Rattle.ras_daemon.specs.Reports.{Read, made, reads_of, reports}
+use Rattle.ras_daemon.specs.Progress.{Step, after_all, asks_size, reads_file, writes, syncs, prints, Fails, IsDisk, IsPrint, Cut, Paused, entries_steps, text_steps, say_steps, event_steps, reopen_steps, read_steps, lines_course, start_course, call_course}
+use Rattle.ras_daemon.specs.Reports.{Event, Read, nothing, reopens, adds, counts, event_in, reads_of, reports, rows_of}
 use Rattle.ras_daemon.specs.Status.{refusal_at, start_refusal, unrefused}
-use Rattle.ras_daemon.specs.Text.{detail_of, event_text, done_line, stop_line}
+use Rattle.ras_daemon.specs.Text.{event_text, held_text, done_line, stop_line}
 use Rattle.ras_daemon.proofs.CourseLaws.{text_of, printed_by, printed-append, printed-entries, printed-read, out-after}
 
 -- Where a call of a list stands: in its front, or in its back.
@@ -67,31 +66,28 @@ nil-front : (xs ys : List ℕ) → xs ++ ys ≡ [] → xs ≡ []
 nil-front [] ys is = refl
 nil-front (x ∷ xs) ys is = cc
 
--- before a disk call of an event nothing of it is printed
-event_printed : (before : List Entry) (number : ℕ) (detail : List ℕ) (entries : List Entry) (done : List Step) (step : Step) (more : List Step) → IsDisk step
-    → done ++ step ∷ more ≡ event_steps before number detail entries → printed_by done ≡ []
-event_printed before number detail entries done step more disk is =
-    by (place_of done step more (entries_steps before entries) (text_steps (event_text before detail entries) ++ prints (done_line number) ∷ []) is)
+-- before a disk call of calls that print nothing first, and then only print, nothing is printed
+front_printed : (front : List Step) (text : List ℕ) (number : ℕ) (done : List Step) (step : Step) (more : List Step) → printed_by front ≡ [] → IsDisk step
+    → done ++ step ∷ more ≡ front ++ say_steps text number → printed_by done ≡ []
+front_printed front text number done step more silent disk is = by (place_of done step more front (say_steps text number) is)
   where
-    by : InFront done step (entries_steps before entries) ⊎ InBack done step more (entries_steps before entries) (text_steps (event_text before detail entries) ++ prints (done_line number) ∷ []) → printed_by done ≡ []
-    by (inl there) =
-        nil-front (printed_by done) (printed_by (step ∷ there.0)) (sym (printed-append done (step ∷ there.0)) ∙ ap printed_by there.1 ∙ printed-entries before entries)
-    by (inr there) =
-        absurd (no_disk there.0 step more (text_steps (event_text before detail entries) ++ prints (done_line number) ∷ []) there.2 (all_print-text (event_text before detail entries) (done_line number)) disk)
+    by : InFront done step front ⊎ InBack done step more front (say_steps text number) → printed_by done ≡ []
+    by (inl there) = nil-front (printed_by done) (printed_by (step ∷ there.0)) (sym (printed-append done (step ∷ there.0)) ∙ ap printed_by there.1 ∙ silent)
+    by (inr there) = absurd (no_disk there.0 step more (say_steps text number) there.2 (all_print-text text (done_line number)) disk)
 
--- before a disk call of a line nothing of that line is printed
+-- before a disk call of an event nothing of it is printed
+event_printed : (before : List Read) (number : ℕ) (event : Event) (done : List Step) (step : Step) (more : List Step) → IsDisk step
+    → done ++ step ∷ more ≡ event_steps before number event → printed_by done ≡ []
+event_printed before number nothing done step more disk is = absurd (no_disk done step more [] is tt disk)
+event_printed before number reopens done step more disk is =
+    front_printed (reopen_steps (stored_end (reports before))) (held_text (account_of (reports before))) number done step more refl disk is
+event_printed before number (adds row) done step more disk is = absurd (no_disk done step more (prints (done_line number) ∷ []) is (tt, tt) disk)
+event_printed before number (counts detail entries) done step more disk is =
+    front_printed (entries_steps (reports before) entries) (event_text (reports before) detail entries) number done step more (printed-entries (reports before) entries) disk is
+
 none_printed : (before : List Read) (read : Read) (done : List Step) (step : Step) (more : List Step) → IsDisk step → done ++ step ∷ more ≡ read_steps before read → printed_by done ≡ []
 none_printed before (number, Err refused) done step more disk is = absurd (no_disk done step more [] is tt disk)
-none_printed before (number, Ok Empty) done step more disk is = absurd (no_disk done step more [] is tt disk)
-none_printed before (number, Ok Comment) done step more disk is = absurd (no_disk done step more [] is tt disk)
-none_printed before (number, Ok Restart) done step more disk is =
-    by (place_of done step more (reopen_steps (stored_end (reports before))) (prints (done_line number) ∷ []) is)
-  where
-    by : InFront done step (reopen_steps (stored_end (reports before))) ⊎ InBack done step more (reopen_steps (stored_end (reports before))) (prints (done_line number) ∷ []) → printed_by done ≡ []
-    by (inl there) = nil-front (printed_by done) (printed_by (step ∷ there.0)) (sym (printed-append done (step ∷ there.0)) ∙ ap printed_by there.1)
-    by (inr there) = absurd (no_disk there.0 step more (prints (done_line number) ∷ []) there.2 (tt, tt) disk)
-none_printed before (number, Ok (Bank boot seconds cpu bank tsc cap mcg status addr misc)) done step more disk is =
-    event_printed (reports before) number (detail_of (Bank boot seconds cpu bank tsc cap mcg status addr misc)) (made (Bank boot seconds cpu bank tsc cap mcg status addr misc)) done step more disk is
+none_printed before (number, Ok line) done step more disk is = event_printed before number (event_in (rows_of before) line) done step more disk is
 
 -- before a disk call of a run over lines, whole lines are printed
 pub whole_printed : (before reads : List Read) (done : List Step) (step : Step) (rest : List Step) → IsDisk step → done ++ step ∷ rest ≡ (lines_course before reads).steps

@@ -9,21 +9,19 @@ use Rattle.board_core.specs.declared.board.DiskCall.TheVariants.{Size, ReadAt}
 use Rattle.board_core.specs.declared.board.FileNo.TheVariants.{Zero}
 use Rattle.board_core.specs.Told.{Told, Relates, MayList, Reads, Steps, called}
 use Rattle.entry_format.specs.File.{AreEntriesOf}
-use Rattle.ras_facts.specs.declared.fact.Fact.{Fact}
-use Rattle.ras_facts.specs.Valid.{IsValidFact}
 use Rattle.ras_account.specs.declared.entry.Entry.{Entry}
-use Rattle.ras_account.specs.Account.{account_of, counted, IsPast}
-use Rattle.ras_account.specs.Fresh.{entries_of, fresh}
-use Rattle.ras_account.proofs.FreshLemmas.{fresh-fresh}
+use Rattle.ras_account.specs.Account.{account_of}
+use Rattle.ras_account.specs.Continued.{IsWithin}
+use Rattle.ras_account.specs.Fresh.{fresh}
+use Rattle.ras_account.specs.Valid.{IsValidEntry}
+use Rattle.ras_account.proofs.LawLemmas.{refreshed}
 use Rattle.ras_daemon.specs.declared.ledger.Ledger.{Ledger}
 use Rattle.ras_daemon.specs.declared.ledger.OpenRefused.{OpenRefused}
 use Rattle.ras_daemon.specs.declared.ledger.OpenRefused.TheVariants.{Disk, Damaged, Full, NoMemory}
 use Rattle.ras_daemon.specs.Event.{AreValid, IsKept, IsRoomRefusal, OpenCause, Reopens}
-use Rattle.ras_daemon.specs.PlainFile.{fact_in, stored, stored_end}
+use Rattle.ras_daemon.specs.PlainFile.{stored, stored_end}
 use Rattle.ras_daemon.specs.Progress.{Cut, IsDisk, Paused, after_all, asks_size, reads_file, reopen_steps}
-use Rattle.ras_daemon.specs.Status.{is_past}
-use Rattle.ras_daemon.proofs.EventLemmas.{no_room-past}
-use Rattle.ras_daemon.proofs.FileLemmas.{entries-facts}
+use Rattle.ras_daemon.proofs.EventLemmas.{within-room}
 use Rattle.ras_daemon.proofs.StepLemmas.{cut_behind, cut_first, map_append, map_one}
 
 pub size_failed : (reported : List Entry) (old new : Option Told) → Relates (MayList (Size Zero)) old new → Cut IsDisk (reopen_steps (stored_end reported)) old new
@@ -54,16 +52,9 @@ module _ (reported : List Entry) (old mid : Option Told) (size : ℕ) (went : St
       let at : Relates (MayList (ReadAt Zero 0 (stored_end reported))) mid new = subst (λ n. Relates (MayList (ReadAt Zero 0 n)) mid new) (same ∙ size-is kept is) failed in
       cut_behind (asks_size ∷ []) (reads_file (stored_end reported) ∷ []) asked (cut_first (reads_file (stored_end reported)) [] tt at)
 
--- what is stored are the entries of these facts
-abbrev pub facts_stored : List Entry → List Fact
-facts_stored reported = map fact_in (fresh reported)
-
-stored-entries : (reported : List Entry) → AreValid (fresh reported) → AreEntriesOf (facts_stored reported) (stored reported)
-stored-entries reported valid = record { valid = All-from_recursion IsValidFact (facts_stored reported) valid; spelled = refl }
-
--- and they have the account of all that was reported
-account-again : (reported : List Entry) → account_of (entries_of (facts_stored reported)) ≡ account_of reported
-account-again reported = ap account_of (entries-facts (fresh reported)) ∙ ap counted (fresh-fresh reported)
+-- what is stored are the fresh entries
+stored-entries : (reported : List Entry) → AreValid (fresh reported) → AreEntriesOf (fresh reported) (stored reported)
+stored-entries reported valid = record { valid = All-from_recursion IsValidEntry (fresh reported) valid; spelled = refl }
 
 -- what a whole read of a file gives
 whole-read : (count : ℕ) (buffer file : List ℕ) → length buffer ≡ length file → Reads 0 count buffer file → take count buffer ≡ file
@@ -77,15 +68,15 @@ read_back len buffer rest is = rw is (take-append_seam buffer rest)
 
 -- what the ledger of the bytes is, by what they hold
 pub record IsRead (bytes : List ℕ) (result : Result Ledger OpenRefused) : Type 0 where
-  pub entries : (facts : List Fact) → AreEntriesOf facts bytes → IfOk result (λ ledger. ledger.account.state ≡ account_of (entries_of facts))
+  pub entries : (entries : List Entry) → AreEntriesOf entries bytes → IfOk result (λ ledger. ledger.account.state ≡ account_of entries)
   pub end : IfOk result (λ ledger. ledger.end ≡ length bytes)
-  pub full : result ≡ Err Full → (facts : List Fact) → AreEntriesOf facts bytes → IsPast (account_of (entries_of facts))
-  pub undamaged : IfErr result (λ refused. (facts : List Fact) → AreEntriesOf facts bytes → IsRoomRefusal refused)
+  pub full : result ≡ Err Full → (entries : List Entry) → AreEntriesOf entries bytes → IsWithin (account_of entries) → ⊥
+  pub undamaged : IfErr result (λ refused. (entries : List Entry) → AreEntriesOf entries bytes → IsRoomRefusal refused)
   pub disk : result ≢ Err Disk
 
 module _ (reported : List Entry) (old new : Option Told) (bytes : List ℕ) (kept : IsKept reported old) (same : bytes ≡ stored reported)
     (went : new ≡ option_map (after_all (reopen_steps (stored_end reported))) old) where
-  are : AreEntriesOf (facts_stored reported) bytes
+  are : AreEntriesOf (fresh reported) bytes
   are = rw same (stored-entries reported kept.valid)
 
   told : IsSomeAnd new (λ t. t.file0 ≡ stored reported)
@@ -95,15 +86,15 @@ module _ (reported : List Entry) (old new : Option Told) (bytes : List ℕ) (kep
       by None file is = absurd file
       by (Some t) file is = rw is file
 
-  past : IsPast (account_of (entries_of (facts_stored reported))) → ⊥
-  past is = let so : is_past (account_of reported) ≡ true = no_room-past (account_of reported) (subst IsPast (account-again reported) is) in
-      let not : is_past (account_of reported) ≡ false = kept.room in cc
+  -- and their account is within its limits
+  held : IsWithin (account_of (fresh reported))
+  held = rw refreshed reported (within-room (account_of reported) kept.room)
 
   pub reopened : (result : Result Ledger OpenRefused) → IsRead bytes result → Reopens reported result old new
   reopened (Ok ledger) read = (
     went,
     record {
-      account = read.entries (facts_stored reported) are ∙ account-again reported;
+      account = read.entries (fresh reported) are ∙ refreshed reported;
       end = read.end ∙ ap length same;
       room = kept.room;
       valid = kept.valid;
@@ -111,8 +102,8 @@ module _ (reported : List Entry) (old new : Option Told) (bytes : List ℕ) (kep
     },
   )
   reopened (Err Disk) read = absurd (read.disk refl)
-  reopened (Err (Damaged file place)) read = read.undamaged (facts_stored reported) are
-  reopened (Err Full) read = past (read.full refl (facts_stored reported) are)
+  reopened (Err (Damaged file place)) read = read.undamaged (fresh reported) are
+  reopened (Err Full) read = read.full refl (fresh reported) are held
   reopened (Err NoMemory) read = record { done = reopen_steps (stored_end reported); rest = []; splits = refl; leaves = went }
 
 -- the whole of a file was read

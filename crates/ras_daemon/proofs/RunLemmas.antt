@@ -1,9 +1,11 @@
 -- Lines taken one after another.
 use Rattle.std.proofs.Common.{◌≡◌, ℕ, ◌+◌, List, [], ◌∷◌, ◌++◌, length, Option, None, Some, IfSome, IsSomeAnd, Result, Ok, Err, map, refl, ap, sym, ◌∙◌, subst, append_assoc, append-nil, arith}
 use Rattle.std.specs.List.{enumerate_from}
-use Rattle.std.specs.Option.{option_map}
+use Rattle.std.specs.Option.{option_map, option_to_list}
 use Rattle.std.specs.Result.{OnOk}
-use Rattle.board_core.specs.Told.{Told, Relates, FailsPrint, printed}
+use Rattle.board_core.specs.Told.{Told}
+use Rattle.dimm_topology.specs.declared.row.Row.{Row}
+use Rattle.dimm_topology.specs.Refusals.{refusal_of}
 use Rattle.ras_account.specs.declared.entry.Entry.{Entry}
 use Rattle.ras_account.specs.Account.{State, account_of}
 use Rattle.ras_daemon.specs.declared.event.Prepared.{Prepared}
@@ -11,39 +13,43 @@ use Rattle.ras_daemon.specs.declared.exit.Exit.{Exit}
 use Rattle.ras_daemon.specs.declared.exit.Exit.TheVariants.{Done, DiskFault, PrintFault, NoMemory}
 use Rattle.ras_daemon.specs.declared.ledger.Ledger.{Ledger}
 use Rattle.ras_daemon.specs.declared.ledger.OpenRefused.TheVariants.{Disk, NoMemory as OutOfMemory}
-use Rattle.ras_daemon.specs.declared.line.Line.TheVariants.{Bank, Restart}
-use Rattle.ras_daemon.specs.Event.{Fits, IsKept, IsPrepared, Keeps, Reopens, TakesEvent, TakesLine, end_after, state_after, prepared_steps}
+use Rattle.ras_daemon.specs.declared.line.Line.{Line}
+use Rattle.ras_daemon.specs.declared.line.Line.TheVariants.{Restart}
+use Rattle.ras_daemon.specs.declared.run.Run.{Run}
+use Rattle.ras_daemon.specs.Event.{Fits, IsKept, IsPrepared, Keeps, Reopened, Reopens, Stands, TakesEntries, TakesLine, TakesRow, end_after, orders_given, prepared_steps, restart_steps, state_after}
 use Rattle.ras_daemon.specs.Line.{line_of}
 use Rattle.ras_daemon.specs.PlainFile.{stored, stored_end}
-use Rattle.ras_daemon.specs.Progress.{Step, after_all, prints, Performs, Course, Takes, behind, ends, event_steps, reopen_steps, read_steps, line_course, lines_course}
-use Rattle.ras_daemon.specs.Reports.{Read, made, reads_from, reports}
+use Rattle.ras_daemon.specs.Progress.{Step, after_all, prints, Performs, Course, Takes, behind, ends, count_steps, reopen_steps, say_steps, read_steps, line_course, lines_course}
+use Rattle.ras_daemon.specs.Reports.{Event, Read, adds, counts, event_in, reads_from, reported_at, reports, row_by, row_in, rows_of}
 use Rattle.ras_daemon.specs.Run.{TookAll, TookSome}
 use Rattle.ras_daemon.specs.Splitting.{lines_of}
 use Rattle.ras_daemon.specs.Status.{refusal_at}
-use Rattle.ras_daemon.specs.Text.{detail_of, done_line, end_line}
+use Rattle.ras_daemon.specs.Text.{done_line, end_line, held_text}
 use Rattle.ras_daemon.proofs.FileLemmas.{valid-more}
-use Rattle.ras_daemon.proofs.ReportLaws.{reports-more}
-use Rattle.ras_daemon.proofs.StepLemmas.{cut_before, cut_behind, cut_first, map_none, map_one, map_append, paused_before, takes_behind, takes_first}
-use Rattle.ras_daemon.proofs.StoredLaws.{event-file}
+use Rattle.ras_daemon.proofs.ReportLaws.{reports-more, rows-more}
+use Rattle.ras_daemon.proofs.StepLemmas.{cut_before, map_none, map_append, paused_before, performs_then, takes_behind, takes_first}
+use Rattle.ras_daemon.proofs.StoredLaws.{count-file, say-file}
 
 -- an event that was prepared and done, as far as its calls went well
-prepared-steps : (before : List Entry) (number : ℕ) (detail : List ℕ) (entries : List Entry) (event : Prepared) (place : ℕ) → place ≡ stored_end before → IsPrepared before number detail entries event
-    → prepared_steps place event ≡ event_steps before number detail entries
-prepared-steps before number detail entries event place end prepared = rw (end, prepared.appends, prepared.texts, prepared.ends) refl
+prepared-steps : (before : List Entry) (number : ℕ) (detail : List ℕ) (entries : List Entry) (event : Prepared) (place : ℕ) (state : State) → place ≡ stored_end before → state ≡ account_of before
+    → IsPrepared before number detail entries event → prepared_steps place state event ≡ count_steps before number detail entries
+prepared-steps before number detail entries event place state end is prepared =
+    rw (end, is, prepared.appends, prepared.texts, prepared.orders, prepared.ends) refl
 
 -- the file after calls that went well, where the board tells
 went-file : (before entries : List Entry) (number : ℕ) (detail : List ℕ) (old new : Option Told) → IsSomeAnd old (λ t. t.file0 ≡ stored before)
-    → new ≡ option_map (after_all (event_steps before number detail entries)) old → IsSomeAnd new (λ t. t.file0 ≡ stored (before ++ entries))
+    → new ≡ option_map (after_all (count_steps before number detail entries)) old → IsSomeAnd new (λ t. t.file0 ≡ stored (before ++ entries))
 went-file before entries number detail None new file went = absurd file
-went-file before entries number detail (Some t) new file went = rw went (event-file before number detail entries t file)
+went-file before entries number detail (Some t) new file went = rw went (count-file before number detail entries t file)
 
 pub event_taken : (before : List Entry) (number : ℕ) (detail : List ℕ) (entries : List Entry) (event : Prepared) (ledger more : Ledger) (old new : Option Told) (result : Result (Unit {0}) Exit)
-    → Keeps before ledger old → IsPrepared before number detail entries event → Performs (prepared_steps ledger.end event) result old new
+    → Keeps before ledger old → IsPrepared before number detail entries event → Performs (prepared_steps ledger.end ledger.account.state event) result old new
     → OnOk result (more.account.state ≡ state_after event.fresh ledger.account.state) → OnOk result (more.end ≡ end_after event.fresh ledger.end)
-    → TakesEvent before number detail entries result old new more
+    → TakesEntries before number detail entries result old new more
 event_taken before number detail entries event ledger more old new (Ok done) keeps prepared performs counted ended =
-    let went : new ≡ option_map (after_all (event_steps before number detail entries)) old =
-    performs ∙ ap (λ steps. option_map (after_all steps) old) (prepared-steps before number detail entries event ledger.end keeps.end prepared) in (
+    let steps : prepared_steps ledger.end ledger.account.state event ≡ count_steps before number detail entries =
+        prepared-steps before number detail entries event ledger.end ledger.account.state keeps.end keeps.account prepared in
+    let went : new ≡ option_map (after_all (count_steps before number detail entries)) old = performs ∙ ap (λ steps. option_map (after_all steps) old) steps in (
       rw prepared.room refl,
       went,
       record {
@@ -55,25 +61,69 @@ event_taken before number detail entries event ledger more old new (Ok done) kee
       },
     )
 event_taken before number detail entries event ledger more old new (Err exit) keeps prepared performs counted ended = λ rest.
-    let steps : prepared_steps ledger.end event ≡ event_steps before number detail entries = prepared-steps before number detail entries event ledger.end keeps.end prepared in
-    let same : Performs (event_steps before number detail entries) (Err exit) old new = subst (λ s. Performs s (Err exit) old new) steps performs in
-    rw prepared.room (takes_first old new (event_steps before number detail entries) rest exit same)
+    let steps : prepared_steps ledger.end ledger.account.state event ≡ count_steps before number detail entries =
+        prepared-steps before number detail entries event ledger.end ledger.account.state keeps.end keeps.account prepared in
+    let same : Performs (count_steps before number detail entries) (Err exit) old new = subst (λ s. Performs s (Err exit) old new) steps performs in
+    rw prepared.room (takes_first old new (count_steps before number detail entries) rest exit same)
 
--- what is kept of what lines report, with one line more
-keeps_line : (before : List Read) (read : Read) (entries : List Entry) (ledger : Ledger) (told : Option Told) → reports (before ++ read ∷ []) ≡ reports before ++ entries
-    → Keeps (reports before ++ entries) ledger told → Keeps (reports (before ++ read ∷ [])) ledger told
-keeps_line before read entries ledger told is keeps = rw is keeps
+-- What stands behind one line more: the rows and the reports that it adds.
+stands_more : (before : List Read) (read : Read) (rows : List Row) (entries : List Entry) (run : Run) (told : Option Told)
+    → option_to_list (row_by read) ≡ rows → reported_at (before, read) ≡ entries → run.topology ≡ rows_of before ++ rows → Keeps (reports before ++ entries) run.ledger told
+    → Stands (before ++ read ∷ []) run told
+stands_more before read rows entries run told rows_are entries_are topology keeps = record {
+  rows = topology ∙ ap (λ rs. rows_of before ++ rs) (sym rows_are) ∙ sym (rows-more before read);
+  keeps = (let same : reports (before ++ read ∷ []) ≡ reports before ++ entries = reports-more before read ∙ ap (λ es. reports before ++ es) entries_are in rw same keeps);
+}
 
-module _ (before : List Read) (number boot seconds cpu bank tsc cap mcg status addr misc : ℕ) where
-  abbrev pub bank_line : Read
-  bank_line = (number, Ok (Bank boot seconds cpu bank tsc cap mcg status addr misc))
+-- a line that reports nothing and adds no row
+pub stands_same : (before : List Read) (read : Read) (run : Run) (told : Option Told) → row_by read ≡ None → reported_at (before, read) ≡ [] → Stands before run told → Stands (before ++ read ∷ []) run told
+stands_same before read run told none silent stands =
+    stands_more before read [] [] run told (ap option_to_list none) silent (stands.rows ∙ sym (append-nil (rows_of before)))
+    (subst (λ es. Keeps es run.ledger told) (sym (append-nil (reports before))) stands.keeps)
 
-  pub bank_taken : (old new : Option Told) (ledger : Ledger) (result : Result (Unit {0}) Exit)
-      → TakesEvent (reports before) number (detail_of (Bank boot seconds cpu bank tsc cap mcg status addr misc)) (made (Bank boot seconds cpu bank tsc cap mcg status addr misc)) result old new ledger
-      → TakesLine before bank_line result old new ledger
-  bank_taken old new ledger (Ok done) taken =
-      (taken.0, taken.1, keeps_line before bank_line (made (Bank boot seconds cpu bank tsc cap mcg status addr misc)) ledger new (reports-more before bank_line) taken.2)
-  bank_taken old new ledger (Err exit) taken = taken
+module _ (before : List Read) (number : ℕ) (line : Line) where
+  -- a line whose event counts entries
+  pub counts_taken : (detail : List ℕ) (entries : List Entry) (old new : Option Told) (run : Run) (result : Result (Unit {0}) Exit) → event_in (rows_of before) line ≡ counts detail entries
+      → row_in line ≡ None → run.topology ≡ rows_of before → TakesEntries (reports before) number detail entries result old new run.ledger → TakesLine before (number, Ok line) result old new run
+  counts_taken detail entries old new run (Ok done) asks none topology taken = (
+    rw asks taken.0,
+    rw asks taken.1,
+    stands_more before (number, Ok line) [] entries run new (ap option_to_list none) (rw asks refl) (topology ∙ sym (append-nil (rows_of before))) taken.2,
+  )
+  counts_taken detail entries old new run (Err exit) asks none topology taken = rw asks taken
+
+  -- a line whose event adds a row
+  row-file : (old new : Option Told) → IsSomeAnd old (λ t. t.file0 ≡ stored (reports before)) → new ≡ option_map (after_all (prints (done_line number) ∷ [])) old → IsSomeAnd new (λ t. t.file0 ≡ stored (reports before))
+  row-file None new file went = absurd file
+  row-file (Some t) new file went = rw went file
+
+  pub row_taken : (row : Row) (old new : Option Told) (run more : Run) (result : Result (Unit {0}) Exit) → event_in (rows_of before) line ≡ adds row → row_in line ≡ Some row → Stands before run old
+      → more.topology ≡ rows_of before ++ row ∷ [] → more.ledger ≡ run.ledger → TakesRow number (refusal_of (rows_of before) row) result old new → TakesLine before (number, Ok line) result old new more
+  row_taken row old new run more (Ok done) asks some stands topology same taken = (
+    rw (asks, taken.0) refl,
+    rw asks taken.1,
+    stands_more before (number, Ok line) (row ∷ []) [] more new (ap option_to_list some) (rw asks refl) topology
+        (let keeps : Keeps (reports before) more.ledger new = rw same (record {
+          account = stands.keeps.account;
+          end = stands.keeps.end;
+          room = stands.keeps.room;
+          valid = stands.keeps.valid;
+          file = row-file old new stands.keeps.file taken.1;
+        }) in subst (λ es. Keeps es more.ledger new) (sym (append-nil (reports before))) keeps),
+  )
+  row_taken row old new run more (Err exit) asks some stands topology same taken = rw asks taken
+
+-- a restart
+module _ (before : List Read) (number : ℕ) where
+  pub restart_taken : (old new : Option Told) (run : Run) (result : Result (Unit {0}) Exit) → run.topology ≡ rows_of before → Reopened (reports before) number result old new run.ledger
+      → TakesLine before (number, Ok Restart) result old new run
+  restart_taken old new run (Ok done) topology taken = (
+    refl,
+    taken.0,
+    stands_more before (number, Ok Restart) [] [] run new refl refl (topology ∙ sym (append-nil (rows_of before)))
+        (subst (λ es. Keeps es run.ledger new) (sym (append-nil (reports before))) taken.1),
+  )
+  restart_taken old new run (Err exit) topology taken = taken
 
 behind-append : (xs ys : List Step) (course : Course) → behind xs (behind ys course) ≡ behind (xs ++ ys) course
 behind-append xs ys course = ap (λ steps. record { steps = steps; exit = course.exit }) (sym (append_assoc xs ys course.steps))
@@ -82,18 +132,18 @@ behind-append xs ys course = ap (λ steps. record { steps = steps; exit = course
 pub reads-first : (number : ℕ) (text line after : List ℕ) → lines_of text ≡ line ∷ lines_of after → reads_from number text ≡ (number, line_of line) ∷ reads_from (number + 1) after
 reads-first number text line after is = ap (λ lines. enumerate_from number (map line_of lines)) is
 
-pub took_none : (reads : List Read) (told : Option Told) (ledger : Ledger) → Keeps [] ledger told → TookSome reads reads told told ledger
-took_none reads told ledger keeps = record { before = []; steps = []; course = refl; goes = sym (map_none told); keeps = keeps }
+pub took_none : (reads : List Read) (told : Option Told) (run : Run) → Stands [] run told → TookSome reads reads told told run
+took_none reads told run stands = record { before = []; steps = []; course = refl; goes = sym (map_none told); stands = stands }
 
 -- the course of what is left, where its first line isn't refused
 course-goes_on : (before : List Read) (read : Read) (rest : List Read) → refusal_at (before, read) ≡ None
     → lines_course before (read ∷ rest) ≡ behind (read_steps before read) (lines_course (before ++ read ∷ []) rest)
 course-goes_on before read rest none = ap (λ refusal. line_course refusal (read_steps before read) (lines_course (before ++ read ∷ []) rest)) none
 
-pub took_line : (reads rest left : List Read) (read : Read) (old mid new : Option Told) (ledger more : Ledger) → TookSome reads left old mid ledger → left ≡ read ∷ rest
-    → ((before : List Read) → Keeps (reports before) ledger mid → TakesLine {T = Unit {0}} before read (Ok tt) mid new more) → TookSome reads rest old new more
-took_line reads rest left read old mid new ledger more took is takes =
-    let taken = takes took.before took.keeps in
+pub took_line : (reads rest left : List Read) (read : Read) (old mid new : Option Told) (run more : Run) → TookSome reads left old mid run → left ≡ read ∷ rest
+    → ((before : List Read) → Stands before run mid → TakesLine {T = Unit {0}} before read (Ok tt) mid new more) → TookSome reads rest old new more
+took_line reads rest left read old mid new run more took is takes =
+    let taken = takes took.before took.stands in
     record {
       before = took.before ++ read ∷ [];
       steps = took.steps ++ read_steps took.before read;
@@ -103,20 +153,20 @@ took_line reads rest left read old mid new ledger more took is takes =
           ∙ ap (behind took.steps) (course-goes_on took.before read rest taken.0)
           ∙ behind-append took.steps (read_steps took.before read) (lines_course (took.before ++ read ∷ []) rest);
       goes = taken.1 ∙ ap (option_map (after_all (read_steps took.before read))) took.goes ∙ sym (map_append took.steps (read_steps took.before read) old);
-      keeps = taken.2;
+      stands = taken.2;
     }
 
-pub took_stop : (reads rest left : List Read) (read : Read) (old mid new : Option Told) (ledger more : Ledger) (exit : Exit) → TookSome reads left old mid ledger → left ≡ read ∷ rest
-    → ((before : List Read) → Keeps (reports before) ledger mid → TakesLine {T = Unit {0}} before read (Err exit) mid new more) → Takes (lines_course [] reads) exit old new
-took_stop reads rest left read old mid new ledger more exit took is takes =
+pub took_stop : (reads rest left : List Read) (read : Read) (old mid new : Option Told) (run more : Run) (exit : Exit) → TookSome reads left old mid run → left ≡ read ∷ rest
+    → ((before : List Read) → Stands before run mid → TakesLine {T = Unit {0}} before read (Err exit) mid new more) → Takes (lines_course [] reads) exit old new
+took_stop reads rest left read old mid new run more exit took is takes =
     let same : lines_course [] reads ≡ behind took.steps (lines_course took.before (read ∷ rest)) = took.course ∙ ap (λ rs. behind took.steps (lines_course took.before rs)) is in
-    rw same (takes_behind old mid new took.steps (lines_course took.before (read ∷ rest)) exit took.goes (takes took.before took.keeps (lines_course (took.before ++ read ∷ []) rest)))
+    rw same (takes_behind old mid new took.steps (lines_course took.before (read ∷ rest)) exit took.goes (takes took.before took.stands (lines_course (took.before ++ read ∷ []) rest)))
 
 -- no line is left
-pub took_all : (reads : List Read) (old new : Option Told) (ledger : Ledger) → TookSome reads [] old new ledger → TookAll reads old new ledger.account.state
-took_all reads old new ledger took = record {
+pub took_all : (reads : List Read) (old new : Option Told) (run : Run) → TookSome reads [] old new run → TookAll reads old new run.ledger.account.state
+took_all reads old new run took = record {
   steps = took.steps;
-  course = took.course ∙ ap (λ (a : State). behind took.steps (ends (end_line a) Done)) (sym took.keeps.account);
+  course = took.course ∙ ap (λ (a : State). behind took.steps (ends (end_line a) Done)) (sym took.stands.keeps.account);
   goes = took.goes;
 }
 
@@ -127,62 +177,59 @@ run_ends reads old mid new state line exit took is takes =
     let last : Takes (ends (end_line state) Done) exit mid new = subst (λ text. Takes (ends text Done) exit mid new) is takes in
     rw took.course (takes_behind old mid new took.steps (ends (end_line state) Done) exit took.goes last)
 
--- what is kept at the start, over an empty file
-pub started : (told : Option Told) (ledger : Ledger) (P : Type 0) → Fits told 0 → ledger.account.state ≡ account_of [] → ledger.end ≡ 0 → (Keeps [] ledger told → P) → IfSome told (λ _. P)
-started None ledger P empty account end keeps = tt
-started (Some t) ledger P empty account end keeps = keeps (record {
-  account = account;
-  end = end;
-  room = refl;
-  valid = tt;
-  file = none t.file0 empty;
+-- what stands at the start, over an empty file
+pub started : (told : Option Told) (run : Run) (P : Type 0) → Fits told 0 → run.topology ≡ [] → run.ledger.account.state ≡ account_of [] → run.ledger.end ≡ 0 → (Stands [] run told → P) → IfSome told (λ _. P)
+started None run P empty topology account end stands = tt
+started (Some t) run P empty topology account end stands = stands (record {
+  rows = topology;
+  keeps = record { account = account; end = end; room = refl; valid = tt; file = none t.file0 empty };
 })
   where
     none : (file : List ℕ) → length file ≡ 0 → file ≡ []
     none [] is = refl
     none (b ∷ bs) is = absurd (omega (arith, is))
 
--- a restart that went well
-module _ (before : List Read) (number : ℕ) (ledger : Ledger) where
-  abbrev pub restart_line : Read
-  restart_line = (number, Ok Restart)
+-- what was kept is what the file holds
+pub kept : (before : List Entry) (ledger : Ledger) (told : Option Told) → Keeps before ledger told → IsKept before told
+kept before ledger told keeps = record { room = keeps.room; valid = keeps.valid; file = keeps.file }
 
-  -- what was kept is what the file holds
-  pub kept : (told : Option Told) → Keeps (reports before) ledger told → IsKept (reports before) told
-  kept told keeps = record { room = keeps.room; valid = keeps.valid; file = keeps.file }
+-- the account was made again, and what it tells was printed or not
+said-file : (before : List Entry) (text : List ℕ) (number : ℕ) (old new : Option Told) → IsSomeAnd old (λ t. t.file0 ≡ stored before) → new ≡ option_map (after_all (say_steps text number)) old
+    → IsSomeAnd new (λ t. t.file0 ≡ stored before)
+said-file before text number None new file went = absurd file
+said-file before text number (Some t) new file went = rw went (say-file text number t ∙ file)
 
-  said-file : (old new : Option Told) (text : List ℕ) → IsSomeAnd old (λ t. t.file0 ≡ stored (reports before)) → new ≡ option_map (printed text) old → IsSomeAnd new (λ t. t.file0 ≡ stored (reports before))
-  said-file None new text file went = absurd file
-  said-file (Some t) new text file went = rw went file
-
-  pub restarted : (opened : Ledger) (old mid new : Option Told) → Reopens (reports before) (Ok opened) old mid → new ≡ option_map (printed (done_line number)) mid
-      → TakesLine {T = Unit {0}} before restart_line (Ok tt) old new opened
-  restarted opened old mid new reopens said = (
-    refl,
-    said ∙ sym (map_one (prints (done_line number)) mid) ∙ ap (option_map (after_all (prints (done_line number) ∷ []))) reopens.0
-        ∙ sym (map_append (reopen_steps (stored_end (reports before))) (prints (done_line number) ∷ []) old),
-    keeps_line before restart_line [] opened new (reports-more before restart_line)
-        (subst (λ es. Keeps es opened new) (sym (append-nil (reports before)))
-        (record {
+module _ (before : List Entry) (number : ℕ) where
+  pub restart_said : (opened : Ledger) (old mid new : Option Told) (result : Result (Unit {0}) Exit) → Reopens before (Ok opened) old mid
+      → Performs (say_steps (held_text opened.account.state) number) result mid new → Reopened before number result old new opened
+  restart_said opened old mid new (Ok done) reopens said =
+      let same : new ≡ option_map (after_all (say_steps (held_text (account_of before)) number)) mid = said ∙ ap (λ (a : State). option_map (after_all (say_steps (held_text a) number)) mid) reopens.1.account in (
+        same ∙ ap (option_map (after_all (say_steps (held_text (account_of before)) number))) reopens.0
+            ∙ sym (map_append (reopen_steps (stored_end before)) (say_steps (held_text (account_of before)) number) old),
+        record {
           account = reopens.1.account;
           end = reopens.1.end;
           room = reopens.1.room;
           valid = reopens.1.valid;
-          file = said-file mid new (done_line number) reopens.1.file said;
-        })),
-  )
+          file = said-file before (held_text (account_of before)) number mid new reopens.1.file same;
+        },
+      )
+  restart_said opened old mid new (Err exit) reopens said = λ rest.
+      let same : Performs (say_steps (held_text (account_of before)) number) (Err exit) mid new =
+          subst (λ (a : State). Performs (say_steps (held_text a) number) (Err exit) mid new) reopens.1.account said in
+      takes_first old new (restart_steps before number) rest exit
+      (performs_then old mid new (reopen_steps (stored_end before)) (say_steps (held_text (account_of before)) number) (Err exit) reopens.0 same)
 
-  -- one that was cut short
-  pub restart_cut : (old new : Option Told) (more : Ledger) → Reopens (reports before) (Err Disk) old new → TakesLine {T = Unit {0}} before restart_line (Err DiskFault) old new more
+  pub restart_cut : (old new : Option Told) (more : Ledger) → Reopens before (Err Disk) old new → Reopened {T = Unit {0}} before number (Err DiskFault) old new more
   restart_cut old new more cut = λ rest.
-      cut_before (reopen_steps (stored_end (reports before)) ++ prints (done_line number) ∷ []) rest.steps (cut_before (reopen_steps (stored_end (reports before))) (prints (done_line number) ∷ []) cut)
+      cut_before (restart_steps before number) rest.steps (cut_before (reopen_steps (stored_end before)) (say_steps (held_text (account_of before)) number) cut)
 
-  pub restart_paused : (old new : Option Told) (more : Ledger) → Reopens (reports before) (Err OutOfMemory) old new → TakesLine {T = Unit {0}} before restart_line (Err NoMemory) old new more
+  pub restart_paused : (old new : Option Told) (more : Ledger) → Reopens before (Err OutOfMemory) old new → Reopened {T = Unit {0}} before number (Err NoMemory) old new more
   restart_paused old new more paused = λ rest.
-      paused_before (reopen_steps (stored_end (reports before)) ++ prints (done_line number) ∷ []) rest.steps (paused_before (reopen_steps (stored_end (reports before))) (prints (done_line number) ∷ []) paused)
+      paused_before (restart_steps before number) rest.steps (paused_before (reopen_steps (stored_end before)) (say_steps (held_text (account_of before)) number) paused)
 
-  pub restart_unsaid : (opened more : Ledger) (old mid new : Option Told) → Reopens (reports before) (Ok opened) old mid → Relates (FailsPrint (done_line number)) mid new
-      → TakesLine {T = Unit {0}} before restart_line (Err PrintFault) old new more
-  restart_unsaid opened more old mid new reopens fails = λ rest.
-      cut_before (reopen_steps (stored_end (reports before)) ++ prints (done_line number) ∷ []) rest.steps
-      (cut_behind (reopen_steps (stored_end (reports before))) (prints (done_line number) ∷ []) reopens.0 (cut_first (prints (done_line number)) [] tt fails))
+  -- memory ran out once the account was made again
+  pub restart_silent : (opened more : Ledger) (old new : Option Told) → Reopens before (Ok opened) old new → Reopened {T = Unit {0}} before number (Err NoMemory) old new more
+  restart_silent opened more old new reopens = λ rest.
+      paused_before (restart_steps before number) rest.steps
+      (record { done = reopen_steps (stored_end before); rest = say_steps (held_text (account_of before)) number; splits = refl; leaves = reopens.0 })

@@ -11,19 +11,19 @@ use Rattle.board_core.specs.Told.{Told, overlaid}
 use Rattle.entry_format.specs.Spelling.{entry_bytes}
 use Rattle.ras_base.specs.Places.{places_behind}
 use Rattle.ras_account.specs.declared.entry.Entry.{Entry}
+use Rattle.ras_account.specs.Account.{account_of}
 use Rattle.ras_account.specs.Fresh.{is_fresh_behind}
 use Rattle.ras_daemon.specs.declared.exit.Exit.{Exit}
 use Rattle.ras_daemon.specs.declared.exit.Exit.TheVariants.{Damaged}
-use Rattle.ras_daemon.specs.declared.line.Line.TheVariants.{Empty, Comment, Bank, Restart}
 use Rattle.ras_daemon.specs.declared.word.Command.{Command}
 use Rattle.ras_daemon.specs.declared.word.Command.TheVariants.{Run}
 use Rattle.ras_daemon.specs.Command.{command_of}
-use Rattle.ras_daemon.specs.PlainFile.{fact_in, stored, stored_end}
-use Rattle.ras_daemon.specs.Progress.{Step, after, after_all, asks_size, reads_file, writes, syncs, prints, entry_steps, entries_steps, text_steps, event_steps, read_steps, lines_course, start_course, call_course}
-use Rattle.ras_daemon.specs.Reports.{Read, made, made_by, reads_of, reports}
+use Rattle.ras_daemon.specs.PlainFile.{stored, stored_end}
+use Rattle.ras_daemon.specs.Progress.{Step, after, after_all, asks_size, reads_file, writes, syncs, prints, entry_steps, entries_steps, say_steps, count_steps, event_steps, reopen_steps, read_steps, lines_course, start_course, call_course}
+use Rattle.ras_daemon.specs.Reports.{Event, Read, nothing, reopens, adds, counts, event_in, reads_of, reported_at, reported_in, reports, rows_of}
 use Rattle.ras_daemon.specs.Status.{Place, refusal_at, script_refusal, start_refusal, unrefused}
-use Rattle.ras_daemon.specs.Stored.{calls_at, calls_of, calls_started, entry_calls, event_calls, file_after, file_started}
-use Rattle.ras_daemon.specs.Text.{detail_of, event_text, done_line}
+use Rattle.ras_daemon.specs.Stored.{calls_at, calls_of, calls_started, entries_calls, entry_calls, event_calls, file_after, file_started}
+use Rattle.ras_daemon.specs.Text.{event_text, held_text, done_line}
 use Rattle.ras_daemon.proofs.CutLaws.{AllPrint, all_print-text}
 use Rattle.ras_daemon.proofs.FileLemmas.{stored-new, stored-old}
 use Rattle.ras_daemon.proofs.ReportLaws.{reports-more}
@@ -88,9 +88,9 @@ entry-file before entry told is = by (is_fresh_behind before entry) refl
   where
     by : (b : Bool) → is_fresh_behind before entry ≡ b → (after_all (entry_steps before entry) told).file0 ≡ stored (before ++ entry ∷ [])
     by true new =
-        let more : stored (before ++ entry ∷ []) ≡ stored before ++ entry_bytes (fact_in entry) = stored-new before entry new in
+        let more : stored (before ++ entry ∷ []) ≡ stored before ++ entry_bytes entry = stored-new before entry new in
         rw (new, more)
-        (overlaid-end (stored_end before) (entry_bytes (fact_in entry)) told.file0 (ap length (sym is)) ∙ ap (λ file. file ++ entry_bytes (fact_in entry)) is)
+        (overlaid-end (stored_end before) (entry_bytes entry) told.file0 (ap length (sym is)) ∙ ap (λ file. file ++ entry_bytes entry) is)
     by false old =
         let same : stored (before ++ entry ∷ []) ≡ stored before = stored-old before entry old in
         rw (old, same) is
@@ -113,54 +113,66 @@ entries-file before (entry ∷ entries) told is =
     ∙ entries-file (before ++ entry ∷ []) entries (after_all (entry_steps before entry) told) (entry-file before entry told is)
     ∙ ap stored (append_assoc before (entry ∷ []) entries)
 
-calls-entries : (before entries : List Entry) → calls_by (entries_steps before entries) ≡ event_calls before entries
+calls-entries : (before entries : List Entry) → calls_by (entries_steps before entries) ≡ entries_calls before entries
 calls-entries before [] = refl
 calls-entries before (entry ∷ entries) =
     calls-append (entry_steps before entry) (entries_steps (before ++ entry ∷ []) entries)
     ∙ ap (λ calls. calls ++ calls_by (entries_steps (before ++ entry ∷ []) entries)) (calls-entry before entry)
     ∙ ap (λ calls. entry_calls before entry ++ calls) (calls-entries (before ++ entry ∷ []) entries)
 
--- the same of an event
-pub event-file : (before : List Entry) (number : ℕ) (detail : List ℕ) (entries : List Entry) (told : Told) → told.file0 ≡ stored before
-    → (after_all (event_steps before number detail entries) told).file0 ≡ stored (before ++ entries)
-event-file before number detail entries told is =
-    let texts : List Step = text_steps (event_text before detail entries) ++ prints (done_line number) ∷ [] in
-    ap file_of (after_all-append (entries_steps before entries) texts told)
-    ∙ prints-file texts (after_all (entries_steps before entries) told) (all_print-text (event_text before detail entries) (done_line number))
+-- the same of calls that then only print
+say-file : (text : List ℕ) (number : ℕ) (told : Told) → (after_all (say_steps text number) told).file0 ≡ told.file0
+say-file text number told = prints-file (say_steps text number) told (all_print-text text (done_line number))
+
+say-calls : (text : List ℕ) (number : ℕ) → calls_by (say_steps text number) ≡ []
+say-calls text number = prints-calls (say_steps text number) (all_print-text text (done_line number))
+
+pub count-file : (before : List Entry) (number : ℕ) (detail : List ℕ) (entries : List Entry) (told : Told) → told.file0 ≡ stored before
+    → (after_all (count_steps before number detail entries) told).file0 ≡ stored (before ++ entries)
+count-file before number detail entries told is =
+    ap file_of (after_all-append (entries_steps before entries) (say_steps (event_text before detail entries) number) told)
+    ∙ say-file (event_text before detail entries) number (after_all (entries_steps before entries) told)
     ∙ entries-file before entries told is
 
-calls-event : (before : List Entry) (number : ℕ) (detail : List ℕ) (entries : List Entry) → calls_by (event_steps before number detail entries) ≡ event_calls before entries
-calls-event before number detail entries =
-    let texts : List Step = text_steps (event_text before detail entries) ++ prints (done_line number) ∷ [] in
-    calls-append (entries_steps before entries) texts
-    ∙ ap (λ calls. calls_by (entries_steps before entries) ++ calls) (prints-calls texts (all_print-text (event_text before detail entries) (done_line number)))
+calls-count : (before : List Entry) (number : ℕ) (detail : List ℕ) (entries : List Entry) → calls_by (count_steps before number detail entries) ≡ entries_calls before entries
+calls-count before number detail entries =
+    calls-append (entries_steps before entries) (say_steps (event_text before detail entries) number)
+    ∙ ap (λ calls. calls_by (entries_steps before entries) ++ calls) (say-calls (event_text before detail entries) number)
     ∙ append-nil (calls_by (entries_steps before entries))
     ∙ calls-entries before entries
 
--- the same of a line at its place
-read-file : (before : List Read) (read : Read) (told : Told) → told.file0 ≡ stored (reports before) → (after_all (read_steps before read) told).file0 ≡ stored (reports (before ++ read ∷ []))
-read-file before read told is = by read ∙ ap stored (sym (reports-more before read))
+-- the same of an event at its place
+event-file : (before : List Read) (number : ℕ) (event : Event) (told : Told) → told.file0 ≡ stored (reports before)
+    → (after_all (event_steps before number event) told).file0 ≡ stored (reports before ++ reported_in event)
+event-file before number event told is = by event
   where
     same : told.file0 ≡ stored (reports before ++ [])
     same = is ∙ ap stored (sym (append-nil (reports before)))
 
-    by : (r : Read) → (after_all (read_steps before r) told).file0 ≡ stored (reports before ++ made_by r)
-    by (number, Err refused) = same
-    by (number, Ok Empty) = same
-    by (number, Ok Comment) = same
-    by (number, Ok Restart) = same
-    by (number, Ok (Bank boot seconds cpu bank tsc cap mcg status addr misc)) =
-        let line = Bank boot seconds cpu bank tsc cap mcg status addr misc in
-        event-file (reports before) number (detail_of line) (made line) told is
+    by : (e : Event) → (after_all (event_steps before number e) told).file0 ≡ stored (reports before ++ reported_in e)
+    by nothing = same
+    by reopens = say-file (held_text (account_of (reports before))) number (after_all (reopen_steps (stored_end (reports before))) told) ∙ same
+    by (adds row) = same
+    by (counts detail entries) = count-file (reports before) number detail entries told is
+
+calls-event : (before : List Read) (number : ℕ) (event : Event) → calls_by (event_steps before number event) ≡ event_calls before event
+calls-event before number nothing = refl
+calls-event before number reopens =
+    ap (λ calls. Size Zero ∷ ReadAt Zero 0 (stored_end (reports before)) ∷ calls) (say-calls (held_text (account_of (reports before))) number)
+calls-event before number (adds row) = refl
+calls-event before number (counts detail entries) = calls-count (reports before) number detail entries
+
+-- and of a line
+read-file : (before : List Read) (read : Read) (told : Told) → told.file0 ≡ stored (reports before) → (after_all (read_steps before read) told).file0 ≡ stored (reports (before ++ read ∷ []))
+read-file before read told is = by read ∙ ap stored (sym (reports-more before read))
+  where
+    by : (r : Read) → (after_all (read_steps before r) told).file0 ≡ stored (reports before ++ reported_at (before, r))
+    by (number, Err refused) = is ∙ ap stored (sym (append-nil (reports before)))
+    by (number, Ok line) = event-file before number (event_in (rows_of before) line) told is
 
 calls-read : (before : List Read) (read : Read) → calls_by (read_steps before read) ≡ calls_at (before, read)
 calls-read before (number, Err refused) = refl
-calls-read before (number, Ok Empty) = refl
-calls-read before (number, Ok Comment) = refl
-calls-read before (number, Ok Restart) = refl
-calls-read before (number, Ok (Bank boot seconds cpu bank tsc cap mcg status addr misc)) =
-    let line = Bank boot seconds cpu bank tsc cap mcg status addr misc in
-    calls-event (reports before) number (detail_of line) (made line)
+calls-read before (number, Ok line) = calls-event before number (event_in (rows_of before) line)
 
 -- the lines that are taken of lines behind others
 abbrev pub taken_behind : List Read → List Read → List Read

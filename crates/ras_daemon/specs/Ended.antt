@@ -1,22 +1,34 @@
 -- What an exit says of how far a call came.
-use Rattle.std.specs.Prelude.{◌≡◌, ℕ, ◌≤◌, List, ◌++◌, length, Option, IsOk, IfSome, IsSomeAnd, ⊤}
+use Rattle.std.specs.Prelude.{◌≡◌, ℕ, ◌≤◌, List, ◌++◌, length, None, Ok, Err, Option, IfSome, IsSomeAnd, ⊤}
 use Rattle.std.specs.List.{AllByRecursion}
 use Rattle.board_core.specs.Cause.{Rose}
 use Rattle.board_core.specs.Told.{Told}
 use Rattle.ras_base.specs.Prefix.{IsPrefixOf}
 use Rattle.ras_daemon.specs.declared.exit.Exit.{Exit}
 use Rattle.ras_daemon.specs.declared.exit.Exit.TheVariants.{SourceFault, DiskFault, PrintFault, NoMemory}
-use Rattle.ras_daemon.specs.Reports.{Read, reads_of}
-use Rattle.ras_daemon.specs.Status.{longest_script}
+use Rattle.dimm_topology.specs.Refusals.{refusal_of}
+use Rattle.ras_base.specs.Places.{places}
+use Rattle.ras_daemon.specs.Reports.{Event, Read, nothing, reopens, adds, counts, event_in, reads_of, rows_of}
+use Rattle.ras_daemon.specs.Status.{Place, longest_script}
 
 -- a count of faults didn't rise
 abbrev pub IsQuiet : ℕ → ℕ → Type 0
 IsQuiet before now = ¬ Rose before now
 
--- nothing stands in the way of a script: it isn't too long, and each of its lines can be read
+-- what an event asks for can be done, as far as its own line tells: a row is one that the rows before it take
+abbrev pub Passes : List Read → Event → Type 0
+Passes before (adds row) = refusal_of (rows_of before) row ≡ None
+Passes before event = ⊤
+
+-- a line can be read, and what it asks for can be done
+abbrev pub IsAccepted : Place → Type 0
+IsAccepted (before, (number, Ok line)) = Passes before (event_in (rows_of before) line)
+IsAccepted (before, (number, Err refused)) = ⊥
+
+-- nothing stands in the way of a script: it isn't too long, and each of its lines is accepted
 pub record IsReadable (script : List ℕ) : Type 0 where
   pub short : length script ≤ longest_script
-  pub lines : AllByRecursion (λ (read : Read). IsOk read.1) (reads_of script)
+  pub lines : AllByRecursion IsAccepted (places (reads_of script))
 
 -- P holds where the call came to its end or to a refusal. A fault or want of memory cuts a call short.
 abbrev pub OnAnswer : Exit → Type 0 → Type 0

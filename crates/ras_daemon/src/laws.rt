@@ -2,12 +2,13 @@
 ghost use Rattle.std.specs.Prelude.{◌≡◌, ◌↔◌, ℕ, List, [], ◌∷◌, Contains, IsTrue};
 ghost use Rattle.std.specs.Bool.{IsFalse};
 ghost use Rattle.std.specs.List.{IsDistinct};
+ghost use Rattle.dimm_topology.specs.declared.row.Row.{Row};
 ghost use Rattle.mca_status.specs.Registers.{valid};
 ghost use Rattle.ras_facts.specs.declared.name.Name.{Name};
 ghost use Rattle.ras_facts.specs.declared.name.Name.TheVariants.{Bank as BankName};
 ghost use Rattle.ras_account.specs.Fresh.{names_in, same_name};
 ghost use Rattle.ras_daemon.specs.declared.line.Line.TheVariants.{Bank};
-ghost use Rattle.ras_daemon.specs.Reports.{made};
+ghost use Rattle.ras_daemon.specs.Reports.{event_in, reported_in};
 ghost use Rattle.ras_daemon.specs.Stored.{logged_of, reported_of};
 
 /// The laws of what a script logs. The function does nothing: its clauses are what it is for.
@@ -18,10 +19,10 @@ pub fn logging_laws()
     ensures all { (script : List ℕ) (name : Name) → Contains (names_in (logged_of script)) name ↔ Contains (names_in (reported_of script)) name }
 
     // A bank line reports one fact under its name where VAL, bit 63 of its status register, is 1, and else nothing.
-    ensures reported { (boot seconds cpu bank tsc cap mcg status addr misc : ℕ) → IsTrue (valid (record { 0 = status }))
-        → names_in (made (Bank boot seconds cpu bank tsc cap mcg status addr misc)) ≡ BankName boot cpu bank tsc ∷ [] }
-    ensures silent { (boot seconds cpu bank tsc cap mcg status addr misc : ℕ) → IsFalse (valid (record { 0 = status }))
-        → made (Bank boot seconds cpu bank tsc cap mcg status addr misc) ≡ [] }
+    ensures reported { (rows : List Row) (boot seconds cpu bank tsc cap mcg status addr misc : ℕ) → IsTrue (valid (record { 0 = status }))
+        → names_in (reported_in (event_in rows (Bank boot seconds cpu bank tsc cap mcg status addr misc))) ≡ BankName boot cpu bank tsc ∷ [] }
+    ensures silent { (rows : List Row) (boot seconds cpu bank tsc cap mcg status addr misc : ℕ) → IsFalse (valid (record { 0 = status }))
+        → reported_in (event_in rows (Bank boot seconds cpu bank tsc cap mcg status addr misc)) ≡ [] }
 {
     ras_account::account_laws();
 }

@@ -3,7 +3,7 @@ ghost use Rattle.std.specs.Prelude.{◌≡◌, ◌≢◌, ◌<◌, ◌^◌, ℕ,
 ghost use Rattle.entry_format.specs.File.{AreEntriesOf, BreaksOffAt};
 ghost use Rattle.ras_account.specs.declared.entry.Entry.{Entry};
 ghost use Rattle.ras_account.specs.Account.{account_of};
-ghost use Rattle.ras_account.specs.Continued.{IsPast};
+ghost use Rattle.ras_account.specs.Continued.{IsWithin};
 ghost use Rattle.ras_daemon.specs.Event.{Fits, IsKept, IsRoomRefusal, OpenCause, Reopens};
 
 use board_core::{Board, Failed, FileNo};
@@ -88,7 +88,7 @@ fn ledger_of(alloc: Global, bytes: &[u8]) -> Result<Ledger, OpenRefused>
     ensures end { IfOk result (λ ledger. ledger.end ≡ length bytes.now) }
     ensures small { length bytes.now < 2 ^ 63 }
     ensures damaged { (file place : ℕ) → result ≡ Err (OpenRefused.Damaged file place) → (file ≡ 0) × BreaksOffAt bytes.now place }
-    ensures full { result ≡ Err OpenRefused.Full → (entries : List Entry) → AreEntriesOf entries bytes.now → IsPast (account_of entries) }
+    ensures full { result ≡ Err OpenRefused.Full → (entries : List Entry) → AreEntriesOf entries bytes.now → IsWithin (account_of entries) → ⊥ }
     ensures undamaged { IfErr result (λ refused. (entries : List Entry) → AreEntriesOf entries bytes.now → IsRoomRefusal refused) }
     ensures disk { result ≢ Err OpenRefused.Disk }
 {

@@ -3,7 +3,7 @@ use Rattle.ras_daemon.proofs.ReportLaws.{made-valid, made-invalid}
 use Rattle.ras_daemon.proofs.laws.logging_laws.Goals as goal
 
 pub returns-clause-once : goal.returns-clause-once
-returns-clause-once c = λ script. c.account_laws.ensures.once (reported_of script)
+returns-clause-once c = λ script. c.account_laws.ensures.names_once (reported_of script)
 
 pub returns-clause-all : goal.returns-clause-all
 returns-clause-all c = λ script name. c.account_laws.ensures.held (reported_of script) name
