@@ -1,4 +1,0 @@
-pub mod NameLemmas
-pub mod FreshLemmas
-pub mod AccountLemmas
-pub mod PlaceLemmas
