@@ -1,0 +1,6 @@
+pub mod Fresh
+pub mod Sightings
+pub mod Account
+pub mod Continued
+pub mod Orders
+pub mod View

@@ -1,0 +1,11 @@
+//! What was counted so far: each report once, by its name, with what it says of memory modules and of pages.
+//!
+//! An account is a function of the list of entries that were taken. The definitions in `specs/` say which one, and the
+//! contracts of `Account` say that each call keeps it.
+#![tactic(auto)]
+
+mod entry;
+mod laws;
+
+pub use entry::Entry;
+pub use laws::account_laws;
