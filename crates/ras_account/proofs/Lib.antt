@@ -4,4 +4,7 @@ pub mod AccountLemmas
 pub mod OrderLemmas
 pub mod TotalLemmas
 pub mod LawLemmas
+pub mod ModuleLemmas
+pub mod PlaceLemmas
+pub mod TakingLemmas
 pub mod WorkedRows

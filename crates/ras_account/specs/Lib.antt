@@ -4,3 +4,6 @@ pub mod Account
 pub mod Continued
 pub mod Orders
 pub mod View
+pub mod Parts
+pub mod Taking
+pub mod Kept

@@ -4,8 +4,15 @@
 //! contracts of `Account` say that each call keeps it.
 #![tactic(auto)]
 
+mod account;
 mod entry;
 mod laws;
+mod modules;
+mod names;
+mod orders;
 
+pub use account::Account;
 pub use entry::Entry;
 pub use laws::account_laws;
+pub use modules::ModuleRow;
+pub use orders::Orders;

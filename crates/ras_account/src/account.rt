@@ -1,0 +1,118 @@
+// The account.
+ghost use Rattle.std.specs.Prelude.{◌≡◌, ◌+◌, ◌<◌, ◌≤◌, ◌++◌, List, [], ◌∷◌, IsTrue, Some, length, slice_get, option_to_list};
+ghost use Rattle.std.specs.Bool.{IsFalse};
+ghost use Rattle.ras_account.specs.declared.entry.Entry.{Entry};
+ghost use Rattle.ras_account.specs.Fresh.{is_fresh_behind};
+ghost use Rattle.ras_account.specs.Account.{account_of, most_weight};
+ghost use Rattle.ras_account.specs.Continued.{is_fresh_in};
+ghost use Rattle.ras_account.specs.Orders.{order_in, orders_along};
+ghost use Rattle.ras_account.specs.View.{Waiting, nothing};
+ghost use Rattle.ras_account.specs.Taking.{IsNext, item_seen, Gives, sighting, AreNext, TakesItems, sightings_of};
+
+use crate::modules::Modules;
+use crate::names::Names;
+use crate::{Entry, Orders};
+use page_policy::{Limit, Pages};
+use ras_facts::Item;
+use std::alloc::Global;
+use std::marker::Model;
+
+/// The limit in force at first: ten errors a day.
+const FIRST_LIMIT: Limit = Limit {
+    capacity: 10,
+    period: 86_400,
+};
+
+/// What was counted so far: the names of the reports in the order in which they came, what they say of memory modules
+/// and of pages, and the limit in force.
+///
+/// Names, labels and pages can wait behind those that are counted, so that their entries can be taken with no memory. No
+/// call tells of what waits.
+#[derive(Drop)]
+pub struct Account {
+    names: Names,
+    limit: Limit,
+    entries: u64,
+    total: u64,
+    modules: Modules,
+    pages: Pages,
+}
+
+impl Model for Account {
+    ghost use Rattle.ras_account.specs.View.{View};
+    ghost use Rattle.ras_account.specs.Kept.{IsKept};
+
+    ghost Value = { View };
+
+    ghost view = { λ a. record {
+      state = record {
+        names = a.names.held;
+        limit = a.limit;
+        entries = a.entries;
+        total = a.total;
+        modules = a.modules.rows;
+        pages = a.pages.rows;
+      };
+      waiting = record { names = a.names.waiting; labels = a.modules.waiting; pages = a.pages.waiting };
+    } };
+
+    ghost invariant = { λ a. IsKept a.names.held a.limit a.entries a.total a.modules.rows };
+}
+
+impl Account {
+    /// An account that counts nothing.
+    pub fn new(alloc: Global) -> Account
+        ensures state { result.state ≡ account_of [] }
+        ensures waiting { result.waiting ≡ nothing }
+    {
+        Account {
+            names: Names::new(alloc),
+            limit: FIRST_LIMIT,
+            entries: 0,
+            total: 0,
+            modules: Modules::new(alloc),
+            pages: Pages::new(alloc),
+        }
+    }
+
+    /// Whether taking this entry would count it: a fact whose name isn't held, or a limit other than the one in force.
+    pub fn is_fresh(&self, entry: &Entry) -> bool
+        ensures fresh { result ≡ is_fresh_in self.now.state entry.now }
+        ensures history { (history : List Entry) → self.now.state ≡ account_of history → result ≡ is_fresh_behind history entry.now }
+        ensures repeat { (history : List Entry) → self.now.state ≡ account_of history → IsFalse result → self.now.state ≡ account_of (history ++ entry.now ∷ []) }
+    {
+        match entry {
+            Entry::Fact(fact) => !self.names.holds(&fact.name),
+            Entry::Limit(limit) => *limit != self.limit,
+        }
+    }
+
+    // Counts an item of a fact that came at this time.
+    fn take_item(&mut self, item: &Item, seconds: u64, orders: &mut Orders)
+        requires next { IsNext self.old item.now }
+        requires total { self.old.state.total + item.now.weight ≤ most_weight }
+        requires room { 0 < orders.old.room }
+        ensures account { self.new ≡ item_seen self.old (sighting item.now seconds self.old.state.limit) }
+        ensures orders { Gives orders.old orders.new (option_to_list (order_in self.old.state.pages (sighting item.now seconds self.old.state.limit))) }
+    {
+        self.total += u64::from(item.weight);
+        self.modules.count(item);
+        if let Some(page) = item.page {
+            if let Some(order) = self.pages.account(page, item.class, seconds, item.weight, self.limit) {
+                orders.push(order);
+            }
+        }
+    }
+
+    // Counts the items of a fact that came at this time, in order.
+    fn take_items(&mut self, items: &[Item], seconds: u64, orders: &mut Orders)
+        requires next { (rest : Waiting) × AreNext self.old items.now rest }
+        requires room { length items.now ≤ orders.old.room }
+        ensures account { TakesItems self.old self.new seconds items.now }
+        ensures orders { Gives orders.old orders.new (orders_along self.old.state.pages (sightings_of self.old.state.limit seconds items.now)) }
+    {
+        for item in items {
+            self.take_item(item, seconds, orders);
+        }
+    }
+}
