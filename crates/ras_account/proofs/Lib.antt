@@ -7,4 +7,5 @@ pub mod LawLemmas
 pub mod ModuleLemmas
 pub mod PlaceLemmas
 pub mod TakingLemmas
+pub mod EntryLemmas
 pub mod WorkedRows

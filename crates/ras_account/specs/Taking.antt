@@ -1,5 +1,5 @@
 -- This file only carries proofs: how the items of a fact are taken, each in turn.
-use Rattle.std.specs.Prelude.{◌≡◌, ℕ, ◌+◌, ◌≤◌, Bool, true, nat_eq, if◌then◌else◌, List, [], ◌∷◌, ◌++◌, length, take, drop, map, filter_map, option_to_list, IfSome, IsTrue}
+use Rattle.std.specs.Prelude.{◌≡◌, ℕ, ◌+◌, ◌<◌, ◌≤◌, Bool, true, nat_eq, if◌then◌else◌, List, [], ◌∷◌, ◌++◌, length, take, drop, map, filter_map, option_to_list, IfSome, IsTrue}
 use Rattle.std.specs.List.{list_any, sum_by}
 use Rattle.std.specs.Map.{keys_of}
 use Rattle.std.specs.Option.{option_map_or}
@@ -10,11 +10,14 @@ use Rattle.page_policy.specs.declared.rows.Row.{Row}
 use Rattle.page_policy.specs.Tables.{added}
 use Rattle.page_policy.specs.Pages.{Held, is_held, is_ready}
 use Rattle.ras_facts.specs.declared.items.Item.{Item}
+use Rattle.ras_facts.specs.declared.fact.Fact.{Fact}
+use Rattle.ras_account.specs.declared.entry.Entry.{Entry}
+use Rattle.ras_account.specs.declared.entry.Entry.TheVariants.{Fact as TakenFact}
 use Rattle.ras_account.specs.Sightings.{Sighting}
-use Rattle.ras_account.specs.Account.{State, most_weight}
-use Rattle.ras_account.specs.Continued.{item_taken, items_taken}
-use Rattle.ras_account.specs.Orders.{order_in, orders_along}
-use Rattle.ras_account.specs.View.{View, Waiting, OrderList}
+use Rattle.ras_account.specs.Account.{State, most_names, most_entries, most_weight}
+use Rattle.ras_account.specs.Continued.{item_taken, items_taken, entry_taken, continued}
+use Rattle.ras_account.specs.Orders.{order_in, orders_along, orders_at}
+use Rattle.ras_account.specs.View.{View, Waiting, OrderList, then_waits, added_by}
 
 -- the labels and the pages that items name, in order
 abbrev pub labels_in : List Item → List Bytes
@@ -86,3 +89,30 @@ pub record IsAmid (start now : View) (old new : OrderList) (seconds : ℕ) (item
   pub orders : new.orders ++ orders_along now.state.pages (sightings_of start.state.limit seconds left) ≡ old.orders ++ orders_along start.state.pages (sightings_of start.state.limit seconds items)
   pub given : new.room + length new.orders ≡ old.room + length old.orders
   pub room : length left ≤ new.room
+
+-- what a fresh fact adds to an account
+abbrev pub adds_fact : State → Fact → Waiting
+adds_fact a fact = record {
+  names = fact.name ∷ [];
+  labels = added same_label (keys_of a.modules) (labels_in fact.items);
+  pages = added nat_eq (keys_of a.pages) (pages_in fact.items);
+}
+
+-- a fresh fact can be taken: what it adds waits first, and there is room for it
+pub record CanTakeFact (v : View) (fact : Fact) : Type 0 where
+  pub rest : Waiting
+  pub name : v.waiting.names ≡ fact.name ∷ rest.names
+  pub next : AreNext v fact.items rest
+  pub names_room : length v.state.names < most_names
+  pub entries_room : v.state.entries < most_entries
+
+-- the account after a fresh fact
+pub record TakesFact (old new : View) (fact : Fact) : Type 0 where
+  pub state : new.state ≡ entry_taken old.state (TakenFact fact)
+  pub waiting : old.waiting ≡ then_waits (adds_fact old.state fact) new.waiting
+
+-- what taking an entry does
+pub record Takes (old new : View) (before after : OrderList) (entry : Entry) : Type 0 where
+  pub state : new.state ≡ continued old.state entry
+  pub waiting : old.waiting ≡ then_waits (added_by old.state (entry ∷ [])) new.waiting
+  pub gives : Gives before after (orders_at old.state entry)

@@ -3,17 +3,19 @@ ghost use Rattle.std.specs.Prelude.{◌≡◌, ◌+◌, ◌<◌, ◌≤◌, ◌+
 ghost use Rattle.std.specs.Bool.{IsFalse};
 ghost use Rattle.ras_account.specs.declared.entry.Entry.{Entry};
 ghost use Rattle.ras_account.specs.Fresh.{is_fresh_behind};
-ghost use Rattle.ras_account.specs.Account.{account_of, most_weight};
-ghost use Rattle.ras_account.specs.Continued.{is_fresh_in};
-ghost use Rattle.ras_account.specs.Orders.{order_in, orders_along};
-ghost use Rattle.ras_account.specs.View.{Waiting, nothing};
-ghost use Rattle.ras_account.specs.Taking.{IsNext, item_seen, Gives, sighting, AreNext, TakesItems, sightings_of};
+ghost use Rattle.ras_account.specs.Account.{account_of, most_entries, most_weight};
+ghost use Rattle.ras_account.specs.Continued.{is_fresh_in, entry_taken, continued, IsWithin};
+ghost use Rattle.ras_account.specs.Orders.{order_in, orders_along, orders_at, orders_behind};
+ghost use Rattle.page_policy.specs.Buckets.{IsLimit};
+ghost use Rattle.ras_account.specs.View.{Waiting, nothing, then_waits, WaitsFirst, added_by};
+ghost use Rattle.ras_account.specs.Valid.{IsValidEntry, items_in};
+ghost use Rattle.ras_account.specs.Taking.{IsNext, item_seen, Gives, sighting, AreNext, TakesItems, sightings_of, CanTakeFact, TakesFact, Takes};
 
 use crate::modules::Modules;
 use crate::names::Names;
 use crate::{Entry, Orders};
 use page_policy::{Limit, Pages};
-use ras_facts::Item;
+use ras_facts::{Fact, Item};
 use std::alloc::Global;
 use std::marker::Model;
 
@@ -39,7 +41,8 @@ pub struct Account {
 }
 
 impl Model for Account {
-    ghost use Rattle.ras_account.specs.View.{View};
+    ghost use Rattle.page_policy.specs.Buckets.{IsLimit};
+ghost use Rattle.ras_account.specs.View.{View};
     ghost use Rattle.ras_account.specs.Kept.{IsKept};
 
     ghost Value = { View };
@@ -87,6 +90,45 @@ impl Account {
         }
     }
 
+    /// Counts the entry, if it is fresh, and puts the orders that it gives behind `orders`.
+    ///
+    /// The entry has to be valid. What it adds has to wait, before all else that waits, and it then waits no longer; the
+    /// orders need room for one of each item; and with the entry the account has to stay within `MOST_NAMES`,
+    /// `MOST_ENTRIES` and `MOST_WEIGHT`.
+    pub fn take(&mut self, entry: Entry, orders: &mut Orders)
+        requires valid { IsValidEntry entry }
+        requires waits { WaitsFirst (added_by self.old.state (entry ∷ [])) self.old.waiting }
+        requires room { length (items_in entry) ≤ orders.old.room }
+        requires within { IsWithin (continued self.old.state entry) }
+        ensures state { self.new.state ≡ continued self.old.state entry }
+        ensures waiting { self.old.waiting ≡ then_waits (added_by self.old.state (entry ∷ [])) self.new.waiting }
+        ensures orders { orders.new.orders ≡ orders.old.orders ++ orders_at self.old.state entry }
+        ensures room { orders.new.room + length (orders_at self.old.state entry) ≡ orders.old.room }
+
+        // The account of a list becomes that of the list with the entry behind it, and the orders are those of the list.
+        ensures history { (history : List Entry) → self.old.state ≡ account_of history → self.new.state ≡ account_of (history ++ entry ∷ []) }
+        ensures history_orders { (history : List Entry) → self.old.state ≡ account_of history → orders.new.orders ≡ orders.old.orders ++ orders_behind history entry }
+    {
+        self.take_any(entry, orders);
+    }
+
+    // Counts the entry, if it is fresh.
+    fn take_any(&mut self, entry: Entry, orders: &mut Orders)
+        requires valid { IsValidEntry entry }
+        requires waits { WaitsFirst (added_by self.old.state (entry ∷ [])) self.old.waiting }
+        requires room { length (items_in entry) ≤ orders.old.room }
+        requires within { IsWithin (continued self.old.state entry) }
+        ensures { Takes self.old self.new orders.old orders.new entry }
+    {
+        if !self.is_fresh(&entry) {
+            return;
+        }
+        match entry {
+            Entry::Fact(fact) => self.take_fact(&fact, orders),
+            Entry::Limit(limit) => self.settle(limit),
+        }
+    }
+
     // Counts an item of a fact that came at this time.
     fn take_item(&mut self, item: &Item, seconds: u64, orders: &mut Orders)
         requires next { IsNext self.old item.now }
@@ -114,5 +156,28 @@ impl Account {
         for item in items {
             self.take_item(item, seconds, orders);
         }
+    }
+
+    // Counts a fact that is fresh: its name, and then its items.
+    fn take_fact(&mut self, fact: &Fact, orders: &mut Orders)
+        requires ready { CanTakeFact self.old fact.now }
+        requires room { length fact.now.items ≤ orders.old.room }
+        ensures account { TakesFact self.old self.new fact.now }
+        ensures orders { Gives orders.old orders.new (orders_along self.old.state.pages (sightings_of self.old.state.limit fact.now.seconds fact.now.items)) }
+    {
+        self.entries += 1;
+        self.names.count_next();
+        self.take_items(fact.items.as_slice(), fact.seconds, orders);
+    }
+
+    // Counts a limit that is fresh: from now on it is in force.
+    fn settle(&mut self, limit: Limit)
+        requires limit { IsLimit limit }
+        requires room { self.old.state.entries < most_entries }
+        ensures state { self.new.state ≡ entry_taken self.old.state (Entry.Limit limit) }
+        ensures waiting { self.new.waiting ≡ self.old.waiting }
+    {
+        self.entries += 1;
+        self.limit = limit;
     }
 }
