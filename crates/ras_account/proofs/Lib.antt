@@ -8,4 +8,5 @@ pub mod ModuleLemmas
 pub mod PlaceLemmas
 pub mod TakingLemmas
 pub mod EntryLemmas
+pub mod ReserveLemmas
 pub mod WorkedRows
