@@ -3,7 +3,7 @@ ghost use Rattle.std.specs.Prelude.{◌≡◌, ◌+◌, ◌<◌, ◌≤◌, ◌+
 ghost use Rattle.std.specs.Bool.{IsFalse};
 ghost use Rattle.ras_account.specs.declared.entry.Entry.{Entry};
 ghost use Rattle.ras_account.specs.Fresh.{is_fresh_behind};
-ghost use Rattle.ras_account.specs.Account.{account_of, most_entries, most_weight};
+ghost use Rattle.ras_account.specs.Account.{account_of, weight_in, most_entries, most_weight};
 ghost use Rattle.ras_account.specs.Continued.{is_fresh_in, entry_taken, continued, continued_all, IsWithin, IsPast};
 ghost use Rattle.ras_account.specs.Orders.{order_in, orders_along, orders_at, orders_behind};
 ghost use Rattle.page_policy.specs.Buckets.{IsLimit};
@@ -15,10 +15,10 @@ ghost use Rattle.ras_account.specs.Taking.{IsNext, item_seen, Gives, sighting, A
 use crate::modules::Modules;
 use crate::names::Names;
 use crate::reserve::Tally;
-use crate::{Entry, Orders, ReserveRefused};
+use crate::{Entry, ModuleRow, Orders, ReserveRefused};
 use page_policy::{Limit, Pages};
 use ras_base::NoMemory;
-use ras_facts::{Fact, Item};
+use ras_facts::{Fact, Item, Name};
 use std::alloc::Global;
 use std::marker::Model;
 
@@ -142,6 +142,9 @@ impl Account {
         ensures orders { orders.new.orders ≡ orders.old.orders ++ orders_at self.old.state entry }
         ensures room { orders.new.room + length (orders_at self.old.state entry) ≡ orders.old.room }
 
+        // Where what a list of entries adds waits, the entries can be taken in turn.
+        ensures in_turn { (entries : List Entry) → self.old.waiting ≡ added_by self.old.state (entry ∷ entries) → self.new.waiting ≡ added_by self.new.state entries }
+
         // The account of a list becomes that of the list with the entry behind it, and the orders are those of the list.
         ensures history { (history : List Entry) → self.old.state ≡ account_of history → self.new.state ≡ account_of (history ++ entry ∷ []) }
         ensures history_orders { (history : List Entry) → self.old.state ≡ account_of history → orders.new.orders ≡ orders.old.orders ++ orders_behind history entry }
@@ -216,6 +219,69 @@ impl Account {
     {
         self.entries += 1;
         self.limit = limit;
+    }
+
+    /// How many names are counted.
+    pub fn names_len(&self) -> usize
+        ensures count { result ≡ length self.now.state.names }
+        ensures within { IsWithin self.now.state }
+    {
+        self.names.len()
+    }
+
+    /// The counted name at a place, from 0 in the order in which they came.
+    pub fn name(&self, i: usize) -> &Name
+        requires { i < length self.now.state.names }
+        ensures { slice_get self.now.state.names i ≡ Some result.now }
+    {
+        self.names.get(i)
+    }
+
+    /// How many entries are counted.
+    pub fn entries(&self) -> u64
+        ensures count { result ≡ self.now.state.entries }
+        ensures within { IsWithin self.now.state }
+    {
+        self.entries
+    }
+
+    /// The weights of all items together.
+    pub fn total(&self) -> u64
+        ensures total { result ≡ self.now.state.total }
+        ensures rows { result ≡ weight_in self.now.state.modules }
+        ensures within { IsWithin self.now.state }
+    {
+        self.total
+    }
+
+    /// The limit in force.
+    pub fn limit(&self) -> Limit
+        ensures limit { result ≡ self.now.state.limit }
+        ensures valid { IsLimit result }
+    {
+        self.limit
+    }
+
+    /// How many modules have a row.
+    pub fn modules_len(&self) -> usize
+        ensures { result ≡ length self.now.state.modules }
+    {
+        self.modules.len()
+    }
+
+    /// The row of the module at a place, from 0 in the order in which they were first seen.
+    pub fn module(&self, i: usize) -> &ModuleRow
+        requires { i < length self.now.state.modules }
+        ensures { slice_get self.now.state.modules i ≡ Some (result.now.label, result.now.sums) }
+    {
+        self.modules.row(i)
+    }
+
+    /// The pages, in the order in which they were first seen.
+    pub fn pages(&self) -> &Pages
+        ensures { result.now.rows ≡ self.now.state.pages }
+    {
+        &self.pages
     }
 
     // Lets nothing wait any longer.
