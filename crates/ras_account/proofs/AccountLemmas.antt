@@ -1,348 +1,170 @@
--- How entries continue an account.
-use Rattle.std.proofs.Common.{◌≡◌, ℕ, ◌+◌, ◌≤◌, Bool, true, false, not, if◌then◌else◌, List, [], ◌∷◌, ◌++◌, length, ◌||◌, refl, sym, ap, subst, ◌∙◌, length-append, add-zero, append_assoc, append-nil, true≢false, Some, take, get_or, add-one, ◌<◌, arith, ◌&&◌, drop, zero, suc, inl, inr}
-use Rattle.std.specs.List.{list_any, cons_option, IsDistinct}
-use Rattle.std.proofs.lemmas.Map.Keys.{IsDistinct-push}
-use Rattle.std.proofs.lemmas.List.Sums.{fold-append}
-use Rattle.std.proofs.lemmas.List.Folds.{list_any-append}
-use Rattle.std.proofs.Math.Bool.{or-false}
-use Rattle.std.proofs.lemmas.List.{length-take-le, append_cancel_left}
-use Rattle.std.proofs.Math.Seq.{take-suc, take-append_seam, drop-append_seam}
-use Rattle.indexmap.specs.IndexSet.{insert_key, insert_all}
-use Rattle.ras_facts.specs.declared.items.Item.{Item}
+-- The law of the account: a list with one entry more continues the account of the list.
+use Rattle.std.proofs.Common.{◌≡◌, ◌<◌, ◌+◌, ℕ, Bool, true, false, not, cond, if◌then◌else◌, nat_eq, List, [], ◌∷◌, ◌++◌, length, filter, map, fold, replicate, refl, sym, ap, ◌∙◌, length-append, append_assoc, append-nil, zero-add, add-zero, add_assoc, true≢false, Option, Some, None, arith}
+use Rattle.std.specs.List.{sum_by, flat_map, filter_map, list_any}
+use Rattle.std.specs.Option.{option_map}
+use Rattle.std.proofs.lemmas.List.Elements.{filter-append, filter_map-append}
+use Rattle.std.proofs.lemmas.List.Sums.{fold-append, sum_by-append}
+use Rattle.mca_status.specs.declared.classes.ItemClass.{ItemClass}
+use Rattle.mca_status.specs.declared.classes.ItemClass.TheVariants.{Ce, Ucna, Srao, Srar, Uc, Odd, Corrected, Recoverable, Fatal, Informational}
+use Rattle.mca_status.specs.Classes.{class_number}
+use Rattle.dimm_topology.specs.Labels.{same_label}
+use Rattle.page_policy.specs.declared.buckets.Limit.{Limit}
+use Rattle.page_policy.specs.Rows.{Report}
+use Rattle.page_policy.specs.Tables.{table}
+use Rattle.page_policy.specs.Histories.{rows_of, rows_after}
+use Rattle.page_policy.proofs.TableLemmas.{table-more}
+use Rattle.page_policy.proofs.HistoryLemmas.{rows_of-more}
 use Rattle.ras_facts.specs.declared.name.Name.{Name}
+use Rattle.ras_facts.specs.declared.items.Item.{Item}
 use Rattle.ras_account.specs.declared.entry.Entry.{Entry}
-use Rattle.ras_account.specs.declared.entry.Entry.TheVariants.{Fact}
-use Rattle.ras_account.specs.Fresh.{name_in, names_in, same_name}
-use Rattle.ras_account.specs.Account.{State, items_of, items_in, is_fresh_in, with_entry, continued, continued_all, added_by, IsWithin, IsPast}
-use Rattle.ras_account.specs.View.{View}
-use Rattle.ras_account.specs.Weights.{weight_in}
-use Rattle.ras_account.specs.Saturated.{saturated}
-use Rattle.ras_base.specs.Prefix.{IsPrefixOf}
-use Rattle.ras_account.specs.Growth.{brings, GrowsBy, IsGrowth, IsRoom}
-use Rattle.ras_account.specs.declared.growth.Growth.{Growth}
-use Rattle.ras_account.proofs.FreshLemmas.{names_in-append}
-use Rattle.ras_account.proofs.NameLemmas.{same_name-exact, same_name-laws}
-use Rattle.ras_account.proofs.WeightLemmas.{weight_in-append}
+use Rattle.ras_account.specs.declared.entry.Entry.TheVariants.{Fact, Limit as Settles}
+use Rattle.ras_account.specs.Fresh.{names_in, same_limit, limit_in, last_limit, limit_after, is_fresh_behind, fresh_places, fresh}
+use Rattle.ras_account.specs.Sightings.{Sighting, sightings, sightings_in, label_of, weight_of, report_of, reports_of}
+use Rattle.ras_account.specs.Account.{State, account_of, counted, classes, class_weight, module_row}
+use Rattle.ras_account.specs.Continued.{is_fresh_in, no_sums, sums_after, modules_after, pages_after, item_taken, items_taken, entry_taken, continued, continued_all}
+use Rattle.ras_account.proofs.KeyLemmas.{same_label-exact, same_label-refl, same_limit-exact}
+use Rattle.ras_account.proofs.FreshLemmas.{names_in-append, limit_after-append, fresh_places-snoc, fresh-snoc, among_fresh}
 
--- the names of an account are those inserted in turn
-pub names-continued_all : (a : State) (entries : List Entry) → (continued_all a entries).names ≡ insert_all same_name a.names (names_in entries)
-names-continued_all a [] = refl
-names-continued_all a (Fact fact ∷ entries) =
-    names-continued_all (continued a (Fact fact)) entries
-    ∙ ap (λ names. insert_all same_name names (names_in entries)) (by (list_any (same_name fact.name) a.names))
+-- the sum of a class, with one item more
+abbrev is_of : ItemClass → Sighting → Bool
+is_of class s = nat_eq (class_number class) (class_number s.item.class)
+
+class_weight-more : (ss : List Sighting) (s : Sighting) (class : ItemClass)
+    → class_weight (ss ++ s ∷ []) class ≡ (if is_of class s then class_weight ss class + s.item.weight else class_weight ss class)
+class_weight-more ss s class =
+    ap (sum_by weight_of) (filter-append (is_of class) ss (s ∷ []))
+    ∙ sum_by-append weight_of (filter (is_of class) ss) (filter (is_of class) (s ∷ []))
+    ∙ by (is_of class s)
   where
-    by : (b : Bool) → (if not b then with_entry a (Fact fact) else a).names ≡ (if b then a.names else a.names ++ fact.name ∷ [])
-    by true = refl
+    by : (b : Bool) → class_weight ss class + sum_by weight_of (cond b (s ∷ []) []) ≡ (if b then class_weight ss class + s.item.weight else class_weight ss class)
+    by true = ap (λ n. class_weight ss class + n) (zero-add s.item.weight)
+    by false = add-zero (class_weight ss class)
+
+-- the ten sums, with one item more
+more_of : (class : ItemClass) (w : ℕ) (at : ItemClass → ℕ)
+    → map (λ c. if nat_eq (class_number c) (class_number class) then at c + w else at c) classes
+    ≡ sums_after (map at classes) (record { class = class; label = []; page = None; weight = w })
+more_of Ce w at = refl
+more_of Ucna w at = refl
+more_of Srao w at = refl
+more_of Srar w at = refl
+more_of Uc w at = refl
+more_of Odd w at = refl
+more_of Corrected w at = refl
+more_of Recoverable w at = refl
+more_of Fatal w at = refl
+more_of Informational w at = refl
+
+module_row-more : (ss : List Sighting) (s : Sighting) → module_row (ss ++ s ∷ []) ≡ sums_after (module_row ss) s.item
+module_row-more ss s =
+    (λ i. map (λ c. class_weight-more ss s c i) classes) ∙ more_of s.item.class s.item.weight (class_weight ss)
+
+-- an item that names this page, if any
+abbrev pub at_page : Sighting → Option ℕ → Sighting
+at_page s page = record { item = record s.item { page = page }; seconds = s.seconds; limit = s.limit }
+
+-- the rows of pages, with one item more
+pub pages-more : (ss : List Sighting) (s : Sighting) → rows_of (reports_of (ss ++ s ∷ [])) ≡ pages_after (rows_of (reports_of ss)) s
+pages-more ss s = ap rows_of (filter_map-append report_of ss (s ∷ [])) ∙ by s.item.page
+  where
+    by : (page : Option ℕ) → rows_of (reports_of ss ++ reports_of (at_page s page ∷ [])) ≡ pages_after (rows_of (reports_of ss)) (at_page s page)
+    by None = ap rows_of (append-nil (reports_of ss))
+    by (Some page) = rows_of-more (reports_of ss) _
+
+-- the parts of an account, with one item more
+pub counted-more : (names : List Name) (limit : Limit) (entries : ℕ) (ss : List Sighting) (s : Sighting)
+    → counted names limit entries (ss ++ s ∷ []) ≡ item_taken (counted names limit entries ss) s
+counted-more names limit entries ss s =
+    λ i. record { names = names; limit = limit; entries = entries; total = total i; modules = modules i; pages = pages i }
+  where
+    total : sum_by weight_of (ss ++ s ∷ []) ≡ sum_by weight_of ss + s.item.weight
+    total = sum_by-append weight_of ss (s ∷ []) ∙ ap (λ n. sum_by weight_of ss + n) (zero-add s.item.weight)
+
+    modules : table same_label label_of module_row (ss ++ s ∷ []) ≡ modules_after (table same_label label_of module_row ss) s.item
+    modules = table-more same_label same_label-exact same_label-refl label_of module_row (λ (x : Sighting). sums_after no_sums x.item) (λ sums (x : Sighting). sums_after sums x.item)
+        (λ x. module_row-more [] x) (λ xs x some. module_row-more xs x) ss s
+
+    pages : rows_of (reports_of (ss ++ s ∷ [])) ≡ pages_after (rows_of (reports_of ss)) s
+    pages = pages-more ss s
+
+-- and with more items
+pub counted-append : (names : List Name) (limit : Limit) (entries : ℕ) (ss more : List Sighting)
+    → counted names limit entries (ss ++ more) ≡ items_taken (counted names limit entries ss) more
+counted-append names limit entries ss [] = ap (counted names limit entries) (append-nil ss)
+counted-append names limit entries ss (s ∷ more) =
+    ap (counted names limit entries) (sym (append_assoc ss (s ∷ []) more))
+    ∙ counted-append names limit entries (ss ++ s ∷ []) more
+    ∙ ap (λ a. items_taken a more) (counted-more names limit entries ss s)
+
+flat_map-append : {X Y : Type 0} (f : X → List Y) (xs ys : List X) → flat_map f (xs ++ ys) ≡ flat_map f xs ++ flat_map f ys
+flat_map-append f [] ys = refl
+flat_map-append f (x ∷ xs) ys = ap (λ zs. f x ++ zs) (flat_map-append f xs ys) ∙ sym (append_assoc (f x) (flat_map f xs) (flat_map f ys))
+
+-- the items of a list with one entry more
+abbrev sightings_at : List Entry × Entry → List Sighting
+sightings_at p = sightings_in (limit_after p.0) p.1
+
+pub sightings-snoc : (h : List Entry) (e : Entry) → sightings (h ++ e ∷ []) ≡ sightings h ++ (if is_fresh_behind h e then sightings_in (limit_after h) e else [])
+sightings-snoc h e =
+    ap (flat_map sightings_at) (fresh_places-snoc h e)
+    ∙ flat_map-append sightings_at (fresh_places h) (if is_fresh_behind h e then (h, e) ∷ [] else [])
+    ∙ ap (λ ss. sightings h ++ ss) (by (is_fresh_behind h e))
+  where
+    by : (b : Bool) → flat_map sightings_at (if b then (h, e) ∷ [] else []) ≡ (if b then sightings_in (limit_after h) e else [])
+    by true = append-nil (sightings_in (limit_after h) e)
     by false = refl
 
-pub once-continued : (a : State) (e : Entry) → IsDistinct same_name a.names → IsDistinct same_name (continued a e).names
-once-continued a (Fact fact) once = by (list_any (same_name fact.name) a.names) refl
+-- in the account of a list an entry is fresh where it is fresh behind the list
+pub is_fresh_in-account_of : (h : List Entry) (e : Entry) → is_fresh_in (account_of h) e ≡ is_fresh_behind h e
+is_fresh_in-account_of h (Fact fact) = ap not (among_fresh fact.name h)
+is_fresh_in-account_of h (Settles limit) = refl
+
+not_false : (b : Bool) → not b ≡ false → b ≡ true
+not_false true h = refl
+not_false false h = absurd (true≢false h)
+
+-- the limit in force after an entry that isn't fresh is the one before it
+limit_stays : (h : List Entry) (e : Entry) → is_fresh_behind h e ≡ false → limit_after (h ++ e ∷ []) ≡ limit_after h
+limit_stays h (Fact fact) repeat = limit_after-append h (Fact fact ∷ [])
+limit_stays h (Settles limit) repeat = limit_after-append h (Settles limit ∷ []) ∙ same_limit-exact limit (limit_after h) (not_false _ repeat)
+
+-- an entry more continues the account
+pub account_of-snoc : (h : List Entry) (e : Entry) → account_of (h ++ e ∷ []) ≡ continued (account_of h) e
+account_of-snoc h e = by (is_fresh_behind h e) refl
   where
-    by : (b : Bool) → list_any (same_name fact.name) a.names ≡ b → IsDistinct same_name (if not b then with_entry a (Fact fact) else a).names
-    by true is = once
-    by false is = IsDistinct-push same_name-laws a.names fact.name once is
+    goes_on : (b : Bool) → is_fresh_behind h e ≡ b → continued (account_of h) e ≡ (if b then entry_taken (account_of h) e else account_of h)
+    goes_on b is = ap (λ c. if c then entry_taken (account_of h) e else account_of h) (is_fresh_in-account_of h e ∙ is)
 
-pub once-continued_all : (a : State) (entries : List Entry) → IsDistinct same_name a.names → IsDistinct same_name (continued_all a entries).names
-once-continued_all a [] once = once
-once-continued_all a (e ∷ entries) once = once-continued_all (continued a e) entries (once-continued a e once)
+    grown : (b : Bool) → is_fresh_behind h e ≡ b → fresh (h ++ e ∷ []) ≡ fresh h ++ (if b then e ∷ [] else [])
+    grown b is = fresh-snoc h e ∙ ap (λ c. fresh h ++ (if c then e ∷ [] else [])) is
 
--- one entry more inserts its name behind those of the entries before it
-pub insert_all-more : (keys : List Name) (entries : List Entry) (i : ℕ) (d : Entry) (name : Name) → i < length entries → name_in (get_or entries i d) ≡ Some name
-    → insert_all same_name keys (names_in (take (i + 1) entries)) ≡ insert_key same_name (insert_all same_name keys (names_in (take i entries))) name
-insert_all-more keys entries i d name within is =
-    ap (λ es. insert_all same_name keys (names_in es)) (ap (λ n. take n entries) (add-one i) ∙ take-suc entries i d within)
-    ∙ ap (insert_all same_name keys) (names_in-append (take i entries) (get_or entries i d ∷ []) ∙ ap (λ n. names_in (take i entries) ++ cons_option n []) is)
-    ∙ fold-append (insert_key same_name) keys (names_in (take i entries)) (name ∷ [])
+    seen : (b : Bool) → is_fresh_behind h e ≡ b → sightings (h ++ e ∷ []) ≡ sightings h ++ (if b then sightings_in (limit_after h) e else [])
+    seen b is = sightings-snoc h e ∙ ap (λ c. sightings h ++ (if c then sightings_in (limit_after h) e else [])) is
 
--- what is inserted stands behind what was there before
-pub insert_all-behind : (keys names : List Name) → (rest : List Name) × (insert_all same_name keys names ≡ keys ++ rest)
-insert_all-behind keys [] = ([], sym (append-nil keys))
-insert_all-behind keys (name ∷ names) = by (list_any (same_name name) keys) (insert_all-behind keys names) (insert_all-behind (keys ++ name ∷ []) names)
-  where
-    by : (b : Bool) → (rest : List Name) × (insert_all same_name keys names ≡ keys ++ rest)
-        → (rest : List Name) × (insert_all same_name (keys ++ name ∷ []) names ≡ keys ++ name ∷ [] ++ rest)
-        → (rest : List Name) × (insert_all same_name (if b then keys else keys ++ name ∷ []) names ≡ keys ++ rest)
-    by true there added = there
-    by false there added = (name ∷ added.0, added.1 ∙ append_assoc keys (name ∷ []) added.0)
+    taken : (entry : Entry) → counted (names_in (fresh h ++ entry ∷ [])) (limit_after (h ++ entry ∷ [])) (length (fresh h ++ entry ∷ [])) (sightings h ++ sightings_in (limit_after h) entry)
+        ≡ entry_taken (account_of h) entry
+    taken (Fact fact) =
+        (λ i. counted (names_in-append (fresh h) (Fact fact ∷ []) i) (limit_after-append h (Fact fact ∷ []) i) (length-append (fresh h) (Fact fact ∷ []) i) (sightings h ++ sightings_in (limit_after h) (Fact fact)))
+        ∙ counted-append (names_in (fresh h) ++ fact.name ∷ []) (limit_after h) (length (fresh h) + 1) (sightings h) (sightings_in (limit_after h) (Fact fact))
+    taken (Settles limit) =
+        λ i. counted ((names_in-append (fresh h) (Settles limit ∷ []) ∙ append-nil (names_in (fresh h))) i) (limit_after-append h (Settles limit ∷ []) i) (length-append (fresh h) (Settles limit ∷ []) i) (append-nil (sightings h) i)
 
-pub take-insert_all : (keys names : List Name) → take (length keys) (insert_all same_name keys names) ≡ keys
-take-insert_all keys names =
-    let behind : (rest : List Name) × (insert_all same_name keys names ≡ keys ++ rest) = insert_all-behind keys names in
-    ap (take (length keys)) behind.1 ∙ take-append_seam keys behind.0
+    by : (b : Bool) → is_fresh_behind h e ≡ b → account_of (h ++ e ∷ []) ≡ continued (account_of h) e
+    by true is =
+        (λ i. counted (names_in (grown true is i)) (limit_after (h ++ e ∷ [])) (length (grown true is i)) (seen true is i))
+        ∙ taken e ∙ sym (goes_on true is)
+    by false is =
+        (λ i. counted (names_in ((grown false is ∙ append-nil (fresh h)) i)) (limit_stays h e is i) (length ((grown false is ∙ append-nil (fresh h)) i)) ((seen false is ∙ append-nil (sightings h)) i))
+        ∙ sym (goes_on false is)
 
-known_or : (b t r : Bool) → (t ≡ true → b ≡ true) → (b || r) ≡ (b || (t || r))
-known_or true t r known = refl
-known_or false true r known = absurd (true≢false (sym (known refl)))
-known_or false false r known = refl
+pub account_of-append : (h es : List Entry) → account_of (h ++ es) ≡ continued_all (account_of h) es
+account_of-append h [] = ap account_of (append-nil h)
+account_of-append h (e ∷ es) =
+    ap account_of (sym (append_assoc h (e ∷ []) es))
+    ∙ account_of-append (h ++ e ∷ []) es
+    ∙ ap (λ a. continued_all a es) (account_of-snoc h e)
 
-new_or : (b t r : Bool) → ((b || (t || false)) || r) ≡ (b || (t || r))
-new_or true t r = refl
-new_or false true r = refl
-new_or false false r = refl
-
--- a name is held after entries where it was held before or one of them brings it
-pub list_any-continued_all : (name : Name) (a : State) (entries : List Entry)
-    → list_any (same_name name) (continued_all a entries).names ≡ (list_any (same_name name) a.names || list_any (brings name) entries)
-list_any-continued_all name a [] = sym (or-false _)
-list_any-continued_all name a (Fact fact ∷ entries) =
-    list_any-continued_all name (continued a (Fact fact)) entries
-    ∙ by (list_any (same_name fact.name) a.names) refl
-  where
-    by : (b : Bool) → list_any (same_name fact.name) a.names ≡ b
-        → (list_any (same_name name) (if not b then with_entry a (Fact fact) else a).names || list_any (brings name) entries) ≡ (list_any (same_name name) a.names || (same_name name fact.name || list_any (brings name) entries))
-    by true is = known_or (list_any (same_name name) a.names) (same_name name fact.name) _
-        (λ same. subst (λ n. list_any (same_name n) a.names ≡ true) (sym (same_name-exact name fact.name same)) is)
-    by false is = ap (λ b. b || list_any (brings name) entries) (list_any-append (same_name name) a.names (fact.name ∷ []))
-        ∙ new_or (list_any (same_name name) a.names) (same_name name fact.name) _
-
-not_or : (b r : Bool) → not (b || r) ≡ (not b && not r)
-not_or true r = refl
-not_or false r = refl
-
-pub is_fresh_in-continued_all : (a : State) (entries : List Entry) (e : Entry) (name : Name) → name_in e ≡ Some name
-    → is_fresh_in (continued_all a entries) e ≡ (is_fresh_in a e && not (list_any (brings name) entries))
-is_fresh_in-continued_all a entries (Fact fact) name is =
-    ap not (list_any-continued_all fact.name a entries) ∙ not_or _ _ ∙ ap (λ n. not (list_any (same_name fact.name) a.names) && not (list_any (brings n) entries)) named
-  where
-    named : fact.name ≡ name
-    named = cc
-
--- one entry more is counted where it is fresh
-pub grows_more : (n w : ℕ) (old a : State) (e : Entry) → is_fresh_in a e ≡ true → GrowsBy n w old a → GrowsBy (n + 1) (w + weight_in (items_of e)) old (continued a e)
-grows_more n w old a (Fact fact) fresh grown =
-    subst (λ b. GrowsBy (n + 1) (w + weight_in fact.items) old (if b then with_entry a (Fact fact) else a)) (sym fresh) (record {
-      names = omega (arith, grown.names, length-append a.names (fact.name ∷ []));
-      entries = omega (arith, grown.entries);
-      total = omega (arith, grown.total);
-    })
-
-pub grows_same : (n w : ℕ) (old a : State) (e : Entry) → is_fresh_in a e ≡ false → GrowsBy n w old a → GrowsBy n w old (continued a e)
-grows_same n w old a e repeat grown = subst (λ b. GrowsBy n w old (if b then with_entry a e else a)) (sym repeat) grown
-
--- with no entry the account stays
-pub grows_none : (a : State) → GrowsBy 0 0 a a
-grows_none a = record { names = sym (add-zero (length a.names)); entries = sym (add-zero a.entries); total = sym (add-zero a.total) }
-
-grows_both : (n m v w : ℕ) (a b c : State) → GrowsBy n v a b → GrowsBy m w b c → GrowsBy (n + m) (v + w) a c
-grows_both n m v w a b c first second = record {
-  names = omega (arith, first.names, second.names);
-  entries = omega (arith, first.entries, second.entries);
-  total = omega (arith, first.total, second.total);
-}
-
--- what a list of entries adds: at most as many as there are, and at most what their items weigh
-pub record Adds (a : State) (entries : List Entry) : Type 0 where
-  pub number : ℕ
-  pub weight : ℕ
-  pub few : number ≤ length entries
-  pub light : weight ≤ weight_in (items_in entries)
-  pub grows : GrowsBy number weight a (continued_all a entries)
-
-pub growth : (a : State) (entries : List Entry) → Adds a entries
-growth a [] = record { number = 0; weight = 0; few = omega arith; light = omega arith; grows = grows_none a }
-growth a (e ∷ entries) = by (is_fresh_in a e) refl (growth (continued a e) entries)
-  where
-    weighs : weight_in (items_in (e ∷ entries)) ≡ weight_in (items_of e) + weight_in (items_in entries)
-    weighs = weight_in-append (items_of e) (items_in entries)
-
-    by : (b : Bool) → is_fresh_in a e ≡ b → Adds (continued a e) entries → Adds a (e ∷ entries)
-    by true fresh rest = record {
-      number = 0 + 1 + rest.number;
-      weight = 0 + weight_in (items_of e) + rest.weight;
-      few = omega (arith, rest.few);
-      light = omega (arith, rest.light, weighs);
-      grows = grows_both (0 + 1) rest.number (0 + weight_in (items_of e)) rest.weight a (continued a e) (continued_all (continued a e) entries) (grows_more 0 0 a a e fresh (grows_none a)) rest.grows;
-    }
-    by false repeat rest = record {
-      number = 0 + rest.number;
-      weight = 0 + rest.weight;
-      few = omega (arith, rest.few);
-      light = omega (arith, rest.light, weighs);
-      grows = grows_both 0 rest.number 0 rest.weight a (continued a e) (continued_all (continued a e) entries) (grows_same 0 0 a a e repeat (grows_none a)) rest.grows;
-    }
-
--- the entries up to a place, and the one there
-pub continued_all-more : (a : State) (entries : List Entry) (i : ℕ) (d : Entry) → i < length entries
-    → continued_all a (take (i + 1) entries) ≡ continued (continued_all a (take i entries)) (get_or entries i d)
-continued_all-more a entries i d within =
-    ap (λ es. continued_all a es) (ap (λ n. take n entries) (add-one i) ∙ take-suc entries i d within)
-    ∙ fold-append continued a (take i entries) (get_or entries i d ∷ [])
-
--- what isn't fresh isn't fresh later
-pub stays_known : (a : State) (entries : List Entry) (e : Entry) → is_fresh_in a e ≡ false → is_fresh_in (continued_all a entries) e ≡ false
-stays_known a entries (Fact fact) known =
-    is_fresh_in-continued_all a entries (Fact fact) fact.name refl
-    ∙ ap (λ b. b && not (list_any (brings fact.name) entries)) known
-
--- a step of the count: n entries and the weight w are those before a place, m and v those with the entry e there
-module _ (a : State) (entries : List Entry) (i n w : ℕ) (e : Entry) (within : i < length entries) (at : e ≡ get_or entries i e) (small : n ≤ i)
-    (grown : IsGrowth (record { entries = n; weight = w }) a (continued_all a (take i entries))) where
-  more_so : continued_all a (take (i + 1) entries) ≡ continued (continued_all a (take i entries)) e
-  more_so = continued_all-more a entries i e within ∙ ap (continued (continued_all a (take i entries))) (sym at)
-
-  pub counted_fresh : (m v : ℕ) (items : List Item) → is_fresh_in (continued_all a (take i entries)) e ≡ true
-      → m ≡ n + 1 → items ≡ items_of e → v ≡ saturated (w + weight_in items)
-      → (m ≤ i + 1) × IsGrowth (record { entries = m; weight = v }) a (continued_all a (take (i + 1) entries))
-  counted_fresh m v items fresh more are weighs = (
-    omega (arith, small, more),
-    (
-      grown.0 + weight_in (items_of e),
-      omega (arith, weighs, grown.1, ap weight_in are),
-      rw (more, more_so) (grows_more n grown.0 a _ _ fresh grown.2),
-    ),
-  )
-
-  pub counted_same : (m v : ℕ) → is_fresh_in (continued_all a (take i entries)) e ≡ false → m ≡ n → v ≡ w
-      → (m ≤ i + 1) × IsGrowth (record { entries = m; weight = v }) a (continued_all a (take (i + 1) entries))
-  counted_same m v repeat same weighs = (
-    omega (arith, small, same),
-    (grown.0, weighs ∙ grown.1, rw (same, more_so) (grows_same n grown.0 a _ _ repeat grown.2)),
-  )
-
--- where there is room for all entries they can be taken
-pub room_for_all : (a : State) (entries : List Entry) (room most : Growth) → IsRoom room a → IsWithin a
-    → most.entries ≡ length entries → most.weight ≡ saturated (weight_in (items_in entries)) → most.entries ≤ room.entries → most.weight ≤ room.weight
-    → IsWithin (continued_all a entries)
-room_for_all a entries room most are within number weight few light =
-    let added : Adds a entries = growth a entries in record {
-      names = omega (arith, are.entries, within.names, number, few, added.few, added.grows.names);
-      entries = omega (arith, are.entries, within.entries, number, few, added.few, added.grows.entries);
-      total = omega (arith, are.weight, within.total, weight, light, added.light, added.grows.total);
-    }
-
--- no account is within the limits and past one
-pub apart : (a : State) → IsWithin a → IsPast a → ⊥
-apart a within (inl names) = omega (arith, within.names, names)
-apart a within (inr (inl number)) = omega (arith, within.entries, number)
-apart a within (inr (inr weight)) = omega (arith, within.total, weight)
-
--- the next name that waits, if the first of what waits is known
-split_next : {X : Type 0} (n : ℕ) (xs : List X) (y : X) (rest : List X) → drop n xs ≡ y ∷ rest
-    → (take (suc n) xs ≡ take n xs ++ y ∷ []) × (drop (suc n) xs ≡ rest) × (n < length xs)
-split_next zero [] y rest is = cc
-split_next zero (x ∷ xs) y rest is = (cc, cc, omega arith)
-split_next (suc n) [] y rest is = cc
-split_next {X} (suc n) (x ∷ xs) y rest is =
-    let next : (take (suc n) xs ≡ take n xs ++ y ∷ []) × (drop (suc n) xs ≡ rest) × (n < length xs) = split_next n xs y rest is in
-    (ap (λ (ys : List X). x ∷ ys) next.0, next.1, omega (arith, next.2))
-
--- where the name of an entry waits first, one name more is counted, and the others wait on
-pub record NextWaits (counted : ℕ) (keys : List Name) (e : Entry) : Type 0 where
-  pub there : counted + 1 ≤ length keys
-  pub names : take (counted + 1) keys ≡ take counted keys ++ names_in (e ∷ [])
-  pub waiting : drop counted keys ≡ names_in (e ∷ []) ++ drop (counted + 1) keys
-
-pub next_waits : (counted : ℕ) (keys waiting : List Name) (e : Entry) → drop counted keys ≡ waiting → IsPrefixOf (names_in (e ∷ [])) waiting → NextWaits counted keys e
-next_waits counted keys waiting (Fact fact) are (rest, starts) =
-    let next : (take (suc counted) keys ≡ take counted keys ++ fact.name ∷ []) × (drop (suc counted) keys ≡ rest) × (counted < length keys) =
-    split_next counted keys fact.name rest (are ∙ sym starts) in record {
-      there = omega (arith, next.2);
-      names = ap (λ n. take n keys) (add-one counted) ∙ next.0;
-      waiting = are ∙ sym starts ∙ ap (λ (names : List Name). fact.name ∷ names) (sym (ap (λ n. drop n keys) (add-one counted) ∙ next.1));
-    }
-
--- a fresh entry continues an account, and adds its name
-pub goes_on : (a : State) (e : Entry) → is_fresh_in a e ≡ true → continued a e ≡ with_entry a e
-goes_on a e fresh = ap (λ b. if b then with_entry a e else a) fresh
-
-pub adds_name : (a : State) (e : Entry) → is_fresh_in a e ≡ true → added_by a (e ∷ []) ≡ names_in (e ∷ [])
-adds_name a e fresh = ap (λ (s : State). drop (length a.names) s.names) (goes_on a e fresh) ∙ drop-append_seam a.names (names_in (e ∷ []))
-
--- what is counted stays where names are inserted behind, and what waits is what the entries add
-pub record Reserves (counted : ℕ) (after : List Name) (a : State) (entries : List Entry) : Type 0 where
-  pub first : counted ≤ length after
-  pub names : take counted after ≡ a.names
-  pub waiting : drop counted after ≡ added_by a entries
-
-pub reserves : (counted : ℕ) (keys before after : List Name) (a : State) (entries : List Entry) → counted ≤ length keys → take counted keys ≡ a.names
-    → before ≡ take counted keys → after ≡ insert_all same_name before (names_in entries) → Reserves counted after a entries
-reserves counted keys before after a entries first are cut inserted =
-    let added : after ≡ insert_all same_name a.names (names_in entries) = inserted ∙ ap (λ names. insert_all same_name names (names_in entries)) (cut ∙ are) in
-    let behind : (rest : List Name) × (insert_all same_name a.names (names_in entries) ≡ a.names ++ rest) = insert_all-behind a.names (names_in entries) in
-    let count : counted ≡ length a.names = sym (length-take-le counted keys first) ∙ ap length are in
-    let joined : after ≡ a.names ++ behind.0 = added ∙ behind.1 in
-    record {
-      first = omega (arith, count, ap length joined, length-append a.names behind.0);
-      names = ap (λ n. take n after) count ∙ ap (take (length a.names)) joined ∙ take-append_seam a.names behind.0;
-      waiting = ap (λ n. drop n after) count ∙ ap (drop (length a.names)) (added ∙ sym (names-continued_all a entries));
-    }
-
--- what one entry adds stands in front of what those behind it add
-pub names-continued : (a : State) (e : Entry) → (rest : List Name) × ((continued a e).names ≡ a.names ++ rest)
-names-continued a e = by (is_fresh_in a e)
-  where
-    by : (b : Bool) → (rest : List Name) × ((if b then with_entry a e else a).names ≡ a.names ++ rest)
-    by true = (names_in (e ∷ []), refl)
-    by false = ([], sym (append-nil a.names))
-
-pub added_by-cons : (a : State) (e : Entry) (entries : List Entry) → added_by a (e ∷ entries) ≡ added_by a (e ∷ []) ++ added_by (continued a e) entries
-added_by-cons a e entries =
-    let b : State = continued a e in
-    let one : (rest : List Name) × (b.names ≡ a.names ++ rest) = names-continued a e in
-    let others : (rest : List Name) × (insert_all same_name b.names (names_in entries) ≡ b.names ++ rest) = insert_all-behind b.names (names_in entries) in
-    let all : (continued_all b entries).names ≡ b.names ++ others.0 = names-continued_all b entries ∙ others.1 in
-    let adds_one : added_by a (e ∷ []) ≡ one.0 = ap (drop (length a.names)) one.1 ∙ drop-append_seam a.names one.0 in
-    let adds_others : added_by b entries ≡ others.0 = ap (drop (length b.names)) all ∙ drop-append_seam b.names others.0 in
-    let adds : added_by a (e ∷ entries) ≡ one.0 ++ others.0 =
-    ap (drop (length a.names)) (all ∙ ap (λ names. names ++ others.0) one.1 ∙ append_assoc a.names one.0 others.0) ∙ drop-append_seam a.names (one.0 ++ others.0) in
-    adds ∙ (λ i. sym adds_one i ++ sym adds_others i)
-
--- an account that is within the limits with more entries is within them
-pub IsWithin-continued_all : (a : State) (entries : List Entry) → IsWithin (continued_all a entries) → IsWithin a
-IsWithin-continued_all a entries within =
-    let grown : GrowsBy (growth a entries).number (growth a entries).weight a (continued_all a entries) = (growth a entries).grows in record {
-      names = omega (arith, within.names, grown.names);
-      entries = omega (arith, within.entries, grown.entries);
-      total = omega (arith, within.total, grown.total);
-    }
-
--- an account that is past a limit is past it with more entries
-pub IsPast-continued_all : (a : State) (entries : List Entry) → IsPast a → IsPast (continued_all a entries)
-IsPast-continued_all a entries past = by past
-  where
-    grown : GrowsBy (growth a entries).number (growth a entries).weight a (continued_all a entries)
-    grown = (growth a entries).grows
-
-    by : IsPast a → IsPast (continued_all a entries)
-    by (inl names) = inl (omega (arith, names, grown.names))
-    by (inr (inl number)) = inr (inl (omega (arith, number, grown.entries)))
-    by (inr (inr weight)) = inr (inr (omega (arith, weight, grown.total)))
-
--- the first entry of what was reserved can be taken
-pub waits_first : (v : View) (e : Entry) (entries : List Entry) → v.waiting ≡ added_by v.state (e ∷ entries) → IsPrefixOf (added_by v.state (e ∷ [])) v.waiting
-waits_first v e entries waits = (added_by (continued v.state e) entries, sym (waits ∙ added_by-cons v.state e entries))
-
--- the state of a run over a list that was reserved: some entries were taken, the others are left and their names wait
-pub record TakesInTurn (start : State) (all taken left : List Entry) (number : ℕ) (account : View) : Type 0 where
-  pub entries : taken ++ left ≡ all
-  pub count : number ≡ length left
-  pub state : account.state ≡ continued_all start taken
-  pub waiting : account.waiting ≡ added_by account.state left
-  pub within : IsWithin (continued_all account.state left)
-
-module _ (start : State) (all taken left rest : List Entry) (number : ℕ) (old : View) (e : Entry)
-    (turn : TakesInTurn start all taken left number old) (is : left ≡ e ∷ rest) where
-  waits_so : old.waiting ≡ added_by old.state (e ∷ rest)
-  waits_so = turn.waiting ∙ ap (added_by old.state) is
-
-  within_so : IsWithin (continued_all (continued old.state e) rest)
-  within_so = subst (λ es. IsWithin (continued_all old.state es)) is turn.within
-
-  pub turn_waits : IsPrefixOf (added_by old.state (e ∷ [])) old.waiting
-  turn_waits = waits_first old e rest waits_so
-
-  pub turn_within : IsWithin (continued old.state e)
-  turn_within = IsWithin-continued_all _ rest within_so
-
-  pub turn_next : (fewer : ℕ) (new : View) → fewer + 1 ≡ number → new.state ≡ continued old.state e
-      → old.waiting ≡ added_by old.state (e ∷ []) ++ new.waiting → TakesInTurn start all (taken ++ e ∷ []) rest fewer new
-  turn_next fewer new one continues waits = record {
-    entries = append_assoc taken (e ∷ []) rest ∙ ap (λ es. taken ++ es) (sym is) ∙ turn.entries;
-    count = omega (arith, turn.count, one, ap length is);
-    state = continues ∙ ap (λ a. continued a e) turn.state ∙ sym (fold-append continued start taken (e ∷ []));
-    waiting =
-        append_cancel_left (added_by old.state (e ∷ [])) new.waiting (added_by (continued old.state e) rest)
-        (sym waits ∙ waits_so ∙ added_by-cons old.state e rest)
-        ∙ ap (λ a. added_by a rest) (sym continues);
-    within = subst (λ a. IsWithin (continued_all a rest)) (sym continues) within_so;
-  }
+-- what isn't fresh leaves the account as it is
+pub account_of-repeat : (a : State) (h : List Entry) (e : Entry) → a ≡ account_of h → is_fresh_in a e ≡ false → a ≡ account_of (h ++ e ∷ [])
+account_of-repeat a h e is repeat =
+    sym (ap (λ b. if b then entry_taken a e else a) repeat) ∙ ap (λ s. continued s e) is ∙ sym (account_of-snoc h e)

@@ -1,6 +1,13 @@
-pub mod NameLemmas
-pub mod WeightLemmas
+pub mod KeyLemmas
 pub mod FreshLemmas
 pub mod AccountLemmas
-pub mod AppendLemmas
+pub mod OrderLemmas
+pub mod TotalLemmas
+pub mod LawLemmas
+pub mod ModuleLemmas
 pub mod PlaceLemmas
+pub mod TakingLemmas
+pub mod EntryLemmas
+pub mod GrowLemmas
+pub mod ReserveLemmas
+pub mod WorkedRows

@@ -1,5 +1,5 @@
 -- The first place at which a test passes, and the front of a list.
-use Rattle.std.proofs.Common.{◌≡◌, ℕ, zero, suc, ◌+◌, ◌≤◌, Bool, true, false, cond, not, nat_lt, List, [], ◌∷◌, length, take, None, Some, ◌||◌, refl, sym, ap, ◌∙◌, arith}
+use Rattle.std.proofs.Common.{◌≡◌, ℕ, zero, suc, ◌+◌, ◌≤◌, ◌<◌, Bool, true, false, cond, not, nat_lt, List, [], ◌∷◌, ◌++◌, length, take, drop, get_or, drop-cons, add-one, None, Some, ◌||◌, refl, sym, ap, ◌∙◌, arith}
 use Rattle.std.specs.List.{list_any, position, position_or_len}
 use Rattle.std.proofs.lemmas.Bool.Decides.{nat_tests}
 
@@ -29,3 +29,21 @@ list_any-take-None t xs n within is = list_any-take t xs n within ∙ by (nat_lt
     by : (b : Bool) → nat_lt (position_or_len t xs) (length xs) ≡ b → None ≡ cond b (Some (position_or_len t xs)) None → nat_lt (position_or_len t xs) n ≡ false
     by true test there = cc
     by false test there = grind (arith, nat_tests)
+
+-- one element more of a list is the first of what is left
+pub take-next : {X : Type 0} (n : ℕ) (xs : List X) → take (suc n) xs ≡ take n xs ++ take 1 (drop n xs)
+take-next zero [] = refl
+take-next zero (x ∷ xs) = refl
+take-next (suc n) [] = refl
+take-next {X} (suc n) (x ∷ xs) = ap (λ (ys : List X). x ∷ ys) (take-next n xs)
+
+pub drop-next : {X : Type 0} (n : ℕ) (xs : List X) → drop (suc n) xs ≡ drop 1 (drop n xs)
+drop-next zero [] = refl
+drop-next zero (x ∷ xs) = refl
+drop-next (suc n) [] = refl
+drop-next (suc n) (x ∷ xs) = drop-next n xs
+
+-- the elements from a place on: the one there, and those behind it
+pub drop-at : {X : Type 0} (xs : List X) (i : ℕ) (x : X) → i < length xs → x ≡ get_or xs i x → drop i xs ≡ x ∷ drop (i + 1) xs
+drop-at {X} xs i x within is =
+    drop-cons xs i x within ∙ ap (λ (y : X). y ∷ drop (suc i) xs) (sym is) ∙ ap (λ n. x ∷ drop n xs) (sym (add-one i))

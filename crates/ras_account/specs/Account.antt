@@ -1,78 +1,81 @@
--- What an account of a list of entries is, and how one entry more continues it.
-use Rattle.std.specs.Prelude.{ℕ, ◌+◌, ◌^◌, ◌<◌, ◌≤◌, ◌⊎◌, Bool, not, List, [], ◌∷◌, ◌++◌, if◌then◌else◌, length, drop, fold, map, flat_map, slice_index}
-use Rattle.std.specs.List.{list_any}
-use Rattle.mca_status.specs.Classes.{class_number}
+-- What the account of a list of entries is. Each of its parts is a function of the fresh entries alone, and each row of
+-- its items alone: the sums of a module are sums over the items that have its label, and the row of a page runs one
+-- bucket along the items that name the page.
+use Rattle.std.specs.Prelude.{ℕ, ◌^◌, nat_eq, List, [], ◌∷◌, map, filter, length}
+use Rattle.std.specs.List.{sum_by, sum}
 use Rattle.mca_status.specs.declared.classes.ItemClass.{ItemClass}
-use Rattle.ras_facts.specs.declared.items.Item.{Item}
+use Rattle.mca_status.specs.declared.classes.ItemClass.TheVariants.{Ce, Ucna, Srao, Srar, Uc, Odd, Corrected, Recoverable, Fatal, Informational}
+use Rattle.mca_status.specs.Classes.{class_number}
+use Rattle.dimm_topology.specs.Labels.{Bytes, same_label}
+use Rattle.page_policy.specs.declared.buckets.Limit.{Limit}
+use Rattle.page_policy.specs.declared.rows.Row.{Row}
+use Rattle.page_policy.specs.Rows.{Report}
+use Rattle.page_policy.specs.Tables.{table, of_key}
+use Rattle.page_policy.specs.Histories.{rows_of, page_history as page_history_of}
 use Rattle.ras_facts.specs.declared.name.Name.{Name}
 use Rattle.ras_account.specs.declared.entry.Entry.{Entry}
-use Rattle.ras_account.specs.declared.entry.Entry.TheVariants.{Fact}
-use Rattle.ras_account.specs.Fresh.{names_in, same_name, fresh}
-use Rattle.ras_account.specs.Weights.{weight_in, of_class, classes, sums_of}
+use Rattle.ras_account.specs.Fresh.{names_in, fresh, limit_after}
+use Rattle.ras_account.specs.Sightings.{Sighting, sightings, label_of, weight_of, reports_of}
 
--- what is counted: the names in the order in which they came, the number of fresh entries, the weights of their items
--- together, and for each of the ten classes, in the order of their numbers, the weights of its items together
+-- the ten classes of items, in the order of their numbers
+abbrev pub classes : List ItemClass
+classes = Ce ∷ Ucna ∷ Srao ∷ Srar ∷ Uc ∷ Odd ∷ Corrected ∷ Recoverable ∷ Fatal ∷ Informational ∷ []
+
+-- the sum of the weights of the items of a class
+abbrev pub class_weight : List Sighting → ItemClass → ℕ
+class_weight ss class = sum_by weight_of (filter (λ s. nat_eq (class_number class) (class_number s.item.class)) ss)
+
+-- the row of a module, by the items that have its label: ten sums, in the order of the class numbers
+abbrev pub module_row : List Sighting → List ℕ
+module_row ss = map (class_weight ss) classes
+
+-- the items of a list's fresh entries that have a label, in order
+abbrev pub module_history : List Entry → Bytes → List Sighting
+module_history history label = of_key same_label label_of (sightings history) label
+
+-- what is counted of a module and a class: the weights of the items of fresh entries with that label and class
+abbrev pub module_count : List Entry → Bytes → ItemClass → ℕ
+module_count history label class = class_weight (module_history history label) class
+
+-- the items of a list's fresh entries that name a page, in order, each with its time and the limit in force at it
+abbrev pub page_history : List Entry → ℕ → List Report
+page_history history page = page_history_of (reports_of (sightings history)) page
+
+-- what is counted
 pub record State : Type 0 where
+  -- the names of facts
   pub names : List Name
+  -- the limit in force
+  pub limit : Limit
+  -- how many entries
   pub entries : ℕ
+  -- the weights of all items together
   pub total : ℕ
-  pub sums : List ℕ
+  -- the labels in first-seen order, each with its ten sums
+  pub modules : List (Bytes × List ℕ)
+  -- the pages in first-seen order, each with its bucket and its state
+  pub pages : List (ℕ × Row)
 
--- the items that an entry reports
-abbrev pub items_of : Entry → List Item
-items_of (Fact fact) = fact.items
-
--- the items that the entries of a list report, in order
-abbrev pub items_in : List Entry → List Item
-items_in entries = flat_map items_of entries
-
--- each of these entries counted
-abbrev pub counted : List Entry → State
-counted entries = record {
-  names = names_in entries;
-  entries = length entries;
-  total = weight_in (items_in entries);
-  sums = sums_of (items_in entries);
+-- the account of names, a limit in force, a number of entries, and items
+abbrev pub counted : List Name → Limit → ℕ → List Sighting → State
+counted names limit entries ss = record {
+  names = names;
+  limit = limit;
+  entries = entries;
+  total = sum_by weight_of ss;
+  modules = table same_label label_of module_row ss;
+  pages = rows_of (reports_of ss);
 }
 
--- the account of a list of entries: its fresh ones are counted
+-- the account of a list of entries
 abbrev pub account_of : List Entry → State
-account_of history = counted (fresh history)
+account_of history = counted (names_in (fresh history)) (limit_after history) (length (fresh history)) (sightings history)
 
--- the sum of a class in an account
-abbrev pub sum_in : State → ItemClass → ℕ
-sum_in a class = slice_index a.sums (class_number class)
+-- all weights that rows of modules hold together
+abbrev pub weight_in : List (Bytes × List ℕ) → ℕ
+weight_in modules = sum_by (λ row. sum row.1) modules
 
--- whether an entry is fresh in an account: a fact whose name isn't held
-abbrev pub is_fresh_in : State → Entry → Bool
-is_fresh_in a (Fact fact) = not (list_any (same_name fact.name) a.names)
-
--- the ten sums with the weights of more items: each class has those of its items more
-unfoldable pub sums_with : List ℕ → List Item → List ℕ
-sums_with sums items = map (λ class. slice_index sums (class_number class) + weight_in (of_class class items)) classes
-
--- an account with one entry more, which is fresh
-abbrev pub with_entry : State → Entry → State
-with_entry a entry = record {
-  names = a.names ++ names_in (entry ∷ []);
-  entries = a.entries + 1;
-  total = a.total + weight_in (items_of entry);
-  sums = sums_with a.sums (items_of entry);
-}
-
--- an account continued by an entry: it counts the entry where it is fresh, and else stays
-abbrev pub continued : State → Entry → State
-continued a entry = if is_fresh_in a entry then with_entry a entry else a
-
--- an account continued by each entry of a list in order
-abbrev pub continued_all : State → List Entry → State
-continued_all a entries = fold continued a entries
-
--- the names that a list of entries adds to an account, in order
-abbrev pub added_by : State → List Entry → List Name
-added_by a entries = drop (length a.names) (continued_all a entries).names
-
--- how many names, how many entries and how much weight an account holds at most
+-- how many names an account holds at most, and how many entries and how much weight it counts at most
 abbrev pub most_names : ℕ
 most_names = 200000
 
@@ -81,13 +84,3 @@ most_entries = 2 ^ 62
 
 abbrev pub most_weight : ℕ
 most_weight = 2 ^ 62
-
--- an account within the three limits
-pub record IsWithin (a : State) : Type 0 where
-  pub names : length a.names ≤ most_names
-  pub entries : a.entries ≤ most_entries
-  pub total : a.total ≤ most_weight
-
--- an account past one of them
-abbrev pub IsPast : State → Type 0
-IsPast a = (most_names < length a.names) ⊎ ((most_entries < a.entries) ⊎ (most_weight < a.total))

@@ -1,8 +1,11 @@
 pub mod Fresh
-pub mod Weights
+pub mod Sightings
 pub mod Account
+pub mod Continued
+pub mod Orders
 pub mod View
-pub mod Weighed
-pub mod Saturated
-pub mod Growth
+pub mod Valid
+pub mod Parts
+pub mod Taking
 pub mod Kept
+pub mod Reserving

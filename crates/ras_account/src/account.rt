@@ -1,25 +1,26 @@
 // The account.
-ghost use Rattle.std.specs.Prelude.{◌≡◌, ◌↔◌, ◌<◌, ◌≤◌, ◌+◌, ◌++◌, List, [], ◌∷◌, length, Some, slice_get, Err, OnOk, OnErr, IfOk};
-ghost use Rattle.std.specs.Bool.{IsFalse, OnTrue};
-ghost use Rattle.std.specs.List.{list_any};
-ghost use Rattle.ras_base.specs.Prefix.{IsPrefixOf};
+ghost use Rattle.std.specs.Prelude.{◌≡◌, ◌+◌, ◌<◌, ◌≤◌, ◌++◌, List, [], ◌∷◌, IsTrue, Some, Err, IfOk, OnOk, OnErr, length, slice_get, option_to_list};
+ghost use Rattle.std.specs.Bool.{IsFalse};
 ghost use Rattle.ras_account.specs.declared.entry.Entry.{Entry};
-ghost use Rattle.ras_account.specs.Fresh.{names_in, same_name, is_fresh_behind, entries_of};
-ghost use Rattle.ras_account.specs.Account.{account_of, items_of, is_fresh_in, sum_in, sums_with, with_entry, continued, continued_all, added_by, IsWithin, IsPast};
-ghost use Rattle.ras_account.specs.Growth.{IsGrowth, IsRoom};
-ghost use Rattle.ras_account.specs.Weights.{weight_in};
+ghost use Rattle.ras_account.specs.Fresh.{is_fresh_behind};
+ghost use Rattle.ras_account.specs.Account.{account_of, weight_in, most_entries, most_weight};
+ghost use Rattle.ras_account.specs.Continued.{is_fresh_in, entry_taken, continued, continued_all, IsWithin, IsPast};
+ghost use Rattle.ras_account.specs.Orders.{order_in, orders_along, orders_at, orders_behind};
+ghost use Rattle.page_policy.specs.Buckets.{IsLimit};
+ghost use Rattle.ras_account.specs.View.{Waiting, nothing, then_waits, WaitsFirst, added_by};
+ghost use Rattle.ras_account.specs.Valid.{IsValidEntry, items_in};
+ghost use Rattle.ras_account.specs.Reserving.{Noted};
+ghost use Rattle.ras_account.specs.Taking.{IsNext, item_seen, Gives, sighting, AreNext, TakesItems, sightings_of, CanTakeFact, TakesFact, Takes};
 
-use crate::growth::{Growth, weight_with};
-use crate::reserve::{add_names, some_brings};
-use crate::weights::Weights;
-use crate::{Entry, ReserveRefused};
-use indexmap::IndexSet;
-use mca_status::ItemClass;
+use crate::modules::Modules;
+use crate::names::Names;
+use crate::reserve::Tally;
+use crate::{Entry, ModuleRow, Orders, ReserveRefused};
+use page_policy::{Limit, Pages};
 use ras_base::NoMemory;
-use ras_facts::{Fact, Name};
+use ras_facts::{Fact, Item, Name};
 use std::alloc::Global;
 use std::marker::Model;
-use std::slice;
 
 /// The most names that an account holds.
 pub const MOST_NAMES: usize = 200_000;
@@ -27,117 +28,213 @@ pub const MOST_NAMES: usize = 200_000;
 /// The most entries that an account counts.
 pub const MOST_ENTRIES: u64 = 1 << 62;
 
-/// The most that the items that an account counts weigh together.
+/// The most weight that an account counts.
 pub const MOST_WEIGHT: u64 = 1 << 62;
 
-/// What was counted so far: the names of the reports in the order in which they came, the number of entries, and the
-/// weights of their items, all together and of each class.
+/// The limit in force at first: ten errors a day.
+const FIRST_LIMIT: Limit = Limit {
+    capacity: 10,
+    period: 86_400,
+};
+
+/// What was counted so far: the names of the reports in the order in which they came, what they say of memory modules
+/// and of pages, and the limit in force.
 ///
-/// Names can wait behind those that are counted, so that their entries can be taken with no memory. No call tells of
-/// what waits.
+/// Names, labels and pages can wait behind those that are counted, so that their entries can be taken with no memory. No
+/// call tells of what waits.
 #[derive(Drop)]
 pub struct Account {
-    names: IndexSet<Name>,
-    counted: usize,
+    names: Names,
+    limit: Limit,
     entries: u64,
-    weights: Weights,
+    total: u64,
+    modules: Modules,
+    pages: Pages,
+    alloc: Global,
 }
 
 impl Model for Account {
-    ghost use Rattle.std.specs.Prelude.{take, drop};
-    ghost use Rattle.ras_account.specs.View.{View};
+    ghost use Rattle.page_policy.specs.Buckets.{IsLimit};
+ghost use Rattle.ras_account.specs.View.{View};
     ghost use Rattle.ras_account.specs.Kept.{IsKept};
 
     ghost Value = { View };
 
     ghost view = { λ a. record {
-      state = record { names = take a.counted a.names.keys; entries = a.entries; total = a.weights.total; sums = a.weights.sums };
-      waiting = drop a.counted a.names.keys;
+      state = record {
+        names = a.names.held;
+        limit = a.limit;
+        entries = a.entries;
+        total = a.total;
+        modules = a.modules.rows;
+        pages = a.pages.rows;
+      };
+      waiting = record { names = a.names.waiting; labels = a.modules.waiting; pages = a.pages.waiting };
     } };
 
-    ghost invariant = { λ a. IsKept a.counted a.names.keys a.entries a.weights };
+    ghost invariant = { λ a. IsKept a.names.held a.limit a.entries a.total a.modules.rows };
 }
 
 impl Account {
     /// An account that counts nothing.
     pub fn new(alloc: Global) -> Account
         ensures state { result.state ≡ account_of [] }
-        ensures waiting { result.waiting ≡ [] }
+        ensures waiting { result.waiting ≡ nothing }
     {
         Account {
-            names: IndexSet::new(alloc),
-            counted: 0,
+            names: Names::new(alloc),
+            limit: FIRST_LIMIT,
             entries: 0,
-            weights: Weights::new(),
+            total: 0,
+            modules: Modules::new(alloc),
+            pages: Pages::new(alloc),
+            alloc,
         }
     }
 
-    /// The account of these facts, each taken in order. Nothing waits in it.
-    ///
-    /// `Full` comes only where the account of them all is past `MOST_NAMES`, `MOST_ENTRIES` or `MOST_WEIGHT`, and the
-    /// account comes only where it is not.
-    pub fn of_facts(alloc: Global, facts: Vec<Fact>) -> Result<Account, ReserveRefused>
-        ensures state { IfOk result (λ a. a.state ≡ account_of (entries_of facts.items)) }
-        ensures waiting { IfOk result (λ a. a.waiting ≡ []) }
-        ensures full { result ≡ Err ReserveRefused.Full → IsPast (account_of (entries_of facts.items)) }
-        ensures within { OnOk result (IsWithin (account_of (entries_of facts.items))) }
-    {
-        let mut account = Account::new(alloc);
-        for fact in facts {
-            account.append(Entry::Fact(fact))?;
-        }
-        Ok(account)
-    }
-
-    /// Whether taking this entry would count it.
+    /// Whether taking this entry would count it: a fact whose name isn't held, or a limit other than the one in force.
     pub fn is_fresh(&self, entry: &Entry) -> bool
         ensures fresh { result ≡ is_fresh_in self.now.state entry.now }
         ensures history { (history : List Entry) → self.now.state ≡ account_of history → result ≡ is_fresh_behind history entry.now }
         ensures repeat { (history : List Entry) → self.now.state ≡ account_of history → IsFalse result → self.now.state ≡ account_of (history ++ entry.now ∷ []) }
     {
         match entry {
-            Entry::Fact(fact) => !self.holds(&fact.name),
+            Entry::Fact(fact) => !self.names.holds(&fact.name),
+            Entry::Limit(limit) => *limit != self.limit,
         }
     }
 
-    /// Lets the names that these entries add wait, so that each entry can be taken in turn with no memory. What waited
-    /// before is given up. What is counted stays, and after a refusal nothing waits.
+    /// Lets what these entries add wait, so that each entry can be taken in turn with no memory: the names, the labels and
+    /// the pages that they bring first. What waited before is given up. What is counted stays, and after a refusal nothing
+    /// waits.
     ///
-    /// `Full` comes exactly where with the fresh entries the account would pass `MOST_NAMES`, `MOST_ENTRIES` or
-    /// `MOST_WEIGHT`.
+    /// `Full` comes only where with those of the entries that are fresh the account would pass `MOST_NAMES`, `MOST_ENTRIES`
+    /// or `MOST_WEIGHT`, and it always comes there where memory doesn't run out before.
     pub fn reserve(&mut self, entries: &[Entry]) -> Result<(), ReserveRefused>
         ensures state { self.new.state ≡ self.old.state }
         ensures ok { OnOk result (self.new.waiting ≡ added_by self.old.state entries.now) }
-        ensures err { OnErr result (self.new.waiting ≡ []) }
-        ensures full { (result ≡ Err ReserveRefused.Full) ↔ IsPast (continued_all self.old.state entries.now) }
+        ensures err { OnErr result (self.new.waiting ≡ nothing) }
+        ensures full { result ≡ Err ReserveRefused.Full → IsPast (continued_all self.old.state entries.now) }
         ensures within { OnOk result (IsWithin (continued_all self.old.state entries.now)) }
     {
-        self.names.truncate(self.counted);
-        if !self.has_room_for(entries) {
-            return Err(ReserveRefused::Full);
-        }
-        match add_names(&mut self.names, entries) {
+        self.give_up();
+        match self.let_wait(entries) {
             Ok(()) => Ok(()),
-            Err(NoMemory) => {
-                self.names.truncate(self.counted);
-                Err(ReserveRefused::NoMemory)
+            Err(refused) => {
+                self.give_up();
+                Err(refused)
             }
         }
     }
 
-    /// Counts the entry, if it is fresh.
+    /// Counts the entry, if it is fresh, and puts the orders that it gives behind `orders`.
     ///
-    /// The name that it adds has to wait, before any other that waits, and there has to be room for it.
-    pub fn take(&mut self, entry: Entry)
-        requires waits { IsPrefixOf (added_by self.old.state (entry ∷ [])) self.old.waiting }
+    /// The entry has to be valid. What it adds has to wait, before all else that waits, and it then waits no longer; the
+    /// orders need room for one of each item; and with the entry the account has to stay within `MOST_NAMES`,
+    /// `MOST_ENTRIES` and `MOST_WEIGHT`.
+    pub fn take(&mut self, entry: Entry, orders: &mut Orders)
+        requires valid { IsValidEntry entry }
+        requires waits { WaitsFirst (added_by self.old.state (entry ∷ [])) self.old.waiting }
+        requires room { length (items_in entry) ≤ orders.old.room }
         requires within { IsWithin (continued self.old.state entry) }
         ensures state { self.new.state ≡ continued self.old.state entry }
-        ensures waiting { self.old.waiting ≡ added_by self.old.state (entry ∷ []) ++ self.new.waiting }
+        ensures waiting { self.old.waiting ≡ then_waits (added_by self.old.state (entry ∷ [])) self.new.waiting }
+        ensures orders { orders.new.orders ≡ orders.old.orders ++ orders_at self.old.state entry }
+        ensures room { orders.new.room + length (orders_at self.old.state entry) ≡ orders.old.room }
+
+        // Where what a list of entries adds waits, the entries can be taken in turn.
+        ensures in_turn { (entries : List Entry) → self.old.waiting ≡ added_by self.old.state (entry ∷ entries) → self.new.waiting ≡ added_by self.new.state entries }
+
+        // The account of a list becomes that of the list with the entry behind it, and the orders are those of the list.
         ensures history { (history : List Entry) → self.old.state ≡ account_of history → self.new.state ≡ account_of (history ++ entry ∷ []) }
+        ensures history_orders { (history : List Entry) → self.old.state ≡ account_of history → orders.new.orders ≡ orders.old.orders ++ orders_behind history entry }
     {
-        if self.is_fresh(&entry) {
-            self.count(&entry);
+        self.take_any(entry, orders);
+    }
+
+    // Counts the entry, if it is fresh.
+    fn take_any(&mut self, entry: Entry, orders: &mut Orders)
+        requires valid { IsValidEntry entry }
+        requires waits { WaitsFirst (added_by self.old.state (entry ∷ [])) self.old.waiting }
+        requires room { length (items_in entry) ≤ orders.old.room }
+        requires within { IsWithin (continued self.old.state entry) }
+        ensures { Takes self.old self.new orders.old orders.new entry }
+    {
+        if !self.is_fresh(&entry) {
+            return;
         }
+        match entry {
+            Entry::Fact(fact) => self.take_fact(&fact, orders),
+            Entry::Limit(limit) => self.settle(limit),
+        }
+    }
+
+    // Counts an item of a fact that came at this time.
+    fn take_item(&mut self, item: &Item, seconds: u64, orders: &mut Orders)
+        requires next { IsNext self.old item.now }
+        requires total { self.old.state.total + item.now.weight ≤ most_weight }
+        requires room { 0 < orders.old.room }
+        ensures account { self.new ≡ item_seen self.old (sighting item.now seconds self.old.state.limit) }
+        ensures orders { Gives orders.old orders.new (option_to_list (order_in self.old.state.pages (sighting item.now seconds self.old.state.limit))) }
+    {
+        self.total += u64::from(item.weight);
+        self.modules.count(item);
+        if let Some(page) = item.page {
+            if let Some(order) = self.pages.account(page, item.class, seconds, item.weight, self.limit) {
+                orders.push(order);
+            }
+        }
+    }
+
+    // Counts the items of a fact that came at this time, in order.
+    fn take_items(&mut self, items: &[Item], seconds: u64, orders: &mut Orders)
+        requires next { (rest : Waiting) × AreNext self.old items.now rest }
+        requires room { length items.now ≤ orders.old.room }
+        ensures account { TakesItems self.old self.new seconds items.now }
+        ensures orders { Gives orders.old orders.new (orders_along self.old.state.pages (sightings_of self.old.state.limit seconds items.now)) }
+    {
+        for item in items {
+            self.take_item(item, seconds, orders);
+        }
+    }
+
+    // Counts a fact that is fresh: its name, and then its items.
+    fn take_fact(&mut self, fact: &Fact, orders: &mut Orders)
+        requires ready { CanTakeFact self.old fact.now }
+        requires room { length fact.now.items ≤ orders.old.room }
+        ensures account { TakesFact self.old self.new fact.now }
+        ensures orders { Gives orders.old orders.new (orders_along self.old.state.pages (sightings_of self.old.state.limit fact.now.seconds fact.now.items)) }
+    {
+        self.entries += 1;
+        self.names.count_next();
+        self.take_items(fact.items.as_slice(), fact.seconds, orders);
+    }
+
+    // Counts a limit that is fresh: from now on it is in force.
+    fn settle(&mut self, limit: Limit)
+        requires limit { IsLimit limit }
+        requires room { self.old.state.entries < most_entries }
+        ensures state { self.new.state ≡ entry_taken self.old.state (Entry.Limit limit) }
+        ensures waiting { self.new.waiting ≡ self.old.waiting }
+    {
+        self.entries += 1;
+        self.limit = limit;
+    }
+
+    /// How many names are counted.
+    pub fn names_len(&self) -> usize
+        ensures count { result ≡ length self.now.state.names }
+        ensures within { IsWithin self.now.state }
+    {
+        self.names.len()
+    }
+
+    /// The counted name at a place, from 0 in the order in which they came.
+    pub fn name(&self, i: usize) -> &Name
+        requires { i < length self.now.state.names }
+        ensures { slice_get self.now.state.names i ≡ Some result.now }
+    {
+        self.names.get(i)
     }
 
     /// How many entries are counted.
@@ -148,118 +245,91 @@ impl Account {
         self.entries
     }
 
-    /// The weights of all items that are counted, together.
+    /// The weights of all items together.
     pub fn total(&self) -> u64
-        ensures weight { result ≡ self.now.state.total }
+        ensures total { result ≡ self.now.state.total }
+        ensures rows { result ≡ weight_in self.now.state.modules }
         ensures within { IsWithin self.now.state }
     {
-        self.weights.total()
+        self.total
     }
 
-    /// The weights of the items of a class that are counted, together.
-    pub fn sum(&self, class: ItemClass) -> u64
-        ensures weight { result ≡ sum_in self.now.state class }
-        ensures bounded { result ≤ self.now.state.total }
+    /// The limit in force.
+    pub fn limit(&self) -> Limit
+        ensures limit { result ≡ self.now.state.limit }
+        ensures valid { IsLimit result }
     {
-        self.weights.sum(class)
+        self.limit
     }
 
-    /// How many names are counted.
-    pub fn names_len(&self) -> usize
-        ensures count { result ≡ length self.now.state.names }
-        ensures within { IsWithin self.now.state }
+    /// How many modules have a row.
+    pub fn modules_len(&self) -> usize
+        ensures { result ≡ length self.now.state.modules }
     {
-        self.counted
+        self.modules.len()
     }
 
-    /// The counted name at a place, from 0 in the order in which they came.
-    pub fn name(&self, i: usize) -> &Name
-        requires { i < length self.now.state.names }
-        ensures { slice_get self.now.state.names i ≡ Some result.now }
+    /// The row of the module at a place, from 0 in the order in which they were first seen.
+    pub fn module(&self, i: usize) -> &ModuleRow
+        requires { i < length self.now.state.modules }
+        ensures { slice_get self.now.state.modules i ≡ Some (result.now.label, result.now.sums) }
     {
-        &self.names.as_slice()[i]
+        self.modules.row(i)
     }
 
-    // Whether a name is counted.
-    fn holds(&self, name: &Name) -> bool
-        ensures { result ≡ list_any (same_name name.now) self.now.state.names }
+    /// The pages, in the order in which they were first seen.
+    pub fn pages(&self) -> &Pages
+        ensures { result.now.rows ≡ self.now.state.pages }
     {
-        match self.names.get_index_of(name) {
-            Some(place) => place < self.counted,
-            None => false,
+        &self.pages
+    }
+
+    // Lets nothing wait any longer.
+    fn give_up(&mut self)
+        ensures state { self.new.state ≡ self.old.state }
+        ensures waiting { self.new.waiting ≡ nothing }
+    {
+        self.names.give_up();
+        self.modules.give_up();
+        // Neither answer leaves a page that waits.
+        let _ = self.pages.reserve(&[]);
+    }
+
+    // Lets what these entries add wait, where nothing waits.
+    fn let_wait(&mut self, entries: &[Entry]) -> Result<(), ReserveRefused>
+        requires { self.old.waiting ≡ nothing }
+        ensures state { self.new.state ≡ self.old.state }
+        ensures ok { OnOk result (self.new.waiting ≡ added_by self.old.state entries.now) }
+        ensures full { result ≡ Err ReserveRefused.Full → IsPast (continued_all self.old.state entries.now) }
+        ensures within { OnOk result (IsWithin (continued_all self.old.state entries.now)) }
+    {
+        let tally = self.noted(entries)?;
+        if self.names.len_with_waiting() > MOST_NAMES
+            || tally.entries > MOST_ENTRIES
+            || tally.total > MOST_WEIGHT
+        {
+            return Err(ReserveRefused::Full);
         }
-    }
-
-    // Counts a fresh entry. Its name waits before any other, and there is room for it.
-    fn count(&mut self, entry: &Entry)
-        requires waits { IsPrefixOf (names_in (entry.now ∷ [])) self.old.waiting }
-        requires within { IsWithin (with_entry self.old.state entry.now) }
-        ensures names { self.new.state.names ≡ self.old.state.names ++ names_in (entry.now ∷ []) }
-        ensures waiting { self.old.waiting ≡ names_in (entry.now ∷ []) ++ self.new.waiting }
-        ensures entries { self.new.state.entries ≡ self.old.state.entries + 1 }
-        ensures total { self.new.state.total ≡ self.old.state.total + weight_in (items_of entry.now) }
-        ensures sums { self.new.state.sums ≡ sums_with self.old.state.sums (items_of entry.now) }
-    {
-        self.counted += 1;
-        self.entries += 1;
-        self.weights.add_all(entry.items());
-    }
-
-    // Makes room for one entry and takes it. What waited before is given up.
-    fn append(&mut self, entry: Entry) -> Result<(), ReserveRefused>
-        ensures state { OnOk result (self.new.state ≡ continued self.old.state entry) }
-        ensures waiting { OnOk result (self.new.waiting ≡ []) }
-        ensures full { result ≡ Err ReserveRefused.Full → IsPast (continued self.old.state entry) }
-        ensures within { OnOk result (IsWithin (continued self.old.state entry)) }
-    {
-        self.reserve(slice::from_ref(&entry))?;
-        self.take(entry);
+        self.pages.reserve(tally.pages.as_slice())?;
         Ok(())
     }
 
-    // Whether taking these entries in turn would keep within the limits. No memory is asked for, so that a full account
-    // is known as such even where memory is out. Names are compared only where there isn't room for all of the entries.
-    fn has_room_for(&self, entries: &[Entry]) -> bool
-        ensures past { IsFalse result ↔ IsPast (continued_all self.now.state entries.now) }
-        ensures within { OnTrue result (IsWithin (continued_all self.now.state entries.now)) }
+    // Notes the entries in order: their names and labels wait, and the tally has the rest.
+    fn noted(&mut self, entries: &[Entry]) -> Result<Tally, NoMemory>
+        requires { self.old.waiting ≡ nothing }
+        ensures state { self.new.state ≡ self.old.state }
+        ensures pages { self.new.waiting.pages ≡ [] }
+        ensures noted { IfOk result (λ tally. Noted self.old.state (continued_all self.old.state entries.now) self.new.waiting tally) }
     {
-        let room = self.room();
-        Growth::most_of(entries).fits(room) || self.growth_by(entries).fits(room)
-    }
-
-    // What the account can grow by within the limits.
-    fn room(&self) -> Growth
-        ensures room { IsRoom result self.now.state }
-        ensures within { IsWithin self.now.state }
-    {
-        Growth {
-            entries: (MOST_NAMES - self.counted).min((MOST_ENTRIES - self.entries) as usize),
-            weight: MOST_WEIGHT - self.weights.total(),
+        let mut tally = Tally {
+            limit: self.limit,
+            entries: self.entries,
+            total: self.total,
+            pages: Vec::new(self.alloc),
+        };
+        for entry in entries {
+            tally.note(self.alloc, &mut self.names, &mut self.modules, entry)?;
         }
-    }
-
-    // What the account would grow by if these entries were taken in turn.
-    fn growth_by(&self, entries: &[Entry]) -> Growth
-        ensures { IsGrowth result self.now.state (continued_all self.now.state entries.now) }
-    {
-        let mut count = 0;
-        let mut weight = 0;
-        for (i, entry) in entries.iter().enumerate() {
-            if self.is_fresh_after(&entries[..i], entry) {
-                count += 1;
-                weight = weight_with(weight, entry.items());
-            }
-        }
-        Growth {
-            entries: count,
-            weight,
-        }
-    }
-
-    // Whether an entry would be counted if it were taken after these.
-    fn is_fresh_after(&self, before: &[Entry], entry: &Entry) -> bool
-        ensures { result ≡ is_fresh_in (continued_all self.now.state before.now) entry.now }
-    {
-        self.is_fresh(entry) && !some_brings(before, entry.name())
+        Ok(tally)
     }
 }

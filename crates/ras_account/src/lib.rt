@@ -1,4 +1,4 @@
-//! What was counted so far: each report once, by its name, with the weights of its items.
+//! What was counted so far: each report once, by its name, with what it says of memory modules and of pages.
 //!
 //! An account is a function of the list of entries that were taken. The definitions in `specs/` say which one, and the
 //! contracts of `Account` say that each call keeps it.
@@ -6,16 +6,15 @@
 
 mod account;
 mod entry;
-mod growth;
 mod laws;
+mod modules;
+mod names;
+mod orders;
 mod reserve;
-mod weights;
 
 pub use account::{Account, MOST_ENTRIES, MOST_NAMES, MOST_WEIGHT};
 pub use entry::Entry;
 pub use laws::{account_laws, reserve_laws};
-pub use ras_facts::{Fact, Item, Items, Name};
+pub use modules::ModuleRow;
+pub use orders::Orders;
 pub use reserve::ReserveRefused;
-
-#[cfg(test)]
-mod tests;

@@ -1,13 +1,18 @@
 -- The fact that a bank's snapshot gives.
-use Rattle.std.specs.Prelude.{Option, [], ◌∷◌}
+use Rattle.std.specs.Prelude.{Option, List, [], ◌∷◌, unwrap_or}
 use Rattle.std.specs.Option.{option_map}
 use Rattle.mca_status.specs.declared.registers.Cap.{Cap}
 use Rattle.mca_status.specs.declared.registers.Status.{Status}
 use Rattle.mca_status.specs.declared.registers.Misc.{Misc}
 use Rattle.mca_status.specs.declared.classes.Class.{Class}
 use Rattle.mca_status.specs.Classes.{class_of_rows, item_class_of}
-use Rattle.mca_status.specs.Address.{usable_page_of}
+use Rattle.mca_status.specs.Registers.{error_code}
+use Rattle.mca_status.specs.Address.{usable_address_of, usable_page_of}
 use Rattle.mca_status.specs.Weight.{weight_of}
+use Rattle.mca_codes.specs.Codes.{code_of_rows}
+use Rattle.dimm_topology.specs.declared.row.Row.{Row}
+use Rattle.dimm_topology.specs.Labels.{Bytes}
+use Rattle.dimm_topology.specs.Owners.{owner_by_rows}
 use Rattle.ras_facts.specs.declared.name.Name.{Name}
 use Rattle.ras_facts.specs.declared.name.Name.TheVariants.{Bank}
 use Rattle.ras_facts.specs.declared.items.Item.{Item}
@@ -28,16 +33,24 @@ misc_in bank = record { 0 = bank.misc }
 abbrev pub bank_name : BankReport → Name
 bank_name bank = Bank bank.boot bank.cpu bank.bank bank.tsc
 
+-- the label of the module that owns the error of a snapshot, by the rows of a topology; the empty one is none
+abbrev pub bank_label : BankReport → List Row → Bytes
+bank_label bank rows =
+    unwrap_or
+    (owner_by_rows rows bank.cpu bank.bank (code_of_rows (error_code (status_in bank))) (usable_address_of (cap_in bank) (status_in bank) bank.addr (misc_in bank)))
+    []
+
 -- the item of an error of this class
-abbrev pub bank_item : BankReport → Class → Item
-bank_item bank class = record {
+abbrev pub bank_item : BankReport → List Row → Class → Item
+bank_item bank rows class = record {
   class = item_class_of class;
+  label = bank_label bank rows;
   page = usable_page_of (cap_in bank) (status_in bank) bank.addr (misc_in bank);
   weight = weight_of (cap_in bank) (status_in bank);
 }
 
 -- the fact of a snapshot, where the bank holds an error: it has the one item
-abbrev pub bank_fact : BankReport → Option Fact
-bank_fact bank =
-    option_map (λ class. record { name = bank_name bank; seconds = bank.seconds; items = bank_item bank class ∷ [] })
+abbrev pub bank_fact : BankReport → List Row → Option Fact
+bank_fact bank rows =
+    option_map (λ class. record { name = bank_name bank; seconds = bank.seconds; items = bank_item bank rows class ∷ [] })
     (class_of_rows (cap_in bank) (status_in bank))

@@ -2,11 +2,13 @@
 ghost use Rattle.std.specs.Prelude.{◌≡◌, ◌↔◌, Ok, None, IfOk, IfSome};
 ghost use Rattle.std.specs.Bool.{IsFalse};
 ghost use Rattle.mca_status.specs.Registers.{valid};
-ghost use Rattle.ras_facts.specs.Facts.{bank_name, status_in, bank_fact};
-ghost use Rattle.ras_facts.specs.Valid.{IsValidFact};
+ghost use Rattle.ras_facts.specs.Facts.{bank_name, bank_label, bank_item, status_in, bank_fact};
+ghost use Rattle.ras_facts.specs.Valid.{IsValidItem, IsValidFact};
 
 use crate::{Fact, Item, Items, Name};
-use mca_status::{Cap, Misc, Status, class_of, usable_page, weight_of};
+use dimm_topology::{Label, Topology};
+use mca_codes::code_of;
+use mca_status::{Cap, Class, Misc, Status, class_of, usable_address, usable_page, weight_of};
 use ras_base::NoMemory;
 use std::alloc::Global;
 
@@ -47,29 +49,57 @@ impl BankReport {
             tsc: self.tsc,
         }
     }
+
+    // The label of the module that the error belongs to, by its address or else by the memory channel of its code.
+    fn label(&self, alloc: Global, topology: &Topology) -> Result<Label, NoMemory>
+        ensures { IfOk result (λ label. label ≡ bank_label self.now topology.now) }
+    {
+        let (cap, status) = (Cap(self.cap), Status(self.status));
+        let address = usable_address(cap, status, self.addr, Misc(self.misc));
+        let code = code_of(status.error_code());
+        match topology.owner_of_bank(self.cpu, self.bank, code, address) {
+            Some(owner) => owner.copy(alloc),
+            None => Ok(Label::none()),
+        }
+    }
+
+    // The item of an error of this class.
+    fn item(&self, alloc: Global, class: Class, topology: &Topology) -> Result<Item, NoMemory>
+        ensures item { IfOk result (λ item. item ≡ bank_item self.now topology.now class) }
+        ensures valid { IfOk result IsValidItem }
+    {
+        let (cap, status) = (Cap(self.cap), Status(self.status));
+        let label = self.label(alloc, topology)?;
+        Ok(Item {
+            class: class.into(),
+            label,
+            page: usable_page(cap, status, self.addr, Misc(self.misc)),
+            weight: weight_of(cap, status),
+        })
+    }
 }
 
-/// The fact that a bank's snapshot gives: one item with the class, the usable page and the weight of the error. It is
-/// None exactly where the bank holds no error (VAL is 0), which takes no memory. (Intel SDM, volume 3, chapter
-/// "Machine-Check Architecture".)
-pub fn fact_of_bank(alloc: Global, bank: &BankReport) -> Result<Option<Fact>, NoMemory>
-    ensures fact { IfOk result (λ fact. fact ≡ bank_fact bank.now) }
+/// The fact that a bank's snapshot gives: one item with the class, the owner by the topology, the usable page and the
+/// weight of the error. It is None exactly where the bank holds no error (VAL is 0), which takes no memory. (Intel SDM,
+/// volume 3, chapter "Machine-Check Architecture".)
+pub fn fact_of_bank(
+    alloc: Global,
+    bank: &BankReport,
+    topology: &Topology,
+) -> Result<Option<Fact>, NoMemory>
+    ensures fact { IfOk result (λ fact. fact ≡ bank_fact bank.now topology.now) }
     ensures none { (result ≡ Ok None) ↔ IsFalse (valid (status_in bank.now)) }
     ensures valid { IfOk result (λ fact. IfSome fact IsValidFact) }
 {
-    let (cap, status) = (Cap(bank.cap), Status(bank.status));
-    let Some(class) = class_of(cap, status) else {
+    let Some(class) = class_of(Cap(bank.cap), Status(bank.status)) else {
         return Ok(None);
     };
+    let seconds = bank.seconds;
     let mut items = Items::new(alloc);
-    items.push(Item {
-        class: class.into(),
-        page: usable_page(cap, status, bank.addr, Misc(bank.misc)),
-        weight: weight_of(cap, status),
-    })?;
+    items.push(bank.item(alloc, class, topology)?)?;
     Ok(Some(Fact {
         name: bank.name(),
-        seconds: bank.seconds,
+        seconds,
         items,
     }))
 }

@@ -1,16 +1,19 @@
 // The items of a report.
 ghost use Rattle.std.specs.Prelude.{◌≡◌, ◌++◌, [], ◌∷◌, OnOk, OnErr};
 
+use dimm_topology::Label;
 use mca_status::ItemClass;
 use ras_base::NoMemory;
 use std::alloc::Global;
 use std::marker::Model;
 
 /// One of the things that a report tells.
-#[derive(Clone, Copy, Debug, PartialEq, Eq)]
+#[derive(Debug, Drop, PartialEq, Eq)]
 pub struct Item {
     /// The class of the error.
     pub class: ItemClass,
+    /// The memory module that the error belongs to, or none.
+    pub label: Label,
     /// The number of the page of 4,096 bytes that the error lies in, if it is known.
     pub page: Option<u64>,
     /// How many errors the item stands for.

@@ -1,5 +1,6 @@
 // What no clause says: that the calls succeed, and what lines of a log give.
 use super::*;
+use dimm_topology::{Label, Topology};
 use mca_status::ItemClass;
 use std::test::Fail;
 
@@ -19,6 +20,7 @@ const EVERYDAY: BankReport = BankReport {
 
 #[test]
 fn gives_the_item_of_a_bank(rt: HostRuntime) -> Result<(), Fail> {
+    let topology = Topology::new(rt.alloc());
     for (cap, status, addr, class, page, weight) in [
         (
             0x0100_0c14,
@@ -67,7 +69,7 @@ fn gives_the_item_of_a_bank(rt: HostRuntime) -> Result<(), Fail> {
             addr,
             ..EVERYDAY
         };
-        let fact = fact_of_bank(rt.alloc(), &bank)?;
+        let fact = fact_of_bank(rt.alloc(), &bank, &topology)?;
         assert!(rt; fact.is_some());
         if let Some(
             Fact {
@@ -88,6 +90,7 @@ fn gives_the_item_of_a_bank(rt: HostRuntime) -> Result<(), Fail> {
                 items.into_vec().as_slice(),
                 [Item {
                     class,
+                    label: Label::none(),
                     page,
                     weight
                 }]
@@ -104,6 +107,6 @@ fn a_bank_without_an_error_gives_nothing(rt: HostRuntime) -> Result<(), Fail> {
         status: 0x0c00_0040_0001_0090,
         ..EVERYDAY
     };
-    assert!(rt; fact_of_bank(rt.alloc(), &bank)?.is_none());
+    assert!(rt; fact_of_bank(rt.alloc(), &bank, &Topology::new(rt.alloc()))?.is_none());
     Ok(())
 }

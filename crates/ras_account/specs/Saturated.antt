@@ -1,6 +1,0 @@
--- Sums as 64 bits hold them. It only carries proofs.
-use Rattle.std.specs.Prelude.{ℕ, ◌-◌, ◌^◌, min}
-
--- a number, or the greatest of 64 bits where it is greater
-abbrev pub saturated : ℕ → ℕ
-saturated n = min n (2 ^ 64 - 1)

@@ -1,0 +1,73 @@
+// The orders that entries give.
+ghost use Rattle.std.specs.Prelude.{◌≡◌, ◌+◌, ◌<◌, ◌↔◌, ◌++◌, [], ◌∷◌, IsTrue, Some, IfOk, length, slice_get};
+
+use page_policy::Order;
+use ras_base::NoMemory;
+use std::alloc::Global;
+use std::marker::Model;
+
+/// Orders in the order in which they were given, with room for more, which was taken beforehand.
+///
+/// Contracts see the orders, and how many more there is room for.
+#[derive(Debug, Drop)]
+pub struct Orders {
+    places: Vec<Order>,
+    given: usize,
+}
+
+impl Model for Orders {
+    ghost use Rattle.std.specs.Prelude.{◌≤◌, ◌-◌, length, take};
+    ghost use Rattle.ras_account.specs.View.{OrderList};
+
+    ghost Value = { OrderList };
+
+    ghost view = { λ o. record { orders = take o.given o.places.items; room = length o.places.items - o.given } };
+
+    ghost invariant = { λ o. o.given ≤ length o.places.items };
+}
+
+impl Orders {
+    /// No orders, and room for `n`.
+    pub fn new(alloc: Global, n: usize) -> Result<Orders, NoMemory>
+        ensures orders { IfOk result (λ list. list.orders ≡ []) }
+        ensures room { IfOk result (λ list. list.room ≡ n) }
+    {
+        // What stands at a place before an order is given there is never told.
+        Ok(Orders {
+            places: vec![in alloc; Order::Soft(0); n]?,
+            given: 0,
+        })
+    }
+
+    /// How many orders were given.
+    pub fn len(&self) -> usize
+        ensures { result ≡ length self.now.orders }
+    {
+        self.given
+    }
+
+    /// Whether no order was given.
+    pub fn is_empty(&self) -> bool
+        ensures { IsTrue result ↔ (self.now.orders ≡ []) }
+    {
+        self.given == 0
+    }
+
+    /// The order at a place, from 0.
+    pub fn get(&self, i: usize) -> Order
+        requires { i < length self.now.orders }
+        ensures { slice_get self.now.orders i ≡ Some result }
+    {
+        self.places[i]
+    }
+
+    // Puts an order behind the others.
+    pub(crate) fn push(&mut self, order: Order)
+        requires { 0 < self.old.room }
+        ensures orders { self.new.orders ≡ self.old.orders ++ order ∷ [] }
+        ensures room { self.new.room + 1 ≡ self.old.room }
+    {
+        self.places[self.given] = order;
+        self.given += 1;
+    }
+}

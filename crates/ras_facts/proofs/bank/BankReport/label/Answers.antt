@@ -1,0 +1,18 @@
+use Rattle.std.proofs.Common.{◌≡◌, [], ◌∙◌, ap, unwrap_or, Result, Ok, Err, IfOk}
+use Rattle.mca_codes.specs.Codes.{code_of_rows}
+use Rattle.mca_status.specs.Registers.{error_code}
+use Rattle.dimm_topology.specs.Owners.{owner_by_rows}
+use Rattle.ras_facts.specs.Facts.{status_in}
+use Rattle.ras_facts.proofs.bank.BankReport.label.Goals as goal
+
+-- what an answer is equal to may be said in other words
+ok_is : {T E : Type 0} (r : Result T E) (a b : T) → IfOk r (λ x. x ≡ a) → a ≡ b → IfOk r (λ x. x ≡ b)
+ok_is (Ok value) a b is same = is ∙ same
+ok_is (Err error) a b is same = tt
+
+pub returns-in-Some : goal.returns-in-Some
+returns-in-Some c =
+    let code : c.code_of-code.result ≡ code_of_rows (error_code (status_in c.args.self.now)) = c.code_of-code.ensures.rows ∙ ap code_of_rows c.error_code.ensures.code in
+    ok_is c.copy.result _ _ c.copy.ensures
+    (ap (λ owner. unwrap_or owner [])
+    (c.in-Some.ensures.owner ∙ (λ i. owner_by_rows c.args.topology.now c.args.self.now.cpu c.args.self.now.bank (code i) (c.usable_address-address.ensures.address i))))
