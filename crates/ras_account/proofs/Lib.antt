@@ -11,3 +11,4 @@ pub mod EntryLemmas
 pub mod GrowLemmas
 pub mod ReserveLemmas
 pub mod WorkedRows
+pub mod AgainLemmas

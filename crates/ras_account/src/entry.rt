@@ -1,4 +1,5 @@
 // What an account takes.
+ghost use Rattle.std.specs.Prelude.{◌≡◌, length};
 
 use page_policy::Limit;
 use ras_facts::Fact;
@@ -10,4 +11,18 @@ pub enum Entry {
     Fact(Fact),
     /// From now on this limit is in force.
     Limit(Limit),
+}
+
+impl Entry {
+    ghost use Rattle.ras_account.specs.Valid.{items_in};
+
+    /// How many items the entry has. A limit has none.
+    pub fn item_count(&self) -> usize
+        ensures { result ≡ length (items_in self.now) }
+    {
+        match self {
+            Entry::Fact(fact) => fact.items.as_slice().len(),
+            Entry::Limit(_) => 0,
+        }
+    }
 }

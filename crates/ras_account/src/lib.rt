@@ -5,6 +5,7 @@
 #![tactic(auto)]
 
 mod account;
+mod again;
 mod entry;
 mod laws;
 mod modules;
