@@ -151,14 +151,18 @@ growth a (e ∷ entries) = by (is_fresh_in a e) refl (growth (continued a e) ent
       weight = 0 + weight_in (items_of e) + rest.weight;
       few = omega (arith, rest.few);
       light = omega (arith, rest.light, weighs);
-      grows = grows_both (0 + 1) rest.number (0 + weight_in (items_of e)) rest.weight a (continued a e) (continued_all (continued a e) entries) (grows_more 0 0 a a e fresh (grows_none a)) rest.grows;
+      grows =
+          grows_both (0 + 1) rest.number (0 + weight_in (items_of e)) rest.weight a (continued a e) (continued_all (continued a e) entries)
+          (grows_more 0 0 a a e fresh (grows_none a)) rest.grows;
     }
     by false repeat rest = record {
       number = 0 + rest.number;
       weight = 0 + rest.weight;
       few = omega (arith, rest.few);
       light = omega (arith, rest.light, weighs);
-      grows = grows_both 0 rest.number 0 rest.weight a (continued a e) (continued_all (continued a e) entries) (grows_same 0 0 a a e repeat (grows_none a)) rest.grows;
+      grows =
+          grows_both 0 rest.number 0 rest.weight a (continued a e) (continued_all (continued a e) entries)
+          (grows_same 0 0 a a e repeat (grows_none a)) rest.grows;
     }
 
 -- the entries up to a place, and the one there
@@ -240,13 +244,6 @@ next_waits counted keys waiting (Fact fact) are (rest, starts) =
       names = ap (λ n. take n keys) (add-one counted) ∙ next.0;
       waiting = are ∙ sym starts ∙ ap (λ (names : List Name). fact.name ∷ names) (sym (ap (λ n. drop n keys) (add-one counted) ∙ next.1));
     }
-
--- a fresh entry continues an account, and adds its name
-pub goes_on : (a : State) (e : Entry) → is_fresh_in a e ≡ true → continued a e ≡ with_entry a e
-goes_on a e fresh = ap (λ b. if b then with_entry a e else a) fresh
-
-pub adds_name : (a : State) (e : Entry) → is_fresh_in a e ≡ true → added_by a (e ∷ []) ≡ names_in (e ∷ [])
-adds_name a e fresh = ap (λ (s : State). drop (length a.names) s.names) (goes_on a e fresh) ∙ drop-append_seam a.names (names_in (e ∷ []))
 
 -- what is counted stays where names are inserted behind, and what waits is what the entries add
 pub record Reserves (counted : ℕ) (after : List Name) (a : State) (entries : List Entry) : Type 0 where

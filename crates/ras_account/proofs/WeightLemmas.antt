@@ -11,7 +11,6 @@ use Rattle.mca_status.specs.declared.classes.ItemClass.TheVariants.{Ce, Ucna, Sr
 use Rattle.ras_facts.specs.declared.items.Item.{Item}
 use Rattle.ras_account.specs.declared.entry.Entry.{Entry}
 use Rattle.ras_account.specs.Account.{items_of, items_in, sums_with}
-use Rattle.ras_account.specs.Saturated.{saturated}
 use Rattle.ras_account.specs.Weighed.{Weighed, weighed_with}
 use Rattle.ras_account.specs.Weights.{weight_in, of_class, sums_of}
 
@@ -70,7 +69,9 @@ sums_with-one : (sums : List ℕ) (item : Item) → length sums ≡ 10
 unfolding sums_with
 sums_with-one (a ∷ b ∷ c ∷ d ∷ e ∷ f ∷ g ∷ h ∷ i ∷ j ∷ []) item ten = by item.class
   where
-    by : (class : ItemClass) → set (a ∷ b ∷ c ∷ d ∷ e ∷ f ∷ g ∷ h ∷ i ∷ j ∷ []) (class_number class) (get_or (a ∷ b ∷ c ∷ d ∷ e ∷ f ∷ g ∷ h ∷ i ∷ j ∷ []) (class_number class) 0 + item.weight)
+    by : (class : ItemClass)
+        → set (a ∷ b ∷ c ∷ d ∷ e ∷ f ∷ g ∷ h ∷ i ∷ j ∷ []) (class_number class)
+        (get_or (a ∷ b ∷ c ∷ d ∷ e ∷ f ∷ g ∷ h ∷ i ∷ j ∷ []) (class_number class) 0 + item.weight)
         ≡ sums_with (a ∷ b ∷ c ∷ d ∷ e ∷ f ∷ g ∷ h ∷ i ∷ j ∷ []) (record { class = class; page = item.page; weight = item.weight } ∷ [])
     by Ce = simp (add-zero, zero-add) refl
     by Ucna = simp (add-zero, zero-add) refl
@@ -88,23 +89,12 @@ pub length-sums_with : (sums : List ℕ) (items : List Item) → length (sums_wi
 unfolding sums_with
 length-sums_with sums items = refl
 
-pub class_number-lt : (class : ItemClass) → class_number class < 10
-class_number-lt Ce = omega arith
-class_number-lt Ucna = omega arith
-class_number-lt Srao = omega arith
-class_number-lt Srar = omega arith
-class_number-lt Uc = omega arith
-class_number-lt Odd = omega arith
-class_number-lt Corrected = omega arith
-class_number-lt Recoverable = omega arith
-class_number-lt Fatal = omega arith
-class_number-lt Informational = omega arith
-
 -- what an item of a class and a weight weighs in another class
 abbrev share : ItemClass → ItemClass → ℕ → ℕ
 share class own w = cond (class_number class == class_number own) w 0
 
-class_weight-cons : (class : ItemClass) (item : Item) (items : List Item) → class_weight class (item ∷ items) ≡ share class item.class item.weight + class_weight class items
+class_weight-cons : (class : ItemClass) (item : Item) (items : List Item)
+    → class_weight class (item ∷ items) ≡ share class item.class item.weight + class_weight class items
 class_weight-cons class item items = by (class_number class == class_number item.class)
   where
     by : (b : Bool) → weight_in (cond b (item ∷ of_class class items) (of_class class items)) ≡ cond b item.weight 0 + weight_in (of_class class items)
@@ -112,7 +102,8 @@ class_weight-cons class item items = by (class_number class == class_number item
     by false = sym (zero-add _)
 
 shares : (own : ItemClass) (w : ℕ) →
-    sum (share Ce own w ∷ share Ucna own w ∷ share Srao own w ∷ share Srar own w ∷ share Uc own w ∷ share Odd own w ∷ share Corrected own w ∷ share Recoverable own w ∷ share Fatal own w ∷ share Informational own w ∷ []) ≡ w
+    sum (share Ce own w ∷ share Ucna own w ∷ share Srao own w ∷ share Srar own w ∷ share Uc own w ∷ share Odd own w
+    ∷ share Corrected own w ∷ share Recoverable own w ∷ share Fatal own w ∷ share Informational own w ∷ []) ≡ w
 shares Ce w = omega arith
 shares Ucna w = omega arith
 shares Srao w = omega arith
@@ -158,10 +149,6 @@ slice_index-sums_of items Recoverable = refl
 slice_index-sums_of items Fatal = refl
 slice_index-sums_of items Informational = refl
 
--- what a sum of 64 bits holds once more is added
-pub saturated-add : (a b : ℕ) → saturated (saturated a + b) ≡ saturated (a + b)
-saturated-add a b = omega arith
-
 -- the weights with two lists of items more
 weighed_with-append : (weights : Weighed) (xs ys : List Item) → weighed_with (weighed_with weights xs) ys ≡ weighed_with weights (xs ++ ys)
 weighed_with-append weights xs ys = λ i. record {
@@ -188,26 +175,3 @@ weighed_with-more weights items i d before after ten within so_far total sums =
     one ∙ ap (λ v. weighed_with v (item ∷ [])) so_far
     ∙ weighed_with-append weights (take i items) (item ∷ [])
     ∙ ap (weighed_with weights) (sym (ap (λ n. take n items) (add-one i) ∙ take-suc items i d within))
-
--- a weight with the items up to a place, and with the one there, as 64 bits hold it
-pub saturated_with-more : (n : ℕ) (items : List Item) (i : ℕ) (d : Item) (before w after : ℕ) → i < length items
-    → before ≡ saturated (n + weight_in (take i items)) → w ≡ (get_or items i d).weight → after ≡ saturated (before + w) → after ≡ saturated (n + weight_in (take (i + 1) items))
-saturated_with-more n items i d before w after within so_far weighs one =
-    let upto : weight_in (take (i + 1) items) ≡ weight_in (take i items) + (get_or items i d).weight =
-    ap weight_in (ap (λ n. take n items) (add-one i) ∙ take-suc items i d within) ∙ weight_in-append (take i items) (get_or items i d ∷ []) ∙ ap (λ m. weight_in (take i items) + m) (zero-add _) in
-    omega (arith, so_far, weighs, one, upto)
-
--- what the items of the entries up to a place weigh, and of the one there
-pub weight_in-more : (entries : List Entry) (i : ℕ) (d : Entry) → i < length entries
-    → weight_in (items_in (take (i + 1) entries)) ≡ weight_in (items_in (take i entries)) + weight_in (items_of (get_or entries i d))
-weight_in-more entries i d within =
-    ap (λ es. weight_in (items_in es)) (ap (λ n. take n entries) (add-one i) ∙ take-suc entries i d within)
-    ∙ ap weight_in (items_in-snoc (take i entries) (get_or entries i d))
-    ∙ weight_in-append (items_in (take i entries)) (items_of (get_or entries i d))
-
--- the same as 64 bits hold it
-pub saturated_in-more : (entries : List Entry) (i : ℕ) (d : Entry) (items : List Item) (before after : ℕ) → i < length entries
-    → before ≡ saturated (weight_in (items_in (take i entries))) → items ≡ items_of (get_or entries i d) → after ≡ saturated (before + weight_in items)
-    → after ≡ saturated (weight_in (items_in (take (i + 1) entries)))
-saturated_in-more entries i d items before after within so_far are one =
-    omega (arith, so_far, one, ap weight_in are, weight_in-more entries i d within)
