@@ -1,12 +1,16 @@
--- How facts are spelled as the entries of a file. Each number of several bytes stands from its low byte on.
+-- How entries are spelled in a file. Each number of several bytes stands from its low byte on.
 use Rattle.std.specs.Prelude.{ℕ, List, [], ◌∷◌, ◌++◌, length, Option, None, Some}
 use Rattle.std.specs.List.{flat_map}
 use Rattle.ras_base.specs.LittleEndian.{u16_bytes, u64_bytes}
 use Rattle.mca_status.specs.Classes.{class_number}
+use Rattle.dimm_topology.specs.Labels.{Bytes}
 use Rattle.ras_facts.specs.declared.name.Name.{Name}
 use Rattle.ras_facts.specs.declared.name.Name.TheVariants.{Bank}
 use Rattle.ras_facts.specs.declared.items.Item.{Item}
 use Rattle.ras_facts.specs.declared.fact.Fact.{Fact}
+use Rattle.page_policy.specs.declared.buckets.Limit.{Limit}
+use Rattle.ras_account.specs.declared.entry.Entry.{Entry}
+use Rattle.ras_account.specs.declared.entry.Entry.TheVariants as entry
 
 -- the name of a bank's report: the kind 1, the boot (8 bytes), the processor (2), the bank (1) and the time-stamp
 -- counter (8)
@@ -18,19 +22,28 @@ unfoldable pub page_bytes : Option ℕ → List ℕ
 page_bytes None = 0 ∷ []
 page_bytes (Some page) = 1 ∷ u64_bytes page
 
--- an item: the number of its class (1), a label of no bytes (1), its page, and its weight (2)
+-- a label: the number of its bytes (1), and its bytes; none has no bytes
+unfoldable pub label_bytes : Bytes → List ℕ
+label_bytes label = length label ∷ label
+
+-- an item: the number of its class (1), its label, its page, and its weight (2)
 unfoldable pub item_bytes : Item → List ℕ
-item_bytes item = class_number item.class ∷ 0 ∷ [] ++ page_bytes item.page ++ u16_bytes item.weight
+item_bytes item = class_number item.class ∷ label_bytes item.label ++ page_bytes item.page ++ u16_bytes item.weight
 
 -- a fact: its name, its seconds (8), the number of its items (2), and the items in order
 unfoldable pub fact_bytes : Fact → List ℕ
 fact_bytes fact =
     name_bytes fact.name ++ u64_bytes fact.seconds ++ u16_bytes (length fact.items) ++ flat_map item_bytes fact.items
 
--- an entry: the kind 1, and a fact
-unfoldable pub entry_bytes : Fact → List ℕ
-entry_bytes fact = 1 ∷ fact_bytes fact
+-- a limit: its capacity (8), and its period in seconds (8)
+unfoldable pub limit_bytes : Limit → List ℕ
+limit_bytes limit = u64_bytes limit.capacity ++ u64_bytes limit.period
+
+-- an entry: the kind 1 and a fact, or the kind 2 and a limit
+unfoldable pub entry_bytes : Entry → List ℕ
+entry_bytes (entry.Fact fact) = 1 ∷ fact_bytes fact
+entry_bytes (entry.Limit limit) = 2 ∷ limit_bytes limit
 
 -- the entries of a whole file, one behind the other
-abbrev pub entries_bytes : List Fact → List ℕ
-entries_bytes facts = flat_map entry_bytes facts
+abbrev pub entries_bytes : List Entry → List ℕ
+entries_bytes entries = flat_map entry_bytes entries

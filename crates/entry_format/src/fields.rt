@@ -5,10 +5,12 @@
 ghost use Rattle.std.specs.Prelude.{◌≡◌};
 ghost use Rattle.entry_format.specs.Reading.{Gives, u16_at, u64_at, byte_at, behind, name_at, class_of, class_at, page_number_at, page_at, weight_at, item_at};
 
-use crate::kinds::{BANK, NO_LABEL};
+use crate::kinds::BANK;
+use crate::labels::label_at;
 use crate::refused::EntryRefused;
 use mca_status::ItemClass;
 use ras_facts::{Item, Name};
+use std::alloc::Global;
 
 // The pages of 4,096 bytes that 64 bits address are below this number.
 const PAGES: u64 = 1 << 52;
@@ -40,7 +42,7 @@ pub(crate) fn u64_at(bytes: &[u8]) -> Result<(u64, &[u8]), EntryRefused>
 
 // A byte.
 #[tactic(auto, unfolding(crate::specs::Reading::byte_at))]
-fn byte_at(bytes: &[u8]) -> Result<(u8, &[u8]), EntryRefused>
+pub(crate) fn byte_at(bytes: &[u8]) -> Result<(u8, &[u8]), EntryRefused>
     ensures { Gives (λ x. (x.0, x.1.now)) result (byte_at bytes.now) }
 {
     match bytes {
@@ -160,15 +162,16 @@ fn weight_at(bytes: &[u8]) -> Result<(u16, &[u8]), EntryRefused>
 
 // An item.
 #[tactic(auto, unfolding(crate::specs::Reading::item_at))]
-pub(crate) fn item_at(bytes: &[u8]) -> Result<(Item, &[u8]), EntryRefused>
+pub(crate) fn item_at(alloc: Global, bytes: &[u8]) -> Result<(Item, &[u8]), EntryRefused>
     ensures { Gives (λ x. (x.0, x.1.now)) result (item_at bytes.now) }
 {
     let (class, rest) = class_at(bytes)?;
-    let rest = behind(NO_LABEL, rest)?;
+    let (label, rest) = label_at(alloc, rest)?;
     let (page, rest) = page_at(rest)?;
     let (weight, rest) = weight_at(rest)?;
     let item = Item {
         class,
+        label,
         page,
         weight,
     };
