@@ -1,11 +1,15 @@
 -- What the file holds as entries are reported.
-use Rattle.std.proofs.Common.{◌≡◌, ℕ, ◌≤◌, Bool, true, false, List, [], ◌∷◌, ◌++◌, length, Option, None, Some, if◌then◌else◌, refl, ap, sym, ◌∙◌, subst, append_assoc, append-nil}
+use Rattle.std.proofs.Common.{◌≡◌, ℕ, ◌≤◌, Bool, true, false, List, [], ◌∷◌, ◌++◌, length, Option, None, Some, if◌then◌else◌, refl, ap, sym, ◌∙◌, subst, append_assoc, append-nil, arith}
+use Rattle.std.specs.List.{All}
+use Rattle.entry_format.proofs.SizeLaws.{one_item_most, limit_size}
+use Rattle.entry_format.specs.Writable.{HasLabel, IsWritable}
 use Rattle.entry_format.specs.Spelling.{entry_bytes, entries_bytes}
 use Rattle.ras_account.specs.declared.entry.Entry.{Entry}
+use Rattle.ras_account.specs.declared.entry.Entry.TheVariants.{Fact as Report, Limit as Settles}
 use Rattle.ras_account.specs.Fresh.{fresh, is_fresh_behind}
-use Rattle.ras_account.specs.Valid.{IsValidEntry}
+use Rattle.ras_account.specs.Valid.{items_in}
 use Rattle.ras_account.proofs.FreshLemmas.{fresh-snoc}
-use Rattle.ras_daemon.specs.Event.{AreValid}
+use Rattle.ras_daemon.specs.Event.{AreWritable, IsFit, longest_entry}
 use Rattle.ras_daemon.specs.PlainFile.{stored}
 
 -- an entry more, which is fresh or not
@@ -27,20 +31,23 @@ stored-new before entry new = ap entries_bytes (fresh-new before entry new) ∙ 
 pub stored-old : (before : List Entry) (entry : Entry) → is_fresh_behind before entry ≡ false → stored (before ++ entry ∷ []) ≡ stored before
 stored-old before entry old = ap entries_bytes (fresh-old before entry old)
 
--- the fresh ones of valid entries are valid
-valid-snoc : (entries : List Entry) (entry : Entry) → AreValid entries → IsValidEntry entry → AreValid (entries ++ entry ∷ [])
-valid-snoc [] entry all one = (one, tt)
-valid-snoc (e ∷ entries) entry all one = (all.0, valid-snoc entries entry all.1 one)
+-- the file can hold the fresh ones of entries that it can hold
+writable-snoc : (entries : List Entry) (entry : Entry) → AreWritable entries → IsWritable entry → AreWritable (entries ++ entry ∷ [])
+writable-snoc [] entry all one = (one, tt)
+writable-snoc (e ∷ entries) entry all one = (all.0, writable-snoc entries entry all.1 one)
 
-valid-one : (before : List Entry) (entry : Entry) → AreValid (fresh before) → IsValidEntry entry → AreValid (fresh (before ++ entry ∷ []))
-valid-one before entry all one = by (is_fresh_behind before entry) refl
+pub writable-one : (before : List Entry) (entry : Entry) → AreWritable (fresh before) → IsWritable entry → AreWritable (fresh (before ++ entry ∷ []))
+writable-one before entry all one = by (is_fresh_behind before entry) refl
   where
-    by : (b : Bool) → is_fresh_behind before entry ≡ b → AreValid (fresh (before ++ entry ∷ []))
-    by true new = rw (fresh-new before entry new) (valid-snoc (fresh before) entry all one)
+    by : (b : Bool) → is_fresh_behind before entry ≡ b → AreWritable (fresh (before ++ entry ∷ []))
+    by true new = rw (fresh-new before entry new) (writable-snoc (fresh before) entry all one)
     by false old = rw (fresh-old before entry old) all
 
-pub valid-more : (before entries : List Entry) → AreValid (fresh before) → AreValid entries → AreValid (fresh (before ++ entries))
-valid-more before [] all more = rw (append-nil before) all
-valid-more before (entry ∷ entries) all more =
-    subst (λ (es : List Entry). AreValid (fresh es)) (append_assoc before (entry ∷ []) entries)
-    (valid-more (before ++ entry ∷ []) entries (valid-one before entry all more.0) more.1)
+-- the entry of an event is short
+pub short_entry : (entry : Entry) → IsFit entry → All HasLabel (items_in entry) → length (entry_bytes entry) ≤ longest_entry
+short_entry (Report fact) fit labels = one_item_most fact fit.one.0 (record { valid = fit.valid; labels = labels }) fit.one.1
+short_entry (Settles limit) fit labels = omega (arith, limit_size limit)
+
+pub few_items : (entry : Entry) → IsFit entry → length (items_in entry) ≤ 65535
+few_items (Report fact) fit = fit.valid.count
+few_items (Settles limit) fit = omega arith

@@ -123,7 +123,8 @@ line_within [] = tt
 line_within (kind ∷ words) =
     kind_within (slice_index kind 0 == 35) (named kinds kind words)
     (named_within kinds kind words (
-      fields_within words, cpu_within words, module_within words, range_within words, limit_within words, restart_within words, tt
+      fields_within words,
+      (cpu_within words, (module_within words, (range_within words, (limit_within words, (restart_within words, tt))))),
     ))
 
 pub refused_has_words : (words : List (List ℕ)) → IsErr (line_of_words words) → 0 < length words

@@ -1,5 +1,5 @@
 -- A line as text is read as that line.
-use Rattle.std.proofs.Common.{◌≡◌, ℕ, ◌-◌, ◌^◌, ◌<◌, ◌≤◌, ◌==◌, ◌&&◌, not, nat_le, Bool, true, false, List, [], ◌∷◌, length, refl, ap, subst, ◌∙◌, arith, Result, Ok, codes, lit<}
+use Rattle.std.proofs.Common.{◌≡◌, ℕ, ◌-◌, ◌^◌, ◌<◌, ◌≤◌, ◌==◌, ◌&&◌, not, nat_le, Bool, true, false, List, [], ◌∷◌, length, refl, ap, subst, ◌∙◌, arith, Result, Ok, Err, codes, lit<, if◌then◌else◌}
 use Rattle.std.proofs.lemmas.Bool.Decides.{nat_tests}
 use Rattle.std.proofs.lemmas.Fmt.{digits_is_IsNumeral, decimal_is_IsNumeral}
 use Rattle.std.specs.Prelude.{IsTrue}
@@ -12,7 +12,7 @@ use Rattle.ras_daemon.specs.declared.line.Line.{Line}
 use Rattle.ras_daemon.specs.declared.line.Line.TheVariants.{Empty, Comment, Bank, Cpu, Module, Range, Limit, Restart}
 use Rattle.ras_daemon.specs.declared.line.LineRefused.{LineRefused}
 use Rattle.ras_daemon.specs.Splitting.{Lacks, IsWord}
-use Rattle.ras_daemon.specs.Line.{◌>>=◌, needed, decimal_at, positive_at, bank_of, cpu_of, module_of, range_of, limit_of, line_of_words, line_of, InRange, hexadecimal, text_of}
+use Rattle.ras_daemon.specs.Line.{◌>>=◌, needed, decimal_at, label_at, positive_at, bank_of, cpu_of, module_of, range_of, limit_of, line_of_words, line_of, InRange, hexadecimal, text_of}
 use Rattle.ras_daemon.proofs.NumberLaws.{decimal_read, hexadecimal_read}
 use Rattle.ras_daemon.proofs.SplittingLaws.{words_joined}
 
@@ -71,10 +71,13 @@ label_lacks (b ∷ bs) all =
 
 label_word : (label : List ℕ) → IsTrue (is_label label) → IsWord label
 label_word label is =
-    let first = both (nat_le 1 (length label)) (nat_le (length label) 32 && list_all is_label_byte label && not (same_label label (codes "-"))) is in
-    let second = both (nat_le (length label) 32) (list_all is_label_byte label && not (same_label label (codes "-"))) first.1 in
-    let third = both (list_all is_label_byte label) (not (same_label label (codes "-"))) second.1 in
-    (grind (arith, nat_tests, first.0), label_lacks label third.0)
+    let long = nat_le 1 (length label) in
+    let short = nat_le (length label) 32 in
+    let bytes = list_all is_label_byte label in
+    let first = both (long && short && bytes) (not (same_label label (codes "-"))) is in
+    let second = both (long && short) bytes first.0 in
+    let third = both long short second.0 in
+    (grind (arith, nat_tests, third.0), label_lacks label second.1)
 
 kind_word : (kind : List ℕ) → IsTrue (is_label kind) → IsWord kind
 kind_word = label_word
@@ -84,7 +87,9 @@ not_zero : (n : ℕ) → 1 ≤ n → (n == 0) ≡ false
 not_zero n more = grind (arith, nat_tests, more)
 
 positive_read : (words : List (List ℕ)) (place most n : ℕ) → decimal_at words place most ≡ Ok n → 1 ≤ n → positive_at words place most ≡ Ok n
-positive_read words place most n is more = then_is n _ is (rw not_zero n more refl)
+positive_read words place most n is more =
+    let zero : (n == 0) ≡ false = not_zero n more in
+    then_is n (λ n. if n == 0 then Err LineRefused.Number else Ok n) is (rw zero refl)
 
 cpu_read : (cpu socket : ℕ) → InRange (Cpu cpu socket) → cpu_of (decimal cpu ∷ decimal socket ∷ []) ≡ Ok (Cpu cpu socket)
 cpu_read cpu socket within =
@@ -94,15 +99,15 @@ cpu_read cpu socket within =
 module_read : (label : List ℕ) (socket bank channel : ℕ) → InRange (Module label socket bank channel)
     → module_of (label ∷ decimal socket ∷ decimal bank ∷ decimal channel ∷ []) ≡ Ok (Module label socket bank channel)
 module_read label socket bank channel within =
-    then_is label _ (rw within.0 refl) (
+    then_is {read = label_at (label ∷ decimal socket ∷ decimal bank ∷ decimal channel ∷ []) 0} label _ (rw within.0 refl) (
     then_is socket _ (ap needed (decimal_read 255 socket (omega arith) (omega arith))) (
     then_is bank _ (ap needed (decimal_read 255 bank (omega arith) (omega arith))) (
     then_is channel _ (ap needed (decimal_read 14 channel (omega arith) (omega arith))) refl)))
 
 range_read : (label : List ℕ) (first last : ℕ) → InRange (Range label first last) → range_of (label ∷ hexadecimal first ∷ hexadecimal last ∷ []) ≡ Ok (Range label first last)
 range_read label first last within =
-    let upright : nat_le first last ≡ true = grind (arith, nat_tests, within.1.0) in
-    then_is label _ (rw within.0 refl) (
+    let upright : nat_le first last ≡ true = grind (arith, nat_tests, within.1) in
+    then_is {read = label_at (label ∷ hexadecimal first ∷ hexadecimal last ∷ []) 0} label _ (rw within.0 refl) (
     then_is first _ (ap needed (hexadecimal_read false first (omega arith))) (
     then_is last _ (ap needed (hexadecimal_read false last (omega arith))) (rw upright refl)))
 
@@ -122,17 +127,17 @@ text_read Comment within = refl
 text_read Restart within = refl
 text_read (Cpu cpu socket) within =
     joined_read (codes "cpu" ∷ decimal cpu ∷ decimal socket ∷ []) (Cpu cpu socket)
-    (kind_word (codes "cpu") refl, decimal_word cpu (omega arith), decimal_word socket (omega arith), tt) (cpu_read cpu socket within)
+    (kind_word (codes "cpu") refl, (decimal_word cpu (omega arith), (decimal_word socket (omega arith), tt))) (cpu_read cpu socket within)
 text_read (Module label socket bank channel) within =
     joined_read (codes "module" ∷ label ∷ decimal socket ∷ decimal bank ∷ decimal channel ∷ []) (Module label socket bank channel)
-    (kind_word (codes "module") refl, label_word label within.0, decimal_word socket (omega arith), decimal_word bank (omega arith), decimal_word channel (omega arith), tt)
+    (kind_word (codes "module") refl, (label_word label within.0, (decimal_word socket (omega arith), (decimal_word bank (omega arith), (decimal_word channel (omega arith), tt)))))
     (module_read label socket bank channel within)
 text_read (Range label first last) within =
     joined_read (codes "range" ∷ label ∷ hexadecimal first ∷ hexadecimal last ∷ []) (Range label first last)
-    (kind_word (codes "range") refl, label_word label within.0, hexadecimal_word first (omega arith), hexadecimal_word last (omega arith), tt) (range_read label first last within)
+    (kind_word (codes "range") refl, (label_word label within.0, (hexadecimal_word first (omega arith), (hexadecimal_word last (omega arith), tt)))) (range_read label first last within)
 text_read (Limit capacity period) within =
     joined_read (codes "limit" ∷ decimal capacity ∷ decimal period ∷ []) (Limit capacity period)
-    (kind_word (codes "limit") refl, decimal_word capacity (let small = within.capacity_to in omega arith), decimal_word period (let small = within.period_to in omega arith), tt)
+    (kind_word (codes "limit") refl, (decimal_word capacity (let small = within.capacity_to in omega arith), (decimal_word period (let small = within.period_to in omega arith), tt)))
     (limit_read capacity period within)
 text_read (Bank boot seconds cpu bank tsc cap mcg status addr misc) within =
     joined_read (codes "bank" ∷ decimal boot ∷ decimal seconds ∷ decimal cpu ∷ decimal bank ∷ decimal tsc ∷ hexadecimal cap ∷ hexadecimal mcg ∷ hexadecimal status ∷ hexadecimal addr ∷ hexadecimal misc ∷ [])

@@ -121,7 +121,7 @@ calls-entries before (entry ∷ entries) =
     ∙ ap (λ calls. entry_calls before entry ++ calls) (calls-entries (before ++ entry ∷ []) entries)
 
 -- the same of calls that then only print
-say-file : (text : List ℕ) (number : ℕ) (told : Told) → (after_all (say_steps text number) told).file0 ≡ told.file0
+pub say-file : (text : List ℕ) (number : ℕ) (told : Told) → (after_all (say_steps text number) told).file0 ≡ told.file0
 say-file text number told = prints-file (say_steps text number) told (all_print-text text (done_line number))
 
 say-calls : (text : List ℕ) (number : ℕ) → calls_by (say_steps text number) ≡ []

@@ -113,7 +113,7 @@ abbrev pub line_of : List ℕ → Result Line LineRefused
 line_of bytes = line_of_words (words_of bytes)
 
 -- Reading gave this: what a line says, or want of memory.
-abbrev pub Gives : Result Line LineRefused → Result Line LineRefused → Type 0
+abbrev pub Gives : {A : Type 0} → Result A LineRefused → Result A LineRefused → Type 0
 Gives (Err NoMemory) line = ⊤
 Gives read line = line ≡ read
 

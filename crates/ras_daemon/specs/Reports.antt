@@ -58,7 +58,7 @@ bank_entries bank rows = map Report (option_to_list (bank_fact bank rows))
 -- what a line asks for under the rows that the lines before it tell
 abbrev pub event_in : List Row → Line → Event
 event_in rows (Bank boot seconds cpu bank tsc cap mcg status addr misc) =
-    let report = record {
+    let report : BankReport = record {
       boot = boot;
       seconds = seconds;
       cpu = cpu;

@@ -5,7 +5,6 @@ ghost use Rattle.ras_account.specs.declared.entry.Entry.{Entry};
 ghost use Rattle.ras_account.specs.Account.{account_of};
 ghost use Rattle.ras_account.specs.Continued.{continued, continued_all, IsWithin};
 ghost use Rattle.ras_account.specs.Orders.{orders_at};
-ghost use Rattle.ras_account.specs.Valid.{items_in};
 ghost use Rattle.ras_account.specs.View.{added_by};
 ghost use Rattle.ras_daemon.specs.Causes.{Causes, DiskCause, PrintCause};
 ghost use Rattle.ras_daemon.specs.Event.{AreFit, CanDo, CanTake, Fits, HasRoomFor, IsFit, IsPrepared, PrepareExit, ReserveExit, end_after, longest_entry, order_lines, prepared_steps, state_after};
@@ -108,7 +107,7 @@ fn prepare_entry(
             done,
         });
     }
-    let count = item_count(&entry);
+    let count = entry.item_count();
     let text = fresh_text(alloc, detail, &entry, count)?;
     let bytes = entry_bytes(alloc, &entry)?;
     let orders = Orders::new(alloc, count)?;
@@ -121,16 +120,6 @@ fn prepare_entry(
         text,
         done,
     })
-}
-
-// How many items an entry has.
-fn item_count(entry: &Entry) -> usize
-    ensures { result ≡ length (items_in entry.now) }
-{
-    match entry {
-        Entry::Fact(fact) => fact.items.as_slice().len(),
-        Entry::Limit(_) => 0,
-    }
 }
 
 // The lines of a fresh entry, with room behind them for those of so many orders.

@@ -1,5 +1,5 @@
 // The run over a script.
-ghost use Rattle.std.specs.Prelude.{◌≡◌, ◌≤◌, ◌+◌, ◌<◌, ◌^◌, ◌⊎◌, ◌++◌, ◌×◌, ℕ, [], ◌∷◌, List, length, max, Ok, IfErr, IfOk, IfSome, OnOk, Option};
+ghost use Rattle.std.specs.Prelude.{◌≡◌, ◌≤◌, ◌+◌, ◌<◌, ◌^◌, ◌⊎◌, ◌++◌, ℕ, [], ◌∷◌, List, length, max, Ok, IfErr, IfOk, IfSome, OnOk, Option};
 ghost use Rattle.std.specs.Option.{option_to_list};
 ghost use Rattle.dimm_topology.specs.Refusals.{Answers};
 ghost use Rattle.dimm_topology.specs.declared.topology.TopologyRefused.{TopologyRefused};

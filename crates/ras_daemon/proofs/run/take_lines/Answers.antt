@@ -6,7 +6,7 @@ use Rattle.ras_daemon.proofs.run.take_lines.Goals as goal
 
 pub loop-rest-init : goal.loop-rest-init
 loop-rest-init g c = record {
-  took = took_none (reads_of c.args.script.now) _ c.args.ledger.now;
+  took = took_none (reads_of c.args.script.now) _ c.args.run.now;
   short = omega arith;
   small = (let none = c.requires.end in omega arith);
   fits = rw c.requires.end c.requires.empty;
@@ -15,17 +15,17 @@ loop-rest-init g c = record {
 }
 
 pub returns-in-Err-clause-takes : goal.returns-in-Err-clause-takes
-returns-in-Err-clause-takes g c = λ keeps.
+returns-in-Err-clause-takes g c = λ stands.
     took_stop (reads_of c.args.script.now) (reads_from (c.loop-rest.number + 1 + 1) c.first_line.result.1.now) (reads_from (c.loop-rest.number + 1) c.loop-rest.rest.now)
-    (c.loop-rest.number + 1, line_of c.first_line.result.0.now) _ _ _ _ c.take_line.new.ledger c.in-Err.exit (c.loop-rest.invariant.took keeps)
+    (c.loop-rest.number + 1, line_of c.first_line.result.0.now) _ _ _ _ c.take_line.new.run c.in-Err.exit (c.loop-rest.invariant.took stands)
     (reads-first (c.loop-rest.number + 1) c.loop-rest.rest.now c.first_line.result.0.now c.first_line.result.1.now c.first_line.ensures.lines)
     c.in-Err.ensures.takes
 
 pub loop-rest-preserved : goal.loop-rest-preserved
 loop-rest-preserved g c = record {
-  took = λ keeps.
+  took = λ stands.
       took_line (reads_of c.args.script.now) (reads_from (c.loop-rest.number + 1 + 1) c.first_line.result.1.now) (reads_from (c.loop-rest.number + 1) c.loop-rest.rest.now)
-      (c.loop-rest.number + 1, line_of c.first_line.result.0.now) _ _ _ _ c.take_line.new.ledger (c.loop-rest.invariant.took keeps)
+      (c.loop-rest.number + 1, line_of c.first_line.result.0.now) _ _ _ _ c.take_line.new.run (c.loop-rest.invariant.took stands)
       (reads-first (c.loop-rest.number + 1) c.loop-rest.rest.now c.first_line.result.0.now c.first_line.result.1.now c.first_line.ensures.lines)
       c.in_default.ensures.takes;
   short = (let shorter = c.first_line.ensures.shorter in omega arith);
