@@ -1,9 +1,17 @@
 -- What the file holds as entries are reported.
 use Rattle.std.proofs.Common.{◌≡◌, ℕ, ◌≤◌, Bool, true, false, List, [], ◌∷◌, ◌++◌, length, Option, None, Some, if◌then◌else◌, refl, ap, sym, ◌∙◌, subst, append_assoc, append-nil, arith}
 use Rattle.std.specs.List.{All}
+use Rattle.std.specs.Option.{option_map}
 use Rattle.entry_format.proofs.SizeLaws.{one_item_most, limit_size}
 use Rattle.entry_format.specs.Writable.{HasLabel, IsWritable}
 use Rattle.entry_format.specs.Spelling.{entry_bytes, entries_bytes}
+use Rattle.dimm_topology.specs.declared.row.Row.{Row}
+use Rattle.mca_status.specs.declared.classes.Class.{Class}
+use Rattle.mca_status.specs.Classes.{class_of_rows}
+use Rattle.ras_facts.specs.declared.bank.BankReport.{BankReport}
+use Rattle.ras_facts.specs.declared.fact.Fact.{Fact}
+use Rattle.ras_facts.specs.declared.items.Item.{Item}
+use Rattle.ras_facts.specs.Facts.{bank_fact, bank_item, bank_name, cap_in, status_in}
 use Rattle.ras_account.specs.declared.entry.Entry.{Entry}
 use Rattle.ras_account.specs.declared.entry.Entry.TheVariants.{Fact as Report, Limit as Settles}
 use Rattle.ras_account.specs.Fresh.{fresh, is_fresh_behind}
@@ -51,3 +59,14 @@ short_entry (Settles limit) fit labels = omega (arith, limit_size limit)
 pub few_items : (entry : Entry) → IsFit entry → length (items_in entry) ≤ 65535
 few_items (Report fact) fit = fit.valid.count
 few_items (Settles limit) fit = omega arith
+
+-- the fact of a bank has one item
+one_of_class : (bank : BankReport) (rows : List Row) (fact : Fact) (class : Option Class)
+    → Some fact ≡ option_map (λ class. record { name = bank_name bank; seconds = bank.seconds; items = bank_item bank rows class ∷ [] }) class → (item : Item) × (fact.items ≡ item ∷ [])
+one_of_class bank rows fact None is = absurd cc
+one_of_class bank rows fact (Some class) is =
+    let same : fact ≡ record { name = bank_name bank; seconds = bank.seconds; items = bank_item bank rows class ∷ [] } = cc in
+    (bank_item bank rows class, ap (λ (f : Fact). f.items) same)
+
+pub bank_item_one : (bank : BankReport) (rows : List Row) (fact : Fact) → Some fact ≡ bank_fact bank rows → (item : Item) × (fact.items ≡ item ∷ [])
+bank_item_one bank rows fact is = one_of_class bank rows fact (class_of_rows (cap_in bank) (status_in bank)) is

@@ -5,6 +5,7 @@ use Rattle.std.specs.Option.{option_map, option_to_list}
 use Rattle.std.specs.Result.{OnOk}
 use Rattle.board_core.specs.Told.{Told}
 use Rattle.dimm_topology.specs.declared.row.Row.{Row}
+use Rattle.dimm_topology.specs.declared.topology.TopologyRefused.{TopologyRefused}
 use Rattle.dimm_topology.specs.Refusals.{refusal_of}
 use Rattle.ras_account.specs.declared.entry.Entry.{Entry}
 use Rattle.ras_account.specs.Account.{State, account_of}
@@ -232,3 +233,9 @@ module _ (before : List Entry) (number : ℕ) where
   restart_silent opened more old new reopens = λ rest.
       paused_before (restart_steps before number) rest.steps
       (record { done = reopen_steps (stored_end before); rest = say_steps (held_text (account_of before)) number; splits = refl; leaves = reopens.0 })
+
+-- a row that was taken, and its done line
+pub row_said : (number : ℕ) (refusal : Option TopologyRefused) (old new : Option Told) (result : Result (Unit {0}) Exit) → refusal ≡ None → Performs (prints (done_line number) ∷ []) result old new
+    → TakesRow number refusal result old new
+row_said number refusal old new (Ok done) none said = (none, said)
+row_said number refusal old new (Err exit) none said = λ rest. rw none (takes_first old new (prints (done_line number) ∷ []) rest exit said)

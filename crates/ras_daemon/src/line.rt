@@ -1,6 +1,6 @@
 // The lines of a script.
 ghost use Rattle.std.specs.Prelude.{◌≡◌, ℕ, ◌<◌, ◌≤◌, List, length, map, IfOk, IsErr};
-ghost use Rattle.ras_daemon.specs.Line.{Gives, ReadsLine, InRange, text_of, line_of, line_of_words, bank_of, cpu_of, module_of, range_of, limit_of, restart_of, label_at, positive_at, decimal_at, hexadecimal_at};
+ghost use Rattle.ras_daemon.specs.Line.{Gives, ReadsLine, InRange, text_of, line_of, line_of_words, kinds, named, bank_of, cpu_of, module_of, range_of, limit_of, restart_of, label_at, positive_at, decimal_at, hexadecimal_at};
 ghost use Rattle.ras_daemon.specs.Splitting.{words_of};
 ghost use Rattle.ras_daemon.specs.declared.line.LineRefused.TheVariants as RefusedFor;
 
@@ -130,15 +130,32 @@ fn line_of_words(alloc: Global, words: &[&[u8]]) -> Result<Line, LineRefused>
     if kind.first() == Some(&b'#') {
         return Ok(Line::Comment);
     }
-    match *kind {
-        b"bank" => bank_of(rest),
-        b"cpu" => cpu_of(rest),
-        b"module" => module_of(alloc, rest),
-        b"range" => range_of(alloc, rest),
-        b"limit" => limit_of(rest),
-        b"restart" => restart_of(rest),
-        _ => Err(LineRefused::Kind),
+    event_of(alloc, kind, rest)
+}
+
+// What a line says whose first word is this and whose other words are these.
+fn event_of(alloc: Global, kind: &[u8], words: &[&[u8]]) -> Result<Line, LineRefused>
+    ensures { Gives result (named kinds kind.now (map (λ word. word.now) words.now)) }
+{
+    if kind == b"bank".as_slice() {
+        return bank_of(words);
     }
+    if kind == b"cpu".as_slice() {
+        return cpu_of(words);
+    }
+    if kind == b"module".as_slice() {
+        return module_of(alloc, words);
+    }
+    if kind == b"range".as_slice() {
+        return range_of(alloc, words);
+    }
+    if kind == b"limit".as_slice() {
+        return limit_of(words);
+    }
+    if kind == b"restart".as_slice() {
+        return restart_of(words);
+    }
+    Err(LineRefused::Kind)
 }
 
 // No word stands after `restart`.

@@ -113,8 +113,9 @@ pub fn push_orders(text: &mut Vec<u8>, orders: &Orders)
     ensures { text.new.items ≡ text.old.items ++ order_lines orders.now.orders }
 {
     for i in 0..orders.len() {
-        if text.extend_from_slice(&order_line(orders.get(i))).is_err() {
-            unreachable!();
+        match text.extend_from_slice(&order_line(orders.get(i))) {
+            Ok(()) => {}
+            Err(_) => unreachable!(),
         }
     }
 }

@@ -1,0 +1,31 @@
+use Rattle.std.proofs.Common.{refl, sym, ap, subst, ◌∙◌}
+use Rattle.ras_account.proofs.AgainLemmas.{waits_alone}
+use Rattle.ras_daemon.specs.Event.{HasRoomFor}
+use Rattle.ras_daemon.proofs.EventLemmas.{prepared_repeat, prepared_fresh}
+use Rattle.ras_daemon.proofs.FileLemmas.{short_entry}
+use Rattle.ras_daemon.proofs.event.prepare_entry.Goals as goal
+
+pub returns-then-not-is_fresh-clause-prepared : goal.returns-then-not-is_fresh-clause-prepared
+returns-then-not-is_fresh-clause-prepared c = λ before number is done.
+    prepared_repeat before c.args.entry c.args.account.now.state is c.requires.within number c.args.detail.now _ refl
+    (sym c.if-not-is_fresh.ensures.fresh) (sym (c.if-not-is_fresh.ensures.history before is)) c.in_ok-text.ensures done
+
+pub returns-clause-prepared : goal.returns-clause-prepared
+returns-clause-prepared c = λ before number is done.
+    prepared_fresh before c.args.entry c.args.account.now.state is c.requires.within number c.args.detail.now _ _ refl refl
+    c.in_ok-bytes.ensures.spelled (sym (c.if-not-is_fresh.ensures.history before is)) c.in_ok-text-2.ensures.text done
+    (record { valid = c.requires.fit.valid; labels = c.in_ok-bytes.ensures.labels })
+
+pub returns-clause-can_do : goal.returns-clause-can_do
+returns-clause-can_do c = record {
+  fresh = record {
+    waits = waits_alone _ _ c.requires.waits;
+    within = c.requires.within;
+    is_fresh = sym c.if-not-is_fresh.ensures.fresh;
+    valid = c.requires.fit.valid;
+    short = rw c.in_ok-bytes.ensures.spelled (short_entry c.args.entry c.requires.fit c.in_ok-bytes.ensures.labels);
+    none = c.in_ok-orders.ensures.orders;
+    room = ?;
+  };
+  room = ?;
+}
