@@ -6,6 +6,7 @@ pub mod ScriptLemmas
 pub mod StepLemmas
 pub mod FileLemmas
 pub mod EventLemmas
+pub mod TextLemmas
 pub mod LedgerLemmas
 pub mod RunLemmas
 pub mod DaemonLemmas

@@ -8,7 +8,8 @@ use Rattle.std.specs.Str.Parse.{digits_value}
 use Rattle.ras_daemon.specs.declared.line.Line.{Line}
 use Rattle.ras_daemon.specs.declared.line.LineRefused.{LineRefused}
 use Rattle.ras_daemon.specs.Number.{is_numeral}
-use Rattle.ras_daemon.specs.Line.{◌>>=◌, needed, decimal_at, hexadecimal_at, kinds, named, label_at, positive_at, bank_of, cpu_of, module_of, range_of, limit_of, restart_of, line_of_words, InRange}
+use Rattle.ras_daemon.specs.Line.{◌>>=◌, needed, decimal_at, hexadecimal_at, kinds, named, label_at, positive_at, bank_of, cpu_of, module_of, range_of, limit_of, restart_of, line_of_words, line_of, ReadsLine, InRange}
+use Rattle.ras_daemon.specs.Splitting.{words_of}
 
 number_within : (most value : ℕ) (numeral small : Bool) → nat_le value most ≡ small → IfOk (needed (cond (numeral && small) (Some value) None)) (λ n. n ≤ most)
 number_within most value true true h = grind (arith, nat_tests, h)
@@ -130,3 +131,8 @@ line_within (kind ∷ words) =
 pub refused_has_words : (words : List (List ℕ)) → IsErr (line_of_words words) → 0 < length words
 refused_has_words [] h = cc
 refused_has_words (kind ∷ words) h = omega arith
+
+-- what was read is in range
+pub read_within : (bytes : List ℕ) (read : Result Line LineRefused) → ReadsLine read bytes → IfOk read InRange
+read_within bytes (Ok line) is = (let within : IfOk (line_of bytes) InRange = line_within (words_of bytes) in rw is at within)
+read_within bytes (Err why) is = tt

@@ -6,7 +6,7 @@ use Rattle.std.specs.Result.{OnOk}
 use Rattle.board_core.specs.Told.{Told}
 use Rattle.dimm_topology.specs.declared.row.Row.{Row}
 use Rattle.dimm_topology.specs.declared.topology.TopologyRefused.{TopologyRefused}
-use Rattle.dimm_topology.specs.Refusals.{refusal_of}
+use Rattle.dimm_topology.specs.Refusals.{Answers, refusal_of}
 use Rattle.ras_account.specs.declared.entry.Entry.{Entry}
 use Rattle.ras_account.specs.Account.{State, account_of}
 use Rattle.ras_daemon.specs.declared.event.Prepared.{Prepared}
@@ -16,18 +16,20 @@ use Rattle.ras_daemon.specs.declared.ledger.Ledger.{Ledger}
 use Rattle.ras_daemon.specs.declared.ledger.OpenRefused.TheVariants.{Disk, NoMemory as OutOfMemory}
 use Rattle.ras_daemon.specs.declared.line.Line.{Line}
 use Rattle.ras_daemon.specs.declared.line.Line.TheVariants.{Restart}
+use Rattle.ras_daemon.specs.declared.line.LineRefused.{LineRefused}
+use Rattle.ras_daemon.specs.declared.line.LineRefused.TheVariants as refused
 use Rattle.ras_daemon.specs.declared.run.Run.{Run}
 use Rattle.ras_daemon.specs.Event.{Fits, IsKept, IsPrepared, Keeps, Reopened, Reopens, Stands, TakesEntries, TakesLine, TakesRow, end_after, orders_given, prepared_steps, restart_steps, state_after}
-use Rattle.ras_daemon.specs.Line.{line_of}
+use Rattle.ras_daemon.specs.Line.{line_of, ReadsLine}
 use Rattle.ras_daemon.specs.PlainFile.{stored, stored_end}
 use Rattle.ras_daemon.specs.Progress.{Step, after_all, prints, Performs, Course, Takes, behind, ends, count_steps, reopen_steps, say_steps, read_steps, line_course, lines_course}
 use Rattle.ras_daemon.specs.Reports.{Event, Read, adds, counts, event_in, reads_from, reported_at, reports, row_by, row_in, rows_of}
-use Rattle.ras_daemon.specs.Run.{TookAll, TookSome}
+use Rattle.ras_daemon.specs.Run.{RefusesLine, TookAll, TookSome}
 use Rattle.ras_daemon.specs.Splitting.{lines_of}
 use Rattle.ras_daemon.specs.Status.{refusal_at}
 use Rattle.ras_daemon.specs.Text.{done_line, end_line, held_text}
 use Rattle.ras_daemon.proofs.ReportLaws.{reports-more, rows-more}
-use Rattle.ras_daemon.proofs.StepLemmas.{cut_before, map_none, map_append, paused_before, performs_then, takes_behind, takes_first}
+use Rattle.ras_daemon.proofs.StepLemmas.{cut_before, map_none, map_append, paused_at_once, paused_before, performs_then, takes_behind, takes_first}
 use Rattle.ras_daemon.proofs.StoredLaws.{count-file, say-file}
 
 -- an event that was prepared and done, as far as its calls went well
@@ -98,7 +100,7 @@ module _ (before : List Read) (number : ℕ) (line : Line) where
   row-file (Some t) new file went = rw went file
 
   pub row_taken : (row : Row) (old new : Option Told) (run more : Run) (result : Result (Unit {0}) Exit) → event_in (rows_of before) line ≡ adds row → row_in line ≡ Some row → Stands before run old
-      → more.topology ≡ rows_of before ++ row ∷ [] → more.ledger ≡ run.ledger → TakesRow number (refusal_of (rows_of before) row) result old new → TakesLine before (number, Ok line) result old new more
+      → OnOk result (more.topology ≡ rows_of before ++ row ∷ []) → more.ledger ≡ run.ledger → TakesRow number (refusal_of (rows_of before) row) result old new → TakesLine before (number, Ok line) result old new more
   row_taken row old new run more (Ok done) asks some stands topology same taken = (
     rw (asks, taken.0) refl,
     rw asks taken.1,
@@ -239,3 +241,27 @@ pub row_said : (number : ℕ) (refusal : Option TopologyRefused) (old new : Opti
     → TakesRow number refusal result old new
 row_said number refusal old new (Ok done) none said = (none, said)
 row_said number refusal old new (Err exit) none said = λ rest. rw none (takes_first old new (prints (done_line number) ∷ []) rest exit said)
+
+-- what holds where a row was taken holds where its event is done
+pub on_taken : {T : Type 0} (P : Type 0) (added : Result (Unit {0}) TopologyRefused) (result : Result T Exit) → OnOk added P → OnOk result (added ≡ Ok tt) → OnOk result P
+on_taken P added (Ok done) holds taken = subst (λ a. OnOk a P) taken holds
+on_taken P added (Err exit) holds taken = tt
+
+-- a line that can't be read ends the run
+pub line_refused : (before : List Read) (number : ℕ) (bytes : List ℕ) (why : LineRefused) (exit : Exit) (old new : Option Told) (run : Run) → ReadsLine (Err why) bytes
+    → RefusesLine number why exit old new → TakesLine {T = Unit {0}} before (number, line_of bytes) (Err exit) old new run
+line_refused before number bytes refused.NoMemory exit old new run read refuses = λ rest. rw refuses.0 (paused_at_once _ refuses.1)
+line_refused before number bytes refused.Kind exit old new run read refuses = λ rest. rw read refuses
+line_refused before number bytes refused.Words exit old new run read refuses = λ rest. rw read refuses
+line_refused before number bytes refused.Number exit old new run read refuses = λ rest. rw read refuses
+line_refused before number bytes refused.Label exit old new run read refuses = λ rest. rw read refuses
+
+-- a line whose row was taken or refused
+pub row_line : (before : List Read) (number : ℕ) (line : Line) (row : Row) (old new : Option Told) (run : Run) (rows : List Row) (added : Result (Unit {0}) TopologyRefused) (result : Result (Unit {0}) Exit)
+    → event_in (rows_of before) line ≡ adds row → row_in line ≡ Some row → Stands before run old → Answers added (refusal_of run.topology row) → OnOk added (rows ≡ run.topology ++ row ∷ [])
+    → OnOk result (added ≡ Ok tt) → ((refusal : Option TopologyRefused) → Answers added refusal → TakesRow number refusal result old new)
+    → TakesLine before (number, Ok line) result old new (record { topology = rows; ledger = run.ledger })
+row_line before number line row old new run rows added result asks some stands answers ok taken takes =
+    row_taken before number line row old new run (record { topology = rows; ledger = run.ledger }) result asks some stands
+    (subst (λ rs. OnOk result (rows ≡ rs ++ row ∷ [])) stands.rows (on_taken (rows ≡ run.topology ++ row ∷ []) added result ok taken))
+    refl (takes (refusal_of (rows_of before) row) (subst (λ rs. Answers added (refusal_of rs row)) stands.rows answers))

@@ -160,10 +160,11 @@ pub fn commit<B: Board>(event: Prepared, ledger: &mut Ledger, board: &mut B) -> 
         mut text,
         done,
     } = event;
-    if let Some(fresh) = fresh {
-        if let Err(exit) = count(fresh, &mut text, ledger, board) {
-            return Err(exit);
-        }
+    let Some(fresh) = fresh else {
+        return say_done(&text, &done, board);
+    };
+    if let Err(exit) = count(fresh, &mut text, ledger, board) {
+        return Err(exit);
     }
     say_done(&text, &done, board)
 }

@@ -90,7 +90,8 @@ const LONGEST_PERIOD: u64 = 10_000_000;
 /// kind's; then from left to right `Number` where a word that has to be a number is none or is out of its range, and
 /// `Label` where a word that has to be a label is none. `NoMemory` comes for want of memory alone.
 pub fn read_line(alloc: Global, bytes: &[u8]) -> Result<Line, LineRefused>
-    ensures { ReadsLine result bytes.now }
+    ensures read { ReadsLine result bytes.now }
+    ensures range { IfOk result InRange }
 {
     let words = words(alloc, bytes)?;
     line_of_words(alloc, &words)

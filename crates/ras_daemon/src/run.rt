@@ -10,7 +10,7 @@ ghost use Rattle.ras_daemon.specs.Event.{AreFit, Fits, Keeps, Reopened, Stands, 
 ghost use Rattle.ras_daemon.specs.Line.{line_of};
 ghost use Rattle.ras_daemon.specs.Progress.{Takes, ends, lines_course};
 ghost use Rattle.ras_daemon.specs.Reports.{Read, bank_entries, reads_of, reports};
-ghost use Rattle.ras_daemon.specs.Text.{done_line, held_text};
+ghost use Rattle.ras_daemon.specs.Text.{done_line, end_line, held_text};
 ghost use Rattle.ras_daemon.specs.Run.{TakesLines, IsAnswer, IsRefusal, IsStop, Refuses, RefusesLine};
 
 use crate::detail::bank_detail;
@@ -22,7 +22,7 @@ use crate::{Exit, Line, LineRefused, Reason, read_line, text};
 use board_core::{Board, Failed};
 use dimm_topology::{Topology, TopologyRefused};
 use page_policy::Limit;
-use ras_account::Entry;
+use ras_account::{Account, Entry};
 use ras_base::NoMemory;
 use ras_facts::{BankReport, fact_of_bank};
 use std::alloc::Global;
@@ -51,7 +51,17 @@ pub fn run_script<B: Board>(alloc: Global, script: &[u8], board: &mut B) -> Exit
     if let Err(exit) = take_lines(alloc, script, &mut run, board) {
         return exit;
     }
-    let account = &run.ledger.account;
+    end_run(alloc, &run.ledger.account, board)
+}
+
+// Ends a run whose lines were all taken.
+fn end_run<B: Board>(alloc: Global, account: &Account, board: &mut B) -> Exit
+    ensures takes { Takes (ends (end_line account.now.state) Exit.Done) result (B.told board.old) (B.told board.new) }
+    ensures listed { result ≡ Exit.Usage → ⊥ }
+    ensures source { result ≡ Exit.SourceFault → ⊥ }
+    ensures disk { DiskCause result (B.disk_faults board.old) (B.disk_faults board.new) }
+    ensures print { PrintCause result (B.print_faults board.old) (B.print_faults board.new) }
+{
     match text::end_line(alloc, account.entries(), account.names_len()) {
         Ok(line) => last_line(&line, Exit::Done, board),
         Err(_) => Exit::NoMemory,
@@ -108,7 +118,8 @@ fn take_line<B: Board>(
         Err(refused) => return Err(refuse_line(alloc, number, refused, board)),
     };
     match line {
-        Line::Empty | Line::Comment => Ok(()),
+        Line::Empty => Ok(()),
+        Line::Comment => Ok(()),
         Line::Cpu { cpu, socket } => {
             let added = run.topology.add_cpu(cpu, socket);
             take_row(alloc, number, added, board)
@@ -168,6 +179,7 @@ fn take_row<B: Board>(
     board: &mut B,
 ) -> Result<(), Exit>
     ensures takes { (refusal : Option TopologyRefused) → Answers added refusal → TakesRow number refusal result (B.told board.old) (B.told board.new) }
+    ensures taken { OnOk result (added ≡ Ok tt) }
     ensures fits { (end : ℕ) → Fits (B.told board.old) end → OnOk result (Fits (B.told board.new) end) }
     ensures stops { IfErr result IsStop }
     ensures disk { Causes DiskCause result (B.disk_faults board.old) (B.disk_faults board.new) }

@@ -4,7 +4,7 @@ ghost use Rattle.std.specs.Int.{to_be_bytes, w64};
 ghost use Rattle.std.specs.List.{flat_map};
 ghost use Rattle.hex.specs.Hex.{encode_lower};
 ghost use Rattle.page_policy.specs.Rows.{order_to};
-ghost use Rattle.ras_daemon.specs.Event.{HasRoomFor, order_lines};
+ghost use Rattle.ras_daemon.specs.Event.{HasRoomFor, order_length, order_lines};
 ghost use Rattle.ras_daemon.specs.Text.{name_text, class_text, label_text, page_text, item_head, item_line, limit_line, log_lines, repeat_line, order_line, held_text, done_line, end_text, stop_line, reason_text};
 
 use crate::{Exit, LineRefused, Reason};
@@ -97,7 +97,8 @@ fn push_page(text: &mut Vec<u8>, page: Option<u64>) -> Result<(), NoMemory>
 
 // The line of an order to take a page out of use.
 fn order_line(order: Order) -> [u8; ORDER_LENGTH]
-    ensures { result ≡ order_line order }
+    ensures line { result ≡ order_line order }
+    ensures length { length result ≡ order_length }
 {
     let (mut line, page) = match order {
         Order::Soft(page) => (*b"order soft page=0000000000000000\n", page),

@@ -1,4 +1,4 @@
-use Rattle.std.proofs.Common.{refl, sym, ap, subst, ◌∙◌}
+use Rattle.std.proofs.Common.{refl, sym, ap, subst, ◌∙◌, arith}
 use Rattle.ras_account.proofs.AgainLemmas.{waits_alone}
 use Rattle.ras_daemon.specs.Event.{HasRoomFor}
 use Rattle.ras_daemon.proofs.EventLemmas.{prepared_repeat, prepared_fresh}
@@ -25,7 +25,7 @@ returns-clause-can_do c = record {
     valid = c.requires.fit.valid;
     short = rw c.in_ok-bytes.ensures.spelled (short_entry c.args.entry c.requires.fit c.in_ok-bytes.ensures.labels);
     none = c.in_ok-orders.ensures.orders;
-    room = ?;
+    room = rw (c.in_ok-orders.ensures.room, c.item_count-count.ensures) (omega arith);
   };
-  room = ?;
+  room = subst (λ n. HasRoomFor n c.in_ok-text-2.text) (sym c.in_ok-orders.ensures.room) c.in_ok-text-2.ensures.room;
 }
