@@ -12,30 +12,47 @@ use std::test::Fail;
 // whose files are empty: every later disk call goes there. All is printed to the first.
 #[derive(Drop)]
 struct ExchangedDisk {
+    disks: Disks,
+    disk_faults: u64,
+    print_faults: u64,
+}
+
+// The two disks, apart from the counts, which so stay as they are where a disk is used.
+#[derive(Drop)]
+struct Disks {
     first: MemBoard,
     second: MemBoard,
     is_exchanged: bool,
-    disk_faults: u64,
-    print_faults: u64,
 }
 
 impl ExchangedDisk {
     fn new(alloc: Global) -> Result<ExchangedDisk, Fail> {
         Ok(ExchangedDisk {
-            first: MemBoard::new(alloc)?,
-            second: MemBoard::new(alloc)?,
-            is_exchanged: false,
+            disks: Disks {
+                first: MemBoard::new(alloc)?,
+                second: MemBoard::new(alloc)?,
+                is_exchanged: false,
+            },
             disk_faults: 0,
             print_faults: 0,
         })
     }
+}
 
+impl Disks {
+    // The disk that is there.
     fn disk(&mut self) -> &mut MemBoard {
         if self.is_exchanged {
             &mut self.second
         } else {
             &mut self.first
         }
+    }
+
+    fn sync(&mut self, file: FileNo) -> Result<(), Failed> {
+        let synced = self.disk().sync(file);
+        self.is_exchanged = true;
+        synced
     }
 }
 
@@ -47,29 +64,25 @@ impl Board for ExchangedDisk {
     ghost print_faults = { λ b. b.print_faults };
 
     fn size(&mut self, file: FileNo) -> Result<u64, Failed> {
-        let size = self.disk().size(file);
-        counted(size, &mut self.disk_faults)
+        counted(self.disks.disk().size(file), &mut self.disk_faults)
     }
 
     fn read_at(&mut self, file: FileNo, place: u64, buf: &mut [u8]) -> Result<usize, Failed> {
-        let read = self.disk().read_at(file, place, buf);
+        let read = self.disks.disk().read_at(file, place, buf);
         counted(read, &mut self.disk_faults)
     }
 
     fn write_at(&mut self, file: FileNo, place: u64, bytes: &[u8]) -> Result<(), Failed> {
-        let written = write_within(self.disk(), file, place, bytes);
+        let written = write_within(self.disks.disk(), file, place, bytes);
         counted(written, &mut self.disk_faults)
     }
 
     fn sync(&mut self, file: FileNo) -> Result<(), Failed> {
-        let synced = self.disk().sync(file);
-        self.is_exchanged = true;
-        counted(synced, &mut self.disk_faults)
+        counted(self.disks.sync(file), &mut self.disk_faults)
     }
 
     fn print(&mut self, bytes: &[u8]) -> Result<(), Failed> {
-        let printed = self.first.print(bytes);
-        counted(printed, &mut self.print_faults)
+        counted(self.disks.first.print(bytes), &mut self.print_faults)
     }
 }
 
@@ -111,11 +124,11 @@ fn a_restart_answers_from_the_disk(rt: HostRuntime) -> Result<(), Fail> {
         "{LOGGED}done 1\ndone 2\n{LOGGED}done 3\nend entries=1 names=1\n"
     )?;
     assert_eq!(rt; run(alloc, script.as_str(), 7, &mut board)?, Exit::Done);
-    assert_eq!(rt; board.first.out(), output.as_bytes());
-    assert_eq!(rt; board.first.file(FileNo::Zero).len(), 44);
+    assert_eq!(rt; board.disks.first.out(), output.as_bytes());
+    assert_eq!(rt; board.disks.first.file(FileNo::Zero).len(), 44);
     assert_eq!(rt;
-        board.second.file(FileNo::Zero),
-        board.first.file(FileNo::Zero)
+        board.disks.second.file(FileNo::Zero),
+        board.disks.first.file(FileNo::Zero)
     );
     Ok(())
 }
@@ -128,7 +141,7 @@ fn no_other_line_asks_the_disk(rt: HostRuntime) -> Result<(), Fail> {
     let script = format!(in alloc; "{EVERYDAY}{EVERYDAY}")?;
     let output = format!(in alloc; "{LOGGED}done 1\n{REPEATED}done 2\nend entries=1 names=1\n")?;
     assert_eq!(rt; run(alloc, script.as_str(), 7, &mut board)?, Exit::Done);
-    assert_eq!(rt; board.first.out(), output.as_bytes());
+    assert_eq!(rt; board.disks.first.out(), output.as_bytes());
     Ok(())
 }
 
