@@ -2,6 +2,12 @@
 use super::{check_bank, check_run};
 use std::test::Fail;
 
+// What is told first of a corrected error with the everyday address and code.
+const CORRECTED: &str = "class=CE weight=1 label=- page=0000000012345000 code=memory:RD:0";
+
+// What is told last where an error's code isn't that of a recoverable one and no flag is set.
+const NOTHING_MORE: &str = "over=0 mark=- ripv=0 eipv=0 mcip=0";
+
 #[test]
 fn optional_action(rt: HostRuntime) -> Result<(), Fail> {
     let alloc = rt.alloc();
@@ -19,7 +25,10 @@ fn optional_action(rt: HostRuntime) -> Result<(), Fail> {
         &rt,
         alloc,
         "c14 5 bd000000000000c0 12345040 86",
-        "class=UC weight=1 label=- page=- code=memory:SCRUB:0 threshold=- over=0 mark=srao ripv=1 eipv=0 mcip=1",
+        concat!(
+            "class=UC weight=1 label=- page=- code=memory:SCRUB:0 threshold=- ",
+            "over=0 mark=srao ripv=1 eipv=0 mcip=1"
+        ),
     )
 }
 
@@ -70,9 +79,7 @@ fn thresholds(rt: HostRuntime) -> Result<(), Fail> {
     ];
     for (registers, threshold) in rows {
         let registers = format!(in alloc; "{registers} 12345040 86")?;
-        let told = format!(in alloc;
-            "class=CE weight=1 label=- page=0000000012345000 code=memory:RD:0 threshold={threshold} over=0 mark=- ripv=0 eipv=0 mcip=0"
-        )?;
+        let told = format!(in alloc; "{CORRECTED} threshold={threshold} {NOTHING_MORE}")?;
         check_bank(&rt, alloc, registers.as_str(), told.as_str())?;
     }
     Ok(())
@@ -91,7 +98,7 @@ fn weights(rt: HostRuntime) -> Result<(), Fail> {
     for (registers, weight) in rows {
         let registers = format!(in alloc; "{registers} 12345040 86")?;
         let told = format!(in alloc;
-            "class=CE weight={weight} label=- page=0000000012345000 code=memory:RD:0 threshold=none over=0 mark=- ripv=0 eipv=0 mcip=0"
+            "class=CE weight={weight} label=- page=0000000012345000 code=memory:RD:0 threshold=none {NOTHING_MORE}"
         )?;
         check_bank(&rt, alloc, registers.as_str(), told.as_str())?;
     }
@@ -124,19 +131,19 @@ fn an_earlier_error_was_lost(rt: HostRuntime) -> Result<(), Fail> {
 fn codes(rt: HostRuntime) -> Result<(), Fail> {
     let alloc = rt.alloc();
     let rows = [
-        ("1090", "code=memory:RD:0/F", "mark=-"),
-        ("10c0", "code=memory:SCRUB:0/F", "mark=srao"),
-        ("017a", "code=cache:G:L2:EVICT", "mark=srao"),
-        ("0150", "code=cache:I:L0:IRD", "mark=srar"),
-        ("0e0b", "code=generic-io", "mark=-"),
-        ("1e0b", "code=bus:LG:GEN:ERR:IO:NOTIMEOUT/F", "mark=-"),
-        ("0000", "code=none", "mark=-"),
-        ("1005", "code=OTHER", "mark=-"),
+        ("1090", "memory:RD:0/F", "-"),
+        ("10c0", "memory:SCRUB:0/F", "srao"),
+        ("017a", "cache:G:L2:EVICT", "srao"),
+        ("0150", "cache:I:L0:IRD", "srar"),
+        ("0e0b", "generic-io", "-"),
+        ("1e0b", "bus:LG:GEN:ERR:IO:NOTIMEOUT/F", "-"),
+        ("0000", "none", "-"),
+        ("1005", "OTHER", "-"),
     ];
     for (number, code, mark) in rows {
         let registers = format!(in alloc; "1000c14 0 8c0000400001{number} 12345040 86")?;
         let told = format!(in alloc;
-            "class=CE weight=1 label=- page=0000000012345000 {code} threshold=none over=0 {mark} ripv=0 eipv=0 mcip=0"
+            "class=CE weight=1 label=- page=0000000012345000 code={code} threshold=none over=0 mark={mark} ripv=0 eipv=0 mcip=0"
         )?;
         check_bank(&rt, alloc, registers.as_str(), told.as_str())?;
     }
@@ -155,9 +162,7 @@ fn flags(rt: HostRuntime) -> Result<(), Fail> {
     ];
     for (mcg, flags) in rows {
         let registers = format!(in alloc; "1000c14 {mcg} 8c00004000010090 12345040 86")?;
-        let told = format!(in alloc;
-            "class=CE weight=1 label=- page=0000000012345000 code=memory:RD:0 threshold=none over=0 mark=- {flags}"
-        )?;
+        let told = format!(in alloc; "{CORRECTED} threshold=none over=0 mark=- {flags}")?;
         check_bank(&rt, alloc, registers.as_str(), told.as_str())?;
     }
     Ok(())
@@ -177,7 +182,7 @@ fn pages(rt: HostRuntime) -> Result<(), Fail> {
     for (address, page) in rows {
         let registers = format!(in alloc; "1000c14 0 8c00004000010090 {address}")?;
         let told = format!(in alloc;
-            "class=CE weight=1 label=- page={page} code=memory:RD:0 threshold=none over=0 mark=- ripv=0 eipv=0 mcip=0"
+            "class=CE weight=1 label=- page={page} code=memory:RD:0 threshold=none {NOTHING_MORE}"
         )?;
         check_bank(&rt, alloc, registers.as_str(), told.as_str())?;
     }
