@@ -1,4 +1,4 @@
-use Rattle.std.proofs.Common.{◌≡◌, ◌+◌, ◌∙◌, refl, arith}
+use Rattle.std.proofs.Common.{◌+◌, ◌∙◌, refl, arith}
 use Rattle.ras_daemon.specs.Line.{line_of}
 use Rattle.ras_daemon.specs.Reports.{reads_from, reads_of}
 use Rattle.ras_daemon.proofs.RunLemmas.{took_none, took_line, took_stop, reads-first}

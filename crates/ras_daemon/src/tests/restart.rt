@@ -1,0 +1,160 @@
+// That the account is made again from what the disk gives, and from nothing else.
+ghost use Rattle.std.specs.Prelude.{◌≡◌, None, IfOk, OnErr, IsErr};
+ghost use Rattle.board_core.specs.Cause.{HasCause};
+
+use super::{EVERYDAY, LOGGED, REPEATED, check_run, run};
+use crate::Exit;
+use board_core::{Board, Failed, FileNo, MemBoard};
+use std::alloc::Global;
+use std::test::Fail;
+
+// A board that tells nothing, as one over real files does. At its first sync its disk is exchanged for another one,
+// whose files are empty: every later disk call goes there. All is printed to the first.
+#[derive(Drop)]
+struct ExchangedDisk {
+    disks: Disks,
+    disk_faults: u64,
+    print_faults: u64,
+}
+
+// The two disks, apart from the counts, which so stay as they are where a disk is used.
+#[derive(Drop)]
+struct Disks {
+    first: MemBoard,
+    second: MemBoard,
+    is_exchanged: bool,
+}
+
+impl ExchangedDisk {
+    fn new(alloc: Global) -> Result<ExchangedDisk, Fail> {
+        Ok(ExchangedDisk {
+            disks: Disks {
+                first: MemBoard::new(alloc)?,
+                second: MemBoard::new(alloc)?,
+                is_exchanged: false,
+            },
+            disk_faults: 0,
+            print_faults: 0,
+        })
+    }
+}
+
+impl Disks {
+    // The disk that is there.
+    fn disk(&mut self) -> &mut MemBoard {
+        if self.is_exchanged {
+            &mut self.second
+        } else {
+            &mut self.first
+        }
+    }
+
+    fn sync(&mut self, file: FileNo) -> Result<(), Failed> {
+        let synced = self.disk().sync(file);
+        self.is_exchanged = true;
+        synced
+    }
+}
+
+impl Board for ExchangedDisk {
+    ghost told = { λ _. None };
+
+    ghost disk_faults = { λ b. b.disk_faults };
+
+    ghost print_faults = { λ b. b.print_faults };
+
+    fn size(&mut self, file: FileNo) -> Result<u64, Failed> {
+        counted(self.disks.disk().size(file), &mut self.disk_faults)
+    }
+
+    fn read_at(&mut self, file: FileNo, place: u64, buf: &mut [u8]) -> Result<usize, Failed> {
+        let read = self.disks.disk().read_at(file, place, buf);
+        counted(read, &mut self.disk_faults)
+    }
+
+    fn write_at(&mut self, file: FileNo, place: u64, bytes: &[u8]) -> Result<(), Failed> {
+        let written = write_within(self.disks.disk(), file, place, bytes);
+        counted(written, &mut self.disk_faults)
+    }
+
+    fn sync(&mut self, file: FileNo) -> Result<(), Failed> {
+        counted(self.disks.sync(file), &mut self.disk_faults)
+    }
+
+    fn print(&mut self, bytes: &[u8]) -> Result<(), Failed> {
+        counted(self.disks.first.print(bytes), &mut self.print_faults)
+    }
+}
+
+// A write that begins past the file's end fails.
+fn write_within(
+    board: &mut MemBoard,
+    file: FileNo,
+    place: u64,
+    bytes: &[u8],
+) -> Result<(), Failed> {
+    if place > board.file(file).len() as u64 {
+        return Err(Failed);
+    }
+    board.write_at(file, place, bytes)
+}
+
+// What a call answered, with the count of its faults raised where it failed.
+fn counted<T>(answer: Result<T, Failed>, faults: &mut u64) -> Result<T, Failed>
+    ensures ok { IfOk answer (λ value. result ≡ Ok value) }
+    ensures err { OnErr answer (IsErr result) }
+    ensures cause { HasCause faults.old faults.new result }
+{
+    match answer {
+        Ok(value) => Ok(value),
+        Err(Failed) => {
+            *faults = faults.saturating_add(1);
+            Err(Failed)
+        }
+    }
+}
+
+// The second disk lacks what was written to the first, so the same line is fresh again behind a restart.
+#[test]
+fn a_restart_answers_from_the_disk(rt: HostRuntime) -> Result<(), Fail> {
+    let alloc = rt.alloc();
+    let mut board = ExchangedDisk::new(alloc)?;
+    let script = format!(in alloc; "{EVERYDAY}restart\n{EVERYDAY}")?;
+    let output = format!(in alloc;
+        "{LOGGED}done 1\ndone 2\n{LOGGED}done 3\nend entries=1 names=1\n"
+    )?;
+    assert_eq!(rt; run(alloc, script.as_str(), 7, &mut board)?, Exit::Done);
+    assert_eq!(rt; board.disks.first.out(), output.as_bytes());
+    assert_eq!(rt; board.disks.first.file(FileNo::Zero).len(), 44);
+    assert_eq!(rt;
+        board.disks.second.file(FileNo::Zero),
+        board.disks.first.file(FileNo::Zero)
+    );
+    Ok(())
+}
+
+// Without a restart the disk isn't asked, and the line is a repeat.
+#[test]
+fn no_other_line_asks_the_disk(rt: HostRuntime) -> Result<(), Fail> {
+    let alloc = rt.alloc();
+    let mut board = ExchangedDisk::new(alloc)?;
+    let script = format!(in alloc; "{EVERYDAY}{EVERYDAY}")?;
+    let output = format!(in alloc; "{LOGGED}done 1\n{REPEATED}done 2\nend entries=1 names=1\n")?;
+    assert_eq!(rt; run(alloc, script.as_str(), 7, &mut board)?, Exit::Done);
+    assert_eq!(rt; board.disks.first.out(), output.as_bytes());
+    Ok(())
+}
+
+// On one disk a restart changes nothing.
+#[test]
+fn names_outlive_a_restart(rt: HostRuntime) -> Result<(), Fail> {
+    let alloc = rt.alloc();
+    let script = format!(in alloc; "{EVERYDAY}{EVERYDAY}{EVERYDAY}restart\n{EVERYDAY}")?;
+    let output = format!(in alloc;
+        "{LOGGED}done 1\n{REPEATED}done 2\n{REPEATED}done 3\ndone 4\n{REPEATED}done 5\nend entries=1 names=1\n"
+    )?;
+    check_run(&rt, alloc, script.as_str(), output.as_str(), 0)?;
+    let script = "restart\n  restart  \nrestart";
+    let output = "done 1\ndone 2\ndone 3\nend entries=0 names=0\n";
+    check_run(&rt, alloc, script, output, 0)
+}
