@@ -6,6 +6,8 @@
 #![tactic(auto)]
 
 mod board;
+mod events;
+mod history;
 mod mem_board;
 mod mem_source;
 mod source;

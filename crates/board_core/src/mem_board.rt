@@ -1,27 +1,31 @@
 // A board in memory.
-ghost use Rattle.std.specs.Prelude.{◌≡◌, ℕ, ◌+◌, ◌≤◌, ◌++◌, [], ◌∷◌, List, length, Some, IfSome, IfOk, OnOk, OnErr};
+ghost use Rattle.std.specs.Prelude.{◌≡◌, ℕ, ◌+◌, ◌≤◌, ◌++◌, [], ◌∷◌, List, length, min, Some, IfSome, IfOk, OnOk, OnErr};
 ghost use Rattle.board_core.specs.declared.board.DiskCall.TheVariants.{Size, ReadAt, WriteAt, Sync};
 ghost use Rattle.board_core.specs.Cause.{HasCause};
+ghost use Rattle.board_core.specs.Clock.{Passes, Leads, IsSynced};
 ghost use Rattle.board_core.specs.MemSource.{counted};
-ghost use Rattle.board_core.specs.MemBoard.{empty, fails_next, FailsAsChosen, CountsCall, Counts, FailsDisk};
-ghost use Rattle.board_core.specs.Told.{Told, Steps, Relates, Reads, MayList, FailsWrite, FailsPrint, file_of, with_file, overlaid, called, written, printed};
+ghost use Rattle.board_core.specs.MemBoard.{State, new_with, told_of, here_of, clock_of, put, settled, said, fails_next, FailsAsChosen, CountsCall, Begun, FailsDisk};
+ghost use Rattle.board_core.specs.Stop.{Same, InFile, InOut, Begins, Appends, file_in, with_file_in};
+ghost use Rattle.board_core.specs.Told.{Told, Steps, Relates, Reads, Torn, MayList, FailsWrite, FailsPrint, file_of, called, written, printed};
 
+use crate::history::History;
 use crate::{Board, DiskCall, Failed, FileNo};
 use ras_base::NoMemory;
-use std::alloc::{AllocError, Global};
+use std::alloc::Global;
 use std::marker::Model;
 
 /// A board in memory, which tells all and fails at chosen calls.
 ///
-/// A failing call changes nothing but its counts and lists. A growth that is refused for want of memory makes the call
-/// fail, and raises the count of its kind and `starved`.
+/// It keeps each change since it was new, so that what a stop at any moment may have left is known. A failing call changes
+/// nothing but its counts and lists. A growth that is refused for want of memory makes the call fail, and raises the count
+/// of its kind and `starved`.
 #[derive(Drop)]
 pub struct MemBoard {
-    file0: Vec<u8>,
-    file1: Vec<u8>,
-    out: Vec<u8>,
+    alloc: Global,
+    history: History,
     calls: Vec<DiskCall>,
     fails: Vec<u64>,
+    allowed: u64,
     made: u64,
     starved: u64,
     disk_faults: u64,
@@ -29,13 +33,16 @@ pub struct MemBoard {
 }
 
 impl Model for MemBoard {
+    ghost use Rattle.std.specs.Prelude.{◌≡◌, []};
     ghost use Rattle.board_core.specs.MemBoard.{State};
 
     ghost Value = { State };
 
     ghost view = { λ b. record {
-      told = record { file0 = b.file0.items; file1 = b.file1.items; out = b.out.items; calls = b.calls.items };
+      past = b.history;
+      calls = b.calls.items;
       fails = b.fails.items;
+      allowed = b.allowed;
       made = b.made;
       starved = b.starved;
       disk_faults = b.disk_faults;
@@ -46,29 +53,25 @@ impl Model for MemBoard {
 impl MemBoard {
     /// A board with empty files, nothing printed and no faults.
     pub fn new(alloc: Global) -> Result<MemBoard, NoMemory>
-        ensures { IfOk result (λ board. board ≡ empty) }
+        ensures { IfOk result (λ board. board ≡ new_with [] []) }
     {
-        Ok(MemBoard {
-            file0: Vec::new(alloc),
-            file1: Vec::new(alloc),
-            out: Vec::new(alloc),
+        Ok(MemBoard::with_files(alloc, Vec::new(alloc), Vec::new(alloc)))
+    }
+
+    // A new board with these files, synced.
+    fn with_files(alloc: Global, file0: Vec<u8>, file1: Vec<u8>) -> MemBoard
+        ensures { result ≡ new_with file0.items file1.items }
+    {
+        MemBoard {
+            alloc,
+            history: History::new(alloc, file0, file1),
             calls: Vec::new(alloc),
             fails: Vec::new(alloc),
+            allowed: u64::MAX,
             made: 0,
             starved: 0,
             disk_faults: 0,
             print_faults: 0,
-        })
-    }
-
-    /// Puts these bytes into a file, synced, before any call of the trait was made.
-    pub fn set_file(&mut self, file: FileNo, bytes: Vec<u8>)
-        requires { self.old.made ≡ 0 }
-        ensures { self.new ≡ record self.old { told = with_file file bytes.items self.old.told } }
-    {
-        match file {
-            FileNo::Zero => self.file0 = bytes,
-            FileNo::One => self.file1 = bytes,
         }
     }
 
@@ -81,6 +84,13 @@ impl MemBoard {
         Ok(())
     }
 
+    /// Makes every call past the first `calls` of the trait fail.
+    pub fn stop_after(&mut self, calls: u64)
+        ensures { self.new ≡ record self.old { allowed = min self.old.allowed calls } }
+    {
+        self.allowed = self.allowed.min(calls);
+    }
+
     /// How many calls failed because the board was refused a growth.
     pub fn starved(&self) -> u64
         ensures { result ≡ self.now.starved }
@@ -90,24 +100,21 @@ impl MemBoard {
 
     /// The bytes printed so far.
     pub fn out(&self) -> &[u8]
-        ensures { result.now ≡ self.now.told.out }
+        ensures { result.now ≡ (told_of self.now).out }
     {
-        &self.out
+        self.history.out()
     }
 
     /// A file's bytes.
     pub fn file(&self, file: FileNo) -> &[u8]
-        ensures { result.now ≡ file_of file self.now.told }
+        ensures { result.now ≡ file_of file (told_of self.now) }
     {
-        match file {
-            FileNo::Zero => &self.file0,
-            FileNo::One => &self.file1,
-        }
+        self.history.file(file)
     }
 
     /// The disk calls made so far.
     pub fn disk_calls(&self) -> &[DiskCall]
-        ensures { result.now ≡ self.now.told.calls }
+        ensures { result.now ≡ self.now.calls }
     {
         &self.calls
     }
@@ -118,12 +125,12 @@ impl MemBoard {
         ensures counted { self.new ≡ record self.old { made = counted self.old.made } }
     {
         self.made = self.made.saturating_add(1);
-        self.fails.contains(&self.made)
+        self.fails.contains(&self.made) || self.allowed < self.made
     }
 
     // Counts and lists a disk call. It fails where its number was chosen, or where the list can't grow.
     fn begin(&mut self, call: DiskCall) -> Result<(), Failed>
-        ensures ok { OnOk result (Counts (called call self.old.told) self.old self.new) }
+        ensures ok { OnOk result (Begun call self.old self.new) }
         ensures err { OnErr result (FailsDisk call self.old self.new) }
         ensures counted { CountsCall self.old self.new }
         ensures cause { HasCause self.old.disk_faults self.new.disk_faults result }
@@ -141,36 +148,37 @@ impl MemBoard {
         }
         Ok(())
     }
-}
 
-// Writes bytes over what is there and past the end, in place.
-fn overlay(file: &mut Vec<u8>, place: usize, bytes: &[u8]) -> Result<(), AllocError>
-    requires { place ≤ length file.old.items }
-    ensures ok { OnOk result (file.new.items ≡ overlaid place bytes.now file.old.items) }
-    ensures err { OnErr result (file.new.items ≡ file.old.items) }
-{
-    let room = file.len() - place;
-    if bytes.len() <= room {
-        file[place..place + bytes.len()].copy_from_slice(bytes);
-        return Ok(());
+    // Counts a disk call that was refused a growth.
+    fn starve_disk(&mut self) -> Failed
+        ensures { self.new ≡ record self.old { starved = counted self.old.starved; disk_faults = counted self.old.disk_faults } }
+    {
+        self.starved = self.starved.saturating_add(1);
+        self.disk_faults = self.disk_faults.saturating_add(1);
+        Failed
     }
-    let (over, behind) = bytes.split_at(room);
-    file.extend_from_slice(behind)?;
-    file[place..place + room].copy_from_slice(over);
-    Ok(())
 }
 
 impl Board for MemBoard {
-    ghost told = { λ b. Some b.told };
+    ghost told = { λ b. Some (told_of b) };
+
+    ghost clock = { λ b. clock_of b.past };
 
     ghost disk_faults = { λ b. b.disk_faults };
 
     ghost print_faults = { λ b. b.print_faults };
 
+    ghost told_may_be_left = { ? };
+
+    ghost text_is_left = { ? };
+
+    ghost counts_earlier = { ? };
+
     fn size(&mut self, file: FileNo) -> Result<u64, Failed>
-        ensures length { IfOk result (λ n. n ≡ length (file_of file self.old.told)) }
-        ensures told { OnOk result (Some self.new.told ≡ Some (called (Size file) self.old.told)) }
-        ensures failed { OnErr result (MayList (Size file) self.old.told self.new.told) }
+        ensures length { IfOk result (λ n. n ≡ length (file_of file (told_of self.old))) }
+        ensures told { OnOk result (Some (told_of self.new) ≡ Some (called (Size file) (told_of self.old))) }
+        ensures failed { OnErr result (MayList (Size file) (told_of self.old) (told_of self.new)) }
+        ensures stops { Passes Same (clock_of self.old.past) (clock_of self.new.past) }
         ensures cause { HasCause self.old.disk_faults self.new.disk_faults result }
         ensures print { self.new.print_faults ≡ self.old.print_faults }
         ensures exact { FailsAsChosen self.old self.new result }
@@ -182,9 +190,10 @@ impl Board for MemBoard {
 
     fn read_at(&mut self, file: FileNo, place: u64, buf: &mut [u8]) -> Result<usize, Failed>
         ensures within { IfOk result (λ n. n ≤ length buf.old) }
-        ensures read { IfOk result (λ n. Reads place n buf.new (file_of file self.old.told)) }
-        ensures told { OnOk result (Some self.new.told ≡ Some (called (ReadAt file place (length buf.old)) self.old.told)) }
-        ensures failed { OnErr result (MayList (ReadAt file place (length buf.old)) self.old.told self.new.told) }
+        ensures read { IfOk result (λ n. Reads place n buf.new (file_of file (told_of self.old))) }
+        ensures told { OnOk result (Some (told_of self.new) ≡ Some (called (ReadAt file place (length buf.old)) (told_of self.old))) }
+        ensures failed { OnErr result (MayList (ReadAt file place (length buf.old)) (told_of self.old) (told_of self.new)) }
+        ensures stops { Passes Same (clock_of self.old.past) (clock_of self.new.past) }
         ensures cause { HasCause self.old.disk_faults self.new.disk_faults result }
         ensures print { self.new.print_faults ≡ self.old.print_faults }
         ensures exact { FailsAsChosen self.old self.new result }
@@ -195,55 +204,60 @@ impl Board for MemBoard {
     }
 
     fn write_at(&mut self, file: FileNo, place: u64, bytes: &[u8]) -> Result<(), Failed>
-        requires { place ≤ length (file_of file self.old.told) }
-        ensures told { OnOk result (Some self.new.told ≡ Some (written file place bytes.now self.old.told)) }
-        ensures failed { OnErr result (FailsWrite file place (length bytes.now) self.old.told self.new.told) }
+        requires { place ≤ length (file_of file (told_of self.old)) }
+        ensures told { OnOk result (Some (told_of self.new) ≡ Some (written file place bytes.now (told_of self.old))) }
+        ensures failed { OnErr result (FailsWrite file place (length bytes.now) (told_of self.old) (told_of self.new)) }
+        ensures stops { Passes (InFile file (Torn place (length bytes.now))) (clock_of self.old.past) (clock_of self.new.past) }
         ensures cause { HasCause self.old.disk_faults self.new.disk_faults result }
         ensures print { self.new.print_faults ≡ self.old.print_faults }
         ensures exact { FailsAsChosen self.old self.new result }
         ensures counted { CountsCall self.old self.new }
         // A write that failed has written nothing.
-        ensures kept { OnErr result (MayList (WriteAt file place (length bytes.now)) self.old.told self.new.told) }
+        ensures kept { OnErr result (self.new.past ≡ self.old.past) }
     {
         self.begin(DiskCall::WriteAt(file, place, bytes.len() as u64))?;
-        let put = match file {
-            FileNo::Zero => overlay(&mut self.file0, place as usize, bytes),
-            FileNo::One => overlay(&mut self.file1, place as usize, bytes),
-        };
-        if put.is_err() {
-            self.starved = self.starved.saturating_add(1);
-            self.disk_faults = self.disk_faults.saturating_add(1);
-            return Err(Failed);
+        if self.history.write(file, place, bytes).is_err() {
+            return Err(self.starve_disk());
         }
         Ok(())
     }
 
     fn sync(&mut self, file: FileNo) -> Result<(), Failed>
-        ensures told { OnOk result (Some self.new.told ≡ Some (called (Sync file) self.old.told)) }
-        ensures failed { OnErr result (MayList (Sync file) self.old.told self.new.told) }
+        ensures told { OnOk result (Some (told_of self.new) ≡ Some (called (Sync file) (told_of self.old))) }
+        ensures failed { OnErr result (MayList (Sync file) (told_of self.old) (told_of self.new)) }
+        ensures stops { Passes Same (clock_of self.old.past) (clock_of self.new.past) }
+        ensures synced { OnOk result (IsSynced file (file_of file (told_of self.old)) (clock_of self.new.past)) }
         ensures cause { HasCause self.old.disk_faults self.new.disk_faults result }
         ensures print { self.new.print_faults ≡ self.old.print_faults }
         ensures exact { FailsAsChosen self.old self.new result }
         ensures counted { CountsCall self.old self.new }
+        // A sync that failed settles nothing.
+        ensures kept { OnErr result (self.new.past ≡ self.old.past) }
     {
-        self.begin(DiskCall::Sync(file))
+        self.begin(DiskCall::Sync(file))?;
+        if self.history.sync(file).is_err() {
+            return Err(self.starve_disk());
+        }
+        Ok(())
     }
 
     fn print(&mut self, bytes: &[u8]) -> Result<(), Failed>
-        ensures told { OnOk result (Some self.new.told ≡ Some (printed bytes.now self.old.told)) }
-        ensures failed { OnErr result (FailsPrint bytes.now self.old.told self.new.told) }
+        ensures told { OnOk result (Some (told_of self.new) ≡ Some (printed bytes.now (told_of self.old))) }
+        ensures failed { OnErr result (FailsPrint bytes.now (told_of self.old) (told_of self.new)) }
+        ensures stops { Passes (InOut (Begins bytes.now)) (clock_of self.old.past) (clock_of self.new.past) }
+        ensures printed { OnOk result (Leads (InOut (Appends bytes.now)) (clock_of self.old.past) (clock_of self.new.past)) }
         ensures cause { HasCause self.old.print_faults self.new.print_faults result }
         ensures disk { self.new.disk_faults ≡ self.old.disk_faults }
         ensures exact { FailsAsChosen self.old self.new result }
         ensures counted { CountsCall self.old self.new }
         // A print that failed has printed nothing.
-        ensures kept { OnErr result (self.new.told ≡ self.old.told) }
+        ensures kept { OnErr result (self.new.past ≡ self.old.past) }
     {
         if self.count() {
             self.print_faults = self.print_faults.saturating_add(1);
             return Err(Failed);
         }
-        if self.out.extend_from_slice(bytes).is_err() {
+        if self.history.print(bytes).is_err() {
             self.starved = self.starved.saturating_add(1);
             self.print_faults = self.print_faults.saturating_add(1);
             return Err(Failed);

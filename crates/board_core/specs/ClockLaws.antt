@@ -1,0 +1,1 @@
+-- This file only carries proofs: how a law on what stops leave goes on over one call, and over several.

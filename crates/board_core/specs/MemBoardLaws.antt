@@ -1,0 +1,1 @@
+-- This file only carries proofs: that what a board in memory tells, and its clock, keep the laws of a board.
