@@ -2,6 +2,7 @@
 use Rattle.std.specs.Prelude.{◌≡◌, ℕ, zero, suc, ◌+◌, ◌<◌, ◌≤◌, ◌⊎◌, max, List, [], ◌∷◌, ◌++◌, length, slice_index}
 use Rattle.board_core.specs.declared.board.FileNo.{FileNo}
 use Rattle.board_core.specs.declared.board.FileNo.TheVariants.{Zero, One}
+use Rattle.board_core.specs.Clock.{Clock}
 use Rattle.board_core.specs.Stop.{Left, Begins}
 
 -- a range of a file: the place of its first byte, and how many bytes it has
@@ -89,3 +90,7 @@ MayLeaveSince disk [] zero left = MayLeave disk [] left
 MayLeaveSince disk [] (suc t) left = ⊥
 MayLeaveSince disk (call ∷ calls) zero left = MayLeave disk (piece_of call) left ⊎ MayLeaveSince (after call disk) calls zero left
 MayLeaveSince disk (call ∷ calls) (suc t) left = MayLeaveSince (after call disk) calls t left
+
+-- the moments of these calls: their number, and what stops may leave
+abbrev pub disk_clock : Disk → List Call → Clock
+disk_clock disk calls = record { now = length calls; may_leave_since = MayLeaveSince disk calls }

@@ -6,6 +6,7 @@ pub mod Clock
 pub mod ClockLaws
 pub mod DiskModel
 pub mod DiskLaws
+pub mod MomentLaws
 pub mod MemSource
 pub mod MemBoard
 pub mod MemBoardLaws

@@ -4,7 +4,7 @@ use Rattle.board_core.specs.declared.board.DiskCall.{DiskCall}
 use Rattle.board_core.specs.declared.board.FileNo.{FileNo}
 use Rattle.board_core.specs.Cause.{Rose}
 use Rattle.board_core.specs.Clock.{Clock}
-use Rattle.board_core.specs.DiskModel.{Disk, DiskFile, Call, writes, syncs, prints, after_all, MayLeaveSince}
+use Rattle.board_core.specs.DiskModel.{Disk, DiskFile, Call, writes, syncs, prints, after_all, disk_clock}
 use Rattle.board_core.specs.MemSource.{counted, is_chosen}
 use Rattle.board_core.specs.Stop.{Left, file_in, with_file_in}
 use Rattle.board_core.specs.Told.{Told, MayList, overlaid}
@@ -20,6 +20,9 @@ pub data Change : Type 0 where
 pub record Past : Type 0 where
   pub first : Left
   pub changes : List Change
+
+abbrev pub with_change : Change → Past → Past
+with_change change past = record past { changes = past.changes ++ change ∷ [] }
 
 -- what a read gives after a change, and after changes in order
 abbrev pub changed : Change → Left → Left
@@ -58,10 +61,7 @@ disk_of past = after_all (calls_of past.changes past.first) (settled_disk past.f
 -- Moments are counted by changes. What stops may leave is what the disk model says of the changes as calls, no less and
 -- no more.
 abbrev pub clock_of : Past → Clock
-clock_of past = record {
-  now = length (calls_of past.changes past.first);
-  may_leave_since = MayLeaveSince (settled_disk past.first) (calls_of past.changes past.first);
-}
+clock_of past = disk_clock (settled_disk past.first) (calls_of past.changes past.first)
 
 pub record State : Type 0 where
   pub past : Past
@@ -109,6 +109,17 @@ pub record CountsCall (old new : State) : Type 0 where
 -- a disk call that began well: it is counted and listed
 abbrev pub Begun : DiskCall → State → State → Type 0
 Begun call old new = new ≡ record old { calls = old.calls ++ call ∷ []; made = counted old.made }
+
+-- a call that went well after it began, and made this change
+abbrev pub Makes : Change → State → State → Type 0
+Makes change old new = new ≡ record old { past = with_change change old.past }
+
+-- a call that was refused a growth after it began
+abbrev pub StarvesDisk : State → State → Type 0
+StarvesDisk old new = new ≡ record old { starved = counted old.starved; disk_faults = counted old.disk_faults }
+
+abbrev pub StarvesPrint : State → State → Type 0
+StarvesPrint old new = new ≡ record old { starved = counted old.starved; print_faults = counted old.print_faults }
 
 -- a disk call that failed: it is listed or isn't, and the counts of calls and of disk faults are one greater
 pub record FailsDisk (call : DiskCall) (old new : State) : Type 0 where

@@ -3,15 +3,17 @@ ghost use Rattle.std.specs.Prelude.{◌≡◌, ℕ, ◌+◌, ◌≤◌, ◌++◌
 ghost use Rattle.board_core.specs.declared.board.DiskCall.TheVariants.{Size, ReadAt, WriteAt, Sync};
 ghost use Rattle.board_core.specs.Cause.{HasCause};
 ghost use Rattle.board_core.specs.Clock.{Passes, Leads, IsSynced};
+ghost use Rattle.board_core.specs.MemBoardLaws.{told_left, text_left};
 ghost use Rattle.board_core.specs.MemSource.{counted};
-ghost use Rattle.board_core.specs.MemBoard.{State, new_with, told_of, here_of, clock_of, put, settled, said, fails_next, FailsAsChosen, CountsCall, Begun, FailsDisk};
+ghost use Rattle.board_core.specs.MomentLaws.{since_earlier};
+ghost use Rattle.board_core.specs.MemBoard.{State, new_with, told_of, here_of, clock_of, settled_disk, calls_of, put, settled, said, fails_next, FailsAsChosen, CountsCall, Begun, Makes, StarvesDisk, StarvesPrint, FailsDisk};
 ghost use Rattle.board_core.specs.Stop.{Same, InFile, InOut, Begins, Appends, file_in, with_file_in};
 ghost use Rattle.board_core.specs.Told.{Told, Steps, Relates, Reads, Torn, MayList, FailsWrite, FailsPrint, file_of, called, written, printed};
 
 use crate::history::History;
 use crate::{Board, DiskCall, Failed, FileNo};
 use ras_base::NoMemory;
-use std::alloc::Global;
+use std::alloc::{AllocError, Global};
 use std::marker::Model;
 
 /// A board in memory, which tells all and fails at chosen calls.
@@ -149,13 +151,70 @@ impl MemBoard {
         Ok(())
     }
 
-    // Counts a disk call that was refused a growth.
-    fn starve_disk(&mut self) -> Failed
-        ensures { self.new ≡ record self.old { starved = counted self.old.starved; disk_faults = counted self.old.disk_faults } }
+    // Counts a print. It fails where its number was chosen.
+    fn begin_print(&mut self) -> Result<(), Failed>
+        ensures ok { OnOk result (self.new ≡ record self.old { made = counted self.old.made }) }
+        ensures err { OnErr result (self.new ≡ record self.old { made = counted self.old.made; print_faults = counted self.old.print_faults }) }
+        ensures counted { CountsCall self.old self.new }
+        ensures cause { HasCause self.old.print_faults self.new.print_faults result }
+        ensures exact { FailsAsChosen self.old self.new result }
     {
-        self.starved = self.starved.saturating_add(1);
-        self.disk_faults = self.disk_faults.saturating_add(1);
-        Failed
+        if self.count() {
+            self.print_faults = self.print_faults.saturating_add(1);
+            return Err(Failed);
+        }
+        Ok(())
+    }
+
+    // Makes a change that belongs to a disk call. It fails where it is refused a growth.
+    fn write(&mut self, file: FileNo, place: u64, bytes: &[u8]) -> Result<(), Failed>
+        requires { place ≤ length (file_in file (here_of self.old.past)) }
+        ensures ok { OnOk result (Makes (put file place bytes.now) self.old self.new) }
+        ensures err { OnErr result (StarvesDisk self.old self.new) }
+        ensures cause { HasCause self.old.disk_faults self.new.disk_faults result }
+        ensures starved { self.old.starved ≤ self.new.starved }
+    {
+        match self.history.write(file, place, bytes) {
+            Ok(()) => Ok(()),
+            Err(AllocError) => {
+                self.starved = self.starved.saturating_add(1);
+                self.disk_faults = self.disk_faults.saturating_add(1);
+                Err(Failed)
+            }
+        }
+    }
+
+    fn settle(&mut self, file: FileNo) -> Result<(), Failed>
+        ensures ok { OnOk result (Makes (settled file) self.old self.new) }
+        ensures err { OnErr result (StarvesDisk self.old self.new) }
+        ensures cause { HasCause self.old.disk_faults self.new.disk_faults result }
+        ensures starved { self.old.starved ≤ self.new.starved }
+    {
+        match self.history.sync(file) {
+            Ok(()) => Ok(()),
+            Err(AllocError) => {
+                self.starved = self.starved.saturating_add(1);
+                self.disk_faults = self.disk_faults.saturating_add(1);
+                Err(Failed)
+            }
+        }
+    }
+
+    // The same of a print.
+    fn say(&mut self, bytes: &[u8]) -> Result<(), Failed>
+        ensures ok { OnOk result (Makes (said bytes.now) self.old self.new) }
+        ensures err { OnErr result (StarvesPrint self.old self.new) }
+        ensures cause { HasCause self.old.print_faults self.new.print_faults result }
+        ensures starved { self.old.starved ≤ self.new.starved }
+    {
+        match self.history.print(bytes) {
+            Ok(()) => Ok(()),
+            Err(AllocError) => {
+                self.starved = self.starved.saturating_add(1);
+                self.print_faults = self.print_faults.saturating_add(1);
+                Err(Failed)
+            }
+        }
     }
 }
 
@@ -168,11 +227,11 @@ impl Board for MemBoard {
 
     ghost print_faults = { λ b. b.print_faults };
 
-    ghost told_may_be_left = { ? };
+    ghost told_may_be_left = { λ b t is. told_left b t is };
 
-    ghost text_is_left = { ? };
+    ghost text_is_left = { λ b t left is now. text_left b t left is now };
 
-    ghost counts_earlier = { ? };
+    ghost counts_earlier = { λ b s t left within may. since_earlier (settled_disk b.past.first) (calls_of b.past.changes b.past.first) s t left within may };
 
     fn size(&mut self, file: FileNo) -> Result<u64, Failed>
         ensures length { IfOk result (λ n. n ≡ length (file_of file (told_of self.old))) }
@@ -216,10 +275,7 @@ impl Board for MemBoard {
         ensures kept { OnErr result (self.new.past ≡ self.old.past) }
     {
         self.begin(DiskCall::WriteAt(file, place, bytes.len() as u64))?;
-        if self.history.write(file, place, bytes).is_err() {
-            return Err(self.starve_disk());
-        }
-        Ok(())
+        self.write(file, place, bytes)
     }
 
     fn sync(&mut self, file: FileNo) -> Result<(), Failed>
@@ -235,10 +291,7 @@ impl Board for MemBoard {
         ensures kept { OnErr result (self.new.past ≡ self.old.past) }
     {
         self.begin(DiskCall::Sync(file))?;
-        if self.history.sync(file).is_err() {
-            return Err(self.starve_disk());
-        }
-        Ok(())
+        self.settle(file)
     }
 
     fn print(&mut self, bytes: &[u8]) -> Result<(), Failed>
@@ -253,16 +306,8 @@ impl Board for MemBoard {
         // A print that failed has printed nothing.
         ensures kept { OnErr result (self.new.past ≡ self.old.past) }
     {
-        if self.count() {
-            self.print_faults = self.print_faults.saturating_add(1);
-            return Err(Failed);
-        }
-        if self.history.print(bytes).is_err() {
-            self.starved = self.starved.saturating_add(1);
-            self.print_faults = self.print_faults.saturating_add(1);
-            return Err(Failed);
-        }
-        Ok(())
+        self.begin_print()?;
+        self.say(bytes)
     }
 }
 
