@@ -10,6 +10,10 @@ pub record Clock : Type 1 where
   pub now : ℕ
   pub may_leave_since : ℕ → Left → Type 0
 
+-- the clock of a board that tells nothing
+abbrev pub untold : Clock
+untold = record { now = 0; may_leave_since = λ _ _. ⊥ }
+
 -- what a stop now may leave
 abbrev pub LeftNow : Clock → Left → Type 0
 LeftNow clock left = clock.may_leave_since clock.now left

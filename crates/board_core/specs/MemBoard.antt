@@ -21,6 +21,9 @@ pub record Past : Type 0 where
   pub first : Left
   pub changes : List Change
 
+abbrev pub new_past : Left → Past
+new_past first = record { first = first; changes = [] }
+
 abbrev pub with_change : Change → Past → Past
 with_change change past = record past { changes = past.changes ++ change ∷ [] }
 
@@ -79,7 +82,7 @@ told_of s = record { file0 = (here_of s.past).file0; file1 = (here_of s.past).fi
 -- a new board with these files, nothing printed and no faults
 abbrev pub new_with : List ℕ → List ℕ → State
 new_with file0 file1 = record {
-  past = record { first = record { file0 = file0; file1 = file1; out = [] }; changes = [] };
+  past = new_past (record { file0 = file0; file1 = file1; out = [] });
   calls = [];
   fails = [];
   allowed = 2 ^ 64 - 1;

@@ -1,7 +1,7 @@
 // What was done to the files and the output of a board in memory, and what they hold now.
 ghost use Rattle.std.specs.Prelude.{◌≡◌, ℕ, ◌≤◌, ◌++◌, [], ◌∷◌, List, length, OnOk, OnErr};
-ghost use Rattle.board_core.specs.MemBoard.{Past, Change, put, settled, said, here_of};
-ghost use Rattle.board_core.specs.Stop.{Left, file_in};
+ghost use Rattle.board_core.specs.MemBoard.{Past, Change, new_past, put, settled, said, here_of};
+ghost use Rattle.board_core.specs.Stop.{Left, file_in, with_file_in};
 ghost use Rattle.board_core.specs.Told.{overlaid};
 
 use crate::FileNo;
@@ -56,7 +56,7 @@ impl Model for History {
 impl History {
     /// Files with these bytes, and nothing printed.
     pub fn new(alloc: Global, file0: Vec<u8>, file1: Vec<u8>) -> History
-        ensures { result ≡ record { first = record { file0 = file0.items; file1 = file1.items; out = [] }; changes = [] } }
+        ensures { result ≡ new_past (record { file0 = file0.items; file1 = file1.items; out = [] }) }
     {
         History {
             alloc,
@@ -70,6 +70,18 @@ impl History {
             },
             out: Vec::new(alloc),
             events: Vec::new(alloc),
+        }
+    }
+
+    /// Puts these bytes into a file before anything was done.
+    pub fn set_file(&mut self, file: FileNo, bytes: Vec<u8>)
+        requires { self.old.changes ≡ [] }
+        ensures { self.new ≡ new_past (with_file_in file bytes.items self.old.first) }
+    {
+        let set = MemFile { bytes, first: None };
+        match file {
+            FileNo::Zero => self.zero = set,
+            FileNo::One => self.one = set,
         }
     }
 

@@ -11,11 +11,13 @@ mod history;
 mod mem_board;
 mod mem_source;
 mod source;
+mod through;
 
 pub use board::{Board, DiskCall, FileNo};
 pub use mem_board::MemBoard;
 pub use mem_source::MemSource;
 pub use source::{Failed, Source};
+pub use through::write_through;
 
 #[cfg(test)]
 mod tests;

@@ -1,12 +1,12 @@
 // A board in memory.
-ghost use Rattle.std.specs.Prelude.{◌≡◌, ℕ, ◌+◌, ◌≤◌, ◌++◌, [], ◌∷◌, List, length, min, Some, IfSome, IfOk, OnOk, OnErr};
+ghost use Rattle.std.specs.Prelude.{◌≡◌, ℕ, ◌+◌, ◌<◌, ◌≤◌, ◌++◌, [], ◌∷◌, List, length, min, Some, IfSome, IfOk, OnOk, OnErr};
 ghost use Rattle.board_core.specs.declared.board.DiskCall.TheVariants.{Size, ReadAt, WriteAt, Sync};
 ghost use Rattle.board_core.specs.Cause.{HasCause};
 ghost use Rattle.board_core.specs.Clock.{Passes, Leads, IsSynced};
 ghost use Rattle.board_core.specs.MemBoardLaws.{told_left, text_left};
 ghost use Rattle.board_core.specs.MemSource.{counted};
 ghost use Rattle.board_core.specs.MomentLaws.{since_earlier};
-ghost use Rattle.board_core.specs.MemBoard.{State, new_with, told_of, here_of, clock_of, settled_disk, calls_of, put, settled, said, fails_next, FailsAsChosen, CountsCall, Begun, Makes, StarvesDisk, StarvesPrint, FailsDisk};
+ghost use Rattle.board_core.specs.MemBoard.{State, new_with, new_past, told_of, here_of, clock_of, settled_disk, calls_of, put, settled, said, fails_next, FailsAsChosen, CountsCall, Begun, Makes, StarvesDisk, StarvesPrint, FailsDisk};
 ghost use Rattle.board_core.specs.Stop.{Same, InFile, InOut, Begins, Appends, file_in, with_file_in};
 ghost use Rattle.board_core.specs.Told.{Told, Steps, Relates, Reads, Torn, MayList, FailsWrite, FailsPrint, file_of, called, written, printed};
 
@@ -50,6 +50,9 @@ impl Model for MemBoard {
       disk_faults = b.disk_faults;
       print_faults = b.print_faults;
     } };
+
+    // Nothing was changed before the first call.
+    ghost invariant = { λ b. b.made ≡ 0 → b.history.changes ≡ [] };
 }
 
 impl MemBoard {
@@ -75,6 +78,14 @@ impl MemBoard {
             disk_faults: 0,
             print_faults: 0,
         }
+    }
+
+    /// Puts these bytes into a file, synced, before any call of the trait was made.
+    pub fn set_file(&mut self, file: FileNo, bytes: Vec<u8>)
+        requires { self.old.made ≡ 0 }
+        ensures { self.new ≡ record self.old { past = new_past (with_file_in file bytes.items self.old.past.first) } }
+    {
+        self.history.set_file(file, bytes);
     }
 
     /// Makes the call of this number fail. All calls of the trait are numbered from 1.
@@ -168,7 +179,8 @@ impl MemBoard {
 
     // Makes a change that belongs to a disk call. It fails where it is refused a growth.
     fn write(&mut self, file: FileNo, place: u64, bytes: &[u8]) -> Result<(), Failed>
-        requires { place ≤ length (file_in file (here_of self.old.past)) }
+        requires within { place ≤ length (file_in file (here_of self.old.past)) }
+        requires begun { 0 < self.old.made }
         ensures ok { OnOk result (Makes (put file place bytes.now) self.old self.new) }
         ensures err { OnErr result (StarvesDisk self.old self.new) }
         ensures cause { HasCause self.old.disk_faults self.new.disk_faults result }
@@ -185,6 +197,7 @@ impl MemBoard {
     }
 
     fn settle(&mut self, file: FileNo) -> Result<(), Failed>
+        requires { 0 < self.old.made }
         ensures ok { OnOk result (Makes (settled file) self.old self.new) }
         ensures err { OnErr result (StarvesDisk self.old self.new) }
         ensures cause { HasCause self.old.disk_faults self.new.disk_faults result }
@@ -202,6 +215,7 @@ impl MemBoard {
 
     // The same of a print.
     fn say(&mut self, bytes: &[u8]) -> Result<(), Failed>
+        requires { 0 < self.old.made }
         ensures ok { OnOk result (Makes (said bytes.now) self.old self.new) }
         ensures err { OnErr result (StarvesPrint self.old self.new) }
         ensures cause { HasCause self.old.print_faults self.new.print_faults result }
