@@ -5,6 +5,7 @@ pub mod Stop
 pub mod Clock
 pub mod ClockLaws
 pub mod DiskModel
+pub mod CallsMade
 pub mod DiskLaws
 pub mod MomentLaws
 pub mod MemSource

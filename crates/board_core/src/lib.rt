@@ -8,12 +8,14 @@
 mod board;
 mod events;
 mod history;
+mod laws;
 mod mem_board;
 mod mem_source;
 mod source;
 mod through;
 
 pub use board::{Board, DiskCall, FileNo};
+pub use laws::{disk_model, disk_model_words};
 pub use mem_board::MemBoard;
 pub use mem_source::MemSource;
 pub use source::{Failed, Source};
