@@ -31,11 +31,11 @@ after_call (syncs One bytes) disk old new keeps made left now =
     let from : After old Same left = made.0.ends left now in
     let may : MayLeave disk [] left = rw from.by (keeps from.from from.was) in
     record { zero = may.zero; one = rw (made.1 left now) (settled_left bytes); out = may.out }
-after_call (prints piece) disk old new keeps made left now =
-    let from : After old (InOut (Appends piece)) left = made.1 left now in
+after_call (prints piece part) disk old new keeps made left now =
+    let from : After old (InOut (Appends part)) left = made.1 left now in
     let may : MayLeave disk [] from.from = keeps from.from from.was in
-    let text : from.by.text ≡ disk.out ++ piece = from.by.step ∙ ap (λ xs. xs ++ piece) (begins_none disk.out from.from.out may.out) in
-    rw from.by.rest (record { zero = may.zero; one = may.one; out = rw text (nothing_begins [] (disk.out ++ piece)) })
+    let text : from.by.text ≡ disk.out ++ part = from.by.step ∙ ap (λ xs. xs ++ part) (begins_none disk.out from.from.out may.out) in
+    rw from.by.rest (record { zero = may.zero; one = may.one; out = rw text (nothing_begins [] (disk.out ++ part)) })
 after_call rests disk old new keeps made left now =
     let from : After old Same left = made.ends left now in
     rw from.by (keeps from.from from.was)
@@ -53,7 +53,7 @@ during_call (writes One place count) disk old new t left keeps made within since
       rw from.by.rest (record { zero = may.zero; one = torn_more disk.one place count from.from.file1 from.by.bytes may.one from.by.step; out = may.out }))) ]
 during_call (syncs file bytes) disk old new t left keeps made within since =
     elim (made.0.each t left within since) [ inl before ↦ inl before | inr from ↦ inr (inl (rw from.by (keeps from.from from.was))) ]
-during_call (prints piece) disk old new t left keeps made within since =
+during_call (prints piece part) disk old new t left keeps made within since =
     elim (made.0.each t left within since) [ inl before ↦ inl before | inr from ↦ inr (inl (
       let may : MayLeave disk [] from.from = keeps from.from from.was in
       let text : from.from.out ≡ disk.out = begins_none disk.out from.from.out may.out in
@@ -64,7 +64,7 @@ during_call rests disk old new t left keeps made within since =
 call_later : (call : Call) (old new : Clock) → IsMade call old new → old.now ≤ new.now
 call_later (writes file place count) old new made = made.later
 call_later (syncs file bytes) old new made = made.0.later
-call_later (prints piece) old new made = made.0.later
+call_later (prints piece part) old new made = made.0.later
 call_later rests old new made = made.later
 
 -- what may be left at first may be left since then
@@ -120,13 +120,13 @@ ranges_more (r ∷ rs) synced ranges bytes may =
 abbrev step_of : Call → Left → Left → Type 0
 step_of (writes file place count) = InFile file (Torn place count)
 step_of (syncs file bytes) = Same
-step_of (prints piece) = InOut (Begins piece)
+step_of (prints piece part) = InOut (Begins piece)
 step_of rests = Same
 
 passes_made : (call : Call) (old new : Clock) → IsMade call old new → Passes (step_of call) old new
 passes_made (writes file place count) old new made = made
 passes_made (syncs file bytes) old new made = made.0
-passes_made (prints piece) old new made = made.0
+passes_made (prints piece part) old new made = made.0
 passes_made rests old new made = made
 
 -- what a step leads to, of one file
@@ -134,12 +134,12 @@ file_step : (file : FileNo) (call : Call) (synced : List ℕ) (ranges : List Ran
 file_step Zero (writes Zero place count) synced ranges old new step may = rw step.rest (torn_more (file_with synced ranges) place count old.file0 step.bytes may step.step)
 file_step Zero (writes One place count) synced ranges old new step may = rw step.rest (rw append-nil may)
 file_step Zero (syncs file bytes) synced ranges old new step may = rw step (rw append-nil may)
-file_step Zero (prints piece) synced ranges old new step may = rw step.rest (rw append-nil may)
+file_step Zero (prints piece part) synced ranges old new step may = rw step.rest (rw append-nil may)
 file_step Zero rests synced ranges old new step may = rw step (rw append-nil may)
 file_step One (writes Zero place count) synced ranges old new step may = rw step.rest (rw append-nil may)
 file_step One (writes One place count) synced ranges old new step may = rw step.rest (torn_more (file_with synced ranges) place count old.file1 step.bytes may step.step)
 file_step One (syncs file bytes) synced ranges old new step may = rw step (rw append-nil may)
-file_step One (prints piece) synced ranges old new step may = rw step.rest (rw append-nil may)
+file_step One (prints piece part) synced ranges old new step may = rw step.rest (rw append-nil may)
 file_step One rests synced ranges old new step may = rw step (rw append-nil may)
 
 after_file : (file : FileNo) (call : Call) (synced : List ℕ) (ranges : List Range) (old : Clock) → ((left : Left) → LeftNow old left → MayLeaveFile (file_with synced ranges) (file_in file left))

@@ -12,7 +12,7 @@ use Rattle.board_core.specs.Told.{Torn}
 abbrev pub IsMade : Call → Clock → Clock → Type 0
 IsMade (writes file place count) old new = Passes (InFile file (Torn place count)) old new
 IsMade (syncs file bytes) old new = Passes Same old new × IsSynced file bytes new
-IsMade (prints piece) old new = Passes (InOut (Begins piece)) old new × Leads (InOut (Appends piece)) old new
+IsMade (prints piece part) old new = Passes (InOut (Begins piece)) old new × Leads (InOut (Appends part)) old new
 IsMade rests old new = Passes Same old new
 
 -- These calls were made of a board, one after another.

@@ -46,11 +46,12 @@ pub record MayLeave (disk : Disk) (piece : List ℕ) (left : Left) : Type 0 wher
   pub out : Begins piece disk.out left.out
 
 -- A call as the disk sees it: a write of so many bytes at a place of a file, whether it ended well or not; a sync that
--- ended well, with the file's bytes as a read then gives them; a print that ended well; any other.
+-- ended well, with the file's bytes as a read then gives them; a print of a piece, and the part of it that was appended,
+-- which is all of it where the print ended well; any other.
 pub data Call : Type 0 where
   writes : FileNo → ℕ → ℕ → Call
   syncs : FileNo → List ℕ → Call
-  prints : List ℕ → Call
+  prints : List ℕ → List ℕ → Call
   rests : Call
 
 abbrev pub disk_file : FileNo → Disk → DiskFile
@@ -69,7 +70,7 @@ wrote place count file = record file { written = file.written ++ record { place 
 abbrev pub after : Call → Disk → Disk
 after (writes file place count) disk = with_disk_file file (wrote place count (disk_file file disk)) disk
 after (syncs file bytes) disk = with_disk_file file (record { synced = bytes; written = [] }) disk
-after (prints piece) disk = record disk { out = disk.out ++ piece }
+after (prints piece part) disk = record disk { out = disk.out ++ part }
 after rests disk = disk
 
 abbrev pub after_all : List Call → Disk → Disk
@@ -80,7 +81,7 @@ after_all (call ∷ calls) disk = after_all calls (after call disk)
 abbrev pub piece_of : Call → List ℕ
 piece_of (writes file place count) = []
 piece_of (syncs file bytes) = []
-piece_of (prints piece) = piece
+piece_of (prints piece part) = piece
 piece_of rests = []
 
 -- What a stop may leave from the moment on that comes after so many of these calls: before one of the later ones, while

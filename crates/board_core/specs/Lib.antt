@@ -11,4 +11,6 @@ pub mod MomentLaws
 pub mod MemSource
 pub mod MemBoard
 pub mod MemBoardLaws
+pub mod Pick
+pub mod FileHistory
 pub mod History

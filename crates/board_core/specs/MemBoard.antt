@@ -41,7 +41,7 @@ changed_all (change ∷ changes) here = changed_all changes (changed change here
 abbrev pub call_of : Change → Left → Call
 call_of (put file place bytes) here = writes file place (length bytes)
 call_of (settled file) here = syncs file (file_in file here)
-call_of (said piece) here = prints piece
+call_of (said piece) here = prints piece piece
 
 abbrev pub calls_of : List Change → Left → List Call
 calls_of [] here = []

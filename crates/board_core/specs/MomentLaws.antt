@@ -137,7 +137,7 @@ print_during disk piece left may = record {
   by = record { text = left.out; step = may.out; rest = refl };
 }
 
-pub print_appends : (disk : Disk) (piece : List ℕ) (left : Left) → MayLeave (after (prints piece) disk) [] left → AfterDisk disk (InOut (Appends piece)) left
+pub print_appends : (disk : Disk) (piece : List ℕ) (left : Left) → MayLeave (after (prints piece piece) disk) [] left → AfterDisk disk (InOut (Appends piece)) left
 print_appends disk piece left may = record {
   from = record left { out = disk.out };
   was = record { zero = may.zero; one = may.one; out = nothing_begins [] disk.out };
@@ -147,7 +147,7 @@ print_appends disk piece left may = record {
 pub all_begins : (piece old new : List ℕ) → Appends piece old new → Begins piece old new
 all_begins piece old new is = record { part = piece; missing = []; splits = append-nil piece; is = is }
 
-pub print_ends : (disk : Disk) (piece : List ℕ) (left : Left) → MayLeave (after (prints piece) disk) [] left → AfterDisk disk (InOut (Begins piece)) left
+pub print_ends : (disk : Disk) (piece : List ℕ) (left : Left) → MayLeave (after (prints piece piece) disk) [] left → AfterDisk disk (InOut (Begins piece)) left
 print_ends disk piece left may =
     let ended : AfterDisk disk (InOut (Appends piece)) left = print_appends disk piece left may in
     record { from = ended.from; was = ended.was; by = record { text = ended.by.text; step = all_begins piece ended.from.out ended.by.text ended.by.step; rest = ended.by.rest } }

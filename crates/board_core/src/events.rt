@@ -64,7 +64,7 @@ pub fn print(
 }
 
 // Writes bytes over what is there and past the end, in place.
-fn overlay(file: &mut Vec<u8>, place: usize, bytes: &[u8]) -> Result<(), AllocError>
+pub fn overlay(file: &mut Vec<u8>, place: usize, bytes: &[u8]) -> Result<(), AllocError>
     requires { place ≤ length file.old.items }
     ensures ok { OnOk result (file.new.items ≡ overlaid place bytes.now file.old.items) }
     ensures err { OnErr result (file.new.items ≡ file.old.items) }

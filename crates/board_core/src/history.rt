@@ -1,11 +1,13 @@
 // What was done to the files and the output of a board in memory, and what they hold now.
-ghost use Rattle.std.specs.Prelude.{◌≡◌, ℕ, ◌≤◌, ◌++◌, [], ◌∷◌, List, length, OnOk, OnErr};
-ghost use Rattle.board_core.specs.MemBoard.{Past, Change, new_past, put, settled, said, here_of};
+ghost use Rattle.std.specs.Prelude.{◌≡◌, ℕ, ◌≤◌, ◌++◌, [], ◌∷◌, List, length, IfOk, OnOk, OnErr};
+ghost use Rattle.board_core.specs.MemBoard.{Past, Change, new_past, put, settled, said, disk_of, here_of};
+ghost use Rattle.board_core.specs.Pick.{IsPicked};
 ghost use Rattle.board_core.specs.Stop.{Left, file_in, with_file_in};
 ghost use Rattle.board_core.specs.Told.{overlaid};
 
-use crate::FileNo;
 use crate::events::{print, write};
+use crate::leaving::picked;
+use crate::{FileNo, Pick};
 use std::alloc::{AllocError, Global};
 use std::marker::Model;
 
@@ -143,5 +145,18 @@ impl History {
         ensures err { OnErr result (self.new ≡ self.old) }
     {
         print(self.alloc, &mut self.out, &mut self.events, bytes)
+    }
+
+    /// Both files as they are picked.
+    pub fn left(self, pick: Pick) -> Result<(Vec<u8>, Vec<u8>), AllocError>
+        ensures zero { IfOk result (λ files. IsPicked pick (disk_of self).zero (here_of self).file0 files.0.items) }
+        ensures one { IfOk result (λ files. IsPicked pick (disk_of self).one (here_of self).file1 files.1.items) }
+    {
+        let History {
+            zero, one, events, ..
+        } = self;
+        let file0 = picked(zero, &events, FileNo::Zero, pick)?;
+        let file1 = picked(one, &events, FileNo::One, pick)?;
+        Ok((file0, file1))
     }
 }

@@ -9,8 +9,10 @@ mod board;
 mod events;
 mod history;
 mod laws;
+mod leaving;
 mod mem_board;
 mod mem_source;
+mod pick;
 mod source;
 mod through;
 
@@ -18,6 +20,7 @@ pub use board::{Board, DiskCall, FileNo};
 pub use laws::{disk_model, disk_model_words};
 pub use mem_board::MemBoard;
 pub use mem_source::MemSource;
+pub use pick::Pick;
 pub use source::{Failed, Source};
 pub use through::write_through;
 

@@ -2,16 +2,17 @@
 ghost use Rattle.std.specs.Prelude.{◌≡◌, ℕ, ◌+◌, ◌<◌, ◌≤◌, ◌++◌, [], ◌∷◌, List, length, min, Some, IfSome, IfOk, OnOk, OnErr};
 ghost use Rattle.board_core.specs.declared.board.DiskCall.TheVariants.{Size, ReadAt, WriteAt, Sync};
 ghost use Rattle.board_core.specs.Cause.{HasCause};
-ghost use Rattle.board_core.specs.Clock.{Passes, Leads, IsSynced};
+ghost use Rattle.board_core.specs.Clock.{LeftNow, Passes, Leads, IsSynced};
 ghost use Rattle.board_core.specs.MemBoardLaws.{told_left, text_left};
 ghost use Rattle.board_core.specs.MemSource.{counted};
 ghost use Rattle.board_core.specs.MomentLaws.{since_earlier};
-ghost use Rattle.board_core.specs.MemBoard.{State, new_with, new_past, told_of, here_of, clock_of, settled_disk, calls_of, put, settled, said, fails_next, FailsAsChosen, CountsCall, Begun, Makes, StarvesDisk, StarvesPrint, FailsDisk};
+ghost use Rattle.board_core.specs.MemBoard.{State, new_with, new_past, told_of, here_of, disk_of, clock_of, settled_disk, calls_of, put, settled, said, fails_next, FailsAsChosen, CountsCall, Begun, Makes, StarvesDisk, StarvesPrint, FailsDisk};
+ghost use Rattle.board_core.specs.Pick.{IsPicked};
 ghost use Rattle.board_core.specs.Stop.{Same, InFile, InOut, Begins, Appends, file_in, with_file_in};
 ghost use Rattle.board_core.specs.Told.{Told, Steps, Relates, Reads, Torn, MayList, FailsWrite, FailsPrint, file_of, called, written, printed};
 
 use crate::history::History;
-use crate::{Board, DiskCall, Failed, FileNo};
+use crate::{Board, DiskCall, Failed, FileNo, Pick};
 use ras_base::NoMemory;
 use std::alloc::{AllocError, Global};
 use std::marker::Model;
@@ -130,6 +131,20 @@ impl MemBoard {
         ensures { result.now ≡ self.now.calls }
     {
         &self.calls
+    }
+
+    /// A new board with one state that a stop now may leave, and nothing printed.
+    ///
+    /// After `NoMemory` this board is given up.
+    pub fn left(self, alloc: Global, pick: Pick) -> Result<MemBoard, NoMemory>
+        ensures fresh { IfOk result (λ board. board ≡ new_with (told_of board).file0 (told_of board).file1) }
+        ensures zero { IfOk result (λ board. IsPicked pick (disk_of self.past).zero (told_of self).file0 (told_of board).file0) }
+        ensures one { IfOk result (λ board. IsPicked pick (disk_of self.past).one (told_of self).file1 (told_of board).file1) }
+        ensures left { IfOk result (λ board. LeftNow (clock_of self.past) (record { file0 = (told_of board).file0; file1 = (told_of board).file1; out = (told_of self).out })) }
+    {
+        let MemBoard { history, .. } = self;
+        let (file0, file1) = history.left(pick)?;
+        Ok(MemBoard::with_files(alloc, file0, file1))
     }
 
     // Counts a call, and says whether its number was chosen to fail.
