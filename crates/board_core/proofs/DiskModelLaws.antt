@@ -7,7 +7,9 @@ use Rattle.board_core.specs.CallsMade.{IsMade, AreMade, Keeps, range_in, ranges_
 use Rattle.board_core.specs.Clock.{Clock, LeftNow, After, Passes, Leads, IsSynced}
 use Rattle.board_core.specs.DiskLaws.{torn_more, settled_left, settled_only, begins_none, nothing_begins, outside_front, grown-more, grown-least, length-overlaid}
 use Rattle.board_core.specs.DiskModel.{Range, IsOutside, grown, DiskFile, Disk, MayLeave, MayLeaveFile, MayLeaveSince, Call, writes, syncs, prints, rests, wrote, after, after_all, piece_of}
-use Rattle.board_core.specs.MomentLaws.{piece_more, now_only, now_counts}
+use Rattle.board_core.specs.MemBoard.{Past, with_change, said, call_of, calls_of, settled_disk, clock_of, disk_of, here_of}
+use Rattle.board_core.specs.MemBoardLaws.{here_left, calls_of-more}
+use Rattle.board_core.specs.MomentLaws.{piece_more, last_counts, now_only, now_counts}
 use Rattle.board_core.specs.Stop.{Left, Same, Begins, Appends, InFile, InOut, file_in}
 use Rattle.board_core.specs.Told.{Torn, overlaid}
 
@@ -44,20 +46,29 @@ after_call rests disk old new keeps made left now =
 during_call : (call : Call) (disk : Disk) (old new : Clock) (t : ℕ) (left : Left) → Keeps disk old → IsMade call old new → t ≤ old.now → new.may_leave_since t left
     → old.may_leave_since t left ⊎ (MayLeave disk (piece_of call) left ⊎ MayLeave (after call disk) [] left)
 during_call (writes Zero place count) disk old new t left keeps made within since =
-    elim (made.each t left within since) [ inl before ↦ inl before | inr from ↦ inr (inr (
-      let may : MayLeave disk [] from.from = keeps from.from from.was in
-      rw from.by.rest (record { zero = torn_more disk.zero place count from.from.file0 from.by.bytes may.zero from.by.step; one = may.one; out = may.out }))) ]
+    elim (made.each t left within since) [
+      | inl before ↦ inl before
+      | inr from ↦ inr (inr (
+          let may : MayLeave disk [] from.from = keeps from.from from.was in
+          rw from.by.rest (record { zero = torn_more disk.zero place count from.from.file0 from.by.bytes may.zero from.by.step; one = may.one; out = may.out })))
+    ]
 during_call (writes One place count) disk old new t left keeps made within since =
-    elim (made.each t left within since) [ inl before ↦ inl before | inr from ↦ inr (inr (
-      let may : MayLeave disk [] from.from = keeps from.from from.was in
-      rw from.by.rest (record { zero = may.zero; one = torn_more disk.one place count from.from.file1 from.by.bytes may.one from.by.step; out = may.out }))) ]
+    elim (made.each t left within since) [
+      | inl before ↦ inl before
+      | inr from ↦ inr (inr (
+          let may : MayLeave disk [] from.from = keeps from.from from.was in
+          rw from.by.rest (record { zero = may.zero; one = torn_more disk.one place count from.from.file1 from.by.bytes may.one from.by.step; out = may.out })))
+    ]
 during_call (syncs file bytes) disk old new t left keeps made within since =
     elim (made.0.each t left within since) [ inl before ↦ inl before | inr from ↦ inr (inl (rw from.by (keeps from.from from.was))) ]
 during_call (prints piece part) disk old new t left keeps made within since =
-    elim (made.0.each t left within since) [ inl before ↦ inl before | inr from ↦ inr (inl (
-      let may : MayLeave disk [] from.from = keeps from.from from.was in
-      let text : from.from.out ≡ disk.out = begins_none disk.out from.from.out may.out in
-      rw from.by.rest (record { zero = may.zero; one = may.one; out = subst (λ (xs : List ℕ). Begins piece xs from.by.text) text from.by.step }))) ]
+    elim (made.0.each t left within since) [
+      | inl before ↦ inl before
+      | inr from ↦ inr (inl (
+          let may : MayLeave disk [] from.from = keeps from.from from.was in
+          let text : from.from.out ≡ disk.out = begins_none disk.out from.from.out may.out in
+          rw from.by.rest (record { zero = may.zero; one = may.one; out = subst (λ (xs : List ℕ). Begins piece xs from.by.text) text from.by.step })))
+    ]
 during_call rests disk old new t left keeps made within since =
     elim (made.each t left within since) [ inl before ↦ inl before | inr from ↦ inr (inl (rw from.by (keeps from.from from.was))) ]
 
@@ -84,20 +95,20 @@ module _ {B : Type 0} (clock : B → Clock) where
   during_calls (call ∷ calls) disk first last t left keeps made within since =
       let later : (clock first).now ≤ (clock made.0).now = call_later call (clock first) (clock made.0) made.1 in
       let rest : (clock made.0).may_leave_since t left ⊎ MayLeaveSince (after call disk) calls 0 left =
-          during_calls calls (after call disk) made.0 last t left (after_call call disk (clock first) (clock made.0) keeps made.1) made.2 (omega arith) since in
+      during_calls calls (after call disk) made.0 last t left (after_call call disk (clock first) (clock made.0) keeps made.1) made.2 (omega arith) since in
       elim rest [
-        inl before ↦ elim (during_call call disk (clock first) (clock made.0) t left keeps made.1 within before) [
-          inl at_first ↦ inl at_first
-        | inr last_call ↦ inr (elim last_call [ inl during ↦ inl during | inr behind ↦ inr (first_counts (after call disk) calls left behind) ])
+        | inl before ↦ elim (during_call call disk (clock first) (clock made.0) t left keeps made.1 within before) [
+          | inl at_first ↦ inl at_first
+          | inr last_call ↦ inr (elim last_call [ inl during ↦ inl during | inr behind ↦ inr (first_counts (after call disk) calls left behind) ])
         ]
-      | inr later_calls ↦ inr (inr later_calls)
+        | inr later_calls ↦ inr (inr later_calls)
       ]
 
   pub since_calls : (calls : List Call) (disk : Disk) (first last : B) (left : Left) → Keeps disk (clock first) → AreMade clock calls first last → (clock last).may_leave_since (clock first).now left → MayLeaveSince disk calls 0 left
   since_calls calls disk first last left keeps made since =
       elim (during_calls calls disk first last (clock first).now left keeps made (omega arith) since) [
-        inl before ↦ first_counts disk calls left (keeps left before)
-      | inr during ↦ during
+        | inl before ↦ first_counts disk calls left (keeps left before)
+        | inr during ↦ during
       ]
 
 -- one file
@@ -155,19 +166,32 @@ module _ {B : Type 0} (clock : B → Clock) (file : FileNo) where
       let passes : Passes (step_of call) (clock first) (clock made.0) = passes_made call (clock first) (clock made.0) made.1 in
       let later : (clock first).now ≤ (clock made.0).now = passes.later in
       let rest : (clock made.0).may_leave_since t left ⊎ MayLeaveFile (file_with synced (ranges ++ range_in file call ++ ranges_in file calls)) (file_in file left) =
-          file_during calls synced (ranges ++ range_in file call) made.0 last t left (λ old now. after_file file call synced ranges (clock first) keeps old (passes.ends old now)) made.2 (omega arith) since in
+      file_during calls synced (ranges ++ range_in file call) made.0 last t left (λ old now. after_file file call synced ranges (clock first) keeps old (passes.ends old now)) made.2 (omega arith) since in
       elim rest [
-        inl before ↦ elim (passes.each t left within before) [
-          inl at_first ↦ inl at_first
-        | inr during ↦ inr (rw append_assoc at (ranges_more (ranges_in file calls) synced (ranges ++ range_in file call) (file_in file left) (after_file file call synced ranges (clock first) keeps left during)))
+        | inl before ↦ elim (passes.each t left within before) [
+          | inl at_first ↦ inl at_first
+          | inr during ↦ inr (rw append_assoc at (ranges_more (ranges_in file calls) synced (ranges ++ range_in file call) (file_in file left) (after_file file call synced ranges (clock first) keeps left during)))
         ]
-      | inr behind ↦ inr (rw append_assoc at behind)
+        | inr behind ↦ inr (rw append_assoc at behind)
       ]
 
   pub file_calls : (bytes : List ℕ) (calls : List Call) (first last : B) → IsSynced file bytes (clock first) → AreMade clock calls first last
       → (left : Left) → (clock last).may_leave_since (clock first).now left → MayLeaveFile (file_with bytes (ranges_in file calls)) (file_in file left)
   file_calls bytes calls first last synced made left since =
       elim (file_during calls bytes [] first last (clock first).now left (λ old now. rw (synced old now) (settled_left bytes)) made (omega arith) since) [
-        inl before ↦ ranges_more (ranges_in file calls) bytes [] (file_in file left) (rw (synced left before) (settled_left bytes))
-      | inr during ↦ during
+        | inl before ↦ ranges_more (ranges_in file calls) bytes [] (file_in file left) (rw (synced left before) (settled_left bytes))
+        | inr during ↦ during
       ]
+
+-- a board in memory that prints
+
+pub while_printing : (past : Past) (part missing : List ℕ) → (clock_of (with_change (said (part ++ missing)) past)).may_leave_since (clock_of past).now (record (here_of past) { out = (here_of past).out ++ part })
+while_printing past part missing =
+    let may : MayLeave (disk_of past) [] (here_of past) = here_left past in
+    let during : MayLeave (disk_of past) (part ++ missing) (record (here_of past) { out = (here_of past).out ++ part }) = record {
+      zero = may.zero;
+      one = may.one;
+      out = record { part = part; missing = missing; splits = refl; is = ap (λ xs. xs ++ part) (begins_none (disk_of past).out (here_of past).out may.out) };
+    } in
+    rw (calls_of-more past.changes (said (part ++ missing)) past.first)
+      (last_counts (settled_disk past.first) (calls_of past.changes past.first) (call_of (said (part ++ missing)) (here_of past)) (record (here_of past) { out = (here_of past).out ++ part }) during)

@@ -29,7 +29,7 @@ module _ (file0 file1 out : List ℕ) (events more : List Event) (first : Left) 
       → OnErr r (new ≡ file0) → OnErr r (more ≡ events) → changed_all (changes_of more) first ≡ parts new file1 out
   wrote_zero (Ok done) file place bytes new is_zero written is none nothing =
       one_more (changes_of events) (changes_of more) (put Zero place bytes) first (parts file0 file1 out) so_far (is ∙ ap (λ f. changes_of events ++ put f place bytes ∷ []) is_zero)
-        ∙ ap (λ xs. parts xs file1 out) (sym written)
+      ∙ ap (λ xs. parts xs file1 out) (sym written)
   wrote_zero (Err error) file place bytes new is_zero written is none nothing = same nothing ∙ ap (λ xs. parts xs file1 out) (sym none)
 
   pub wrote_one : (r : Result (Unit {0}) AllocError) (file : FileNo) (place : ℕ) (bytes new : List ℕ) → file ≡ One
@@ -37,7 +37,7 @@ module _ (file0 file1 out : List ℕ) (events more : List Event) (first : Left) 
       → OnErr r (new ≡ file1) → OnErr r (more ≡ events) → changed_all (changes_of more) first ≡ parts file0 new out
   wrote_one (Ok done) file place bytes new is_one written is none nothing =
       one_more (changes_of events) (changes_of more) (put One place bytes) first (parts file0 file1 out) so_far (is ∙ ap (λ f. changes_of events ++ put f place bytes ∷ []) is_one)
-        ∙ ap (λ xs. parts file0 xs out) (sym written)
+      ∙ ap (λ xs. parts file0 xs out) (sym written)
   wrote_one (Err error) file place bytes new is_one written is none nothing = same nothing ∙ ap (λ xs. parts file0 xs out) (sym none)
 
   pub printed_out : (r : Result (Unit {0}) AllocError) (bytes new : List ℕ)

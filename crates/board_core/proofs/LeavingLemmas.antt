@@ -41,7 +41,7 @@ pub repeated : (number : FileNo) (events : List Event) (i : ℕ) (event : Event)
     → so_far ≡ bytes_after_all number (changes_of (take i events)) first → next ≡ bytes_after number (change_of event) so_far → next ≡ bytes_after_all number (changes_of (take (i + 1) events)) first
 repeated number events i event first so_far next within is invariant step =
     step ∙ (ap (bytes_after number (change_of event)) invariant
-      ∙ (sym (bytes_after_all-more number (changes_of (take i events)) (change_of event) first) ∙ ap (λ cs. bytes_after_all number cs first) (sym (changes_more events i event within is))))
+    ∙ (sym (bytes_after_all-more number (changes_of (take i events)) (change_of event) first) ∙ ap (λ cs. bytes_after_all number cs first) (sym (changes_more events i event within is))))
 
 -- Bytes that were set go on to be set.
 
@@ -79,7 +79,7 @@ pub filled_on : (byte : ℕ) (number : FileNo) (events : List Event) (i : ℕ) (
     → IsFilled byte (ranges_of number (changes_of (take (i + 1) events))) first next
 filled_on byte number events i event first so_far next within is before step =
     let all : ranges_of number (changes_of (take (i + 1) events)) ≡ ranges_of number (changes_of (take i events)) ++ range_of number (change_of event) =
-        ap (ranges_of number) (changes_more events i event within is) ∙ ranges_of-more number (changes_of (take i events)) (change_of event) in
+    ap (ranges_of number) (changes_more events i event within is) ∙ ranges_of-more number (changes_of (take i events)) (change_of event) in
     rw all (filled_more byte (ranges_of number (changes_of (take i events))) (range_of number (change_of event)) first so_far next before step)
 
 -- Events stay parted at the last sync.
@@ -116,11 +116,11 @@ module _ (number : FileNo) (events : List Event) (i : ℕ) (event : Event) (with
       let none : drop (i + 1) (take (i + 1) events) ≡ [] = drop_all (i + 1) (take (i + 1) events) (omega (arith, length-take (i + 1) events)) in
       let all : changes_of (take (i + 1) events) ≡ cs ++ settled number ∷ [] = more ∙ ap (λ c. cs ++ c ∷ []) syncs in
       let left : disk_after_all number (changes_of (take (i + 1) events)) bytes (settled_file bytes) ≡ settled_file (bytes_after_all number cs bytes) =
-          ap (λ xs. disk_after_all number xs bytes (settled_file bytes)) all
-            ∙ (disk_after_all-more number cs (settled number) bytes (settled_file bytes)
-            ∙ settled_disk_after number (bytes_after_all number cs bytes) (disk_after_all number cs bytes (settled_file bytes))) in
+      ap (λ xs. disk_after_all number xs bytes (settled_file bytes)) all
+      ∙ (disk_after_all-more number cs (settled number) bytes (settled_file bytes)
+      ∙ settled_disk_after number (bytes_after_all number cs bytes) (disk_after_all number cs bytes (settled_file bytes))) in
       let right : bytes_after_all number (changes_of (take (i + 1) events)) bytes ≡ bytes_after_all number cs bytes =
-          ap (λ xs. bytes_after_all number xs bytes) all ∙ (bytes_after_all-more number cs (settled number) bytes ∙ settled_bytes_after number (bytes_after_all number cs bytes)) in
+      ap (λ xs. bytes_after_all number xs bytes) all ∙ (bytes_after_all-more number cs (settled number) bytes ∙ settled_bytes_after number (bytes_after_all number cs bytes)) in
       let behind : ranges_of number (changes_of (drop (i + 1) (take (i + 1) events))) ≡ [] = ap (λ es. ranges_of number (changes_of es)) none in
       rw (left, right, behind) refl
 
@@ -130,17 +130,17 @@ module _ (number : FileNo) (events : List Event) (i : ℕ) (event : Event) (with
   parted_on count front other so_far bytes =
       let cs : List Change = changes_of (take i events) in
       let rest : drop count (take (i + 1) events) ≡ drop count (take i events) ++ event ∷ [] =
-          ap (drop count) (take_more events i event within ∙ ap (λ e. take i events ++ e ∷ []) (sym is))
-            ∙ drop-append-le count (take i events) (event ∷ []) (omega (arith, length-take i events)) in
+      ap (drop count) (take_more events i event within ∙ ap (λ e. take i events ++ e ∷ []) (sym is))
+      ∙ drop-append-le count (take i events) (event ∷ []) (omega (arith, length-take i events)) in
       let behind : ranges_of number (changes_of (drop count (take (i + 1) events))) ≡ ranges_of number (changes_of (drop count (take i events))) ++ range_of number (change_of event) =
-          ap (λ es. ranges_of number (changes_of es)) rest
-            ∙ (ap (ranges_of number) (map_push change_of (drop count (take i events)) event)
-            ∙ ranges_of-more number (changes_of (drop count (take i events))) (change_of event)) in
+      ap (λ es. ranges_of number (changes_of es)) rest
+      ∙ (ap (ranges_of number) (map_push change_of (drop count (take i events)) event)
+      ∙ ranges_of-more number (changes_of (drop count (take i events))) (change_of event)) in
       ap (λ xs. disk_after_all number xs bytes (settled_file bytes)) more
-        ∙ (disk_after_all-more number cs (change_of event) bytes (settled_file bytes)
-        ∙ (ap (disk_after number (change_of event) (bytes_after_all number cs bytes)) (so_far bytes)
-        ∙ (other_disk_after number (change_of event) (bytes_after_all number cs bytes) (bytes_after_all number (changes_of (take count events)) bytes) (ranges_of number (changes_of (drop count (take i events)))) other
-        ∙ ap (λ (ranges : List Range). record { synced = bytes_after_all number (changes_of (take count events)) bytes; written = ranges }) (sym behind))))
+      ∙ (disk_after_all-more number cs (change_of event) bytes (settled_file bytes)
+      ∙ (ap (disk_after number (change_of event) (bytes_after_all number cs bytes)) (so_far bytes)
+      ∙ (other_disk_after number (change_of event) (bytes_after_all number cs bytes) (bytes_after_all number (changes_of (take count events)) bytes) (ranges_of number (changes_of (drop count (take i events)))) other
+      ∙ ap (λ (ranges : List Range). record { synced = bytes_after_all number (changes_of (take count events)) bytes; written = ranges }) (sym behind))))
 
 -- What became of one file is the part of it in what became of all.
 

@@ -41,7 +41,7 @@ pub told_put : (r : Result (Unit {0}) Failed) (old mid new : State) (file : File
     → OnOk r (Makes (put file place bytes) mid new) → OnOk r (Some (told_of new) ≡ Some (written file place bytes (told_of old)))
 told_put (Ok done) old mid new file place bytes begun makes =
     ap Some (told_after old mid new (put file place bytes) (old.calls ++ WriteAt file place (length bytes) ∷ []) (ap (λ (s : State). s.past) begun) (ap (λ (s : State). s.calls) begun) makes
-      ∙ put_told file place bytes (here_of old.past) old.calls)
+    ∙ put_told file place bytes (here_of old.past) old.calls)
 told_put (Err error) old mid new file place bytes begun makes = tt
 
 pub told_settled : (r : Result (Unit {0}) Failed) (old mid new : State) (file : FileNo) → Begun (Sync file) old mid
@@ -87,15 +87,15 @@ module _ (r : Result (Unit {0}) Failed) (old mid new : State) (past : mid.past �
   pub stops_put : (file : FileNo) (place : ℕ) (bytes : List ℕ) → place ≤ length (file_in file (here_of old.past)) → OnOk r (Makes (put file place bytes) mid new) → OnErr r (StarvesDisk mid new)
       → Passes (InFile file (Torn place (length bytes))) (clock_of old.past) (clock_of new.past)
   stops_put file place bytes within makes starves = passed (InFile file (Torn place (length bytes))) r old.past mid.past new.past (put file place bytes) past (torn_nothing file place (length bytes))
-    (passes_put old.past file place bytes within) (on_ok r (ap (λ (s : State). s.past)) makes) (on_err r (ap (λ (s : State). s.past)) starves)
+      (passes_put old.past file place bytes within) (on_ok r (ap (λ (s : State). s.past)) makes) (on_err r (ap (λ (s : State). s.past)) starves)
 
   pub stops_settled : (file : FileNo) → OnOk r (Makes (settled file) mid new) → OnErr r (StarvesDisk mid new) → Passes Same (clock_of old.past) (clock_of new.past)
   stops_settled file makes starves = passed Same r old.past mid.past new.past (settled file) past (λ left. refl)
-    (passes_settled old.past file) (on_ok r (ap (λ (s : State). s.past)) makes) (on_err r (ap (λ (s : State). s.past)) starves)
+      (passes_settled old.past file) (on_ok r (ap (λ (s : State). s.past)) makes) (on_err r (ap (λ (s : State). s.past)) starves)
 
   pub stops_said : (piece : List ℕ) → OnOk r (Makes (said piece) mid new) → OnErr r (StarvesPrint mid new) → Passes (InOut (Begins piece)) (clock_of old.past) (clock_of new.past)
   stops_said piece makes starves = passed (InOut (Begins piece)) r old.past mid.past new.past (said piece) past (begins_nothing piece)
-    (passes_said old.past piece) (on_ok r (ap (λ (s : State). s.past)) makes) (on_err r (ap (λ (s : State). s.past)) starves)
+      (passes_said old.past piece) (on_ok r (ap (λ (s : State). s.past)) makes) (on_err r (ap (λ (s : State). s.past)) starves)
 
   now_with : (change : Change) → Makes change mid new → new.past ≡ with_change change old.past
   now_with change makes = ap (λ (s : State). s.past) makes ∙ ap (with_change change) past

@@ -76,7 +76,7 @@ rests_listed call here told_old told_new old new rests steps passes = rests_on (
 -- a print that ended well
 pub rests_printed : (piece : List ℕ) (here : Told) (told_old told_new : Option Told) (old new : Clock) → Rests here told_old old → Steps (printed piece) told_old told_new → Leads (InOut (Appends piece)) old new → Rests (printed piece here) told_new new
 rests_printed piece here told_old told_new old new rests steps leads = rests_on (printed piece) (InOut (Appends piece)) here told_old told_new old new rests steps leads
-  (λ left by. by.rest ∙ ap (λ text. record (left_of here) { out = text }) by.step)
+    (λ left by. by.rest ∙ ap (λ text. record (left_of here) { out = text }) by.step)
 
 -- a sync that ended well, of a file of which a stop left this or that
 pub synced_over : (file : FileNo) (bytes : List ℕ) (old new : Clock) → IsSynced file bytes old → Passes Same old new → IsSynced file bytes new
@@ -87,7 +87,7 @@ synced_over file bytes old new synced passes left now =
 both_same : (here : Told) (left : Left) → left.file0 ≡ here.file0 → left.file1 ≡ here.file1 → left.out ≡ here.out → left ≡ left_of here
 both_same here left zero one out =
     ap (λ bytes. record left { file0 = bytes }) zero
-      ∙ (ap (λ bytes. record left { file0 = here.file0; file1 = bytes }) one ∙ ap (λ text. record (left_of here) { out = text }) out)
+    ∙ (ap (λ bytes. record left { file0 = here.file0; file1 = bytes }) one ∙ ap (λ text. record (left_of here) { out = text }) out)
 
 -- A file was changed and then synced, where a stop left just what was told.
 pub rests_through : (file : FileNo) (Step : List ℕ → List ℕ → Type 0) (here there : Told) (told_old told_new : Option Told) (old mid new : Clock) → Rests here told_old old
@@ -96,11 +96,11 @@ pub rests_through : (file : FileNo) (Step : List ℕ → List ℕ → Type 0) (h
 rests_through file Step here there told_old told_new old mid new rests writes syncs synced is frame = record {
   is = is;
   only = λ left now.
-    (let from : After mid Same left = syncs.ends left now in
-    let wrote : InFile file Step (left_of here) from.from = at_rest (InFile file Step) here told_old old from.from rests (writes.ends from.from from.was) in
-    let left_is : left ≡ with_file_in file wrote.bytes (left_of here) = from.by ∙ wrote.rest in
-    let bytes_are : wrote.bytes ≡ file_of file there = sym (file_in-with file wrote.bytes (left_of here)) ∙ (ap (file_in file) (sym left_is) ∙ synced left now) in
-    left_is ∙ (ap (λ bytes. with_file_in file bytes (left_of here)) bytes_are ∙ sym frame));
+      (let from : After mid Same left = syncs.ends left now in
+      let wrote : InFile file Step (left_of here) from.from = at_rest (InFile file Step) here told_old old from.from rests (writes.ends from.from from.was) in
+      let left_is : left ≡ with_file_in file wrote.bytes (left_of here) = from.by ∙ wrote.rest in
+      let bytes_are : wrote.bytes ≡ file_of file there = sym (file_in-with file wrote.bytes (left_of here)) ∙ (ap (file_in file) (sym left_is) ∙ synced left now) in
+      left_is ∙ (ap (λ bytes. with_file_in file bytes (left_of here)) bytes_are ∙ sym frame));
 }
 
 -- Both files are synced: a stop leaves just what is told. (That the text is told is a law of the board.)
@@ -115,8 +115,8 @@ rests_synced here told clock is zero one out = record {
 
 pub adds_synced : (Step : Left → Left → Type 0) (old mid new : Clock) → Passes Step old mid → Passes Same mid new → Adds (After old Step) old new
 adds_synced Step old mid new writes syncs = adds_both (After old Step) old mid new
-  (adds_after Step (After old Step) old mid writes (λ left after. after))
-  (adds_after Same (After old Step) mid new syncs (λ left after. subst (After old Step) (sym after.by) (writes.ends after.from after.was)))
+    (adds_after Step (After old Step) old mid writes (λ left after. after))
+    (adds_after Same (After old Step) mid new syncs (λ left after. subst (After old Step) (sym after.by) (writes.ends after.from after.was)))
 
 pub adds_from_rest : (Step : Left → Left → Type 0) (here : Told) (told : Option Told) (old new : Clock) → Rests here told old → Adds (After old Step) old new → Adds (Step (left_of here)) old new
 adds_from_rest Step here told old new rests adds = adds_weaker (After old Step) (Step (left_of here)) old new adds (λ left after. at_rest Step here told old left rests after)

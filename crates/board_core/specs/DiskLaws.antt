@@ -42,21 +42,21 @@ overlaid_outside place bytes old k below (inl front) =
     let first : k < length (take place old) = omega arith in
     let both : k < length (take place old ++ bytes) = omega (arith, length-append (take place old) bytes) in
     get_or_append_left (take place old ++ bytes) (drop (place + length bytes) old) 0 k both
-      ∙ (get_or_append_left (take place old) bytes 0 k first ∙ get_or-take place old k 0 front)
+    ∙ (get_or_append_left (take place old) bytes 0 k first ∙ get_or-take place old k 0 front)
 overlaid_outside place bytes old k below (inr back) =
     let size : length (take place old) ≡ min place (length old) = length-take place old in
     let both : length (take place old ++ bytes) ≡ place + length bytes = omega (arith, length-append (take place old) bytes) in
     let i : ℕ = k - (place + length bytes) in
     let is : place + length bytes + i ≡ k = omega arith in
     get_or-append_right (take place old ++ bytes) (drop (place + length bytes) old) (place + length bytes) k 0 both back
-      ∙ (get_or-drop (place + length bytes) old i 0 ∙ ap (λ n. get_or old n 0) is)
+    ∙ (get_or-drop (place + length bytes) old i 0 ∙ ap (λ n. get_or old n 0) is)
 
 pub overlaid_inside : (place : ℕ) (bytes old : List ℕ) (k : ℕ) → place ≤ length old → place ≤ k → k < place + length bytes → get_or (overlaid place bytes old) k 0 ≡ get_or bytes (k - place) 0
 overlaid_inside place bytes old k within from below =
     let size : length (take place old) ≡ place = omega (arith, length-take place old) in
     let both : k < length (take place old ++ bytes) = omega (arith, length-append (take place old) bytes) in
     get_or_append_left (take place old ++ bytes) (drop (place + length bytes) old) 0 k both
-      ∙ get_or-append_right (take place old) bytes place k 0 size from
+    ∙ get_or-append_right (take place old) bytes place k 0 size from
 
 -- a write that was torn leaves all bytes outside of its range
 pub torn_outside : (place count : ℕ) (old new : List ℕ) → Torn place count old new → (k : ℕ) → (k < place) ⊎ (place + count ≤ k) → get_or new k 0 ≡ get_or old k 0
@@ -72,28 +72,28 @@ torn_outside place count old new torn k (inr back) =
 pub torn_more : (file : DiskFile) (place count : ℕ) (old new : List ℕ) → MayLeaveFile file old → Torn place count old new → MayLeaveFile (wrote place count file) new
 torn_more file place count old new may torn = record {
   stays = λ k below outside.
-    torn_outside place count old new torn k (outside_last file.written (record { place = place; count = count }) k outside)
+      torn_outside place count old new torn k (outside_last file.written (record { place = place; count = count }) k outside)
       ∙ may.stays k below (outside_front file.written (record { place = place; count = count }) k outside);
   no_shorter = (let a : length file.synced ≤ length old = may.no_shorter in let b : length old ≤ length new = torn.longer in omega arith);
   no_longer = (
-    let more : grown (length file.synced) (file.written ++ record { place = place; count = count } ∷ []) ≡ max (grown (length file.synced) file.written) (place + count) = grown-more (length file.synced) file.written (record { place = place; count = count }) in
-    let a : length old ≤ grown (length file.synced) file.written = may.no_longer in
-    let b : length new ≤ max (length old) (place + count) = torn.within in
-    omega arith);
+      let more : grown (length file.synced) (file.written ++ record { place = place; count = count } ∷ []) ≡ max (grown (length file.synced) file.written) (place + count) = grown-more (length file.synced) file.written (record { place = place; count = count }) in
+      let a : length old ≤ grown (length file.synced) file.written = may.no_longer in
+      let b : length new ≤ max (length old) (place + count) = torn.within in
+      omega arith);
 }
 
 -- a write that ended well, after others
 pub overlaid_more : (file : DiskFile) (place : ℕ) (bytes old : List ℕ) → MayLeaveFile file old → MayLeaveFile (wrote place (length bytes) file) (overlaid place bytes old)
 overlaid_more file place bytes old may = record {
   stays = λ k below outside.
-    (let within : k < length old = omega (arith, may.no_shorter) in
-    overlaid_outside place bytes old k within (outside_last file.written (record { place = place; count = length bytes }) k outside)
+      (let within : k < length old = omega (arith, may.no_shorter) in
+      overlaid_outside place bytes old k within (outside_last file.written (record { place = place; count = length bytes }) k outside)
       ∙ may.stays k below (outside_front file.written (record { place = place; count = length bytes }) k outside));
   no_shorter = (let a : length file.synced ≤ length old = may.no_shorter in omega (arith, length-overlaid place bytes old));
   no_longer = (
-    let more : grown (length file.synced) (file.written ++ record { place = place; count = length bytes } ∷ []) ≡ max (grown (length file.synced) file.written) (place + length bytes) = grown-more (length file.synced) file.written (record { place = place; count = length bytes }) in
-    let a : length old ≤ grown (length file.synced) file.written = may.no_longer in
-    omega (arith, length-overlaid place bytes old));
+      let more : grown (length file.synced) (file.written ++ record { place = place; count = length bytes } ∷ []) ≡ max (grown (length file.synced) file.written) (place + length bytes) = grown-more (length file.synced) file.written (record { place = place; count = length bytes }) in
+      let a : length old ≤ grown (length file.synced) file.written = may.no_longer in
+      omega (arith, length-overlaid place bytes old));
 }
 
 -- what a file may have been before its last write, which was torn
@@ -152,7 +152,7 @@ module _ (file : DiskFile) (place count cut : ℕ) (part bytes : List ℕ) (is_c
       let less : k - place < length part = omega arith in
       let is : place + (k - place) ≡ k = omega arith in
       overlaid_inside place part (take cut bytes) k in_base least below
-        ∙ (part_at (k - place) less ∙ ap (λ n. get_or file.synced n 0) is)
+      ∙ (part_at (k - place) less ∙ ap (λ n. get_or file.synced n 0) is)
 
   stays_at : (k : ℕ) → k < length file.synced → IsOutside file.written k → (k < place) ⊎ (place ≤ k) → (k < place + length part) ⊎ (place + length part ≤ k) → get_or from k 0 ≡ get_or file.synced k 0
   stays_at k below outside (inl front) in_part =
@@ -168,8 +168,8 @@ module _ (file : DiskFile) (place count cut : ℕ) (part bytes : List ℕ) (is_c
       let first : place ≤ length (take place (take cut bytes)) = omega arith in
       let both : place ≤ length (take place (take cut bytes) ++ part) = omega (arith, length-append (take place (take cut bytes)) part) in
       sym (take-append-le place (take place (take cut bytes) ++ part) (drop (place + length part) (take cut bytes)) both
-        ∙ (take-append-le place (take place (take cut bytes)) part first
-        ∙ (take-take place place (take cut bytes) (omega arith) ∙ take-take place cut bytes within)))
+      ∙ (take-append-le place (take place (take cut bytes)) part first
+      ∙ (take-take place place (take cut bytes) (omega arith) ∙ take-take place cut bytes within)))
 
   back_same : (cut < length bytes) ⊎ (length bytes ≤ cut) → drop (place + count) bytes ≡ drop (place + count) from
   back_same (inl longer) =
@@ -180,7 +180,7 @@ module _ (file : DiskFile) (place count cut : ℕ) (part bytes : List ℕ) (is_c
       let behind : drop (place + length part) from ≡ drop (place + length part) bytes = drop_at (take place (take cut bytes) ++ part) (drop (place + length part) (take cut bytes)) (place + length part) size ∙ ap (λ xs. drop (place + length part) xs) whole in
       let is : place + length part + (count - length part) ≡ place + count = omega (arith, part_size) in
       let same : drop (place + length part + (count - length part)) bytes ≡ drop (place + length part + (count - length part)) from =
-          sym (drop-drop (count - length part) (place + length part) bytes) ∙ (ap (λ xs. drop (count - length part) xs) (sym behind) ∙ drop-drop (count - length part) (place + length part) from) in
+      sym (drop-drop (count - length part) (place + length part) bytes) ∙ (ap (λ xs. drop (count - length part) xs) (sym behind) ∙ drop-drop (count - length part) (place + length part) from) in
       subst (λ (n : ℕ). drop n bytes ≡ drop n from) is same
 
   is_before : IsBefore file place count bytes from
@@ -200,9 +200,10 @@ module _ (file : DiskFile) (place count cut : ℕ) (part bytes : List ℕ) (is_c
 
 before_from : (file : DiskFile) (place count : ℕ) (bytes : List ℕ) → place ≤ grown (length file.synced) file.written → MayLeaveFile (wrote place count file) bytes → (length bytes < place) ⊎ (place ≤ length bytes) → (from : List ℕ) × IsBefore file place count bytes from
 before_from file place count bytes within may (inl short) = (bytes, nothing_written file place count bytes within may short)
-before_from file place count bytes within may (inr long) =
-    (overlaid place (take count (drop place file.synced)) (take (grown (length file.synced) file.written) bytes),
-    is_before file place count (grown (length file.synced) file.written) (take count (drop place file.synced)) bytes refl refl within may long)
+before_from file place count bytes within may (inr long) = (
+  overlaid place (take count (drop place file.synced)) (take (grown (length file.synced) file.written) bytes),
+  is_before file place count (grown (length file.synced) file.written) (take count (drop place file.synced)) bytes refl refl within may long,
+)
 
 pub torn_before : (file : DiskFile) (place count : ℕ) (bytes : List ℕ) → place ≤ grown (length file.synced) file.written → MayLeaveFile (wrote place count file) bytes → (from : List ℕ) × MayLeaveFile file from × Torn place count from bytes
 torn_before file place count bytes within may =

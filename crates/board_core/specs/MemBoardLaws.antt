@@ -36,7 +36,7 @@ some_is s t e = cc
 
 pub told_left : (s : State) (t : Told) → Some (told_of s) ≡ Some t → LeftNow (clock_of s.past) (left_of t)
 told_left s t is = subst (λ (u : Told). LeftNow (clock_of s.past) (left_of u)) (some_is (told_of s) t is)
-  (now_counts (settled_disk s.past.first) (calls_of s.past.changes s.past.first) (length (calls_of s.past.changes s.past.first)) (here_of s.past) (omega arith) (here_left s.past))
+    (now_counts (settled_disk s.past.first) (calls_of s.past.changes s.past.first) (length (calls_of s.past.changes s.past.first)) (here_of s.past) (omega arith) (here_left s.past))
 
 pub text_left : (s : State) (t : Told) (left : Left) → Some (told_of s) ≡ Some t → LeftNow (clock_of s.past) left → left.out ≡ t.out
 text_left s t left is now =
@@ -65,31 +65,31 @@ file_left disk here One may = may.one
 
 pub passes_put : (past : Past) (file : FileNo) (place : ℕ) (bytes : List ℕ) → place ≤ length (file_in file (here_of past)) → Passes (InFile file (Torn place (length bytes))) (clock_of past) (clock_of (with_change (put file place bytes) past))
 passes_put past file place bytes within = passes_call (settled_disk past.first) (calls_of past.changes past.first) (calls_of (past.changes ++ put file place bytes ∷ []) past.first)
-  (call_of (put file place bytes) (here_of past)) (InFile file (Torn place (length bytes))) (calls_of-more past.changes (put file place bytes) past.first)
-  (λ left may. write_during (disk_of past) file place (length bytes) left may)
-  (λ left may. write_before (disk_of past) file place (length bytes) (within_file (disk_of past) (here_of past) file place (here_left past) within) left may)
+    (call_of (put file place bytes) (here_of past)) (InFile file (Torn place (length bytes))) (calls_of-more past.changes (put file place bytes) past.first)
+    (λ left may. write_during (disk_of past) file place (length bytes) left may)
+    (λ left may. write_before (disk_of past) file place (length bytes) (within_file (disk_of past) (here_of past) file place (here_left past) within) left may)
 
 pub passes_settled : (past : Past) (file : FileNo) → Passes Same (clock_of past) (clock_of (with_change (settled file) past))
 passes_settled past file = passes_call (settled_disk past.first) (calls_of past.changes past.first) (calls_of (past.changes ++ settled file ∷ []) past.first)
-  (call_of (settled file) (here_of past)) Same (calls_of-more past.changes (settled file) past.first)
-  (λ left may. record { from = left; was = may; by = refl })
-  (λ left may. sync_before (disk_of past) file (file_in file (here_of past)) (file_left (disk_of past) (here_of past) file (here_left past)) left may)
+    (call_of (settled file) (here_of past)) Same (calls_of-more past.changes (settled file) past.first)
+    (λ left may. record { from = left; was = may; by = refl })
+    (λ left may. sync_before (disk_of past) file (file_in file (here_of past)) (file_left (disk_of past) (here_of past) file (here_left past)) left may)
 
 pub settled_synced : (past : Past) (file : FileNo) → IsSynced file (file_in file (here_of past)) (clock_of (with_change (settled file) past))
 settled_synced past file left now =
     let may : MayLeave (disk_of (with_change (settled file) past)) [] left = now_only (settled_disk past.first) (calls_of (past.changes ++ settled file ∷ []) past.first) left now in
     let is : disk_of (with_change (settled file) past) ≡ after (call_of (settled file) (here_of past)) (disk_of past) =
-        ap (λ calls. after_all calls (settled_disk past.first)) (calls_of-more past.changes (settled file) past.first)
-          ∙ after_all-more (calls_of past.changes past.first) (call_of (settled file) (here_of past)) (settled_disk past.first) in
+    ap (λ calls. after_all calls (settled_disk past.first)) (calls_of-more past.changes (settled file) past.first)
+    ∙ after_all-more (calls_of past.changes past.first) (call_of (settled file) (here_of past)) (settled_disk past.first) in
     synced_only (disk_of past) file (file_in file (here_of past)) left (subst (λ (disk : Disk). MayLeave disk [] left) is may)
 
 pub passes_said : (past : Past) (piece : List ℕ) → Passes (InOut (Begins piece)) (clock_of past) (clock_of (with_change (said piece) past))
 passes_said past piece = passes_call (settled_disk past.first) (calls_of past.changes past.first) (calls_of (past.changes ++ said piece ∷ []) past.first)
-  (call_of (said piece) (here_of past)) (InOut (Begins piece)) (calls_of-more past.changes (said piece) past.first)
-  (λ left may. print_during (disk_of past) piece left may)
-  (λ left may. print_ends (disk_of past) piece left may)
+    (call_of (said piece) (here_of past)) (InOut (Begins piece)) (calls_of-more past.changes (said piece) past.first)
+    (λ left may. print_during (disk_of past) piece left may)
+    (λ left may. print_ends (disk_of past) piece left may)
 
 pub leads_said : (past : Past) (piece : List ℕ) → Leads (InOut (Appends piece)) (clock_of past) (clock_of (with_change (said piece) past))
 leads_said past piece = leads_call (settled_disk past.first) (calls_of past.changes past.first) (calls_of (past.changes ++ said piece ∷ []) past.first)
-  (call_of (said piece) (here_of past)) (InOut (Appends piece)) (calls_of-more past.changes (said piece) past.first)
-  (λ left may. print_appends (disk_of past) piece left may)
+    (call_of (said piece) (here_of past)) (InOut (Appends piece)) (calls_of-more past.changes (said piece) past.first)
+    (λ left may. print_appends (disk_of past) piece left may)

@@ -37,6 +37,11 @@ since_kept disk (x ∷ xs) call zero left (inl may) = inl may
 since_kept disk (x ∷ xs) call zero left (inr may) = inr (since_kept (after x disk) xs call zero left may)
 since_kept disk (x ∷ xs) call (suc t) left may = since_kept (after x disk) xs call t left may
 
+-- what a stop during the last call may leave
+pub last_counts : (disk : Disk) (calls : List Call) (call : Call) (left : Left) → MayLeave (after_all calls disk) (piece_of call) left → MayLeaveSince disk (calls ++ call ∷ []) (length calls) left
+last_counts disk [] call left may = inl may
+last_counts disk (x ∷ xs) call left may = last_counts (after x disk) xs call left may
+
 pub now_only : (disk : Disk) (calls : List Call) (left : Left) → MayLeaveSince disk calls (length calls) left → MayLeave (after_all calls disk) [] left
 now_only disk [] left may = may
 now_only disk (x ∷ xs) left may = now_only (after x disk) xs left may
@@ -71,7 +76,7 @@ pub leads_call : (disk : Disk) (calls more : List Call) (call : Call) (Step : Le
     → ((left : Left) → MayLeave (after call (after_all calls disk)) [] left → AfterDisk (after_all calls disk) Step left)
     → Leads Step (disk_clock disk calls) (disk_clock disk more)
 leads_call disk calls more call Step is ends = subst (λ (xs : List Call). Leads Step (disk_clock disk calls) (disk_clock disk xs)) (sym is) (λ left now.
-  after_disk disk calls Step left (ends left (rw after_all-more at (now_only disk (calls ++ call ∷ []) left now))))
+    after_disk disk calls Step left (ends left (rw after_all-more at (now_only disk (calls ++ call ∷ []) left now))))
 
 pub passes_call : (disk : Disk) (calls more : List Call) (call : Call) (Step : Left → Left → Type 0) → more ≡ calls ++ call ∷ []
     → ((left : Left) → MayLeave (after_all calls disk) (piece_of call) left → AfterDisk (after_all calls disk) Step left)

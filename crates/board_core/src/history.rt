@@ -51,7 +51,7 @@ impl Model for History {
     } };
 
     ghost invariant = { λ h.
-      changed_all (changes_of h.events.items) (record { file0 = first_bytes h.zero; file1 = first_bytes h.one; out = [] })
+        changed_all (changes_of h.events.items) (record { file0 = first_bytes h.zero; file1 = first_bytes h.one; out = [] })
         ≡ record { file0 = h.zero.bytes.items; file1 = h.one.bytes.items; out = h.out.items } };
 }
 
@@ -153,7 +153,10 @@ impl History {
         ensures one { IfOk result (λ files. IsPicked pick (disk_of self).one (here_of self).file1 files.1.items) }
     {
         let History {
-            zero, one, events, ..
+            zero,
+            one,
+            events,
+            ..
         } = self;
         let file0 = picked(zero, &events, FileNo::Zero, pick)?;
         let file1 = picked(one, &events, FileNo::One, pick)?;

@@ -192,7 +192,7 @@ impl MemBoard {
         Ok(())
     }
 
-    // Makes a change that belongs to a disk call. It fails where it is refused a growth.
+    // The change of a disk call that began well. It fails where it is refused a growth.
     fn write(&mut self, file: FileNo, place: u64, bytes: &[u8]) -> Result<(), Failed>
         requires within { place ≤ length (file_in file (here_of self.old.past)) }
         requires begun { 0 < self.old.made }
@@ -203,11 +203,7 @@ impl MemBoard {
     {
         match self.history.write(file, place, bytes) {
             Ok(()) => Ok(()),
-            Err(AllocError) => {
-                self.starved = self.starved.saturating_add(1);
-                self.disk_faults = self.disk_faults.saturating_add(1);
-                Err(Failed)
-            }
+            Err(AllocError) => Err(self.starve_disk()),
         }
     }
 
@@ -220,15 +216,23 @@ impl MemBoard {
     {
         match self.history.sync(file) {
             Ok(()) => Ok(()),
-            Err(AllocError) => {
-                self.starved = self.starved.saturating_add(1);
-                self.disk_faults = self.disk_faults.saturating_add(1);
-                Err(Failed)
-            }
+            Err(AllocError) => Err(self.starve_disk()),
         }
     }
 
-    // The same of a print.
+    // Counts a disk call that was refused a growth.
+    fn starve_disk(&mut self) -> Failed
+        requires { 0 < self.old.made }
+        ensures err { StarvesDisk self.old self.new }
+        ensures cause { HasCause {T = Unit {0}} self.old.disk_faults self.new.disk_faults (Err result) }
+        ensures starved { self.old.starved ≤ self.new.starved }
+    {
+        self.starved = self.starved.saturating_add(1);
+        self.disk_faults = self.disk_faults.saturating_add(1);
+        Failed
+    }
+
+    // The change of a print that began well.
     fn say(&mut self, bytes: &[u8]) -> Result<(), Failed>
         requires { 0 < self.old.made }
         ensures ok { OnOk result (Makes (said bytes.now) self.old self.new) }

@@ -14,7 +14,7 @@ returns-clause-told c = told_put c.write.result c.args.self.now c.begin.new.self
 
 pub returns-clause-stops : goal.returns-clause-stops
 returns-clause-stops c = stops_put c.write.result c.args.self.now c.begin.new.self c.write.new.self (ap (λ (s : State). s.past) c.in_ok-begin.ensures.ok)
-  c.args.file c.args.place c.args.bytes.now (within_told c.args.file c.args.place c.args.self.now c.requires) c.write.ensures.ok c.write.ensures.err
+    c.args.file c.args.place c.args.bytes.now (within_told c.args.file c.args.place c.args.self.now c.requires) c.write.ensures.ok c.write.ensures.err
 
 pub returns-clause-cause : goal.returns-clause-cause
 returns-clause-cause c = same_cause _ _ _ c.write.result (ap (λ (s : State). s.disk_faults) c.in_ok-begin.ensures.ok) c.write.ensures.cause
