@@ -26,12 +26,14 @@ pub enum DiskCall {
 
 /// Two files and an output, which a stop of the machine hits together.
 ///
-/// A call changes what a stop may leave of its own file or of the printed text alone, at every moment. A call answers `Failed` only where its own count of faults rose, and no call raises a count of another kind.
+/// At every moment a disk call changes what a stop may leave of its own file alone, and a print what it may leave of the
+/// printed text. A call answers `Failed` only where its own count of faults rose, and no call raises a count of another
+/// kind.
 pub trait Board {
     /// What the board tells of itself, if anything.
     ghost told: { Self → Option Told };
 
-    /// Its moments, and what a stop of the machine at each may leave. A board that tells nothing has nothing here.
+    /// Its moments, and what a stop of the machine at each may leave. A board that tells nothing has nothing here either.
     ghost clock: { Self → Clock };
 
     /// How often `size`, `read_at`, `write_at` or `sync` has failed.

@@ -24,7 +24,6 @@ use std::marker::Model;
 /// of its kind and `starved`.
 #[derive(Drop)]
 pub struct MemBoard {
-    alloc: Global,
     history: History,
     calls: Vec<DiskCall>,
     fails: Vec<u64>,
@@ -69,7 +68,6 @@ impl MemBoard {
         ensures { result ≡ new_with file0.items file1.items }
     {
         MemBoard {
-            alloc,
             history: History::new(alloc, file0, file1),
             calls: Vec::new(alloc),
             fails: Vec::new(alloc),
