@@ -1,17 +1,16 @@
 -- The clauses of a board lead to the disk model, over any calls.
-use Rattle.std.proofs.Common.{◌≡◌, ℕ, ◌+◌, ◌<◌, ◌≤◌, ◌⊎◌, ◌↔◌, max, List, [], ◌∷◌, ◌++◌, length, refl, ap, sym, ◌∙◌, subst, inl, inr, arith, append_assoc, append-nil}
-use Rattle.std.specs.List.{flat_map}
+use Rattle.std.proofs.Common.{◌≡◌, ℕ, ◌+◌, ◌≤◌, ◌⊎◌, max, List, [], ◌∷◌, ◌++◌, length, refl, ap, sym, ◌∙◌, subst, inl, inr, arith, append_assoc, append-nil}
 use Rattle.board_core.specs.declared.board.FileNo.{FileNo}
 use Rattle.board_core.specs.declared.board.FileNo.TheVariants.{Zero, One}
 use Rattle.board_core.specs.CallsMade.{IsMade, AreMade, Keeps, range_in, ranges_in}
-use Rattle.board_core.specs.Clock.{Clock, LeftNow, After, Passes, Leads, IsSynced}
-use Rattle.board_core.specs.DiskLaws.{torn_more, settled_left, settled_only, begins_none, nothing_begins, outside_front, grown-more, grown-least, length-overlaid}
-use Rattle.board_core.specs.DiskModel.{Range, IsOutside, grown, DiskFile, Disk, MayLeave, MayLeaveFile, MayLeaveSince, Call, writes, syncs, prints, rests, wrote, after, after_all, piece_of}
+use Rattle.board_core.specs.Clock.{Clock, LeftNow, After, Passes, IsSynced}
+use Rattle.board_core.specs.DiskLaws.{torn_more, settled_left, begins_none, nothing_begins, outside_front, grown-more}
+use Rattle.board_core.specs.DiskModel.{Range, grown, DiskFile, Disk, MayLeave, MayLeaveFile, MayLeaveSince, Call, writes, syncs, prints, rests, after, after_all, piece_of}
 use Rattle.board_core.specs.MemBoard.{Past, with_change, said, call_of, calls_of, settled_disk, clock_of, disk_of, here_of}
 use Rattle.board_core.specs.MemBoardLaws.{here_left, calls_of-more}
-use Rattle.board_core.specs.MomentLaws.{piece_more, last_counts, now_only, now_counts}
+use Rattle.board_core.specs.MomentLaws.{piece_more, last_counts}
 use Rattle.board_core.specs.Stop.{Left, Same, Begins, Appends, InFile, InOut, file_in}
-use Rattle.board_core.specs.Told.{Torn, overlaid}
+use Rattle.board_core.specs.Told.{Torn}
 
 -- together
 
@@ -194,4 +193,4 @@ while_printing past part missing =
       out = record { part = part; missing = missing; splits = refl; is = ap (λ xs. xs ++ part) (begins_none (disk_of past).out (here_of past).out may.out) };
     } in
     rw (calls_of-more past.changes (said (part ++ missing)) past.first)
-      (last_counts (settled_disk past.first) (calls_of past.changes past.first) (call_of (said (part ++ missing)) (here_of past)) (record (here_of past) { out = (here_of past).out ++ part }) during)
+    (last_counts (settled_disk past.first) (calls_of past.changes past.first) (call_of (said (part ++ missing)) (here_of past)) (record (here_of past) { out = (here_of past).out ++ part }) during)

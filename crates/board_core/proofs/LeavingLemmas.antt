@@ -1,8 +1,7 @@
 -- One event more, for one file of a board in memory.
-use Rattle.std.proofs.Common.{◌≡◌, ℕ, ◌+◌, ◌<◌, ◌≤◌, ◌⊎◌, min, List, [], ◌∷◌, ◌++◌, length, take, drop, get_or, refl, ap, sym, ◌∙◌, subst, inl, inr, arith, append_assoc, append-nil}
+use Rattle.std.proofs.Common.{◌≡◌, ℕ, ◌+◌, ◌<◌, ◌≤◌, ◌⊎◌, List, [], ◌∷◌, ◌++◌, length, take, drop, get_or, refl, ap, sym, ◌∙◌, inl, inr, arith, append-nil}
 use Rattle.std.proofs.lemmas.Bool.{cases_lt}
 use Rattle.std.proofs.lemmas.List.{length-take, map_more, map_push, flat_map_more, take_more, drop-append-le, drop_all}
-use Rattle.std.specs.List.{flat_map}
 use Rattle.board_core.specs.declared.board.FileNo.{FileNo}
 use Rattle.board_core.specs.declared.board.FileNo.TheVariants.{Zero, One}
 use Rattle.board_core.specs.declared.history.Event.{Event}
@@ -11,7 +10,7 @@ use Rattle.board_core.specs.declared.pick.Pick.{Pick}
 use Rattle.board_core.specs.declared.pick.Pick.TheVariants.{Old, New, Fill}
 use Rattle.board_core.specs.Clock.{LeftNow}
 use Rattle.board_core.specs.DiskLaws.{grown-least}
-use Rattle.board_core.specs.DiskModel.{Range, IsOutside, Disk, DiskFile, MayLeave, MayLeaveFile, wrote, after, after_all}
+use Rattle.board_core.specs.DiskModel.{Range, IsOutside, Disk, DiskFile, MayLeave, MayLeaveFile, after, after_all}
 use Rattle.board_core.specs.FileHistory.{bytes_after, bytes_after_all, disk_after, disk_after_all, range_of, ranges_of, ArePartedAtSync}
 use Rattle.board_core.specs.History.{change_of, changes_of, first_bytes}
 use Rattle.board_core.specs.MemBoard.{Change, Past, put, settled, said, settled_file, settled_disk, changed, call_of, calls_of, clock_of, disk_of, here_of}
@@ -19,7 +18,6 @@ use Rattle.board_core.specs.MemBoardLaws.{here_left}
 use Rattle.board_core.specs.MomentLaws.{now_counts}
 use Rattle.board_core.specs.Pick.{IsInside, IsFilled, IsPicked}
 use Rattle.board_core.specs.Stop.{Left}
-use Rattle.board_core.specs.Told.{overlaid}
 
 pub bytes_after_all-more : (number : FileNo) (changes : List Change) (change : Change) (bytes : List ℕ) → bytes_after_all number (changes ++ change ∷ []) bytes ≡ bytes_after number change (bytes_after_all number changes bytes)
 bytes_after_all-more number [] change bytes = refl

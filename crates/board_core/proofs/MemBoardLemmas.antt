@@ -6,10 +6,9 @@ use Rattle.board_core.specs.declared.board.FileNo.{FileNo}
 use Rattle.board_core.specs.declared.board.FileNo.TheVariants.{Zero, One}
 use Rattle.board_core.specs.declared.source.Failed.{Failed}
 use Rattle.board_core.specs.Cause.{HasCause}
-use Rattle.board_core.specs.Clock.{Clock, LeftNow, After, Passes, Leads, IsSynced}
+use Rattle.board_core.specs.Clock.{Clock, Passes, Leads, IsSynced}
 use Rattle.board_core.specs.MemBoard.{Change, put, settled, said, Past, with_change, changed, here_of, clock_of, State, told_of, Makes, StarvesDisk, StarvesPrint, Begun, CountsCall}
 use Rattle.board_core.specs.MemBoardLaws.{changed_all-more, passes_put, passes_settled, settled_synced, passes_said, leads_said}
-use Rattle.board_core.specs.MemSource.{counted}
 use Rattle.board_core.specs.DiskLaws.{nothing_begins}
 use Rattle.board_core.specs.MomentLaws.{torn_same}
 use Rattle.board_core.specs.Stop.{Left, Same, InFile, InOut, Begins, Appends, file_in}

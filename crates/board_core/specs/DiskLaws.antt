@@ -1,13 +1,11 @@
 -- This file only carries proofs: how the disk model goes on over one write, one sync and one print.
-use Rattle.std.specs.Prelude.{◌≡◌, ℕ, zero, suc, ◌+◌, ◌-◌, ◌<◌, ◌≤◌, ◌⊎◌, max, min, List, [], ◌∷◌, ◌++◌, length, take, drop, refl, slice_index}
-use Rattle.std.proofs.Common.{sym, ◌∙◌, ap, subst, inl, inr, arith, get_or, append_assoc, append-nil, length-append, length-take, length-drop}
+use Rattle.std.specs.Prelude.{◌≡◌, ℕ, ◌+◌, ◌-◌, ◌<◌, ◌≤◌, ◌⊎◌, max, min, List, [], ◌∷◌, ◌++◌, length, take, drop, refl}
+use Rattle.std.proofs.Common.{sym, ◌∙◌, ap, subst, inl, inr, arith, get_or, append-nil, length-append, length-take, length-drop}
 use Rattle.std.proofs.lemmas.Bool.{cases_lt}
 use Rattle.std.proofs.lemmas.List.{get_or-take, get_or-drop, get_or_append_left, get_or-append_right, ext_get_or, take-append-le, take-take, take_all, drop_all, drop_at, drop-drop}
-use Rattle.board_core.specs.declared.board.FileNo.{FileNo}
-use Rattle.board_core.specs.declared.board.FileNo.TheVariants.{Zero, One}
 use Rattle.board_core.specs.Told.{Torn, overlaid}
-use Rattle.board_core.specs.Stop.{Left, Begins, InFile, InOut, Appends, file_in, with_file_in}
-use Rattle.board_core.specs.DiskModel.{Range, IsOutside, grown, DiskFile, MayLeaveFile, Disk, MayLeave, Call, writes, syncs, prints, rests, disk_file, with_disk_file, wrote, after, after_all, piece_of, MayLeaveSince}
+use Rattle.board_core.specs.Stop.{Begins}
+use Rattle.board_core.specs.DiskModel.{Range, IsOutside, grown, DiskFile, MayLeaveFile, wrote}
 
 -- places of one range, and of ranges with one more
 

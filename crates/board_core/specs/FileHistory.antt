@@ -4,7 +4,7 @@ use Rattle.std.specs.List.{flat_map}
 use Rattle.board_core.specs.declared.board.FileNo.{FileNo}
 use Rattle.board_core.specs.declared.board.FileNo.TheVariants.{Zero, One}
 use Rattle.board_core.specs.DiskModel.{Range, DiskFile, wrote}
-use Rattle.board_core.specs.MemBoard.{Change, put, settled, said, settled_file}
+use Rattle.board_core.specs.MemBoard.{Change, put, settled, settled_file}
 use Rattle.board_core.specs.Told.{overlaid}
 
 -- its bytes

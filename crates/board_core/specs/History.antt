@@ -1,5 +1,5 @@
 -- This file only carries proofs: what the fields of a board in memory stand for.
-use Rattle.std.specs.Prelude.{◌≡◌, ℕ, List, [], ◌∷◌, map, Option, None, Some, Vec}
+use Rattle.std.specs.Prelude.{ℕ, List, map, Option, None, Some, Vec}
 use Rattle.std.specs.declared.alloc.Global.{Global}
 use Rattle.board_core.specs.declared.history.Event.{Event}
 use Rattle.board_core.specs.declared.history.Event.TheVariants.{Wrote, Synced, Printed}

@@ -1,5 +1,5 @@
 -- What a board in memory is: what was done to it since it was new, and which calls fail.
-use Rattle.std.specs.Prelude.{◌≡◌, ℕ, ◌-◌, ◌^◌, ◌<◌, ◌≤◌, ◌⊎◌, Bool, ◌||◌, List, [], ◌∷◌, ◌++◌, length, IsTrue, ltb, min, Result, IsErr}
+use Rattle.std.specs.Prelude.{◌≡◌, ℕ, ◌-◌, ◌^◌, ◌<◌, ◌≤◌, ◌⊎◌, Bool, ◌||◌, List, [], ◌∷◌, ◌++◌, length, IsTrue, ltb, Result, IsErr}
 use Rattle.board_core.specs.declared.board.DiskCall.{DiskCall}
 use Rattle.board_core.specs.declared.board.FileNo.{FileNo}
 use Rattle.board_core.specs.Cause.{Rose}
@@ -7,7 +7,7 @@ use Rattle.board_core.specs.Clock.{Clock}
 use Rattle.board_core.specs.DiskModel.{Disk, DiskFile, Call, writes, syncs, prints, after_all, disk_clock}
 use Rattle.board_core.specs.MemSource.{counted, is_chosen}
 use Rattle.board_core.specs.Stop.{Left, file_in, with_file_in}
-use Rattle.board_core.specs.Told.{Told, MayList, overlaid}
+use Rattle.board_core.specs.Told.{Told, overlaid}
 
 -- a call that went well and changed what a read gives or what a stop may leave: bytes put at a place of a file, a file
 -- settled, a piece appended to the text

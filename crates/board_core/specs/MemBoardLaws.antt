@@ -1,14 +1,14 @@
 -- This file only carries proofs: that what a board in memory tells, and its clock, keep the laws of a board.
 use Rattle.std.specs.Prelude.{◌≡◌, ℕ, ◌≤◌, List, [], ◌∷◌, ◌++◌, length, Some, refl}
-use Rattle.std.proofs.Common.{sym, ◌∙◌, ap, subst, inl, inr, arith}
+use Rattle.std.proofs.Common.{sym, ◌∙◌, ap, subst, arith}
 use Rattle.board_core.specs.declared.board.FileNo.{FileNo}
 use Rattle.board_core.specs.declared.board.FileNo.TheVariants.{Zero, One}
-use Rattle.board_core.specs.Clock.{Clock, LeftNow, After, Passes, Leads, IsSynced}
+use Rattle.board_core.specs.Clock.{LeftNow, Passes, Leads, IsSynced}
 use Rattle.board_core.specs.DiskLaws.{overlaid_more, settled_left, begins_none, nothing_begins}
-use Rattle.board_core.specs.DiskModel.{grown, MayLeaveFile, Disk, MayLeave, Call, disk_file, after, after_all, MayLeaveSince, disk_clock}
+use Rattle.board_core.specs.DiskModel.{grown, MayLeaveFile, Disk, MayLeave, disk_file, after, after_all}
 use Rattle.board_core.specs.MemBoard.{Change, put, settled, said, Past, with_change, changed, changed_all, call_of, calls_of, settled_disk, here_of, disk_of, clock_of, State, told_of}
 use Rattle.board_core.specs.MomentLaws.{after_all-more, now_only, now_counts, leads_call, passes_call, write_before, write_during, sync_before, synced_only, print_during, print_appends, print_ends}
-use Rattle.board_core.specs.Stop.{Left, Same, Begins, Appends, InFile, InOut, file_in, with_file_in, left_of}
+use Rattle.board_core.specs.Stop.{Left, Same, Begins, Appends, InFile, InOut, file_in, left_of}
 use Rattle.board_core.specs.Told.{Told, Torn}
 
 -- What a read gives may be left.

@@ -1,13 +1,13 @@
 -- This file only carries proofs: how the moments of the disk model go on over one call more.
-use Rattle.std.specs.Prelude.{◌≡◌, ℕ, zero, suc, ◌+◌, ◌<◌, ◌≤◌, ◌⊎◌, List, [], ◌∷◌, ◌++◌, length, refl}
-use Rattle.std.proofs.Common.{sym, ◌∙◌, ap, subst, inl, inr, arith, length-append, append-nil}
+use Rattle.std.specs.Prelude.{◌≡◌, ℕ, zero, suc, ◌≤◌, ◌⊎◌, List, [], ◌∷◌, ◌++◌, length, refl}
+use Rattle.std.proofs.Common.{sym, subst, inl, inr, arith, length-append, append-nil}
 use Rattle.board_core.specs.declared.board.FileNo.{FileNo}
 use Rattle.board_core.specs.declared.board.FileNo.TheVariants.{Zero, One}
-use Rattle.board_core.specs.Clock.{Clock, LeftNow, After, Passes, Leads}
-use Rattle.board_core.specs.Stop.{Left, Same, Begins, Appends, InFile, InOut, file_in, with_file_in}
+use Rattle.board_core.specs.Clock.{After, Passes, Leads}
+use Rattle.board_core.specs.Stop.{Left, Same, Begins, Appends, InFile, InOut, file_in}
 use Rattle.board_core.specs.Told.{Torn}
-use Rattle.board_core.specs.DiskModel.{Range, grown, DiskFile, MayLeaveFile, Disk, MayLeave, Call, writes, syncs, prints, rests, disk_file, after, after_all, piece_of, MayLeaveSince, disk_clock}
-use Rattle.board_core.specs.DiskLaws.{torn_before, torn_more, settled_left, settled_only, begins_none, nothing_begins}
+use Rattle.board_core.specs.DiskModel.{grown, MayLeaveFile, Disk, MayLeave, Call, writes, syncs, prints, disk_file, after, after_all, piece_of, MayLeaveSince, disk_clock}
+use Rattle.board_core.specs.DiskLaws.{torn_before, settled_only, begins_none, nothing_begins}
 
 pub piece_more : (disk : Disk) (piece : List ℕ) (left : Left) → MayLeave disk [] left → MayLeave disk piece left
 piece_more disk piece left may = record {

@@ -40,5 +40,4 @@ pub fn disk_model_words()
     ensures memory { (past : Past) (left : Left) → LeftNow (clock_of past) left ↔ MayLeave (disk_of past) [] left }
     ensures printing { (past : Past) (part missing : List ℕ)
         → (clock_of (with_change (said (part ++ missing)) past)).may_leave_since (clock_of past).now (record (here_of past) { out = (here_of past).out ++ part }) }
-{
-}
+{}

@@ -1,7 +1,6 @@
 use Rattle.std.proofs.Common.{ap}
 use Rattle.board_core.specs.MemBoard.{State, said}
-use Rattle.board_core.specs.Stop.{InOut, Begins}
-use Rattle.board_core.proofs.MemBoardLemmas.{begins_nothing, counts_print, printed_said, same_cause, stood, stops_said, told_said}
+use Rattle.board_core.proofs.MemBoardLemmas.{counts_print, printed_said, same_cause, stops_said, told_said}
 use Rattle.board_core.proofs.mem_board.MemBoardBoard.print.Goals as goal
 
 pub returns-clause-told : goal.returns-clause-told
