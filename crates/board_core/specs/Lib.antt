@@ -1,5 +1,16 @@
 pub mod Cause
-pub mod Left
+pub mod Takes
 pub mod Told
+pub mod Stop
+pub mod Clock
+pub mod ClockLaws
+pub mod DiskModel
+pub mod CallsMade
+pub mod DiskLaws
+pub mod MomentLaws
 pub mod MemSource
 pub mod MemBoard
+pub mod MemBoardLaws
+pub mod Pick
+pub mod FileHistory
+pub mod History

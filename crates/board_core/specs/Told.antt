@@ -4,7 +4,7 @@ use Rattle.std.specs.Option.{option_map}
 use Rattle.board_core.specs.declared.board.FileNo.{FileNo}
 use Rattle.board_core.specs.declared.board.FileNo.TheVariants.{Zero, One}
 use Rattle.board_core.specs.declared.board.DiskCall.{DiskCall}
-use Rattle.board_core.specs.declared.board.DiskCall.TheVariants.{WriteAt}
+use Rattle.board_core.specs.declared.board.DiskCall.TheVariants.{WriteAt, Sync}
 
 -- the two files as a read gives them, the bytes printed so far, and the disk calls made so far
 pub record Told : Type 0 where
@@ -33,6 +33,10 @@ overlaid place bytes old = take place old ++ bytes ++ drop (place + length bytes
 abbrev pub written : FileNo → ℕ → List ℕ → Told → Told
 written file place bytes t = called (WriteAt file place (length bytes)) (with_file file (overlaid place bytes (file_of file t)) t)
 
+-- what a write and then a sync leave
+abbrev pub written_through : FileNo → ℕ → List ℕ → Told → Told
+written_through file place bytes t = called (Sync file) (written file place bytes t)
+
 -- what a print leaves
 abbrev pub printed : List ℕ → Told → Told
 printed bytes t = record t { out = t.out ++ bytes }
@@ -57,6 +61,10 @@ pub record Torn (place n : ℕ) (old new : List ℕ) : Type 0 where
 abbrev pub FailsWrite : FileNo → ℕ → ℕ → Told → Told → Type 0
 FailsWrite file place n old new =
     (bytes : List ℕ) × Torn place n (file_of file old) bytes × MayList (WriteAt file place n) (with_file file bytes old) new
+
+-- A write and then a sync, of which one failed: the write was torn, or all was written and the sync is listed or isn't.
+abbrev pub FailsThrough : FileNo → ℕ → List ℕ → Told → Told → Type 0
+FailsThrough file place bytes old new = FailsWrite file place (length bytes) old new ⊎ MayList (Sync file) (written file place bytes old) new
 
 -- A failed print has appended a beginning of its piece.
 abbrev pub FailsPrint : List ℕ → Told → Told → Type 0

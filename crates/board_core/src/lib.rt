@@ -6,14 +6,23 @@
 #![tactic(auto)]
 
 mod board;
+mod events;
+mod history;
+mod laws;
+mod leaving;
 mod mem_board;
 mod mem_source;
+mod pick;
 mod source;
+mod through;
 
 pub use board::{Board, DiskCall, FileNo};
+pub use laws::{disk_model, disk_model_words};
 pub use mem_board::MemBoard;
 pub use mem_source::MemSource;
+pub use pick::Pick;
 pub use source::{Failed, Source};
+pub use through::write_through;
 
 #[cfg(test)]
 mod tests;

@@ -1,7 +1,7 @@
 // A source over bytes in memory.
 ghost use Rattle.std.specs.Prelude.{◌≡◌, ℕ, ◌+◌, ◌<◌, ◌≤◌, ◌↔◌, [], drop, length, min, Some, IfOk, IsErr, OnErr, IsTrue};
 ghost use Rattle.board_core.specs.Cause.{HasCause, Rose};
-ghost use Rattle.board_core.specs.Left.{Takes};
+ghost use Rattle.board_core.specs.Takes.{Takes};
 ghost use Rattle.board_core.specs.MemSource.{Reading, CountsRead, fails_next};
 
 use crate::{Failed, Source};

@@ -1,7 +1,7 @@
 // A stream of bytes.
 ghost use Rattle.std.specs.Prelude.{◌≡◌, ℕ, ◌<◌, ◌≤◌, List, length, Option, IfOk, OnErr};
 ghost use Rattle.board_core.specs.Cause.{HasCause};
-ghost use Rattle.board_core.specs.Left.{Takes};
+ghost use Rattle.board_core.specs.Takes.{Takes};
 
 /// A call of a source or of a board that failed. Its count of faults rose.
 #[derive(Clone, Copy, Debug, PartialEq, Eq)]

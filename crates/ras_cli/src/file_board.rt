@@ -1,5 +1,7 @@
 // The working folder's files and standard output as a board.
 ghost use Rattle.std.specs.Prelude.{◌≡◌, None};
+ghost use Rattle.board_core.specs.Clock.{untold};
+ghost use Rattle.board_core.specs.ClockLaws.{not_told};
 
 use crate::counted::counted;
 use crate::folder_file::FolderFile;
@@ -64,9 +66,17 @@ impl FolderFiles {
 impl Board for FileBoard {
     ghost told = { λ _. None };
 
+    ghost clock = { λ _. untold };
+
     ghost disk_faults = { λ b. b.disk };
 
     ghost print_faults = { λ b. b.print };
+
+    ghost told_may_be_left = { λ _ t told. not_told t told };
+
+    ghost text_is_left = { λ _ t left told now. absurd now };
+
+    ghost counts_earlier = { λ _ s t left within may. may };
 
     fn size(&mut self, file: FileNo) -> Result<u64, Failed> {
         counted(self.files.file(file).size(), &mut self.disk_faults)

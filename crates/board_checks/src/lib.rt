@@ -1,0 +1,31 @@
+//! A caller of a board, proved over every board: that the board's clauses say enough of a stop at any moment.
+#![tactic(auto)]
+
+ghost use Rattle.std.specs.Prelude.{◌≡◌, ◌≤◌, length, IfSome};
+ghost use Rattle.board_core.specs.Clock.{Always, Rests};
+ghost use Rattle.board_core.specs.Told.{Told};
+ghost use Rattle.board_checks.specs.Entry.{HasEntry};
+
+use board_core::{Board, Failed, FileNo};
+
+/// Writes an entry into file 0, syncs it, and then prints a line that tells of it.
+///
+/// Where a stop before left just what the board told, every stop since then that leaves a byte of the line leaves the
+/// entry too. `Failed` comes only where a call of the board failed.
+pub fn write_sync_print<B: Board>(
+    place: u64,
+    entry: &[u8],
+    line: &[u8],
+    board: &mut B,
+) -> Result<(), Failed>
+    requires { IfSome (B.told board.old) (λ told. place ≤ length told.file0) }
+    ensures { (here : Told) → Rests here (B.told board.old) (B.clock board.old)
+        → Always (B.clock board.new) (B.clock board.old).now (HasEntry place entry.now here) }
+{
+    board.write_at(FileNo::Zero, place, entry)?;
+    board.sync(FileNo::Zero)?;
+    board.print(line)
+}
+
+#[cfg(test)]
+mod tests;

@@ -1,0 +1,4 @@
+pub mod HistoryLemmas
+pub mod MemBoardLemmas
+pub mod DiskModelLaws
+pub mod LeavingLemmas

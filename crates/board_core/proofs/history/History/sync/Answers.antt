@@ -1,0 +1,5 @@
+use Rattle.board_core.proofs.HistoryLemmas.{synced_file}
+use Rattle.board_core.proofs.history.History.sync.Goals as goal
+
+pub invariant_of-self-2 : goal.invariant_of-self-2
+invariant_of-self-2 c = synced_file _ _ _ _ _ _ c.self.invariant c.args.file c.in_ok-push.ensures.items

@@ -1,0 +1,34 @@
+-- Calls made of a board one after another, and which ranges of a file they wrote.
+use Rattle.std.specs.Prelude.{◌≡◌, List, [], ◌∷◌}
+use Rattle.std.specs.List.{flat_map}
+use Rattle.board_core.specs.declared.board.FileNo.{FileNo}
+use Rattle.board_core.specs.declared.board.FileNo.TheVariants.{Zero, One}
+use Rattle.board_core.specs.Clock.{Clock, LeftNow, Passes, Leads, IsSynced}
+use Rattle.board_core.specs.DiskModel.{Range, Disk, MayLeave, Call, writes, syncs, prints, rests}
+use Rattle.board_core.specs.Stop.{Left, Same, InFile, InOut, Begins, Appends}
+use Rattle.board_core.specs.Told.{Torn}
+
+-- This call was made, as the clauses of the trait say of it.
+abbrev pub IsMade : Call → Clock → Clock → Type 0
+IsMade (writes file place count) old new = Passes (InFile file (Torn place count)) old new
+IsMade (syncs file bytes) old new = Passes Same old new × IsSynced file bytes new
+IsMade (prints piece part) old new = Passes (InOut (Begins piece)) old new × Leads (InOut (Appends part)) old new
+IsMade rests old new = Passes Same old new
+
+-- These calls were made of a board, one after another.
+abbrev pub AreMade : {B : Type 0} → (B → Clock) → List Call → B → B → Type 0
+AreMade clock [] first last = last ≡ first
+AreMade {B} clock (call ∷ calls) first last = (next : B) × IsMade call (clock first) (clock next) × AreMade clock calls next last
+
+-- A stop now leaves only what the disk model says of this disk.
+abbrev pub Keeps : Disk → Clock → Type 0
+Keeps disk clock = (left : Left) → LeftNow clock left → MayLeave disk [] left
+
+-- the ranges of a file that these calls wrote
+abbrev pub range_in : FileNo → Call → List Range
+range_in Zero (writes Zero place count) = record { place = place; count = count } ∷ []
+range_in One (writes One place count) = record { place = place; count = count } ∷ []
+range_in file call = []
+
+abbrev pub ranges_in : FileNo → List Call → List Range
+ranges_in file calls = flat_map (range_in file) calls

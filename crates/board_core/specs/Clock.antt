@@ -1,0 +1,56 @@
+-- What stops at which moments may leave, and how a call changes it.
+use Rattle.std.specs.Prelude.{◌≡◌, ℕ, ◌≤◌, ◌⊎◌, List, Option, Some}
+use Rattle.board_core.specs.declared.board.FileNo.{FileNo}
+use Rattle.board_core.specs.Stop.{Left, file_in, left_of}
+use Rattle.board_core.specs.Told.{Told}
+
+-- A clock of moments, which doesn't go back: the number of the present moment, and what a stop at some moment from
+-- number t on may leave.
+pub record Clock : Type 1 where
+  pub now : ℕ
+  pub may_leave_since : ℕ → Left → Type 0
+
+-- the clock of a board that tells nothing
+abbrev pub untold : Clock
+untold = record { now = 0; may_leave_since = λ _ _. ⊥ }
+
+-- what a stop now may leave
+abbrev pub LeftNow : Clock → Left → Type 0
+LeftNow clock left = clock.may_leave_since clock.now left
+
+-- what a stop before might have left, after a step
+pub record After (old : Clock) (Step : Left → Left → Type 0) (left : Left) : Type 0 where
+  pub from : Left
+  pub was : LeftNow old from
+  pub by : Step from left
+
+-- One call was made. A stop during it leaves what a stop before it might have left, after this step, and so does a stop
+-- now. What a stop at an earlier moment may have left is neither more nor forgotten.
+pub record Passes (Step : Left → Left → Type 0) (old new : Clock) : Type 0 where
+  pub later : old.now ≤ new.now
+  pub kept : (t : ℕ) (left : Left) → t ≤ old.now → old.may_leave_since t left → new.may_leave_since t left
+  pub each : (t : ℕ) (left : Left) → t ≤ old.now → new.may_leave_since t left → old.may_leave_since t left ⊎ After old Step left
+  pub ends : (left : Left) → LeftNow new left → After old Step left
+
+-- A stop now leaves what a stop before the call might have left, after this step.
+abbrev pub Leads : (Left → Left → Type 0) → Clock → Clock → Type 0
+Leads Step old new = (left : Left) → LeftNow new left → After old Step left
+
+-- Whatever a stop now leaves, this file has these bytes.
+abbrev pub IsSynced : FileNo → List ℕ → Clock → Type 0
+IsSynced file bytes clock = (left : Left) → LeftNow clock left → file_in file left ≡ bytes
+
+-- Calls were made, one or several. Whatever a stop during them or now leaves has this property, and what a stop at an
+-- earlier moment may have left is not more.
+pub record Adds (P : Left → Type 0) (old new : Clock) : Type 0 where
+  pub later : old.now ≤ new.now
+  pub each : (t : ℕ) (left : Left) → t ≤ old.now → new.may_leave_since t left → old.may_leave_since t left ⊎ P left
+
+-- The board tells this, and a stop now leaves just that.
+pub record Rests (here : Told) (told : Option Told) (clock : Clock) : Type 0 where
+  pub is : told ≡ Some here
+  pub only : (left : Left) → LeftNow clock left → left ≡ left_of here
+
+-- Whatever a stop from moment t on may leave has this property.
+abbrev pub Always : Clock → ℕ → (Left → Type 0) → Type 0
+Always clock t P = (left : Left) → clock.may_leave_since t left → P left

@@ -1,0 +1,81 @@
+// What a board in memory keeps of each call that went well, and the calls on plain vectors.
+ghost use Rattle.std.specs.Prelude.{◌≡◌, ◌≤◌, ◌++◌, [], ◌∷◌, length, IsSome, OnOk, OnErr};
+ghost use Rattle.board_core.specs.History.{first_bytes, changes_of};
+ghost use Rattle.board_core.specs.MemBoard.{put, said};
+ghost use Rattle.board_core.specs.Told.{overlaid};
+
+use crate::FileNo;
+use crate::history::{Event, MemFile};
+use std::alloc::{AllocError, Global};
+
+// Keeps the bytes and what the file began with, and writes them.
+pub fn write(
+    alloc: Global,
+    file: &mut MemFile,
+    events: &mut Vec<Event>,
+    number: FileNo,
+    place: u64,
+    bytes: &[u8],
+) -> Result<(), AllocError>
+    requires { place ≤ length file.old.bytes.items }
+    ensures file { OnOk result (file.new.bytes.items ≡ overlaid place bytes.now file.old.bytes.items) }
+    ensures events { OnOk result (changes_of events.new.items ≡ changes_of events.old.items ++ put number place bytes.now ∷ []) }
+    ensures first { first_bytes file.new ≡ first_bytes file.old }
+    ensures same_file { OnErr result (file.new.bytes.items ≡ file.old.bytes.items) }
+    ensures same_events { OnErr result (events.new.items ≡ events.old.items) }
+{
+    let kept = Vec::from_slice(alloc, bytes)?;
+    events.reserve(1)?;
+    keep_first(alloc, file)?;
+    overlay(&mut file.bytes, place as usize, bytes)?;
+    events.push(Event::Wrote(number, place, kept))?;
+    Ok(())
+}
+
+// Keeps what the file began with, unless it was kept before.
+fn keep_first(alloc: Global, file: &mut MemFile) -> Result<(), AllocError>
+    ensures bytes { file.new.bytes ≡ file.old.bytes }
+    ensures first { first_bytes file.new ≡ first_bytes file.old }
+    ensures kept { OnOk result (IsSome file.new.first) }
+{
+    if file.first.is_none() {
+        file.first = Some(Vec::from_slice(alloc, &file.bytes)?);
+    }
+    Ok(())
+}
+
+// Keeps the piece, and appends it.
+pub fn print(
+    alloc: Global,
+    out: &mut Vec<u8>,
+    events: &mut Vec<Event>,
+    bytes: &[u8],
+) -> Result<(), AllocError>
+    ensures out { OnOk result (out.new.items ≡ out.old.items ++ bytes.now) }
+    ensures events { OnOk result (changes_of events.new.items ≡ changes_of events.old.items ++ said bytes.now ∷ []) }
+    ensures same_out { OnErr result (out.new.items ≡ out.old.items) }
+    ensures same_events { OnErr result (events.new.items ≡ events.old.items) }
+{
+    let kept = Vec::from_slice(alloc, bytes)?;
+    events.reserve(1)?;
+    out.extend_from_slice(bytes)?;
+    events.push(Event::Printed(kept))?;
+    Ok(())
+}
+
+// Writes bytes over what is there and past the end, in place.
+pub fn overlay(file: &mut Vec<u8>, place: usize, bytes: &[u8]) -> Result<(), AllocError>
+    requires { place ≤ length file.old.items }
+    ensures ok { OnOk result (file.new.items ≡ overlaid place bytes.now file.old.items) }
+    ensures err { OnErr result (file.new.items ≡ file.old.items) }
+{
+    let room = file.len() - place;
+    if bytes.len() <= room {
+        file[place..place + bytes.len()].copy_from_slice(bytes);
+        return Ok(());
+    }
+    let (over, behind) = bytes.split_at(room);
+    file.extend_from_slice(behind)?;
+    file[place..place + room].copy_from_slice(over);
+    Ok(())
+}

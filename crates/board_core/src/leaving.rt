@@ -1,0 +1,111 @@
+// A file of a board in memory as a stop may leave it.
+ghost use Rattle.std.specs.Prelude.{◌≡◌, ◌↔◌, ℕ, ◌≤◌, IsTrue, [], ◌∷◌, length, take, drop, List, IfOk, OnOk};
+ghost use Rattle.board_core.specs.FileHistory.{bytes_after, bytes_after_all, disk_after_all, range_of, ranges_of, ArePartedAtSync};
+ghost use Rattle.board_core.specs.History.{change_of, changes_of, first_bytes};
+ghost use Rattle.board_core.specs.MemBoard.{settled, settled_file};
+ghost use Rattle.board_core.specs.Pick.{IsFilled, IsPicked};
+
+use crate::events::overlay;
+use crate::history::{Event, MemFile};
+use crate::{FileNo, Pick};
+use std::alloc::AllocError;
+
+/// The file of this number as it is picked, where these events made it what it is.
+pub fn picked(
+    file: MemFile,
+    events: &[Event],
+    number: FileNo,
+    pick: Pick,
+) -> Result<Vec<u8>, AllocError>
+    ensures { IfOk result (λ taken. IsPicked pick (disk_after_all number (changes_of events.now) (first_bytes file) (settled_file (first_bytes file))) file.bytes.items taken.items) }
+{
+    let MemFile { mut bytes, first } = file;
+    let settled = events_to_last_sync(events, number);
+    match pick {
+        Pick::New => Ok(bytes),
+        Pick::Fill(byte) => {
+            fill(&mut bytes, &events[settled..], number, byte);
+            Ok(bytes)
+        }
+        Pick::Old => {
+            let mut synced = first.unwrap_or(bytes);
+            repeat(&mut synced, &events[..settled], number)?;
+            Ok(synced)
+        }
+    }
+}
+
+// How many events lead up to the last sync of a file and with it: none where it wasn't synced.
+fn events_to_last_sync(events: &[Event], number: FileNo) -> usize
+    ensures within { result ≤ length events.now }
+    ensures parted { ArePartedAtSync number (changes_of (take result events.now)) (changes_of (drop result events.now)) (changes_of events.now) }
+{
+    let mut count = 0;
+    for (place, event) in events.iter().enumerate() {
+        if syncs(event, number) {
+            count = place + 1;
+        }
+    }
+    count
+}
+
+fn syncs(event: &Event, number: FileNo) -> bool
+    ensures { IsTrue result ↔ (change_of event.now ≡ settled number) }
+{
+    match event {
+        Event::Synced(file) => *file == number,
+        Event::Wrote(..) | Event::Printed(_) => false,
+    }
+}
+
+// Writes again what these events wrote into a file.
+fn repeat(bytes: &mut Vec<u8>, events: &[Event], number: FileNo) -> Result<(), AllocError>
+    ensures { OnOk result (bytes.new.items ≡ bytes_after_all number (changes_of events.now) bytes.old.items) }
+{
+    for event in events {
+        repeat_one(bytes, event, number)?;
+    }
+    Ok(())
+}
+
+// No write began past the file's end.
+fn repeat_one(bytes: &mut Vec<u8>, event: &Event, number: FileNo) -> Result<(), AllocError>
+    ensures { OnOk result (bytes.new.items ≡ bytes_after number (change_of event.now) bytes.old.items) }
+{
+    match event {
+        Event::Wrote(file, place, written) if *file == number => {
+            let place = (*place as usize).min(bytes.len());
+            overlay(bytes, place, written)
+        }
+        Event::Wrote(..) | Event::Synced(_) | Event::Printed(_) => Ok(()),
+    }
+}
+
+// Sets each byte that these events wrote into a file.
+fn fill(bytes: &mut [u8], events: &[Event], number: FileNo, byte: u8)
+    ensures { IsFilled byte (ranges_of number (changes_of events.now)) bytes.old bytes.new }
+{
+    for event in events {
+        fill_one(bytes, event, number, byte);
+    }
+}
+
+fn fill_one(bytes: &mut [u8], event: &Event, number: FileNo, byte: u8)
+    ensures { IsFilled byte (range_of number (change_of event.now)) bytes.old bytes.new }
+{
+    match event {
+        Event::Wrote(file, place, written) if *file == number => {
+            fill_range(bytes, *place as usize, written.len(), byte);
+        }
+        Event::Wrote(..) | Event::Synced(_) | Event::Printed(_) => {}
+    }
+}
+
+// Sets the bytes of a range, so far as they are there.
+fn fill_range(bytes: &mut [u8], place: usize, count: usize, byte: u8)
+    ensures { IsFilled byte (record { place = place; count = count } ∷ []) bytes.old bytes.new }
+{
+    let start = place.min(bytes.len());
+    let end = start.saturating_add(count).min(bytes.len());
+    bytes[start..end].fill(byte);
+}
