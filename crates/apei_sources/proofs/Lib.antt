@@ -1,0 +1,5 @@
+pub mod FrontLemmas
+pub mod EntryLemmas
+pub mod CutLemmas
+pub mod HestLemmas
+pub mod LookupLemmas

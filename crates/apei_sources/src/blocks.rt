@@ -40,7 +40,7 @@ impl<'a> Model for Block<'a> {
 /// It is refused with the first that applies of: `Short` below 20 bytes, or below 20 and the data's length where the
 /// status isn't 0; `EntryOut` where the header or the data of some entry passes the end of the data; `Section` where
 /// `read_section` refuses some entry's data.
-#[tactic(auto, unfolding(crate::specs::Blocks::block_of))]
+#[tactic(auto, unfolding(crate::specs::Blocks::block_of, crate::specs::Cut::cut, crate::specs::Cut::AreInside))]
 pub fn read_block(bytes: &[u8]) -> Result<Block<'_>, BlockRefused>
     ensures { result ≡ block_of bytes.now }
 {

@@ -1,12 +1,12 @@
 //! The entries of a status block's data.
 
-ghost use Rattle.std.specs.Prelude.{◌≡◌, ◌≤◌, ◌<◌, ◌+◌, ℕ, [], length, get_or, take, drop, true, false, MatchOption, Ok};
+ghost use Rattle.std.specs.Prelude.{◌≡◌, ◌≤◌, ◌<◌, ◌+◌, ℕ, [], length, get_or, take, drop, false, IfSome, IsTrue, Ok};
 ghost use Rattle.std.specs.Option.{option_map};
 ghost use Rattle.std.specs.List.{list_any};
 ghost use Rattle.cper_sections.specs.Sections.{section_of};
 ghost use Rattle.apei_sources.specs.Entries.{header_length, entry_length, entry_guid, entry_severity, entry_bytes, has_entry, is_refused, entries_of};
 ghost use Rattle.apei_sources.specs.Laid.{IsEntry};
-ghost use Rattle.apei_sources.specs.Cut.{cut, AreInside, AreReadable};
+ghost use Rattle.apei_sources.specs.Cut.{cut, AreInside};
 
 use cper_sections::{Descriptor, guid_at, read_section, u16_at, u32_at};
 use uuid::Uuid;
@@ -48,9 +48,27 @@ fn has_entry(bytes: &[u8]) -> bool
     HEADER_LENGTH <= bytes.len() && entry_length(bytes) <= bytes.len()
 }
 
+// The entry at the front, header and data.
+fn first_entry(bytes: &[u8]) -> &[u8]
+    requires { IsTrue (has_entry bytes.now) }
+    ensures entry { result.now ≡ take (entry_length bytes.now) bytes.now }
+    ensures whole { IsEntry result.now }
+{
+    &bytes[..entry_length(bytes)]
+}
+
+// The bytes behind the entry at the front.
+fn behind_first(bytes: &[u8]) -> &[u8]
+    requires { IsTrue (has_entry bytes.now) }
+    ensures { result.now ≡ drop (entry_length bytes.now) bytes.now }
+{
+    &bytes[entry_length(bytes)..]
+}
+
 // How many entries the bytes are, or None where one passes their end.
 pub(crate) fn count_entries(bytes: &[u8]) -> Option<usize>
-    ensures { option_map (λ count. cut count bytes.now) result ≡ entries_of bytes.now }
+    ensures entries { option_map (λ count. cut count bytes.now) result ≡ entries_of bytes.now }
+    ensures inside { IfSome result (λ count. AreInside count bytes.now) }
 {
     let mut rest = bytes;
     let mut count = 0usize;
@@ -58,7 +76,7 @@ pub(crate) fn count_entries(bytes: &[u8]) -> Option<usize>
         if !has_entry(rest) {
             return None;
         }
-        rest = &rest[entry_length(rest)..];
+        rest = behind_first(rest);
         count += 1;
     }
     Some(count)
@@ -71,11 +89,10 @@ pub(crate) fn is_some_refused(bytes: &[u8], count: usize) -> bool
 {
     let mut rest = bytes;
     for done in 0..count {
-        let (entry, behind) = rest.split_at(entry_length(rest));
-        if is_refused(entry) {
+        if is_refused(first_entry(rest)) {
             return true;
         }
-        rest = behind;
+        rest = behind_first(rest);
     }
     false
 }
@@ -84,13 +101,14 @@ pub(crate) fn is_some_refused(bytes: &[u8], count: usize) -> bool
 pub(crate) fn nth_entry(bytes: &[u8], count: usize, i: usize) -> &[u8]
     requires inside { AreInside count bytes.now }
     requires within { i < count }
-    ensures { result.now ≡ get_or (cut count bytes.now) i [] }
+    ensures entry { result.now ≡ get_or (cut count bytes.now) i [] }
+    ensures whole { IsEntry result.now }
 {
     let mut rest = bytes;
     for passed in 0..i {
-        rest = &rest[entry_length(rest)..];
+        rest = behind_first(rest);
     }
-    &rest[..entry_length(rest)]
+    first_entry(rest)
 }
 
 // The type of an entry's section.

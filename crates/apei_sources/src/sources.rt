@@ -1,6 +1,6 @@
 //! The error sources of a HEST, by their types.
 
-ghost use Rattle.std.specs.Prelude.{◌≡◌, ◌≤◌, ◌<◌, ◌+◌, length, IfOk};
+ghost use Rattle.std.specs.Prelude.{◌≡◌, ◌≤◌, ◌<◌, ◌+◌, length, IfOk, IfSome};
 ghost use Rattle.apei_sources.specs.Sources.{plain, with_banks, layout_of, banks_of, size_of, size_at};
 
 use crate::TableRefused;
@@ -43,7 +43,8 @@ impl Layout {
 // The layout of a type of source, or None where the type isn't known.
 #[tactic(auto, unfolding(crate::specs::Sources::layout_of))]
 fn layout_of(kind: u16) -> Option<Layout>
-    ensures { result ≡ layout_of kind }
+    ensures layout { result ≡ layout_of kind }
+    ensures banks { IfSome result (λ layout. IfSome layout.banks_at (λ place. place < layout.fixed)) }
 {
     match kind {
         0 => Some(Layout::with_banks(40, 32)),
@@ -83,6 +84,7 @@ pub(crate) fn size_at(bytes: &[u8]) -> Result<usize, TableRefused>
 
 // How many banks a source tells of.
 fn bank_count(layout: Layout, source: &[u8]) -> usize
+    requires { IfSome layout.banks_at (λ place. place < length source.now) }
     ensures value { result ≡ banks_of layout.banks_at source.now }
     ensures small { result < 256 }
 {
