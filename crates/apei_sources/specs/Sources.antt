@@ -1,5 +1,6 @@
 -- One error source of a HEST: ACPI 6.5, section 18.3.2, "ACPI Error Source". The sizes are this project's profile.
-use Rattle.std.specs.Prelude.{ℕ, ◌+◌, ◌*◌, ◌==◌, nat_lt, List, length, slice_index, Option, Some, None, Result, Ok, Err, if◌then◌else◌}
+use Rattle.std.specs.Prelude.{ℕ, ◌+◌, ◌*◌, nat_eq, nat_lt, List, [], ◌∷◌, length, slice_index, Option, Some, None, Result, Ok, Err, if◌then◌else◌}
+use Rattle.std.specs.Map.{lookup}
 use Rattle.cper_sections.specs.Numbers.{number_at}
 use Rattle.apei_sources.specs.declared.sources.Layout.{Layout}
 use Rattle.apei_sources.specs.declared.refusals.TableRefused.{TableRefused}
@@ -14,23 +15,27 @@ abbrev pub with_banks : ℕ → ℕ → Layout
 with_banks fixed place = record { fixed = fixed; banks_at = Some place }
 
 -- the layout of each type of source; the other types are not read
-unfoldable pub layout_of : ℕ → Option Layout
-layout_of kind =
+unfoldable pub layouts : List (ℕ × Layout)
+layouts =
     -- machine-check exception
-    if kind == 0 then Some (with_banks 40 32)
-    -- corrected machine check
-    else (if kind == 1 then Some (with_banks 48 44)
+    (0, with_banks 40 32)
+    -- corrected machine check, deferred machine check
+    ∷ (1, with_banks 48 44)
+    ∷ (11, with_banks 48 44)
     -- NMI
-    else (if kind == 2 then Some (plain 20)
+    ∷ (2, plain 20)
     -- AER of a root port, an endpoint, a bridge
-    else (if kind == 6 then Some (plain 48)
-    else (if kind == 7 then Some (plain 44)
-    else (if kind == 8 then Some (plain 56)
+    ∷ (6, plain 48)
+    ∷ (7, plain 44)
+    ∷ (8, plain 56)
     -- generic, and its version 2
-    else (if kind == 9 then Some (plain 64)
-    else (if kind == 10 then Some (plain 92)
-    -- deferred machine check
-    else (if kind == 11 then Some (with_banks 48 44) else None))))))))
+    ∷ (9, plain 64)
+    ∷ (10, plain 92)
+    ∷ []
+
+-- the layout of a type of source
+abbrev pub layout_of : ℕ → Option Layout
+layout_of kind = lookup (nat_eq kind) layouts
 
 -- a source's type
 abbrev pub kind_of : List ℕ → ℕ

@@ -41,7 +41,7 @@ impl Layout {
 }
 
 // The layout of a type of source, or None where the type isn't known.
-#[tactic(auto, unfolding(crate::specs::Sources::layout_of))]
+#[tactic(auto, unfolding(crate::specs::Sources::layouts))]
 fn layout_of(kind: u16) -> Option<Layout>
     ensures layout { result ≡ layout_of kind }
     ensures banks { IfSome result (λ layout. IfSome layout.banks_at (λ place. place < layout.fixed)) }
