@@ -108,9 +108,13 @@ module _ (count : ℕ) (before : Sources) (bytes : List ℕ) (size : ℕ) (begin
 
   pub repeated : is_some (type_of (id_of bytes) before) ≡ true → IsDistinct nat_eq (keys_of before) → Broken (suc count) before bytes RepeatedId
   repeated there once =
-      ends count before bytes RepeatedId once
-      (take size bytes, drop size bytes, sym split, begins.source,
-      subst (Contains (keys_of before)) (ap (λ source. source.0) (sym same)) (Contains-keys_from_lookup nat_exact (id_of bytes) before there))
+      ends count before bytes RepeatedId once (
+        take size bytes,
+        drop size bytes,
+        sym split,
+        begins.source,
+        subst (Contains (keys_of before)) (ap (λ source. source.0) (sym same)) (Contains-keys_from_lookup nat_exact (id_of bytes) before there),
+      )
 
 -- a new identifier
 once-push : (before : Sources) (id kind : ℕ) → is_some (type_of id before) ≡ false → IsDistinct nat_eq (keys_of before) → IsDistinct nat_eq (keys_of (before ++ (id, kind) ∷ []))

@@ -8,7 +8,7 @@ use cper_sections::u16_at;
 
 // How many bytes a source of a type has besides its banks, and where among them the count of banks stands, a byte, if the
 // type has banks.
-#[derive(Clone, Copy, Debug, PartialEq, Eq)]
+#[derive(Clone, Copy)]
 pub(crate) struct Layout {
     fixed: usize,
     banks_at: Option<usize>,
