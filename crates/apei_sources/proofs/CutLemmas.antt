@@ -10,16 +10,19 @@ cut_suc : (more left : ℕ) (bytes : List ℕ) → more ≡ suc left → cut mor
 unfolding cut
 cut_suc more left bytes is = rw is refl
 
-inside_suc : (more left : ℕ) (bytes : List ℕ) → more ≡ suc left → AreInside more bytes → (has_entry bytes ≡ true) × AreInside left (rest_of bytes)
+inside_suc : (more left : ℕ) (bytes : List ℕ) → more ≡ suc left → AreInside more bytes
+    → (has_entry bytes ≡ true) × AreInside left (rest_of bytes)
 unfolding AreInside
 inside_suc more left bytes is inside = let P : ℕ → Type 0 = λ n. AreInside n bytes in subst P is inside
 
 pub length-cut : (count : ℕ) (bytes : List ℕ) → length (cut count bytes) ≡ count
 length-cut zero bytes = unfold cut in refl
-length-cut (suc count) bytes = ap (λ (xs : List (List ℕ)). length xs) (cut_suc (suc count) count bytes refl) ∙ ap suc (length-cut count (rest_of bytes))
+length-cut (suc count) bytes = ap (λ (xs : List (List ℕ)). length xs) (cut_suc (suc count) count bytes refl)
+    ∙ ap suc (length-cut count (rest_of bytes))
 
 -- an entry of a block can be read
-pub readable_at : (count i : ℕ) (bytes : List ℕ) → list_any is_refused (cut count bytes) ≡ false → i < count → is_refused (get_or (cut count bytes) i []) ≡ false
+pub readable_at : (count i : ℕ) (bytes : List ℕ) → list_any is_refused (cut count bytes) ≡ false → i < count
+    → is_refused (get_or (cut count bytes) i []) ≡ false
 readable_at count i bytes none below =
     grind (arith, list_any_at is_refused (cut count bytes) i [] (omega (arith, length-cut count bytes)))
 
@@ -31,22 +34,28 @@ module _ (count done : ℕ) (bytes rest : List ℕ) (below : done < count) where
   next_any : list_any is_refused (cut (count - done) rest) ≡ (is_refused (first_of rest) || list_any is_refused (cut (count - (done + 1)) (rest_of rest)))
   next_any = ap (list_any is_refused) (cut_suc (count - done) (count - (done + 1)) rest (omega arith))
 
-  pub one_refused : is_refused (first_of rest) ≡ true → list_any is_refused (cut (count - done) rest) ≡ list_any is_refused (cut count bytes)
+  pub one_refused : is_refused (first_of rest) ≡ true
+      → list_any is_refused (cut (count - done) rest) ≡ list_any is_refused (cut count bytes)
       → true ≡ list_any is_refused (cut count bytes)
-  one_refused is left = sym (ap (λ b. b || list_any is_refused (cut (count - (done + 1)) (rest_of rest))) is) ∙ sym next_any ∙ left
+  one_refused is left = sym (ap (λ b. b || list_any is_refused (cut (count - (done + 1)) (rest_of rest))) is)
+      ∙ sym next_any ∙ left
 
-  pub not_refused : is_refused (first_of rest) ≡ false → list_any is_refused (cut (count - done) rest) ≡ list_any is_refused (cut count bytes)
+  pub not_refused : is_refused (first_of rest) ≡ false
+      → list_any is_refused (cut (count - done) rest) ≡ list_any is_refused (cut count bytes)
       → list_any is_refused (cut (count - (done + 1)) (rest_of rest)) ≡ list_any is_refused (cut count bytes)
-  not_refused is left = sym (ap (λ b. b || list_any is_refused (cut (count - (done + 1)) (rest_of rest))) is) ∙ sym next_any ∙ left
+  not_refused is left = sym (ap (λ b. b || list_any is_refused (cut (count - (done + 1)) (rest_of rest))) is)
+      ∙ sym next_any ∙ left
 
-pub none_refused : (count done : ℕ) (bytes rest : List ℕ) → count ≡ done → list_any is_refused (cut (count - done) rest) ≡ list_any is_refused (cut count bytes)
+pub none_refused : (count done : ℕ) (bytes rest : List ℕ) → count ≡ done
+    → list_any is_refused (cut (count - done) rest) ≡ list_any is_refused (cut count bytes)
     → false ≡ list_any is_refused (cut count bytes)
 unfolding cut
 none_refused count done bytes rest all left =
     let none : 0 ≡ count - done = omega arith in
     ap (λ n. list_any is_refused (cut n rest)) none ∙ left
 
-get_or_suc : (first : List ℕ) (xs : List (List ℕ)) (i left : ℕ) → i ≡ suc left → get_or (first ∷ xs) i [] ≡ get_or xs left []
+get_or_suc : (first : List ℕ) (xs : List (List ℕ)) (i left : ℕ) → i ≡ suc left
+    → get_or (first ∷ xs) i [] ≡ get_or xs left []
 get_or_suc first xs i left is = rw is refl
 
 -- the entry at a place, behind those that were passed

@@ -41,7 +41,8 @@ unfolding entries_in
 entries_in_last zero bytes out = refl
 entries_in_last (suc most) bytes out = rw out refl
 
-entries_in_more : (most : ℕ) (bytes : List ℕ) → has_entry bytes ≡ true → entries_in (suc most) bytes ≡ with_first bytes (entries_in most (rest_of bytes))
+entries_in_more : (most : ℕ) (bytes : List ℕ) → has_entry bytes ≡ true
+    → entries_in (suc most) bytes ≡ with_first bytes (entries_in most (rest_of bytes))
 unfolding entries_in
 entries_in_more most bytes is =
     let long : 64 ≤ length bytes = (fits bytes is).header in
@@ -53,8 +54,10 @@ no_entry : (bytes : List ℕ) → length bytes ≤ 0 → has_entry bytes ≡ fal
 no_entry bytes none = grind arith
 
 -- more than there are bytes change nothing
-entries_in_enough : (m n : ℕ) (bytes : List ℕ) → length bytes ≤ m → length bytes ≤ n → entries_in m bytes ≡ entries_in n bytes
-entries_in_enough zero n bytes first second = entries_in_last zero bytes (no_entry bytes first) ∙ sym (entries_in_last n bytes (no_entry bytes first))
+entries_in_enough : (m n : ℕ) (bytes : List ℕ) → length bytes ≤ m → length bytes ≤ n
+    → entries_in m bytes ≡ entries_in n bytes
+entries_in_enough zero n bytes first second = entries_in_last zero bytes (no_entry bytes first)
+    ∙ sym (entries_in_last n bytes (no_entry bytes first))
 entries_in_enough (suc m) zero bytes first second =
     entries_in_last (suc m) bytes (no_entry bytes second) ∙ sym (entries_in_last zero bytes (no_entry bytes second))
 entries_in_enough (suc m) (suc n) bytes first second = by (has_entry bytes) refl (entries_in_enough m n (rest_of bytes))
@@ -70,10 +73,10 @@ entries_in_enough (suc m) (suc n) bytes first second = by (has_entry bytes) refl
         ∙ sym (entries_in_more n bytes is)
 
 -- an entry at the front is before those of the rest
-pub entries_of_more : (bytes : List ℕ) → has_entry bytes ≡ true → entries_of bytes ≡ with_first bytes (entries_of (rest_of bytes))
+pub entries_of_more : (bytes : List ℕ) → has_entry bytes ≡ true
+    → entries_of bytes ≡ with_first bytes (entries_of (rest_of bytes))
 entries_of_more bytes is =
     let f : Fits bytes = fits bytes is in
-    let rest : ℕ = length bytes - 1 in
     ap (λ n. entries_in n bytes) (omega (arith, f))
     ∙ entries_in_more (length bytes - 1) bytes is
     ∙ ap (with_first bytes) (entries_in_enough (length bytes - 1) (length (rest_of bytes)) (rest_of bytes) (omega (arith, f, length-drop (entry_length bytes) bytes)) (omega arith))
@@ -105,7 +108,8 @@ first_is bytes is =
 cuts_none : (bytes : List ℕ) (entries : List (List ℕ)) → none_of bytes ≡ Some entries → Cuts bytes entries
 cuts_none bytes entries is = by (nat_eq (length bytes) 0) refl entries is
   where
-    by : (b : Bool) → nat_eq (length bytes) 0 ≡ b → (entries : List (List ℕ)) → (if b then Some [] else None) ≡ Some entries → Cuts bytes entries
+    by : (b : Bool) → nat_eq (length bytes) 0 ≡ b → (entries : List (List ℕ))
+        → (if b then Some [] else None) ≡ Some entries → Cuts bytes entries
     by true none [] is = record {
       cut = unfold cut in refl;
       inside = unfold AreInside in tt;
@@ -115,7 +119,8 @@ cuts_none bytes entries is = by (nat_eq (length bytes) 0) refl entries is
     by true none (e ∷ entries) is = cc
     by false none entries is = cc
 
-cuts_more : (bytes : List ℕ) (behind : List (List ℕ)) → has_entry bytes ≡ true → Cuts (rest_of bytes) behind → Cuts bytes (first_of bytes ∷ behind)
+cuts_more : (bytes : List ℕ) (behind : List (List ℕ)) → has_entry bytes ≡ true → Cuts (rest_of bytes) behind
+    → Cuts bytes (first_of bytes ∷ behind)
 cuts_more bytes behind is cuts = record {
   cut = unfold cut in ap (λ entries. first_of bytes ∷ entries) cuts.cut;
   inside = unfold AreInside in (is, cuts.inside);
@@ -124,12 +129,14 @@ cuts_more bytes behind is cuts = record {
 }
 
 -- the entries behind the first, where there are entries
-behind_of : (bytes : List ℕ) (read : Option (List (List ℕ))) (entries : List (List ℕ)) → with_first bytes read ≡ Some entries
+behind_of : (bytes : List ℕ) (read : Option (List (List ℕ))) (entries : List (List ℕ))
+    → with_first bytes read ≡ Some entries
     → (behind : List (List ℕ)) × (read ≡ Some behind) × (entries ≡ first_of bytes ∷ behind)
 behind_of bytes None entries is = cc
 behind_of bytes (Some behind) entries is = (behind, refl, cc)
 
-cuts_in : (most : ℕ) (bytes : List ℕ) (entries : List (List ℕ)) → length bytes ≤ most → entries_of bytes ≡ Some entries → Cuts bytes entries
+cuts_in : (most : ℕ) (bytes : List ℕ) (entries : List (List ℕ)) → length bytes ≤ most
+    → entries_of bytes ≡ Some entries → Cuts bytes entries
 cuts_in zero bytes entries short is = cuts_none bytes entries (sym (entries_of_last bytes (no_entry bytes short)) ∙ is)
 cuts_in (suc most) bytes entries short is = by (has_entry bytes) refl (cuts_in most (rest_of bytes))
   where
@@ -162,10 +169,12 @@ module _ (entry rest : List ℕ) (whole : IsEntry entry) where
       ∙ (λ i. option_map (λ behind. take_at entry rest (length entry) refl i ∷ behind) (entries_of (drop_at entry rest (length entry) refl i)))
 
 -- entries laid end to end are those of the bytes
-pub entries_of-concat : (entries : List (List ℕ)) → AllByRecursion IsEntry entries → entries_of (concat entries) ≡ Some entries
+pub entries_of-concat : (entries : List (List ℕ)) → AllByRecursion IsEntry entries
+    → entries_of (concat entries) ≡ Some entries
 entries_of-concat [] each = unfold entries_in in refl
 entries_of-concat (entry ∷ entries) each =
-    split entry (concat entries) each.0 ∙ ap (λ read. option_map (λ behind. entry ∷ behind) read) (entries_of-concat entries each.1)
+    split entry (concat entries) each.0
+    ∙ ap (λ read. option_map (λ behind. entry ∷ behind) read) (entries_of-concat entries each.1)
 
 -- Counting: `counted` stands for the entries that were passed
 abbrev pub IsCounted : List ℕ → List ℕ → ℕ → Type 0
@@ -175,7 +184,8 @@ not_counted : (read : Option (List (List ℕ))) → None ≡ option_map (λ entr
 not_counted None is = refl
 not_counted (Some entries) is = cc
 
-pub none_counted : (bytes rest : List ℕ) (counted : ℕ) → 0 < length rest → has_entry rest ≡ false → IsCounted bytes rest counted → None ≡ entries_of bytes
+pub none_counted : (bytes rest : List ℕ) (counted : ℕ) → 0 < length rest → has_entry rest ≡ false
+    → IsCounted bytes rest counted → None ≡ entries_of bytes
 none_counted bytes rest counted some out is =
     let more : nat_eq (length rest) 0 ≡ false = grind arith in
     let none : entries_of rest ≡ None = entries_of_last rest out ∙ rw more refl in
@@ -191,7 +201,8 @@ pub record Counts (bytes rest : List ℕ) (count : ℕ) : Type 0 where
   pub short : count + length rest ≤ length bytes
   pub counted : IsCounted bytes rest count
 
-pub one_counted : (bytes rest behind : List ℕ) (counted : ℕ) → has_entry rest ≡ true → behind ≡ rest_of rest → Counts bytes rest counted → Counts bytes behind (counted + 1)
+pub one_counted : (bytes rest behind : List ℕ) (counted : ℕ) → has_entry rest ≡ true → behind ≡ rest_of rest
+    → Counts bytes rest counted → Counts bytes behind (counted + 1)
 one_counted bytes rest behind counted fit is counts =
     let f : Fits rest = fits rest fit in
     record {
@@ -219,8 +230,10 @@ counted_as bytes counted (Some entries) is count =
       inside = subst (λ n. AreInside n bytes) (sym same) all.inside;
     }
 
-pub all_counted : (bytes rest : List ℕ) (counted : ℕ) → length rest ≡ 0 → IsCounted bytes rest counted → AllCounted bytes counted
+pub all_counted : (bytes rest : List ℕ) (counted : ℕ) → length rest ≡ 0 → IsCounted bytes rest counted
+    → AllCounted bytes counted
 all_counted bytes rest counted none is =
-    let empty : entries_of rest ≡ Some [] = ap (λ xs. entries_of xs) (nil_from_length rest none) ∙ entries_of-concat [] tt in
+    let empty : entries_of rest ≡ Some [] = ap (λ xs. entries_of xs) (nil_from_length rest none)
+    ∙ entries_of-concat [] tt in
     counted_as bytes counted (entries_of bytes) refl
     (ap (λ n. Some n) (omega arith) ∙ sym (ap (λ read. option_map (λ entries. counted + length entries) read) empty) ∙ is)

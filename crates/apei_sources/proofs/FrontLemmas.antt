@@ -6,7 +6,8 @@ use Rattle.byteorder.specs.Numbers.{little_from-append}
 use Rattle.cper_sections.specs.Numbers.{number_at}
 
 -- what follows changes nothing
-pub number_at-append : (place width : ℕ) (xs ys : List ℕ) → place + width ≤ length xs → number_at place width (xs ++ ys) ≡ number_at place width xs
+pub number_at-append : (place width : ℕ) (xs ys : List ℕ) → place + width ≤ length xs
+    → number_at place width (xs ++ ys) ≡ number_at place width xs
 unfolding number_at
 number_at-append place width xs ys inside =
     ap (λ zs. little_number width zs) (drop-append-le place xs ys (omega arith))

@@ -69,24 +69,25 @@ refused_so ids bytes NoMemory is = absurd is
 
 -- the walk goes on behind a source
 module _ (count : ℕ) (before : Sources) (bytes : List ℕ) (size : ℕ) (begins : Begins bytes size) where
-  first : List ℕ
-  first = take size bytes
-
   split : take size bytes ++ drop size bytes ≡ bytes
   split = take-append-drop size bytes
 
   same : source_of (take size bytes) ≡ source_of bytes
   same = sym (source_of-append (take size bytes) (drop size bytes) begins.source) ∙ ap (λ xs. source_of xs) split
 
-  laid_more : (spans : List (List ℕ)) (rest : List ℕ) → drop size bytes ≡ concat spans ++ rest → bytes ≡ concat (take size bytes ∷ spans) ++ rest
+  laid_more : (spans : List (List ℕ)) (rest : List ℕ) → drop size bytes ≡ concat spans ++ rest
+      → bytes ≡ concat (take size bytes ∷ spans) ++ rest
   laid_more spans rest laid =
       sym split ∙ ap (λ xs. take size bytes ++ xs) laid ∙ sym (append_assoc (take size bytes) (concat spans) rest)
 
-  told_more : (spans : List (List ℕ)) → (before ++ source_of bytes ∷ []) ++ map source_of spans ≡ before ++ map source_of (take size bytes ∷ spans)
+  told_more : (spans : List (List ℕ))
+      → (before ++ source_of bytes ∷ []) ++ map source_of spans ≡ before ++ map source_of (take size bytes ∷ spans)
   told_more spans =
-      append_assoc before (source_of bytes ∷ []) (map source_of spans) ∙ ap (λ source. before ++ source ∷ map source_of spans) (sym same)
+      append_assoc before (source_of bytes ∷ []) (map source_of spans)
+      ∙ ap (λ source. before ++ source ∷ map source_of spans) (sym same)
 
-  pub goes_on : (answer : Result Sources TableRefused) → Walked count (before ++ source_of bytes ∷ []) (drop size bytes) answer → Walked (suc count) before bytes answer
+  pub goes_on : (answer : Result Sources TableRefused)
+      → Walked count (before ++ source_of bytes ∷ []) (drop size bytes) answer → Walked (suc count) before bytes answer
   goes_on (Ok all) read = record {
     spans = take size bytes ∷ read.spans;
     rest = read.rest;
@@ -106,7 +107,8 @@ module _ (count : ℕ) (before : Sources) (bytes : List ℕ) (size : ℕ) (begin
     refused = subst (λ (sources : Sources). IsNoSource (keys_of sources) broken.rest why) (told_more broken.spans) broken.refused;
   }
 
-  pub repeated : is_some (type_of (id_of bytes) before) ≡ true → IsDistinct nat_eq (keys_of before) → Broken (suc count) before bytes RepeatedId
+  pub repeated : is_some (type_of (id_of bytes) before) ≡ true → IsDistinct nat_eq (keys_of before)
+      → Broken (suc count) before bytes RepeatedId
   repeated there once =
       ends count before bytes RepeatedId once (
         take size bytes,
@@ -117,13 +119,15 @@ module _ (count : ℕ) (before : Sources) (bytes : List ℕ) (size : ℕ) (begin
       )
 
 -- a new identifier
-once-push : (before : Sources) (id kind : ℕ) → is_some (type_of id before) ≡ false → IsDistinct nat_eq (keys_of before) → IsDistinct nat_eq (keys_of (before ++ (id, kind) ∷ []))
+once-push : (before : Sources) (id kind : ℕ) → is_some (type_of id before) ≡ false
+    → IsDistinct nat_eq (keys_of before) → IsDistinct nat_eq (keys_of (before ++ (id, kind) ∷ []))
 once-push before id kind new once =
     subst (IsDistinct nat_eq) (sym (map-append (λ source. source.0) before ((id, kind) ∷ [])))
     (IsDistinct-push nat_eq_equiv (keys_of before) id once (sym (is_some-lookup (nat_eq id) before) ∙ new))
 
 -- so the walk is as those words say
-pub walked : (count : ℕ) (before : Sources) (bytes : List ℕ) → IsDistinct nat_eq (keys_of before) → Walked count before bytes (sources_in count before bytes)
+pub walked : (count : ℕ) (before : Sources) (bytes : List ℕ) → IsDistinct nat_eq (keys_of before)
+    → Walked count before bytes (sources_in count before bytes)
 walked zero before bytes once =
     subst (Walked zero before bytes) (sym (sources_in_none before bytes)) (record {
       spans = [];
@@ -143,7 +147,8 @@ walked (suc count) before bytes once = by (size_at bytes) refl (sized bytes) (wa
     Rest = (xs : List ℕ) → IsDistinct nat_eq (keys_of (before ++ source_of bytes ∷ []))
         → Walked count (before ++ source_of bytes ∷ []) xs (sources_in count (before ++ source_of bytes ∷ []) xs)
 
-    added : (size : ℕ) → size_at bytes ≡ Ok size → Begins bytes size → Rest → (b : Bool) → is_some (type_of (id_of bytes) before) ≡ b → Goal
+    added : (size : ℕ) → size_at bytes ≡ Ok size → Begins bytes size → Rest → (b : Bool)
+        → is_some (type_of (id_of bytes) before) ≡ b → Goal
     added size is begins rest true there =
         subst (Walked (suc count) before bytes) (sym (sources_in_repeated count before bytes size RepeatedId is (rw there refl)))
         (repeated count before bytes size begins there once)
@@ -170,19 +175,20 @@ apart (x ∷ xs) y ys once =
     let turned : nat_eq y x ≡ false = nat_eq_equiv.symm y x ∙ head in
     rw turned (apart xs y ys once.1)
 
-new_id : (before : Sources) (source : ℕ × ℕ) (behind : Sources) → IsDistinct nat_eq (keys_of (before ++ source ∷ behind)) → is_some (type_of source.0 before) ≡ false
+new_id : (before : Sources) (source : ℕ × ℕ) (behind : Sources)
+    → IsDistinct nat_eq (keys_of (before ++ source ∷ behind)) → is_some (type_of source.0 before) ≡ false
 new_id before source behind once =
     is_some-lookup (nat_eq source.0) before
     ∙ apart (keys_of before) source.0 (keys_of behind) (subst (IsDistinct nat_eq) (map-append (λ source. source.0) before (source ∷ behind)) once)
 
-pub walks : (spans : List (List ℕ)) (more : ℕ) (before : Sources) (rest : List ℕ) → AllByRecursion IsSource spans → IsDistinct nat_eq (keys_of (before ++ map source_of spans))
+pub walks : (spans : List (List ℕ)) (more : ℕ) (before : Sources) (rest : List ℕ) → AllByRecursion IsSource spans
+    → IsDistinct nat_eq (keys_of (before ++ map source_of spans))
     → sources_in (length spans + more) before (concat spans ++ rest) ≡ sources_in more (before ++ map source_of spans) rest
 walks [] more before rest each once = λ i. sources_in (zero_more i) (sym (append-nil before) i) rest
   where
     zero_more : 0 + more ≡ more
     zero_more = omega arith
 walks (span ∷ spans) more before rest each once =
-    let bytes : List ℕ = span ++ (concat spans ++ rest) in
     let source : source_of (span ++ (concat spans ++ rest)) ≡ source_of span = source_of-append span (concat spans ++ rest) each.0 in
     let new : is_some (type_of (id_of span) before) ≡ false = new_id before (source_of span) (map source_of spans) once in
     let added : followed before (source_of span) ≡ Ok (before ++ source_of span ∷ []) = rw new refl in
@@ -196,11 +202,11 @@ walks (span ∷ spans) more before rest each once =
     ∙ ap (λ sources. sources_in more sources rest) told
 
 -- at what is no source it ends
-pub stops : (left : ℕ) (before : Sources) (bytes : List ℕ) (why : TableRefused) → IsNoSource (keys_of before) bytes why → sources_in (suc left) before bytes ≡ Err why
+pub stops : (left : ℕ) (before : Sources) (bytes : List ℕ) (why : TableRefused)
+    → IsNoSource (keys_of before) bytes why → sources_in (suc left) before bytes ≡ Err why
 stops left before bytes SourceType is = sources_in_refused left before bytes SourceType (out_type bytes is)
 stops left before bytes SourceOut is = sources_in_refused left before bytes SourceOut (out_out bytes is)
 stops left before bytes RepeatedId is =
-    let span : List ℕ = is.0 in
     let whole : bytes ≡ is.0 ++ is.1 = is.2 in
     let size : size_at bytes ≡ Ok (length is.0) = ap (λ xs. size_at xs) whole ∙ size_at-append is.0 is.1 is.3 in
     let source : source_of bytes ≡ source_of is.0 = ap (λ xs. source_of xs) whole ∙ source_of-append is.0 is.1 is.3 in

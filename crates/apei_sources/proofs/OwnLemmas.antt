@@ -31,7 +31,6 @@ module _ (signature : List ℕ) (fixed : ℕ) (bytes others : List ℕ) (header 
   pub same_table : table_of signature fixed others ≡ table_of signature fixed bytes
   unfolding table_of
   same_table =
-      let n : ℕ = length_of bytes in
       let long : length_of bytes ≤ length others = also_inside (length_of bytes) bytes others inside same in
       let told : length_of others ≡ length_of bytes = same_number (length_of bytes) bytes others inside same 4 4 (omega arith) in
       let enough : nat_lt (length bytes) fixed ≡ false = grind arith in
@@ -43,12 +42,14 @@ module _ (signature : List ℕ) (fixed : ℕ) (bytes others : List ℕ) (header 
       let own : own_bytes others ≡ own_bytes bytes = ap (λ k. take k others) told ∙ same in
       rw (enough, also_enough, begins, fits, also_fits, own) refl
 
-pub same_hest : (bytes others : List ℕ) → 40 ≤ length_of bytes → length_of bytes ≤ length bytes → take (length_of bytes) others ≡ take (length_of bytes) bytes → hest_of others ≡ hest_of bytes
+pub same_hest : (bytes others : List ℕ) → 40 ≤ length_of bytes → length_of bytes ≤ length bytes
+    → take (length_of bytes) others ≡ take (length_of bytes) bytes → hest_of others ≡ hest_of bytes
 unfolding hest_of
 same_hest bytes others whole inside same =
     ap (λ (table : Result (List ℕ) TableRefused). table >>= sources_of) (same_table (codes "HEST") 40 bytes others (omega arith) (omega arith) whole inside same)
 
-pub same_bert : (bytes others : List ℕ) → 48 ≤ length_of bytes → length_of bytes ≤ length bytes → take (length_of bytes) others ≡ take (length_of bytes) bytes → bert_of others ≡ bert_of bytes
+pub same_bert : (bytes others : List ℕ) → 48 ≤ length_of bytes → length_of bytes ≤ length bytes
+    → take (length_of bytes) others ≡ take (length_of bytes) bytes → bert_of others ≡ bert_of bytes
 unfolding bert_of
 same_bert bytes others whole inside same =
     rw (same_table (codes "BERT") 48 bytes others (omega arith) (omega arith) whole inside same) refl
@@ -57,7 +58,6 @@ pub same_block : (bytes others : List ℕ) → 20 + data_length_of bytes ≤ len
     → take (20 + data_length_of bytes) others ≡ take (20 + data_length_of bytes) bytes → block_of others ≡ block_of bytes
 unfolding block_of
 same_block bytes others inside same =
-    let n : ℕ = 20 + data_length_of bytes in
     let long : 20 + data_length_of bytes ≤ length others = also_inside (20 + data_length_of bytes) bytes others inside same in
     let status : status_of others ≡ status_of bytes = same_number (20 + data_length_of bytes) bytes others inside same 0 4 (omega arith) in
     let told : data_length_of others ≡ data_length_of bytes = same_number (20 + data_length_of bytes) bytes others inside same 12 4 (omega arith) in
@@ -66,10 +66,12 @@ same_block bytes others inside same =
     let fits : nat_lt (length bytes) (20 + data_length_of bytes) ≡ false = grind arith in
     let also_fits : nat_lt (length others) (20 + data_length_of others) ≡ false = grind (arith, told) in
     let held : data_of others ≡ data_of bytes =
-    ap (λ k. take k (drop 20 others)) told ∙ sym (drop-take 20 (data_length_of bytes) others) ∙ ap (λ xs. drop 20 xs) same ∙ drop-take 20 (data_length_of bytes) bytes in
+    ap (λ k. take k (drop 20 others)) told ∙ sym (drop-take 20 (data_length_of bytes) others)
+    ∙ ap (λ xs. drop 20 xs) same ∙ drop-take 20 (data_length_of bytes) bytes in
     rw (enough, also_enough, fits, also_fits, status, held) refl
 
-pub silent_block : (bytes others : List ℕ) → 20 ≤ length bytes → 20 ≤ length others → status_of bytes ≡ 0 → status_of others ≡ 0 → block_of others ≡ block_of bytes
+pub silent_block : (bytes others : List ℕ) → 20 ≤ length bytes → 20 ≤ length others → status_of bytes ≡ 0
+    → status_of others ≡ 0 → block_of others ≡ block_of bytes
 unfolding block_of
 silent_block bytes others inside also_inside status also_status =
     let enough : nat_lt (length bytes) 20 ≡ false = grind arith in

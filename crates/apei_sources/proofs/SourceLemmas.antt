@@ -15,7 +15,8 @@ abbrev pub IsLayout : Option Layout → Type 0
 IsLayout None = Unit {0}
 IsLayout (Some layout) = (4 ≤ layout.fixed) × IfSome layout.banks_at (λ place. place < layout.fixed)
 
-found : (kind : ℕ) (rows : List (ℕ × Layout)) → AllByRecursion (λ row. IsLayout (Some row.1)) rows → IsLayout (lookup (nat_eq kind) rows)
+found : (kind : ℕ) (rows : List (ℕ × Layout)) → AllByRecursion (λ row. IsLayout (Some row.1)) rows
+    → IsLayout (lookup (nat_eq kind) rows)
 found kind [] each = tt
 found kind (row ∷ rows) each = by (nat_eq kind row.0) (found kind rows each.1)
   where
@@ -28,20 +29,19 @@ unfolding layouts
 are_layouts =
     ((lit≤ tt, lit< tt), ((lit≤ tt, lit< tt), ((lit≤ tt, lit< tt), ((lit≤ tt, tt), ((lit≤ tt, tt), ((lit≤ tt, tt), ((lit≤ tt, tt), ((lit≤ tt, tt), ((lit≤ tt, tt), tt)))))))))
 
-layout_is : (kind : ℕ) (layout : Layout) → layout_of kind ≡ Some layout → (4 ≤ layout.fixed) × IfSome layout.banks_at (λ place. place < layout.fixed)
+layout_is : (kind : ℕ) (layout : Layout) → layout_of kind ≡ Some layout
+    → (4 ≤ layout.fixed) × IfSome layout.banks_at (λ place. place < layout.fixed)
 layout_is kind layout is = subst IsLayout is (found kind layouts are_layouts)
 
 -- how many banks there are is read in the fixed bytes
-banks_of-append : (banks : Option ℕ) (fixed : ℕ) (span rest : List ℕ) → IfSome banks (λ place. place < fixed) → fixed ≤ length span
+banks_of-append : (banks : Option ℕ) (fixed : ℕ) (span rest : List ℕ) → IfSome banks (λ place. place < fixed)
+    → fixed ≤ length span
     → banks_of banks (span ++ rest) ≡ banks_of banks span
 banks_of-append None fixed span rest place long = refl
 banks_of-append (Some place) fixed span rest within long = get_or_append_left span rest 0 place (omega arith)
 
 -- a source, and what follows it
 module _ (span rest : List ℕ) (source : IsSource span) where
-  layout : Layout
-  layout = source.0
-
   part : (4 ≤ source.0.fixed) × IfSome source.0.banks_at (λ place. place < source.0.fixed)
   part = layout_is (kind_of span) source.0 source.1
 
@@ -86,11 +86,10 @@ abbrev pub Sized : List ℕ → Result ℕ TableRefused → Type 0
 Sized bytes (Ok size) = Begins bytes size
 Sized bytes (Err why) = IsOut bytes why
 
-begins : (bytes : List ℕ) (layout : Layout) → layout_of (kind_of bytes) ≡ Some layout → size_of layout bytes ≤ length bytes → Begins bytes (size_of layout bytes)
+begins : (bytes : List ℕ) (layout : Layout) → layout_of (kind_of bytes) ≡ Some layout
+    → size_of layout bytes ≤ length bytes → Begins bytes (size_of layout bytes)
 begins bytes layout known fits =
-    let size : ℕ = size_of layout bytes in
     let part : (4 ≤ layout.fixed) × IfSome layout.banks_at (λ place. place < layout.fixed) = layout_is (kind_of bytes) layout known in
-    let span : List ℕ = take (size_of layout bytes) bytes in
     let whole : length (take (size_of layout bytes) bytes) ≡ size_of layout bytes = omega (arith, length-take (size_of layout bytes) bytes) in
     let all : take (size_of layout bytes) bytes ++ drop (size_of layout bytes) bytes ≡ bytes = take-append-drop (size_of layout bytes) bytes in
     let kind : kind_of (take (size_of layout bytes) bytes) ≡ kind_of bytes =
@@ -103,11 +102,13 @@ begins bytes layout known fits =
       source = (layout, ap (λ k. layout_of k) kind ∙ known, whole ∙ ap (λ n. layout.fixed + 28 * n) (sym banks));
     }
 
-sized_by : (bytes : List ℕ) (known : Option Layout) → 4 ≤ length bytes → layout_of (kind_of bytes) ≡ known → Sized bytes (size_by known bytes)
+sized_by : (bytes : List ℕ) (known : Option Layout) → 4 ≤ length bytes → layout_of (kind_of bytes) ≡ known
+    → Sized bytes (size_by known bytes)
 sized_by bytes None head is = (head, is)
 sized_by bytes (Some layout) head is = by (nat_lt (length bytes) (size_of layout bytes)) refl
   where
-    by : (b : Bool) → nat_lt (length bytes) (size_of layout bytes) ≡ b → Sized bytes (if b then Err SourceOut else Ok (size_of layout bytes))
+    by : (b : Bool) → nat_lt (length bytes) (size_of layout bytes) ≡ b
+        → Sized bytes (if b then Err SourceOut else Ok (size_of layout bytes))
     by true out = inr (layout, is, grind arith)
     by false fits = begins bytes layout is (grind arith)
 
@@ -115,7 +116,8 @@ pub sized : (bytes : List ℕ) → Sized bytes (size_at bytes)
 unfolding size_at
 sized bytes = by (nat_lt (length bytes) 4) refl
   where
-    by : (b : Bool) → nat_lt (length bytes) 4 ≡ b → Sized bytes (if b then Err SourceOut else size_by (layout_of (kind_of bytes)) bytes)
+    by : (b : Bool) → nat_lt (length bytes) 4 ≡ b
+        → Sized bytes (if b then Err SourceOut else size_by (layout_of (kind_of bytes)) bytes)
     by true few = inl (grind arith)
     by false head = sized_by bytes (layout_of (kind_of bytes)) (grind arith) refl
 

@@ -1,5 +1,5 @@
--- The boot error record table: ACPI 6.5, section 18.3.1, "Boot Error Source". It has 48 bytes: the length of the region of boot
--- errors (4) at 36, and the region's address (8) at 40.
+-- The boot error record table: ACPI 6.5, section 18.3.1, "Boot Error Source". It has 48 bytes: the length of the region
+-- of boot errors (4) at 36, and the region's address (8) at 40.
 use Rattle.std.specs.Prelude.{ℕ, List, codes, Result, Ok}
 use Rattle.cper_sections.specs.Numbers.{number_at}
 use Rattle.apei_sources.specs.declared.refusals.TableRefused.{TableRefused}

@@ -1,5 +1,6 @@
--- A generic error status block: ACPI 6.5, section 18.3.2.7.1, "Generic Error Data". 20 bytes: the block status (4) at 0, the data's
--- length (4) at 12. The data follows. The count of entries in the status is not compared, and raw data is not read.
+-- A generic error status block: ACPI 6.5, section 18.3.2.7.1, "Generic Error Data". Its header has 20 bytes, with the
+-- block status (4) at 0 and the data's length (4) at 12, and the data follows. The count of entries in the status is not
+-- compared, and raw data is not read.
 use Rattle.std.specs.Prelude.{ℕ, ◌+◌, ◌==◌, nat_lt, List, [], length, take, drop, get_or, Option, Some, None, Result, Ok, Err, if◌then◌else◌}
 use Rattle.std.specs.List.{list_any}
 use Rattle.cper_sections.specs.Numbers.{number_at}

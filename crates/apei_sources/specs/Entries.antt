@@ -1,5 +1,5 @@
--- The data of a generic error status block, which its entries fill: ACPI 6.5, section 18.3.2.7.1, "Generic Error Data". That the
--- revision tells which header an entry has is this project's profile.
+-- The data of a generic error status block, which its entries fill: ACPI 6.5, section 18.3.2.7.1, "Generic Error Data".
+-- That the revision tells which header an entry has is this project's profile.
 use Rattle.std.specs.Prelude.{ℕ, zero, suc, ◌+◌, ◌/◌, ◌^◌, Bool, ◌&&◌, nat_eq, nat_le, is_err, List, [], ◌∷◌, length, take, drop, Option, Some, None, if◌then◌else◌}
 use Rattle.std.specs.Option.{option_map}
 use Rattle.uuid.specs.Parts.{swap_fields}
@@ -44,10 +44,11 @@ entries_in zero bytes = if nat_eq (length bytes) 0 then Some [] else None
 entries_in (suc most) bytes =
     if nat_eq (length bytes) 0 then Some []
     else (if has_entry bytes
-    then option_map (λ behind. take (entry_length bytes) bytes ∷ behind) (entries_in most (drop (entry_length bytes) bytes))
+    then option_map (λ behind. take (entry_length bytes) bytes ∷ behind)
+    (entries_in most (drop (entry_length bytes) bytes))
     else None)
 
--- the entries of a block's data, which are fewer than its bytes; None where one passes its end. specs/Laid.antt says
--- what this cutting comes to.
+-- the entries of a block's data, which can't be more than its bytes; None where one passes its end. specs/Laid.antt
+-- says what this cutting comes to
 abbrev pub entries_of : List ℕ → Option (List (List ℕ))
 entries_of bytes = entries_in (length bytes) bytes

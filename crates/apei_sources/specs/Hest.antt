@@ -1,5 +1,5 @@
--- The hardware error source table: ACPI 6.5, section 18.3.2, "ACPI Error Source". Its fixed part has 40 bytes, the last four of
--- which count the sources that follow. specs/Laid.antt says what the walk along them comes to.
+-- The hardware error source table: ACPI 6.5, section 18.3.2, "ACPI Error Source". Its fixed part has 40 bytes, the last
+-- four of which count the sources that follow. specs/Laid.antt says what the walk along them comes to.
 use Rattle.std.specs.Prelude.{ℕ, zero, suc, nat_eq, is_some, List, [], ◌∷◌, ◌++◌, drop, codes, Option, Result, Ok, Err, if◌then◌else◌}
 use Rattle.std.specs.Map.{lookup}
 use Rattle.cper_sections.specs.Numbers.{number_at}

@@ -61,7 +61,8 @@ size_of layout source = layout.fixed + 28 * banks_of layout.banks_at source
 -- how many bytes the source of a layout takes at the front of bytes, where it lies inside them
 abbrev pub size_by : Option Layout → List ℕ → Result ℕ TableRefused
 size_by None bytes = Err SourceType
-size_by (Some layout) bytes = if nat_lt (length bytes) (size_of layout bytes) then Err SourceOut else Ok (size_of layout bytes)
+size_by (Some layout) bytes =
+    if nat_lt (length bytes) (size_of layout bytes) then Err SourceOut else Ok (size_of layout bytes)
 
 -- how many bytes the source at the front takes; its type and its identifier have 4
 unfoldable pub size_at : List ℕ → Result ℕ TableRefused

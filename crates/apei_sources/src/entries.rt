@@ -104,11 +104,11 @@ pub(crate) fn nth_entry(bytes: &[u8], count: usize, i: usize) -> &[u8]
     ensures entry { result.now ≡ get_or (cut count bytes.now) i [] }
     ensures whole { IsEntry result.now }
 {
-    let mut rest = bytes;
+    let mut left = bytes;
     for passed in 0..i {
-        rest = behind_first(rest);
+        left = behind_first(left);
     }
-    first_entry(rest)
+    first_entry(left)
 }
 
 // The type of an entry's section.

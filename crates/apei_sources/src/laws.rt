@@ -23,8 +23,10 @@ pub fn sources_are_laid_end_to_end()
 /// The entries of a block fill its data: they are the one way to cut the data into entries, each as long as its header
 /// and its data, and `EntryOut` comes exactly where there is no such way.
 pub fn entries_fill_the_data()
-    ensures cut { (bytes : List ℕ) (entries : List (List ℕ)) → (entries_of bytes ≡ Some entries) ↔ AreEntries bytes entries }
-    ensures out { (bytes : List ℕ) → (entries_of bytes ≡ None) ↔ ((entries : List (List ℕ)) → AreEntries bytes entries → ⊥) }
+    ensures cut { (bytes : List ℕ) (entries : List (List ℕ))
+        → (entries_of bytes ≡ Some entries) ↔ AreEntries bytes entries }
+    ensures out { (bytes : List ℕ)
+        → (entries_of bytes ≡ None) ↔ ((entries : List (List ℕ)) → AreEntries bytes entries → ⊥) }
 {}
 
 /// What is read of a table depends on the bytes of its length alone, and what is read of a block on its header and its
@@ -35,7 +37,8 @@ pub fn only_own_bytes()
     ensures bert { (bytes others : List ℕ) → 48 ≤ length_of bytes → length_of bytes ≤ length bytes
         → take (length_of bytes) others ≡ take (length_of bytes) bytes → bert_of others ≡ bert_of bytes }
     ensures block { (bytes others : List ℕ) → 20 + data_length_of bytes ≤ length bytes
-        → take (20 + data_length_of bytes) others ≡ take (20 + data_length_of bytes) bytes → block_of others ≡ block_of bytes }
+        → take (20 + data_length_of bytes) others ≡ take (20 + data_length_of bytes) bytes
+        → block_of others ≡ block_of bytes }
     ensures silent { (bytes others : List ℕ) → 20 ≤ length bytes → 20 ≤ length others
         → status_of bytes ≡ 0 → status_of others ≡ 0 → block_of others ≡ block_of bytes }
 {}

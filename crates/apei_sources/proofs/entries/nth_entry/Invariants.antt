@@ -5,6 +5,6 @@ use Rattle.apei_sources.proofs.entries.nth_entry.Given as goal
 
 abbrev pub invariant-loop-passed : goal.invariant-loop-passed
 invariant-loop-passed l = record {
-  inside : AreInside (l.count - l.passed) l.rest;
-  left : get_or (cut (l.count - l.passed) l.rest) (l.i - l.passed) [] ≡ get_or (cut l.count l.fn.bytes) l.i [];
+  inside : AreInside (l.count - l.passed) l.left;
+  left : get_or (cut (l.count - l.passed) l.left) (l.i - l.passed) [] ≡ get_or (cut l.count l.fn.bytes) l.i [];
 }

@@ -12,9 +12,11 @@ are bytes entries is =
     record { laid = all.laid; each = All-from_recursion IsEntry entries all.each }
 
 only : (bytes : List ℕ) (entries : List (List ℕ)) → AreEntries bytes entries → entries_of bytes ≡ Some entries
-only bytes entries laid = ap (λ xs. entries_of xs) (sym laid.laid) ∙ entries_of-concat entries (recursion_from_All IsEntry entries laid.each)
+only bytes entries laid = ap (λ xs. entries_of xs) (sym laid.laid)
+    ∙ entries_of-concat entries (recursion_from_All IsEntry entries laid.each)
 
-never_cut : (bytes : List ℕ) (read : Option (List (List ℕ))) → entries_of bytes ≡ read → ((entries : List (List ℕ)) → AreEntries bytes entries → ⊥) → read ≡ None
+never_cut : (bytes : List ℕ) (read : Option (List (List ℕ))) → entries_of bytes ≡ read
+    → ((entries : List (List ℕ)) → AreEntries bytes entries → ⊥) → read ≡ None
 never_cut bytes None is never = cc
 never_cut bytes (Some entries) is never = absurd (never entries (are bytes entries is))
 

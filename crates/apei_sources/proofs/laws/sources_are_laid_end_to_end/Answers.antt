@@ -15,10 +15,12 @@ none_before : IsDistinct nat_eq []
 unfolding IsDistinct
 none_before = tt
 
-so : (table : List ℕ) (answer : Result Sources TableRefused) → sources_in (count_of table) [] (drop 40 table) ≡ answer → Walked (count_of table) [] (drop 40 table) answer
+so : (table : List ℕ) (answer : Result Sources TableRefused) → sources_in (count_of table) [] (drop 40 table) ≡ answer
+    → Walked (count_of table) [] (drop 40 table) answer
 so table answer is = subst (Walked (count_of table) [] (drop 40 table)) is (walked (count_of table) [] (drop 40 table) none_before)
 
-holds : (table : List ℕ) (sources : Sources) → sources_in (count_of table) [] (drop 40 table) ≡ Ok sources → HoldsSources table sources
+holds : (table : List ℕ) (sources : Sources) → sources_in (count_of table) [] (drop 40 table) ≡ Ok sources
+    → HoldsSources table sources
 holds table sources is =
     let read : Read (count_of table) [] (drop 40 table) sources = so table (Ok sources) is in
     record {
@@ -33,9 +35,9 @@ holds table sources is =
       told = read.told;
     }
 
-reads : (table : List ℕ) (sources : Sources) → HoldsSources table sources → sources_in (count_of table) [] (drop 40 table) ≡ Ok sources
+reads : (table : List ℕ) (sources : Sources) → HoldsSources table sources
+    → sources_in (count_of table) [] (drop 40 table) ≡ Ok sources
 reads table sources holds =
-    let spans : List (List ℕ) = holds.spans in
     let once : IsDistinct nat_eq (keys_of (map source_of holds.spans)) = subst (IsDistinct nat_eq) (sym (keys-told holds.spans)) holds.laid.once in
     let counted : count_of table ≡ length holds.spans + 0 = omega (arith, holds.counted) in
     (λ i. sources_in (counted i) [] (holds.laid.laid i))
@@ -43,7 +45,8 @@ reads table sources holds =
     ∙ sources_in_none (map source_of holds.spans) holds.rest
     ∙ ap (λ (all : Sources). Ok all) (sym holds.told)
 
-breaks : (table : List ℕ) (why : TableRefused) → sources_in (count_of table) [] (drop 40 table) ≡ Err why → BreaksOff table why
+breaks : (table : List ℕ) (why : TableRefused) → sources_in (count_of table) [] (drop 40 table) ≡ Err why
+    → BreaksOff table why
 breaks table why is =
     let broken : Broken (count_of table) [] (drop 40 table) why = so table (Err why) is in
     record {
@@ -58,10 +61,10 @@ breaks table why is =
       refused = subst (λ (ids : List ℕ). IsNoSource ids broken.rest why) (keys-told broken.spans) broken.refused;
     }
 
-refuses : (table : List ℕ) (why : TableRefused) → BreaksOff table why → sources_in (count_of table) [] (drop 40 table) ≡ Err why
+refuses : (table : List ℕ) (why : TableRefused) → BreaksOff table why
+    → sources_in (count_of table) [] (drop 40 table) ≡ Err why
 refuses table why breaks =
     let once : IsDistinct nat_eq (keys_of (map source_of breaks.spans)) = subst (IsDistinct nat_eq) (sym (keys-told breaks.spans)) breaks.laid.once in
-    let left : ℕ = count_of table - suc (length breaks.spans) in
     let counted : count_of table ≡ length breaks.spans + suc (count_of table - suc (length breaks.spans)) = omega (arith, breaks.fewer) in
     (λ i. sources_in (counted i) [] (breaks.laid.laid i))
     ∙ walks breaks.spans (suc (count_of table - suc (length breaks.spans))) [] breaks.rest (recursion_from_All IsSource breaks.spans breaks.laid.each) once

@@ -6,4 +6,5 @@ use Rattle.apei_sources.proofs.blocks.Block.count.Goals as goal
 
 pub returns : goal.returns
 returns c =
-    sym (length-cut c.self.inside.count c.self.inside.bytes.now) ∙ ap (λ (block : BlockParts). length block.entries) c.self.view_is
+    sym (length-cut c.self.inside.count c.self.inside.bytes.now)
+    ∙ ap (λ (block : BlockParts). length block.entries) c.self.view_is
