@@ -1,5 +1,5 @@
 -- The first entries of bytes, from a place on.
-use Rattle.std.proofs.Common.{◌≡◌, ℕ, zero, suc, ◌+◌, ◌-◌, ◌<◌, ◌∙◌, Bool, true, false, List, [], ◌∷◌, length, get_or, refl, sym, ap, subst, arith, ◌||◌}
+use Rattle.std.proofs.Common.{◌≡◌, ℕ, zero, suc, ◌+◌, ◌-◌, ◌<◌, ◌∙◌, true, false, List, [], ◌∷◌, length, get_or, refl, sym, ap, subst, arith, ◌||◌}
 use Rattle.std.specs.List.{list_any}
 use Rattle.std.proofs.lemmas.List.Folds.{list_any_at}
 use Rattle.apei_sources.specs.Entries.{has_entry, is_refused}
@@ -28,10 +28,12 @@ readable_at count i bytes none below =
 
 -- what is left of the first `count` entries behind `done` of them
 module _ (count done : ℕ) (bytes rest : List ℕ) (below : done < count) where
-  pub next_inside : AreInside (count - done) rest → (has_entry rest ≡ true) × AreInside (count - (done + 1)) (rest_of rest)
+  pub next_inside : AreInside (count - done) rest
+      → (has_entry rest ≡ true) × AreInside (count - (done + 1)) (rest_of rest)
   next_inside inside = inside_suc (count - done) (count - (done + 1)) rest (omega arith) inside
 
-  next_any : list_any is_refused (cut (count - done) rest) ≡ (is_refused (first_of rest) || list_any is_refused (cut (count - (done + 1)) (rest_of rest)))
+  next_any : list_any is_refused (cut (count - done) rest)
+      ≡ (is_refused (first_of rest) || list_any is_refused (cut (count - (done + 1)) (rest_of rest)))
   next_any = ap (list_any is_refused) (cut_suc (count - done) (count - (done + 1)) rest (omega arith))
 
   pub one_refused : is_refused (first_of rest) ≡ true
@@ -61,15 +63,19 @@ get_or_suc first xs i left is = rw is refl
 -- the entry at a place, behind those that were passed
 module _ (count passed i : ℕ) (bytes rest : List ℕ) (within : i < count)
     (left : get_or (cut (count - passed) rest) (i - passed) [] ≡ get_or (cut count bytes) i []) where
-  pub next_left : passed < i → get_or (cut (count - (passed + 1)) (rest_of rest)) (i - (passed + 1)) [] ≡ get_or (cut count bytes) i []
+  pub next_left : passed < i
+      → get_or (cut (count - (passed + 1)) (rest_of rest)) (i - (passed + 1)) [] ≡ get_or (cut count bytes) i []
   next_left before =
-      sym (get_or_suc (first_of rest) (cut (count - (passed + 1)) (rest_of rest)) (i - passed) (i - (passed + 1)) (omega arith))
-      ∙ ap (λ (xs : List (List ℕ)). get_or xs (i - passed) []) (sym (cut_suc (count - passed) (count - (passed + 1)) rest (omega arith)))
+      sym (get_or_suc (first_of rest) (cut (count - (passed + 1)) (rest_of rest)) (i - passed) (i - (passed + 1))
+      (omega arith))
+      ∙ ap (λ (xs : List (List ℕ)). get_or xs (i - passed) [])
+      (sym (cut_suc (count - passed) (count - (passed + 1)) rest (omega arith)))
       ∙ left
 
   pub at_last : passed ≡ i → first_of rest ≡ get_or (cut count bytes) i []
   at_last there =
       let none : 0 ≡ i - passed = omega arith in
       ap (λ n. get_or (first_of rest ∷ cut (count - (passed + 1)) (rest_of rest)) n []) none
-      ∙ ap (λ (xs : List (List ℕ)). get_or xs (i - passed) []) (sym (cut_suc (count - passed) (count - (passed + 1)) rest (omega arith)))
+      ∙ ap (λ (xs : List (List ℕ)). get_or xs (i - passed) [])
+      (sym (cut_suc (count - passed) (count - (passed + 1)) rest (omega arith)))
       ∙ left

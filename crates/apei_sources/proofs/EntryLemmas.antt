@@ -1,11 +1,10 @@
 -- Entries, cut off one by one.
-use Rattle.std.proofs.Common.{◌≡◌, ℕ, zero, suc, ◌+◌, ◌-◌, ◌<◌, ◌≤◌, ◌∙◌, Bool, true, false, List, [], ◌∷◌, ◌++◌, length, take, drop, get_or, Option, Some, None, if◌then◌else◌, refl, sym, ap, subst, arith, add-one, nat_eq, length-append}
+use Rattle.std.proofs.Common.{◌≡◌, ℕ, zero, suc, ◌+◌, ◌-◌, ◌<◌, ◌≤◌, ◌∙◌, Bool, true, false, List, [], ◌∷◌, ◌++◌, length, take, drop, Option, Some, None, if◌then◌else◌, refl, sym, ap, subst, arith, add-one, nat_eq, length-append}
 use Rattle.std.specs.Option.{option_map}
-use Rattle.std.specs.List.{list_any, concat, AllByRecursion}
+use Rattle.std.specs.List.{concat, AllByRecursion}
 use Rattle.std.proofs.lemmas.List.{length-take, length-drop, nil_from_length, take-append-drop, take_at, drop_at}
-use Rattle.cper_sections.specs.Numbers.{number_at}
-use Rattle.apei_sources.specs.Entries.{header_length, entry_length, has_entry, is_refused, entries_in, entries_of}
-use Rattle.apei_sources.specs.Laid.{IsEntry, AreEntries}
+use Rattle.apei_sources.specs.Entries.{header_length, entry_length, has_entry, entries_in, entries_of}
+use Rattle.apei_sources.specs.Laid.{IsEntry}
 use Rattle.apei_sources.specs.Cut.{cut, AreInside}
 use Rattle.apei_sources.proofs.FrontLemmas.{number_at-append, number_at-take}
 
@@ -63,13 +62,15 @@ entries_in_enough (suc m) zero bytes first second =
 entries_in_enough (suc m) (suc n) bytes first second = by (has_entry bytes) refl (entries_in_enough m n (rest_of bytes))
   where
     by : (b : Bool) → has_entry bytes ≡ b
-        → (length (rest_of bytes) ≤ m → length (rest_of bytes) ≤ n → entries_in m (rest_of bytes) ≡ entries_in n (rest_of bytes))
+        → (length (rest_of bytes) ≤ m → length (rest_of bytes) ≤ n
+        → entries_in m (rest_of bytes) ≡ entries_in n (rest_of bytes))
         → entries_in (suc m) bytes ≡ entries_in (suc n) bytes
     by false is same = entries_in_last (suc m) bytes is ∙ sym (entries_in_last (suc n) bytes is)
     by true is same =
         let f : Fits bytes = fits bytes is in
         entries_in_more m bytes is
-        ∙ ap (with_first bytes) (same (omega (arith, f, length-drop (entry_length bytes) bytes)) (omega (arith, f, length-drop (entry_length bytes) bytes)))
+        ∙ ap (with_first bytes) (same (omega (arith, f, length-drop (entry_length bytes) bytes))
+        (omega (arith, f, length-drop (entry_length bytes) bytes)))
         ∙ sym (entries_in_more n bytes is)
 
 -- an entry at the front is before those of the rest
@@ -79,7 +80,8 @@ entries_of_more bytes is =
     let f : Fits bytes = fits bytes is in
     ap (λ n. entries_in n bytes) (omega (arith, f))
     ∙ entries_in_more (length bytes - 1) bytes is
-    ∙ ap (with_first bytes) (entries_in_enough (length bytes - 1) (length (rest_of bytes)) (rest_of bytes) (omega (arith, f, length-drop (entry_length bytes) bytes)) (omega arith))
+    ∙ ap (with_first bytes) (entries_in_enough (length bytes - 1) (length (rest_of bytes)) (rest_of bytes)
+    (omega (arith, f, length-drop (entry_length bytes) bytes)) (omega arith))
 
 -- and where none is there, no bytes may be there
 pub entries_of_last : (bytes : List ℕ) → has_entry bytes ≡ false → entries_of bytes ≡ none_of bytes
@@ -95,7 +97,11 @@ pub record Cuts (bytes : List ℕ) (entries : List (List ℕ)) : Type 0 where
 -- the header is read in the entry as in the bytes
 first_length : (bytes : List ℕ) → Fits bytes → entry_length (first_of bytes) ≡ entry_length bytes
 first_length bytes f =
-    rw (number_at-take 20 2 (entry_length bytes) bytes (omega (arith, f)) f.inside, number_at-take 24 4 (entry_length bytes) bytes (omega (arith, f)) f.inside) refl
+    rw (
+      number_at-take 20 2 (entry_length bytes) bytes (omega (arith, f)) f.inside,
+      number_at-take 24 4
+          (entry_length bytes) bytes (omega (arith, f)) f.inside,
+    ) refl
 
 pub first_is : (bytes : List ℕ) → has_entry bytes ≡ true → IsEntry (first_of bytes)
 first_is bytes is =
@@ -141,14 +147,18 @@ cuts_in zero bytes entries short is = cuts_none bytes entries (sym (entries_of_l
 cuts_in (suc most) bytes entries short is = by (has_entry bytes) refl (cuts_in most (rest_of bytes))
   where
     by : (b : Bool) → has_entry bytes ≡ b
-        → ((behind : List (List ℕ)) → length (rest_of bytes) ≤ most → entries_of (rest_of bytes) ≡ Some behind → Cuts (rest_of bytes) behind)
+        → ((behind : List (List ℕ)) → length (rest_of bytes) ≤ most → entries_of (rest_of bytes) ≡ Some behind
+        → Cuts (rest_of bytes) behind)
         → Cuts bytes entries
     by false last rest = cuts_none bytes entries (sym (entries_of_last bytes last) ∙ is)
     by true more rest =
         let f : Fits bytes = fits bytes more in
-        let behind : (behind : List (List ℕ)) × (entries_of (rest_of bytes) ≡ Some behind) × (entries ≡ first_of bytes ∷ behind) =
+        let behind : (behind : List (List ℕ)) × (entries_of (rest_of bytes) ≡ Some behind)
+        × (entries ≡ first_of bytes ∷ behind) =
         behind_of bytes (entries_of (rest_of bytes)) entries (sym (entries_of_more bytes more) ∙ is) in
-        subst (Cuts bytes) (sym behind.2) (cuts_more bytes behind.0 more (rest behind.0 (omega (arith, f, length-drop (entry_length bytes) bytes)) behind.1))
+        subst (Cuts bytes) (sym behind.2)
+        (cuts_more bytes behind.0 more
+        (rest behind.0 (omega (arith, f, length-drop (entry_length bytes) bytes)) behind.1))
 
 pub cuts : (bytes : List ℕ) (entries : List (List ℕ)) → entries_of bytes ≡ Some entries → Cuts bytes entries
 cuts bytes entries is = cuts_in (length bytes) bytes entries (omega arith) is
@@ -157,7 +167,11 @@ cuts bytes entries is = cuts_in (length bytes) bytes entries (omega arith) is
 module _ (entry rest : List ℕ) (whole : IsEntry entry) where
   same_length : entry_length (entry ++ rest) ≡ length entry
   same_length =
-      rw (number_at-append 20 2 entry rest (omega (arith, whole.header)), number_at-append 24 4 entry rest (omega (arith, whole.header))) (sym whole.whole)
+      rw (
+        number_at-append 20 2 entry rest (omega (arith, whole.header)),
+        number_at-append 24 4 entry rest
+            (omega (arith, whole.header)),
+      ) (sym whole.whole)
 
   begins : has_entry (entry ++ rest) ≡ true
   begins = grind (arith, same_length, whole.header, length-append entry rest)
@@ -165,8 +179,10 @@ module _ (entry rest : List ℕ) (whole : IsEntry entry) where
   split : entries_of (entry ++ rest) ≡ option_map (λ behind. entry ∷ behind) (entries_of rest)
   split =
       entries_of_more (entry ++ rest) begins
-      ∙ (λ i. option_map (λ behind. take (same_length i) (entry ++ rest) ∷ behind) (entries_of (drop (same_length i) (entry ++ rest))))
-      ∙ (λ i. option_map (λ behind. take_at entry rest (length entry) refl i ∷ behind) (entries_of (drop_at entry rest (length entry) refl i)))
+      ∙ (λ i. option_map (λ behind. take (same_length i) (entry ++ rest) ∷ behind)
+      (entries_of (drop (same_length i) (entry ++ rest))))
+      ∙ (λ i. option_map (λ behind. take_at entry rest (length entry) refl i ∷ behind)
+      (entries_of (drop_at entry rest (length entry) refl i)))
 
 -- entries laid end to end are those of the bytes
 pub entries_of-concat : (entries : List (List ℕ)) → AllByRecursion IsEntry entries
@@ -178,7 +194,9 @@ entries_of-concat (entry ∷ entries) each =
 
 -- Counting: `counted` stands for the entries that were passed
 abbrev pub IsCounted : List ℕ → List ℕ → ℕ → Type 0
-IsCounted bytes rest counted = option_map (λ entries. counted + length entries) (entries_of rest) ≡ option_map (λ entries. length entries) (entries_of bytes)
+IsCounted bytes rest counted =
+    option_map (λ entries. counted + length entries) (entries_of rest)
+    ≡ option_map (λ entries. length entries) (entries_of bytes)
 
 not_counted : (read : Option (List (List ℕ))) → None ≡ option_map (λ entries. length entries) read → None ≡ read
 not_counted None is = refl
@@ -192,7 +210,8 @@ none_counted bytes rest counted some out is =
     not_counted (entries_of bytes) (sym (ap (λ read. option_map (λ entries. counted + length entries) read) none) ∙ is)
 
 counts_more : (counted : ℕ) (first : List ℕ) (read : Option (List (List ℕ)))
-    → option_map (λ entries. (counted + 1) + length entries) read ≡ option_map (λ entries. counted + length entries) (option_map (λ behind. first ∷ behind) read)
+    → option_map (λ entries. (counted + 1) + length entries) read
+    ≡ option_map (λ entries. counted + length entries) (option_map (λ behind. first ∷ behind) read)
 counts_more counted first None = refl
 counts_more counted first (Some behind) = ap (λ n. Some n) (omega (arith, add-one))
 

@@ -1,5 +1,5 @@
 -- The walk along a table's sources, step by step.
-use Rattle.std.proofs.Common.{◌≡◌, ℕ, zero, suc, ◌+◌, ◌-◌, ◌<◌, ◌∙◌, List, [], ◌∷◌, ◌++◌, drop, Option, Some, None, Result, Ok, Err, refl, sym, ap, subst, arith}
+use Rattle.std.proofs.Common.{◌≡◌, ℕ, zero, suc, ◌+◌, ◌-◌, ◌<◌, ◌∙◌, List, [], ◌∷◌, ◌++◌, drop, None, Result, Ok, Err, refl, sym, ap, arith}
 use Rattle.apei_sources.specs.declared.refusals.TableRefused.{TableRefused}
 use Rattle.apei_sources.specs.declared.refusals.TableRefused.TheVariants.{Short, Signature, Length, Sum, SourceType, SourceOut, RepeatedId, NoMemory}
 use Rattle.apei_sources.specs.Refusals.{◌>>=◌, Answers}
@@ -35,7 +35,9 @@ pub followed_new : (before : Sources) (id kind : ℕ) → type_of id before ≡ 
 followed_new before id kind new = rw new refl
 
 sources_in_suc : (more left : ℕ) (before : Sources) (bytes : List ℕ) → more ≡ suc left
-    → sources_in more before bytes ≡ (size_at bytes >>= λ size. followed before (source_of bytes) >>= λ sources. sources_in left sources (drop size bytes))
+    → sources_in more before bytes
+    ≡ (size_at bytes >>= λ size. followed before (source_of bytes)
+    >>= λ sources. sources_in left sources (drop size bytes))
 unfolding sources_in
 sources_in_suc more left before bytes is = rw is refl
 

@@ -1,8 +1,8 @@
 -- What the walk along sources comes to: spans laid end to end.
-use Rattle.std.proofs.Common.{◌≡◌, ℕ, zero, suc, ◌+◌, ◌-◌, ◌<◌, ◌≤◌, ◌∙◌, Bool, true, false, nat_eq, List, [], ◌∷◌, ◌++◌, length, map, take, drop, Option, Some, None, Result, Ok, Err, if◌then◌else◌, is_some, Contains, refl, sym, ap, subst, arith, inl, inr, append_assoc, append-nil}
+use Rattle.std.proofs.Common.{◌≡◌, ℕ, zero, suc, ◌+◌, ◌<◌, ◌∙◌, Bool, true, false, nat_eq, List, [], ◌∷◌, ◌++◌, length, map, take, drop, Result, Ok, Err, is_some, Contains, refl, sym, ap, subst, arith, append_assoc, append-nil}
 use Rattle.std.specs.Cmp.{nat_eq_equiv}
 use Rattle.std.specs.List.{list_any, concat, AllByRecursion, IsDistinct}
-use Rattle.std.specs.Map.{keys_of, lookup}
+use Rattle.std.specs.Map.{keys_of}
 use Rattle.std.proofs.lemmas.List.{take-append-drop, drop_at, map-append}
 use Rattle.std.proofs.lemmas.Map.Keys.{IsDistinct-push}
 use Rattle.std.proofs.lemmas.Map.Made.{is_some-lookup}
@@ -104,7 +104,9 @@ module _ (count : ℕ) (before : Sources) (bytes : List ℕ) (size : ℕ) (begin
     each = (begins.source, broken.each);
     fewer = omega (arith, broken.fewer);
     once = subst (λ (sources : Sources). IsDistinct nat_eq (keys_of sources)) (told_more broken.spans) broken.once;
-    refused = subst (λ (sources : Sources). IsNoSource (keys_of sources) broken.rest why) (told_more broken.spans) broken.refused;
+    refused =
+        subst (λ (sources : Sources). IsNoSource (keys_of sources) broken.rest why)
+        (told_more broken.spans) broken.refused;
   }
 
   pub repeated : is_some (type_of (id_of bytes) before) ≡ true → IsDistinct nat_eq (keys_of before)
@@ -115,7 +117,8 @@ module _ (count : ℕ) (before : Sources) (bytes : List ℕ) (size : ℕ) (begin
         drop size bytes,
         sym split,
         begins.source,
-        subst (Contains (keys_of before)) (ap (λ source. source.0) (sym same)) (Contains-keys_from_lookup nat_exact (id_of bytes) before there),
+        subst (Contains (keys_of before)) (ap (λ source. source.0) (sym same))
+            (Contains-keys_from_lookup nat_exact (id_of bytes) before there),
       )
 
 -- a new identifier
@@ -138,7 +141,8 @@ walked zero before bytes once =
       told = sym (append-nil before);
       once = once;
     })
-walked (suc count) before bytes once = by (size_at bytes) refl (sized bytes) (walked count (before ++ source_of bytes ∷ []))
+walked (suc count) before bytes once =
+    by (size_at bytes) refl (sized bytes) (walked count (before ++ source_of bytes ∷ []))
   where
     Goal : Type 0
     Goal = Walked (suc count) before bytes (sources_in (suc count) before bytes)
@@ -150,11 +154,14 @@ walked (suc count) before bytes once = by (size_at bytes) refl (sized bytes) (wa
     added : (size : ℕ) → size_at bytes ≡ Ok size → Begins bytes size → Rest → (b : Bool)
         → is_some (type_of (id_of bytes) before) ≡ b → Goal
     added size is begins rest true there =
-        subst (Walked (suc count) before bytes) (sym (sources_in_repeated count before bytes size RepeatedId is (rw there refl)))
+        subst (Walked (suc count) before bytes)
+        (sym (sources_in_repeated count before bytes size RepeatedId is (rw there refl)))
         (repeated count before bytes size begins there once)
     added size is begins rest false new =
-        subst (Walked (suc count) before bytes) (sym (sources_in_more count before (before ++ source_of bytes ∷ []) bytes size is (rw new refl)))
-        (goes_on count before bytes size begins _ (rest (drop size bytes) (once-push before (id_of bytes) (kind_of bytes) new once)))
+        subst (Walked (suc count) before bytes)
+        (sym (sources_in_more count before (before ++ source_of bytes ∷ []) bytes size is (rw new refl)))
+        (goes_on count before bytes size begins _
+        (rest (drop size bytes) (once-push before (id_of bytes) (kind_of bytes) new once)))
 
     by : (read : Result ℕ TableRefused) → size_at bytes ≡ read → Sized bytes read → Rest → Goal
     by (Err why) is out rest =
@@ -179,26 +186,33 @@ new_id : (before : Sources) (source : ℕ × ℕ) (behind : Sources)
     → IsDistinct nat_eq (keys_of (before ++ source ∷ behind)) → is_some (type_of source.0 before) ≡ false
 new_id before source behind once =
     is_some-lookup (nat_eq source.0) before
-    ∙ apart (keys_of before) source.0 (keys_of behind) (subst (IsDistinct nat_eq) (map-append (λ source. source.0) before (source ∷ behind)) once)
+    ∙ apart (keys_of before) source.0 (keys_of behind)
+    (subst (IsDistinct nat_eq) (map-append (λ source. source.0) before (source ∷ behind)) once)
 
 pub walks : (spans : List (List ℕ)) (more : ℕ) (before : Sources) (rest : List ℕ) → AllByRecursion IsSource spans
     → IsDistinct nat_eq (keys_of (before ++ map source_of spans))
-    → sources_in (length spans + more) before (concat spans ++ rest) ≡ sources_in more (before ++ map source_of spans) rest
+    → sources_in (length spans + more) before (concat spans ++ rest)
+    ≡ sources_in more (before ++ map source_of spans) rest
 walks [] more before rest each once = λ i. sources_in (zero_more i) (sym (append-nil before) i) rest
   where
     zero_more : 0 + more ≡ more
     zero_more = omega arith
 walks (span ∷ spans) more before rest each once =
-    let source : source_of (span ++ (concat spans ++ rest)) ≡ source_of span = source_of-append span (concat spans ++ rest) each.0 in
+    let source : source_of (span ++ (concat spans ++ rest)) ≡ source_of span =
+    source_of-append span (concat spans ++ rest) each.0 in
     let new : is_some (type_of (id_of span) before) ≡ false = new_id before (source_of span) (map source_of spans) once in
     let added : followed before (source_of span) ≡ Ok (before ++ source_of span ∷ []) = rw new refl in
-    let told : (before ++ source_of span ∷ []) ++ map source_of spans ≡ before ++ map source_of (span ∷ spans) = append_assoc before (source_of span ∷ []) (map source_of spans) in
+    let told : (before ++ source_of span ∷ []) ++ map source_of spans ≡ before ++ map source_of (span ∷ spans) =
+    append_assoc before (source_of span ∷ []) (map source_of spans) in
     let count : length (span ∷ spans) + more ≡ suc (length spans + more) = omega arith in
     (λ i. sources_in (count i) before (append_assoc span (concat spans) rest i))
-    ∙ sources_in_more (length spans + more) before (before ++ source_of span ∷ []) (span ++ (concat spans ++ rest)) (length span)
+    ∙ sources_in_more (length spans + more) before (before ++ source_of span ∷ []) (span ++ (concat spans ++ rest))
+    (length span)
     (size_at-append span (concat spans ++ rest) each.0) (ap (followed before) source ∙ added)
-    ∙ ap (λ xs. sources_in (length spans + more) (before ++ source_of span ∷ []) xs) (drop_at span (concat spans ++ rest) (length span) refl)
-    ∙ walks spans more (before ++ source_of span ∷ []) rest each.1 (subst (λ (sources : Sources). IsDistinct nat_eq (keys_of sources)) (sym told) once)
+    ∙ ap (λ xs. sources_in (length spans + more) (before ++ source_of span ∷ []) xs)
+    (drop_at span (concat spans ++ rest) (length span) refl)
+    ∙ walks spans more (before ++ source_of span ∷ []) rest each.1
+    (subst (λ (sources : Sources). IsDistinct nat_eq (keys_of sources)) (sym told) once)
     ∙ ap (λ sources. sources_in more sources rest) told
 
 -- at what is no source it ends
@@ -210,7 +224,8 @@ stops left before bytes RepeatedId is =
     let whole : bytes ≡ is.0 ++ is.1 = is.2 in
     let size : size_at bytes ≡ Ok (length is.0) = ap (λ xs. size_at xs) whole ∙ size_at-append is.0 is.1 is.3 in
     let source : source_of bytes ≡ source_of is.0 = ap (λ xs. source_of xs) whole ∙ source_of-append is.0 is.1 is.3 in
-    let there : is_some (type_of (id_of is.0) before) ≡ true = IsSome-lookup_from_Contains nat_eq_equiv (id_of is.0) before is.4 in
+    let there : is_some (type_of (id_of is.0) before) ≡ true =
+    IsSome-lookup_from_Contains nat_eq_equiv (id_of is.0) before is.4 in
     let refused : followed before (source_of is.0) ≡ Err RepeatedId = rw there refl in
     sources_in_repeated left before bytes (length is.0) RepeatedId size (ap (followed before) source ∙ refused)
 stops left before bytes Short is = absurd is

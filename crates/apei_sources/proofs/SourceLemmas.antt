@@ -1,5 +1,5 @@
 -- A source at the front of bytes.
-use Rattle.std.proofs.Common.{◌≡◌, ℕ, zero, suc, ◌+◌, ◌*◌, ◌-◌, ◌<◌, ◌≤◌, ◌∙◌, ◌⊎◌, Bool, true, false, cond, nat_eq, nat_lt, lit<, lit≤, List, [], ◌∷◌, ◌++◌, length, take, drop, slice_index, Option, Some, None, Result, Ok, Err, if◌then◌else◌, IfSome, refl, sym, ap, subst, arith, inl, inr, length-append}
+use Rattle.std.proofs.Common.{◌≡◌, ℕ, ◌+◌, ◌*◌, ◌<◌, ◌≤◌, ◌∙◌, ◌⊎◌, Bool, true, false, cond, nat_eq, nat_lt, rules, List, [], ◌∷◌, ◌++◌, length, take, drop, Option, Some, None, Result, Ok, Err, if◌then◌else◌, IfSome, refl, sym, ap, subst, arith, inl, inr, length-append}
 use Rattle.std.specs.List.{AllByRecursion}
 use Rattle.std.specs.Map.{lookup}
 use Rattle.std.proofs.lemmas.List.{length-take, take-append-drop, get_or_append_left}
@@ -26,8 +26,7 @@ found kind (row ∷ rows) each = by (nat_eq kind row.0) (found kind rows each.1)
 
 are_layouts : AllByRecursion (λ row. IsLayout (Some row.1)) layouts
 unfolding layouts
-are_layouts =
-    ((lit≤ tt, lit< tt), ((lit≤ tt, lit< tt), ((lit≤ tt, lit< tt), ((lit≤ tt, tt), ((lit≤ tt, tt), ((lit≤ tt, tt), ((lit≤ tt, tt), ((lit≤ tt, tt), ((lit≤ tt, tt), tt)))))))))
+are_layouts = search rules
 
 layout_is : (kind : ℕ) (layout : Layout) → layout_of kind ≡ Some layout
     → (4 ≤ layout.fixed) × IfSome layout.banks_at (λ place. place < layout.fixed)
@@ -61,14 +60,17 @@ module _ (span rest : List ℕ) (source : IsSource span) where
   source_of-append = λ i. (same_id i, same_kind i)
 
   same_size : size_of source.0 (span ++ rest) ≡ length span
-  same_size = ap (λ n. source.0.fixed + 28 * n) (banks_of-append source.0.banks_at source.0.fixed span rest part.1 long) ∙ sym source.2
+  same_size =
+      ap (λ n. source.0.fixed + 28 * n) (banks_of-append source.0.banks_at source.0.fixed span rest part.1 long)
+      ∙ sym source.2
 
   pub size_at-append : size_at (span ++ rest) ≡ Ok (length span)
   unfolding size_at
   size_at-append =
       let more : nat_lt (length (span ++ rest)) 4 ≡ false = grind (arith, length-append span rest, source_long) in
       let known : layout_of (kind_of (span ++ rest)) ≡ Some source.0 = ap (λ kind. layout_of kind) same_kind ∙ source.1 in
-      let fits : nat_lt (length (span ++ rest)) (size_of source.0 (span ++ rest)) ≡ false = grind (arith, length-append span rest, same_size) in
+      let fits : nat_lt (length (span ++ rest)) (size_of source.0 (span ++ rest)) ≡ false =
+      grind (arith, length-append span rest, same_size) in
       rw (more, known, fits, same_size) refl
 
 -- where a source is read at the front, it is there
@@ -79,7 +81,9 @@ pub record Begins (bytes : List ℕ) (size : ℕ) : Type 0 where
 -- why none is
 abbrev pub IsOut : List ℕ → TableRefused → Type 0
 IsOut bytes SourceType = (4 ≤ length bytes) × (layout_of (kind_of bytes) ≡ None)
-IsOut bytes SourceOut = (length bytes < 4) ⊎ ((layout : Layout) × (layout_of (kind_of bytes) ≡ Some layout) × (length bytes < size_of layout bytes))
+IsOut bytes SourceOut =
+    (length bytes < 4)
+    ⊎ ((layout : Layout) × (layout_of (kind_of bytes) ≡ Some layout) × (length bytes < size_of layout bytes))
 IsOut bytes _ = ⊥
 
 abbrev pub Sized : List ℕ → Result ℕ TableRefused → Type 0
@@ -89,13 +93,18 @@ Sized bytes (Err why) = IsOut bytes why
 begins : (bytes : List ℕ) (layout : Layout) → layout_of (kind_of bytes) ≡ Some layout
     → size_of layout bytes ≤ length bytes → Begins bytes (size_of layout bytes)
 begins bytes layout known fits =
-    let part : (4 ≤ layout.fixed) × IfSome layout.banks_at (λ place. place < layout.fixed) = layout_is (kind_of bytes) layout known in
-    let whole : length (take (size_of layout bytes) bytes) ≡ size_of layout bytes = omega (arith, length-take (size_of layout bytes) bytes) in
-    let all : take (size_of layout bytes) bytes ++ drop (size_of layout bytes) bytes ≡ bytes = take-append-drop (size_of layout bytes) bytes in
+    let part : (4 ≤ layout.fixed) × IfSome layout.banks_at (λ place. place < layout.fixed) =
+    layout_is (kind_of bytes) layout known in
+    let whole : length (take (size_of layout bytes) bytes) ≡ size_of layout bytes =
+    omega (arith, length-take (size_of layout bytes) bytes) in
+    let all : take (size_of layout bytes) bytes ++ drop (size_of layout bytes) bytes ≡ bytes =
+    take-append-drop (size_of layout bytes) bytes in
     let kind : kind_of (take (size_of layout bytes) bytes) ≡ kind_of bytes =
-    sym (number_at-append 0 2 (take (size_of layout bytes) bytes) (drop (size_of layout bytes) bytes) (omega (arith, whole, part.0))) ∙ ap (λ xs. kind_of xs) all in
+    sym (number_at-append 0 2 (take (size_of layout bytes) bytes) (drop (size_of layout bytes) bytes)
+    (omega (arith, whole, part.0))) ∙ ap (λ xs. kind_of xs) all in
     let banks : banks_of layout.banks_at (take (size_of layout bytes) bytes) ≡ banks_of layout.banks_at bytes =
-    sym (banks_of-append layout.banks_at layout.fixed (take (size_of layout bytes) bytes) (drop (size_of layout bytes) bytes) part.1 (omega (arith, whole)))
+    sym (banks_of-append layout.banks_at layout.fixed (take (size_of layout bytes) bytes)
+    (drop (size_of layout bytes) bytes) part.1 (omega (arith, whole)))
     ∙ ap (λ xs. banks_of layout.banks_at xs) all in
     record {
       inside = fits;

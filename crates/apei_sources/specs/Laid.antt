@@ -1,5 +1,5 @@
 -- What the walks along a HEST and along a block's data come to: spans of bytes laid end to end.
-use Rattle.std.specs.Prelude.{◌≡◌, ◌≤◌, ◌<◌, ◌⊎◌, ℕ, nat_eq, List, ◌++◌, length, map, drop, Option, Some, None, All, Contains}
+use Rattle.std.specs.Prelude.{◌≡◌, ◌≤◌, ◌<◌, ◌⊎◌, ℕ, nat_eq, List, ◌++◌, length, map, drop, Some, None, All, Contains}
 use Rattle.std.specs.List.{concat, IsDistinct}
 use Rattle.apei_sources.specs.declared.sources.Layout.{Layout}
 use Rattle.apei_sources.specs.declared.refusals.TableRefused.{TableRefused}

@@ -1,6 +1,6 @@
 -- A table of ACPI by its header: ACPI 6.5, section 5.2.6, "System Description Table Header". Its signature stands at 0,
 -- its length (4) at 4, a checksum byte at 9.
-use Rattle.std.specs.Prelude.{ℕ, Bool, ◌&&◌, ◌==◌, ◌%◌, not, nat_eq, nat_le, nat_lt, List, length, take, codes, sum, Result, Ok, Err, if◌then◌else◌}
+use Rattle.std.specs.Prelude.{ℕ, Bool, ◌&&◌, ◌==◌, ◌%◌, not, nat_eq, nat_le, nat_lt, List, length, take, sum, Result, Ok, Err, if◌then◌else◌}
 use Rattle.std.specs.List.{starts_with}
 use Rattle.cper_sections.specs.Numbers.{number_at}
 use Rattle.apei_sources.specs.declared.refusals.TableRefused.{TableRefused}

@@ -134,7 +134,7 @@ fn table_refusals(rt: HostRuntime) {
 #[test]
 fn source_sizes(rt: HostRuntime) {
     for (kind, banks, size) in [
-        (0, Some((72, 0)), 40),
+        (0, Some((72, 0)), 40u16),
         (0, Some((72, 1)), 68),
         (0, Some((72, 255)), 7_180),
         (1, Some((84, 0)), 48),

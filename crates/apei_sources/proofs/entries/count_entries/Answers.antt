@@ -1,12 +1,12 @@
 -- Each entry that is passed is one more.
-use Rattle.std.proofs.Common.{◌≡◌, ◌∙◌, ◌+◌, ◌<◌, List, ℕ, length, sym, ap, arith, true, false}
-use Rattle.apei_sources.specs.Entries.{has_entry}
+use Rattle.std.proofs.Common.{◌∙◌, ◌+◌, sym, arith}
 use Rattle.apei_sources.proofs.EntryLemmas.{Counts, none_counted, one_counted, all_counted}
 use Rattle.apei_sources.proofs.entries.count_entries.Goals as goal
 
 pub returns-then-not-has_entry-clause-entries : goal.returns-then-not-has_entry-clause-entries
 returns-then-not-has_entry-clause-entries c =
-    none_counted c.args.bytes.now c.loop-rest.rest.now c.loop-rest.count (grind (arith, c.is_empty.ensures, c.loop-rest-test.true))
+    none_counted c.args.bytes.now c.loop-rest.rest.now c.loop-rest.count
+    (grind (arith, c.is_empty.ensures, c.loop-rest-test.true))
     (sym c.has_entry.ensures ∙ c.if-not-has_entry.true) c.loop-rest.invariant.counted
 
 pub loop-rest-preserved : goal.loop-rest-preserved
@@ -18,7 +18,11 @@ loop-rest-preserved c =
     record { short = next.short; counted = next.counted }
 
 pub returns-clause-entries : goal.returns-clause-entries
-returns-clause-entries c = (all_counted c.args.bytes.now c.loop-rest.rest.now c.loop-rest.count (grind (arith, c.is_empty.ensures, c.loop-rest-test.false)) c.loop-rest.invariant.counted).cut
+returns-clause-entries c =
+    (all_counted c.args.bytes.now c.loop-rest.rest.now c.loop-rest.count
+    (grind (arith, c.is_empty.ensures, c.loop-rest-test.false)) c.loop-rest.invariant.counted).cut
 
 pub returns-clause-inside : goal.returns-clause-inside
-returns-clause-inside c = (all_counted c.args.bytes.now c.loop-rest.rest.now c.loop-rest.count (grind (arith, c.is_empty.ensures, c.loop-rest-test.false)) c.loop-rest.invariant.counted).inside
+returns-clause-inside c =
+    (all_counted c.args.bytes.now c.loop-rest.rest.now c.loop-rest.count
+    (grind (arith, c.is_empty.ensures, c.loop-rest-test.false)) c.loop-rest.invariant.counted).inside

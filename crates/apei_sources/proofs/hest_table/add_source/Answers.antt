@@ -10,4 +10,5 @@ returns-in-Ok-None-clause-answer c =
     let new : type_of c.args.id c.args.sources.now.entries ≡ None = sym c.in-Ok-None.ensures.old
     ∙ c.in-Ok-None.field-0-is in
     followed_new c.args.sources.now.entries c.args.id c.args.kind new
-    ∙ ap (λ (sources : Sources). Ok sources) (sym (insert_entry-new nat_eq c.args.sources.now c.args.id c.args.kind new) ∙ sym c.in-Ok-None.ensures.entries)
+    ∙ ap (λ (sources : Sources). Ok sources)
+    (sym (insert_entry-new nat_eq c.args.sources.now c.args.id c.args.kind new) ∙ sym c.in-Ok-None.ensures.entries)

@@ -1,5 +1,5 @@
 -- The table is refused, or its sources are.
-use Rattle.std.proofs.Common.{◌≡◌, ◌∙◌, ◌-◌, List, ℕ, [], take, drop, length, Ok, Err}
+use Rattle.std.proofs.Common.{◌≡◌, ◌∙◌, ◌-◌, List, ℕ, [], take, drop, length}
 use Rattle.std.proofs.lemmas.Result.{err_from_is_err_and}
 use Rattle.std.proofs.lemmas.List.{take_rest}
 use Rattle.apei_sources.specs.Hest.{hest_of, sources_in}
@@ -19,11 +19,14 @@ returns-in_err-sources-clause-answer c =
     let table : List ℕ = c.in_ok-table.table.now in
     let rest : List ℕ = take (length table - 40) (drop 40 table) in
     let walked : hest_of c.args.bytes.now ≡ sources_in c.u32_at.result [] rest =
-    hest_walked c.args.bytes.now table rest c.u32_at.result c.in_ok-table.ensures.answer c.u32_at.ensures (take_rest table 40) in
+    hest_walked c.args.bytes.now table rest c.u32_at.result c.in_ok-table.ensures.answer c.u32_at.ensures
+    (take_rest table 40) in
     rw (p.1, p.2) (answers why _ (fails_so why _ _ (λ is. walked ∙ is) c.in_err-sources.ensures.answer))
 
 pub returns-clause-answer : goal.returns-clause-answer
 returns-clause-answer c =
     let table : List ℕ = c.in_ok-table.table.now in
-    hest_walked c.args.bytes.now table (take (length table - 40) (drop 40 table)) c.u32_at.result c.in_ok-table.ensures.answer c.u32_at.ensures (take_rest table 40)
+    hest_walked c.args.bytes.now table
+    (take (length table - 40) (drop 40 table)) c.u32_at.result c.in_ok-table.ensures.answer c.u32_at.ensures
+    (take_rest table 40)
     ∙ c.in_ok-sources.ensures.answer

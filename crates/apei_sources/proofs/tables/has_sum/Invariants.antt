@@ -1,5 +1,5 @@
 -- The sum of the bytes so far.
-use Rattle.std.proofs.Common.{◌≡◌, ◌%◌, ◌^◌, take}
+use Rattle.std.proofs.Common.{◌≡◌, ◌%◌, take}
 use Rattle.std.specs.Prelude.{sum}
 use Rattle.apei_sources.proofs.tables.has_sum.Given as goal
 

@@ -1,5 +1,5 @@
 -- As many entries are cut as the block counts.
-use Rattle.std.proofs.Common.{◌∙◌, List, ℕ, length, sym, ap}
+use Rattle.std.proofs.Common.{◌∙◌, length, sym, ap}
 use Rattle.apei_sources.specs.Blocks.{BlockParts}
 use Rattle.apei_sources.proofs.CutLemmas.{length-cut}
 use Rattle.apei_sources.proofs.blocks.Block.count.Goals as goal

@@ -1,5 +1,5 @@
 -- A look-up finds the one source of an identifier.
-use Rattle.std.proofs.Common.{◌≡◌, ◌∙◌, ap, nat_eq, subst}
+use Rattle.std.proofs.Common.{◌∙◌, ap, nat_eq, subst}
 use Rattle.std.specs.List.{IsDistinct}
 use Rattle.std.specs.Map.{keys_of}
 use Rattle.apei_sources.specs.Hest.{Sources, type_of}
@@ -14,4 +14,5 @@ returns-clause-one c = λ kind.
 
 pub returns-clause-none : goal.returns-clause-none
 returns-clause-none c =
-    none_of c.args.self.now c.args.id c.copied.result (c.copied.ensures ∙ c.get.ensures.value ∙ ap (type_of c.args.id) c.self.view_is)
+    none_of c.args.self.now c.args.id c.copied.result
+    (c.copied.ensures ∙ c.get.ensures.value ∙ ap (type_of c.args.id) c.self.view_is)
