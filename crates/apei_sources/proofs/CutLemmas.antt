@@ -2,9 +2,8 @@
 use Rattle.std.proofs.Common.{◌≡◌, ℕ, zero, suc, ◌+◌, ◌-◌, ◌<◌, ◌∙◌, true, false, List, [], ◌∷◌, length, get_or, refl, sym, ap, subst, arith, ◌||◌}
 use Rattle.std.specs.List.{list_any}
 use Rattle.std.proofs.lemmas.List.Folds.{list_any_at}
-use Rattle.apei_sources.specs.Entries.{has_entry, is_refused}
+use Rattle.apei_sources.specs.Entries.{has_entry, is_refused, first_of, rest_of}
 use Rattle.apei_sources.specs.Cut.{cut, AreInside}
-use Rattle.apei_sources.proofs.EntryLemmas.{first_of, rest_of}
 
 cut_suc : (more left : ℕ) (bytes : List ℕ) → more ≡ suc left → cut more bytes ≡ first_of bytes ∷ cut left (rest_of bytes)
 unfolding cut

@@ -3,17 +3,10 @@ use Rattle.std.proofs.Common.{◌≡◌, ℕ, zero, suc, ◌+◌, ◌-◌, ◌<�
 use Rattle.std.specs.Option.{option_map}
 use Rattle.std.specs.List.{concat, AllByRecursion}
 use Rattle.std.proofs.lemmas.List.{length-take, length-drop, nil_from_length, take-append-drop, take_at, drop_at}
-use Rattle.apei_sources.specs.Entries.{header_length, entry_length, has_entry, entries_in, entries_of}
+use Rattle.apei_sources.specs.Entries.{header_length, entry_length, first_of, rest_of, has_entry, entries_in, entries_of}
 use Rattle.apei_sources.specs.Laid.{IsEntry}
 use Rattle.apei_sources.specs.Cut.{cut, AreInside}
 use Rattle.apei_sources.proofs.FrontLemmas.{number_at-append, number_at-take}
-
--- the bytes behind the first entry
-abbrev pub rest_of : List ℕ → List ℕ
-rest_of bytes = drop (entry_length bytes) bytes
-
-abbrev pub first_of : List ℕ → List ℕ
-first_of bytes = take (entry_length bytes) bytes
 
 -- the entries of bytes by those behind the first
 abbrev pub with_first : List ℕ → Option (List (List ℕ)) → Option (List (List ℕ))

@@ -38,14 +38,19 @@ is_refused entry = is_err (section_of (entry_guid entry) (entry_bytes entry))
 abbrev pub has_entry : List ℕ → Bool
 has_entry bytes = nat_le 64 (length bytes) && nat_le (entry_length bytes) (length bytes)
 
+-- the entry at the front, and the bytes behind it
+abbrev pub first_of : List ℕ → List ℕ
+first_of bytes = take (entry_length bytes) bytes
+
+abbrev pub rest_of : List ℕ → List ℕ
+rest_of bytes = drop (entry_length bytes) bytes
+
 -- the entries that bytes are, at most so many, each behind the one before it; None where one passes the end
 unfoldable pub entries_in : ℕ → List ℕ → Option (List (List ℕ))
 entries_in zero bytes = if nat_eq (length bytes) 0 then Some [] else None
 entries_in (suc most) bytes =
     if nat_eq (length bytes) 0 then Some []
-    else (if has_entry bytes
-    then option_map (λ behind. take (entry_length bytes) bytes ∷ behind)
-    (entries_in most (drop (entry_length bytes) bytes))
+    else (if has_entry bytes then option_map (λ behind. first_of bytes ∷ behind) (entries_in most (rest_of bytes))
     else None)
 
 -- the entries of a block's data, which can't be more than its bytes; None where one passes its end. specs/Laid.antt

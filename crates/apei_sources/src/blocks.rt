@@ -1,6 +1,6 @@
 //! Generic error status blocks, as views of the bytes that hold them.
 
-ghost use Rattle.std.specs.Prelude.{◌≡◌, ◌≤◌, ◌<◌, ◌+◌, length, Ok};
+ghost use Rattle.std.specs.Prelude.{◌≡◌, ◌<◌, length, Ok};
 ghost use Rattle.cper_sections.specs.Sections.{section_of};
 ghost use Rattle.apei_sources.specs.Entries.{entry_guid, entry_severity, entry_bytes, entries_of};
 ghost use Rattle.apei_sources.specs.Blocks.{entry_at, block_with, block_of};

@@ -1,10 +1,10 @@
 //! The entries of a status block's data.
 
-ghost use Rattle.std.specs.Prelude.{◌≡◌, ◌≤◌, ◌<◌, ◌+◌, ℕ, [], length, get_or, take, drop, false, IfSome, IsTrue, Ok};
+ghost use Rattle.std.specs.Prelude.{◌≡◌, ◌≤◌, ◌<◌, [], length, get_or, false, IfSome, IsTrue, Ok};
 ghost use Rattle.std.specs.Option.{option_map};
 ghost use Rattle.std.specs.List.{list_any};
 ghost use Rattle.cper_sections.specs.Sections.{section_of};
-ghost use Rattle.apei_sources.specs.Entries.{header_length, entry_length, entry_guid, entry_severity, entry_bytes, has_entry, is_refused, entries_of};
+ghost use Rattle.apei_sources.specs.Entries.{header_length, entry_length, first_of, rest_of, entry_guid, entry_severity, entry_bytes, has_entry, is_refused, entries_of};
 ghost use Rattle.apei_sources.specs.Laid.{IsEntry};
 ghost use Rattle.apei_sources.specs.Cut.{cut, AreInside};
 
@@ -51,7 +51,7 @@ fn has_entry(bytes: &[u8]) -> bool
 // The entry at the front, header and data.
 fn first_entry(bytes: &[u8]) -> &[u8]
     requires { IsTrue (has_entry bytes.now) }
-    ensures entry { result.now ≡ take (entry_length bytes.now) bytes.now }
+    ensures entry { result.now ≡ first_of bytes.now }
     ensures whole { IsEntry result.now }
 {
     &bytes[..entry_length(bytes)]
@@ -60,7 +60,7 @@ fn first_entry(bytes: &[u8]) -> &[u8]
 // The bytes behind the entry at the front.
 fn behind_first(bytes: &[u8]) -> &[u8]
     requires { IsTrue (has_entry bytes.now) }
-    ensures { result.now ≡ drop (entry_length bytes.now) bytes.now }
+    ensures { result.now ≡ rest_of bytes.now }
 {
     &bytes[entry_length(bytes)..]
 }

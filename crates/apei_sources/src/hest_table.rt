@@ -1,11 +1,12 @@
 //! The hardware error source table.
 
-ghost use Rattle.std.specs.Prelude.{◌≡◌, ◌≤◌, ◌↔◌, ℕ, [], ◌∷◌, length, nat_eq, IfOk, IsNone, Some, Err, Contains};
+ghost use Rattle.std.specs.Prelude.{◌≡◌, ◌≤◌, ◌↔◌, ℕ, [], length, nat_eq, IfOk, IsNone, Some, Err, Contains};
 ghost use Rattle.std.specs.List.{IsDistinct};
 ghost use Rattle.std.specs.Map.{keys_of};
 ghost use Rattle.apei_sources.specs.declared.refusals.TableRefused.{TableRefused};
 ghost use Rattle.apei_sources.specs.Refusals.{Answers};
 ghost use Rattle.apei_sources.specs.Steps.{Gives};
+ghost use Rattle.apei_sources.specs.Sources.{source_of};
 ghost use Rattle.apei_sources.specs.Hest.{type_of, followed, sources_in, hest_table, hest_of};
 
 use crate::TableRefused;
@@ -66,18 +67,21 @@ fn sources_at(alloc: Global, count: u32, bytes: &[u8]) -> Result<IndexMap<u16, u
     let mut rest = bytes;
     for done in 0..count {
         let size = size_at(rest)?;
-        add_source(&mut sources, u16_at(rest, 2), u16_at(rest, 0))?;
+        add_source(&mut sources, rest)?;
         rest = &rest[size..];
     }
     Ok(sources)
 }
 
-// Adds a source behind the others, where none of them has its identifier.
-fn add_source(sources: &mut IndexMap<u16, u16>, id: u16, kind: u16) -> Result<(), TableRefused>
-    requires { IsDistinct nat_eq (keys_of sources.old.entries) }
-    ensures answer { Gives (λ _. sources.new.entries) result (followed sources.old.entries (id, kind)) }
+// Adds the source at the front of bytes behind the others, where none of them has its identifier.
+fn add_source(sources: &mut IndexMap<u16, u16>, bytes: &[u8]) -> Result<(), TableRefused>
+    requires head { 4 ≤ length bytes.now }
+    requires once { IsDistinct nat_eq (keys_of sources.old.entries) }
+    ensures answer { Gives (λ _. sources.new.entries) result (followed sources.old.entries (source_of bytes.now)) }
     ensures once { IsDistinct nat_eq (keys_of sources.new.entries) }
 {
+    let kind = u16_at(bytes, 0);
+    let id = u16_at(bytes, 2);
     match sources.insert(id, kind) {
         Ok(None) => Ok(()),
         Ok(Some(_)) => Err(TableRefused::RepeatedId),

@@ -1,7 +1,7 @@
 //! The error sources of a HEST, by their types.
 
-ghost use Rattle.std.specs.Prelude.{◌≡◌, ◌≤◌, ◌<◌, ◌+◌, length, IfOk, IfSome};
-ghost use Rattle.apei_sources.specs.Sources.{plain, with_banks, layout_of, banks_of, size_of, size_at};
+ghost use Rattle.std.specs.Prelude.{◌≡◌, ◌≤◌, ◌<◌, length, IfOk, IfSome};
+ghost use Rattle.apei_sources.specs.Sources.{plain, with_banks, layout_of, banks_of, size_at};
 
 use crate::TableRefused;
 use cper_sections::u16_at;

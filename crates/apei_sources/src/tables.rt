@@ -1,6 +1,6 @@
 //! The header that tables share.
 
-ghost use Rattle.std.specs.Prelude.{◌≡◌, ◌≤◌, ◌<◌, ◌^◌, ◌%◌, IsTrue, length, sum, IfOk};
+ghost use Rattle.std.specs.Prelude.{◌≡◌, ◌≤◌, length, IfOk};
 ghost use Rattle.apei_sources.specs.Steps.{Reads};
 ghost use Rattle.apei_sources.specs.Tables.{has_sum, table_of};
 

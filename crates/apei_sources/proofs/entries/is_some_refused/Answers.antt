@@ -1,9 +1,8 @@
 -- One such entry settles it.
 use Rattle.std.proofs.Common.{◌≡◌, ◌∙◌, ◌+◌, ◌-◌, List, ℕ, sym, ap, arith, true}
-use Rattle.apei_sources.specs.Entries.{has_entry, is_refused}
+use Rattle.apei_sources.specs.Entries.{has_entry, is_refused, rest_of}
 use Rattle.apei_sources.specs.Cut.{AreInside}
 use Rattle.apei_sources.proofs.CutLemmas.{next_inside, one_refused, not_refused, none_refused}
-use Rattle.apei_sources.proofs.EntryLemmas.{rest_of}
 use Rattle.apei_sources.proofs.entries.is_some_refused.Goals as goal
 
 pub first_entry-requires : goal.first_entry-requires
