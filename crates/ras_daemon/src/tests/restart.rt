@@ -1,6 +1,8 @@
 // That the account is made again from what the disk gives, and from nothing else.
 ghost use Rattle.std.specs.Prelude.{◌≡◌, None, IfOk, OnErr, IsErr};
 ghost use Rattle.board_core.specs.Cause.{HasCause};
+ghost use Rattle.board_core.specs.Clock.{untold};
+ghost use Rattle.board_core.specs.ClockLaws.{not_told};
 
 use super::{EVERYDAY, LOGGED, REPEATED, check_run, run};
 use crate::Exit;
@@ -59,9 +61,17 @@ impl Disks {
 impl Board for ExchangedDisk {
     ghost told = { λ _. None };
 
+    ghost clock = { λ _. untold };
+
     ghost disk_faults = { λ b. b.disk_faults };
 
     ghost print_faults = { λ b. b.print_faults };
+
+    ghost told_may_be_left = { λ _ t told. not_told t told };
+
+    ghost text_is_left = { λ _ t left told now. absurd now };
+
+    ghost counts_earlier = { λ _ s t left within may. may };
 
     fn size(&mut self, file: FileNo) -> Result<u64, Failed> {
         counted(self.disks.disk().size(file), &mut self.disk_faults)

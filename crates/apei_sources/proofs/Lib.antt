@@ -1,0 +1,8 @@
+pub mod FrontLemmas
+pub mod EntryLemmas
+pub mod CutLemmas
+pub mod HestLemmas
+pub mod LookupLemmas
+pub mod SourceLemmas
+pub mod LaidLemmas
+pub mod OwnLemmas

@@ -1,0 +1,15 @@
+-- The entry is one of those that the block counts, and its section can be read.
+use Rattle.std.proofs.Common.{length, ap, arith}
+use Rattle.apei_sources.specs.Blocks.{BlockParts}
+use Rattle.apei_sources.proofs.CutLemmas.{length-cut}
+use Rattle.apei_sources.proofs.blocks.Block.entry.Goals as goal
+
+pub nth_entry-requires-clause-within : goal.nth_entry-requires-clause-within
+nth_entry-requires-clause-within c =
+    omega (
+      arith,
+      c.requires,
+      ap
+          (λ (block : BlockParts). length block.entries) c.self.view_is,
+      length-cut c.self.inside.count c.self.inside.bytes.now,
+    )

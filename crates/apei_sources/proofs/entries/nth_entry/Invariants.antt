@@ -1,0 +1,10 @@
+-- The entry that is asked for is among those that are left.
+use Rattle.std.proofs.Common.{◌≡◌, ◌-◌, [], get_or}
+use Rattle.apei_sources.specs.Cut.{cut, AreInside}
+use Rattle.apei_sources.proofs.entries.nth_entry.Given as goal
+
+abbrev pub invariant-loop-passed : goal.invariant-loop-passed
+invariant-loop-passed l = record {
+  inside : AreInside (l.count - l.passed) l.left;
+  left : get_or (cut (l.count - l.passed) l.left) (l.i - l.passed) [] ≡ get_or (cut l.count l.fn.bytes) l.i [];
+}

@@ -1,0 +1,10 @@
+pub mod Tables
+pub mod Sources
+pub mod Hest
+pub mod Bert
+pub mod Entries
+pub mod Blocks
+pub mod Laid
+pub mod Refusals
+pub mod Cut
+pub mod Steps

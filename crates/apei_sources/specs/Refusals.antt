@@ -1,0 +1,35 @@
+-- Refusals: one reading after another, the numbers that the program prints, and what a reader that takes memory answers.
+use Rattle.std.specs.Prelude.{◌≡◌, ℕ, Option, Some, None, Result, Ok, Err}
+use Rattle.apei_sources.specs.declared.refusals.TableRefused.{TableRefused}
+use Rattle.apei_sources.specs.declared.refusals.TableRefused as Tables
+use Rattle.apei_sources.specs.declared.refusals.BlockRefused.{BlockRefused}
+use Rattle.apei_sources.specs.declared.refusals.BlockRefused as Blocks
+
+-- what is read of what was read before; the first refusal is the answer
+infixl 10 ◌>>=◌
+abbrev pub ◌>>=◌ : {A B E : Type 0} → Result A E → (A → Result B E) → Result B E
+(Ok x) >>= f = f x
+(Err why) >>= f = Err why
+
+-- the number of a table's refusal; want of memory has none
+abbrev pub table_number : TableRefused → Option ℕ
+table_number Tables.TheVariants.Short = Some 1
+table_number Tables.TheVariants.Signature = Some 2
+table_number Tables.TheVariants.Length = Some 3
+table_number Tables.TheVariants.Sum = Some 4
+table_number Tables.TheVariants.SourceType = Some 5
+table_number Tables.TheVariants.SourceOut = Some 6
+table_number Tables.TheVariants.RepeatedId = Some 7
+table_number Tables.TheVariants.NoMemory = None
+
+-- the number of a block's refusal
+abbrev pub block_number : BlockRefused → ℕ
+block_number Blocks.TheVariants.Short = 1
+block_number Blocks.TheVariants.EntryOut = 2
+block_number Blocks.TheVariants.Section = 3
+
+-- the answer is this one, or memory ran out
+abbrev pub Answers : {X : Type 0} → Result X TableRefused → Result X TableRefused → Type 0
+Answers (Ok value) answer = answer ≡ Ok value
+Answers (Err Tables.TheVariants.NoMemory) answer = Unit {0}
+Answers (Err why) answer = answer ≡ Err why

@@ -1,0 +1,69 @@
+-- One error source of a HEST: ACPI 6.5, section 18.3.2, "ACPI Error Source". The sizes are this project's profile.
+use Rattle.std.specs.Prelude.{ℕ, ◌+◌, ◌*◌, nat_eq, nat_lt, List, [], ◌∷◌, length, slice_index, Option, Some, None, Result, Ok, Err, if◌then◌else◌}
+use Rattle.std.specs.Map.{lookup}
+use Rattle.cper_sections.specs.Numbers.{number_at}
+use Rattle.apei_sources.specs.declared.sources.Layout.{Layout}
+use Rattle.apei_sources.specs.declared.refusals.TableRefused.{TableRefused}
+use Rattle.apei_sources.specs.declared.refusals.TableRefused.TheVariants.{SourceType, SourceOut}
+
+-- a source of so many bytes
+abbrev pub plain : ℕ → Layout
+plain fixed = record { fixed = fixed; banks_at = None }
+
+-- a source of so many bytes and its banks, whose count, a byte, stands at this place
+abbrev pub with_banks : ℕ → ℕ → Layout
+with_banks fixed place = record { fixed = fixed; banks_at = Some place }
+
+-- the layout of each type of source; the other types are not read
+unfoldable pub layouts : List (ℕ × Layout)
+layouts =
+    -- machine-check exception
+    (0, with_banks 40 32)
+    -- corrected machine check, deferred machine check
+    ∷ (1, with_banks 48 44)
+    ∷ (11, with_banks 48 44)
+    -- NMI
+    ∷ (2, plain 20)
+    -- AER of a root port, an endpoint, a bridge
+    ∷ (6, plain 48)
+    ∷ (7, plain 44)
+    ∷ (8, plain 56)
+    -- generic, and its version 2
+    ∷ (9, plain 64)
+    ∷ (10, plain 92)
+    ∷ []
+
+-- the layout of a type of source
+abbrev pub layout_of : ℕ → Option Layout
+layout_of kind = lookup (nat_eq kind) layouts
+
+-- a source's type
+abbrev pub kind_of : List ℕ → ℕ
+kind_of source = number_at 0 2 source
+
+-- a source's identifier
+abbrev pub id_of : List ℕ → ℕ
+id_of source = number_at 2 2 source
+
+-- what is kept of a source: its identifier and its type
+abbrev pub source_of : List ℕ → ℕ × ℕ
+source_of source = (id_of source, kind_of source)
+
+-- how many banks a source tells of
+abbrev pub banks_of : Option ℕ → List ℕ → ℕ
+banks_of None source = 0
+banks_of (Some place) source = slice_index source place
+
+-- how many bytes a source of a layout has: 28 for each bank behind the fixed ones
+abbrev pub size_of : Layout → List ℕ → ℕ
+size_of layout source = layout.fixed + 28 * banks_of layout.banks_at source
+
+-- how many bytes the source of a layout takes at the front of bytes, where it lies inside them
+abbrev pub size_by : Option Layout → List ℕ → Result ℕ TableRefused
+size_by None bytes = Err SourceType
+size_by (Some layout) bytes =
+    if nat_lt (length bytes) (size_of layout bytes) then Err SourceOut else Ok (size_of layout bytes)
+
+-- how many bytes the source at the front takes; its type and its identifier have 4
+unfoldable pub size_at : List ℕ → Result ℕ TableRefused
+size_at bytes = if nat_lt (length bytes) 4 then Err SourceOut else size_by (layout_of (kind_of bytes)) bytes

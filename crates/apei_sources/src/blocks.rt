@@ -1,0 +1,108 @@
+//! Generic error status blocks, as views of the bytes that hold them.
+
+ghost use Rattle.std.specs.Prelude.{◌≡◌, ◌<◌, length, Ok};
+ghost use Rattle.cper_sections.specs.Sections.{section_of};
+ghost use Rattle.apei_sources.specs.Entries.{entry_guid, entry_severity, entry_bytes, entries_of};
+ghost use Rattle.apei_sources.specs.Blocks.{entry_at, block_with, block_of};
+
+use crate::BlockRefused;
+use crate::entries::{count_entries, descriptor, is_some_refused, nth_entry};
+use cper_sections::{Descriptor, u32_at};
+use std::marker::Model;
+
+// The bytes of a block before its data.
+const HEADER_LENGTH: usize = 20;
+
+/// A status block that reads, over the bytes that hold it: it copies nothing. A contract sees its status and the bytes of
+/// each entry.
+#[derive(Drop)]
+pub struct Block<'a> {
+    status: u32,
+    count: usize,
+    bytes: &'a [u8],
+}
+
+impl<'a> Model for Block<'a> {
+    ghost use Rattle.apei_sources.specs.Blocks.{BlockParts};
+    ghost use Rattle.apei_sources.specs.Cut.{cut, IsBlock};
+
+    ghost Value = { BlockParts };
+
+    ghost view = { λ a. record { status = a.status; entries = cut a.count a.bytes.now } };
+
+    ghost invariant = { λ a. IsBlock a.count a.bytes.now };
+}
+
+/// Reads the status block at the front of bytes. (ACPI 6.5, section 18.3.2.7.1, "Generic Error Data".) Of a block of
+/// status 0 nothing else is read: it has no entries. The entries fill the data of any other block. Their count in the
+/// status is not compared, raw data is not read, and bytes behind the data are ignored.
+///
+/// It is refused with the first that applies of: `Short` below 20 bytes, or below 20 and the data's length where the
+/// status isn't 0; `EntryOut` where the header or the data of some entry passes the end of the data; `Section` where
+/// `read_section` refuses some entry's data.
+#[tactic(auto, unfolding(crate::specs::Blocks::block_of, crate::specs::Cut::cut, crate::specs::Cut::AreInside))]
+pub fn read_block(bytes: &[u8]) -> Result<Block<'_>, BlockRefused>
+    ensures { result ≡ block_of bytes.now }
+{
+    if bytes.len() < HEADER_LENGTH {
+        return Err(BlockRefused::Short);
+    }
+    let status = u32_at(bytes, 0);
+    if status == 0 {
+        return Ok(Block {
+            status,
+            count: 0,
+            bytes: &bytes[..0],
+        });
+    }
+    let end = HEADER_LENGTH + u32_at(bytes, 12) as usize;
+    if bytes.len() < end {
+        return Err(BlockRefused::Short);
+    }
+    block_with(status, &bytes[HEADER_LENGTH..end])
+}
+
+// The block of a status and its data.
+fn block_with(status: u32, bytes: &[u8]) -> Result<Block<'_>, BlockRefused>
+    ensures { result ≡ block_with status (entries_of bytes.now) }
+{
+    let Some(count) = count_entries(bytes) else {
+        return Err(BlockRefused::EntryOut);
+    };
+    if is_some_refused(bytes, count) {
+        return Err(BlockRefused::Section);
+    }
+    Ok(Block {
+        status,
+        count,
+        bytes,
+    })
+}
+
+impl<'a> Block<'a> {
+    /// The block status, 0 where there is no error.
+    pub fn status(&self) -> u32
+        ensures { result ≡ self.now.status }
+    {
+        self.status
+    }
+
+    /// The count of entries.
+    pub fn count(&self) -> usize
+        ensures { result ≡ length self.now.entries }
+    {
+        self.count
+    }
+
+    /// An entry by its number, from 0, found by walking from the first. (ACPI 6.5, section 18.3.2.7.1, "Generic Error Data
+    /// Entry".)
+    pub fn entry(&self, i: usize) -> Descriptor<'a>
+        requires { i < length self.now.entries }
+        ensures severity { result.severity ≡ entry_severity (entry_at self.now i) }
+        ensures guid { result.guid ≡ entry_guid (entry_at self.now i) }
+        ensures bytes { result.bytes.now ≡ entry_bytes (entry_at self.now i) }
+        ensures section { section_of result.guid result.bytes.now ≡ Ok result.section }
+    {
+        descriptor(nth_entry(self.bytes, self.count, i))
+    }
+}

@@ -1,0 +1,163 @@
+//! The entries of a status block's data.
+
+ghost use Rattle.std.specs.Prelude.{◌≡◌, ◌≤◌, ◌<◌, [], length, get_or, false, IfSome, IsTrue, Ok};
+ghost use Rattle.std.specs.Option.{option_map};
+ghost use Rattle.std.specs.List.{list_any};
+ghost use Rattle.cper_sections.specs.Sections.{section_of};
+ghost use Rattle.apei_sources.specs.Entries.{header_length, entry_length, first_of, rest_of, entry_guid, entry_severity, entry_bytes, has_entry, is_refused, entries_of};
+ghost use Rattle.apei_sources.specs.Laid.{IsEntry};
+ghost use Rattle.apei_sources.specs.Cut.{cut, AreInside};
+
+use cper_sections::{Descriptor, guid_at, read_section, u16_at, u32_at};
+use uuid::Uuid;
+
+// The bytes of an entry's header, without and with its timestamp.
+const HEADER_LENGTH: usize = 64;
+
+const LONG_HEADER_LENGTH: usize = 72;
+
+// The first major revision whose header has a timestamp.
+const TIMESTAMP_REVISION: u16 = 3;
+
+// The bytes of the header of the entry at the front.
+fn header_length(bytes: &[u8]) -> usize
+    requires { 64 ≤ length bytes.now }
+    ensures value { result ≡ header_length bytes.now }
+    ensures small { result ≤ 72 }
+{
+    let major_revision = u16_at(bytes, 20) >> 8;
+    if major_revision < TIMESTAMP_REVISION {
+        HEADER_LENGTH
+    } else {
+        LONG_HEADER_LENGTH
+    }
+}
+
+// The bytes of the entry at the front, its header and its data.
+fn entry_length(bytes: &[u8]) -> usize
+    requires { 64 ≤ length bytes.now }
+    ensures { result ≡ entry_length bytes.now }
+{
+    header_length(bytes) + u32_at(bytes, 24) as usize
+}
+
+// Whether the entry at the front lies inside the bytes.
+fn has_entry(bytes: &[u8]) -> bool
+    ensures { result ≡ has_entry bytes.now }
+{
+    HEADER_LENGTH <= bytes.len() && entry_length(bytes) <= bytes.len()
+}
+
+// The entry at the front, header and data.
+fn first_entry(bytes: &[u8]) -> &[u8]
+    requires { IsTrue (has_entry bytes.now) }
+    ensures entry { result.now ≡ first_of bytes.now }
+    ensures whole { IsEntry result.now }
+{
+    &bytes[..entry_length(bytes)]
+}
+
+// The bytes behind the entry at the front.
+fn behind_first(bytes: &[u8]) -> &[u8]
+    requires { IsTrue (has_entry bytes.now) }
+    ensures { result.now ≡ rest_of bytes.now }
+{
+    &bytes[entry_length(bytes)..]
+}
+
+// How many entries the bytes are, or None where one passes their end.
+pub(crate) fn count_entries(bytes: &[u8]) -> Option<usize>
+    ensures entries { option_map (λ count. cut count bytes.now) result ≡ entries_of bytes.now }
+    ensures inside { IfSome result (λ count. AreInside count bytes.now) }
+{
+    let mut rest = bytes;
+    let mut count = 0usize;
+    while !rest.is_empty() {
+        if !has_entry(rest) {
+            return None;
+        }
+        rest = behind_first(rest);
+        count += 1;
+    }
+    Some(count)
+}
+
+// Whether some of the first entries can't be read.
+pub(crate) fn is_some_refused(bytes: &[u8], count: usize) -> bool
+    requires { AreInside count bytes.now }
+    ensures { result ≡ list_any is_refused (cut count bytes.now) }
+{
+    let mut rest = bytes;
+    for done in 0..count {
+        if is_refused(first_entry(rest)) {
+            return true;
+        }
+        rest = behind_first(rest);
+    }
+    false
+}
+
+// The bytes of an entry by its number among the first.
+pub(crate) fn nth_entry(bytes: &[u8], count: usize, i: usize) -> &[u8]
+    requires inside { AreInside count bytes.now }
+    requires within { i < count }
+    ensures entry { result.now ≡ get_or (cut count bytes.now) i [] }
+    ensures whole { IsEntry result.now }
+{
+    let mut left = bytes;
+    for passed in 0..i {
+        left = behind_first(left);
+    }
+    first_entry(left)
+}
+
+// The type of an entry's section.
+fn entry_guid(entry: &[u8]) -> Uuid
+    requires { 64 ≤ length entry.now }
+    ensures { result ≡ entry_guid entry.now }
+{
+    let mut guid = [0u8; 16];
+    guid.copy_from_slice(&entry[..16]);
+    guid_at(&guid)
+}
+
+// An entry's section, as it stands.
+fn entry_bytes(entry: &[u8]) -> &[u8]
+    requires { IsEntry entry.now }
+    ensures { result.now ≡ entry_bytes entry.now }
+{
+    &entry[header_length(entry)..]
+}
+
+// Whether an entry's section can't be read.
+#[tactic(auto, unfolding(crate::specs::Entries::is_refused))]
+fn is_refused(entry: &[u8]) -> bool
+    requires { IsEntry entry.now }
+    ensures { result ≡ is_refused entry.now }
+{
+    read_section(entry_guid(entry), entry_bytes(entry)).is_err()
+}
+
+// An entry's section with what its header says of it.
+#[tactic(auto, unfolding(crate::specs::Entries::is_refused))]
+pub(crate) fn descriptor(entry: &[u8]) -> Descriptor<'_>
+    requires whole { IsEntry entry.now }
+    requires readable { is_refused entry.now ≡ false }
+    ensures severity { result.severity ≡ entry_severity entry.now }
+    ensures guid { result.guid ≡ entry_guid entry.now }
+    ensures bytes { result.bytes.now ≡ entry_bytes entry.now }
+    ensures section { section_of result.guid result.bytes.now ≡ Ok result.section }
+{
+    let guid = entry_guid(entry);
+    let bytes = entry_bytes(entry);
+    let section = match read_section(guid, bytes) {
+        Ok(section) => section,
+        Err(_) => unreachable!(),
+    };
+    Descriptor {
+        severity: u32_at(entry, 16),
+        guid,
+        bytes,
+        section,
+    }
+}

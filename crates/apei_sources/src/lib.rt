@@ -1,0 +1,22 @@
+//! Where firmware tells of errors: the hardware error source table (HEST), the boot error record table (BERT), and
+//! generic error status blocks, over the bytes that hold them. It follows ACPI 6.5, section 18.3, "Error Source
+//! Discovery".
+#![tactic(auto)]
+
+mod bert_table;
+mod blocks;
+mod entries;
+mod hest_table;
+mod laws;
+mod refusals;
+mod sources;
+mod tables;
+
+pub use bert_table::{Bert, read_bert};
+pub use blocks::{Block, read_block};
+pub use hest_table::{Hest, read_hest};
+pub use laws::{entries_fill_the_data, only_own_bytes, sources_are_laid_end_to_end};
+pub use refusals::{BlockRefused, TableRefused};
+
+#[cfg(test)]
+mod tests;

@@ -1,0 +1,68 @@
+//! Why a table or a block can't be read.
+
+ghost use Rattle.std.specs.Prelude.{◌≡◌};
+ghost use Rattle.apei_sources.specs.Refusals.{table_number, block_number};
+
+/// Why a table can't be read, the first that applies in this order. A HEST's sources are walked one by one, and each is
+/// tried for 5, then 6, then 7.
+#[derive(Clone, Copy, Debug, PartialEq, Eq)]
+pub enum TableRefused {
+    /// 1: there are fewer bytes than the table's fixed part has, 40 of a HEST and 48 of a BERT.
+    Short,
+    /// 2: the table doesn't begin with its signature, `HEST` or `BERT`.
+    Signature,
+    /// 3: the table's length is below its fixed part, or above the number of bytes.
+    Length,
+    /// 4: the bytes of the table don't sum to 0 modulo 256.
+    Sum,
+    /// 5: a source has a type that isn't known.
+    SourceType,
+    /// 6: a source passes the table's length, or fewer than 4 bytes of it are there.
+    SourceOut,
+    /// 7: a source has the identifier of one before it.
+    RepeatedId,
+    /// Memory ran out. It has no number, since it is no fault of the table.
+    NoMemory,
+}
+
+/// Why a status block can't be read, the first that applies in this order. All entries are tried for 2 before any for 3.
+#[derive(Clone, Copy, Debug, PartialEq, Eq)]
+pub enum BlockRefused {
+    /// 1: there are fewer bytes than the block's header of 20, or than header and data where the block status isn't 0.
+    Short,
+    /// 2: an entry's header or data passes the end of the block's data.
+    EntryOut,
+    /// 3: an entry's data can't be read as a section of its type.
+    Section,
+}
+
+impl TableRefused {
+    /// The number by which the refusal is printed, or None for want of memory.
+    pub fn number(self) -> Option<u8>
+        ensures { result ≡ table_number self }
+    {
+        match self {
+            TableRefused::Short => Some(1),
+            TableRefused::Signature => Some(2),
+            TableRefused::Length => Some(3),
+            TableRefused::Sum => Some(4),
+            TableRefused::SourceType => Some(5),
+            TableRefused::SourceOut => Some(6),
+            TableRefused::RepeatedId => Some(7),
+            TableRefused::NoMemory => None,
+        }
+    }
+}
+
+impl BlockRefused {
+    /// The number by which the refusal is printed.
+    pub fn number(self) -> u8
+        ensures { result ≡ block_number self }
+    {
+        match self {
+            BlockRefused::Short => 1,
+            BlockRefused::EntryOut => 2,
+            BlockRefused::Section => 3,
+        }
+    }
+}

@@ -1,0 +1,47 @@
+//! The header that tables share.
+
+ghost use Rattle.std.specs.Prelude.{◌≡◌, ◌≤◌, length, IfOk};
+ghost use Rattle.apei_sources.specs.Steps.{Reads};
+ghost use Rattle.apei_sources.specs.Tables.{has_sum, table_of};
+
+use crate::TableRefused;
+use cper_sections::u32_at;
+
+// The table of a signature at the front of bytes, whose fixed part has so many.
+#[tactic(auto, unfolding(crate::specs::Tables::table_of))]
+pub(crate) fn table_at<'a>(
+    bytes: &'a [u8],
+    signature: &[u8],
+    fixed: usize,
+) -> Result<&'a [u8], TableRefused>
+    requires header { 8 ≤ fixed }
+    ensures answer { Reads (λ table. table.now) result (table_of signature.now fixed bytes.now) }
+    ensures fixed { IfOk result (λ table. fixed ≤ length table.now) }
+{
+    if bytes.len() < fixed {
+        return Err(TableRefused::Short);
+    }
+    if !bytes.starts_with(signature) {
+        return Err(TableRefused::Signature);
+    }
+    let length = u32_at(bytes, 4) as usize;
+    if length < fixed || bytes.len() < length {
+        return Err(TableRefused::Length);
+    }
+    let table = &bytes[..length];
+    if !has_sum(table) {
+        return Err(TableRefused::Sum);
+    }
+    Ok(table)
+}
+
+// Whether the bytes of a table sum to 0 modulo 256.
+fn has_sum(table: &[u8]) -> bool
+    ensures { result ≡ has_sum table.now }
+{
+    let mut sum = 0u8;
+    for byte in table {
+        sum = sum.wrapping_add(*byte);
+    }
+    sum == 0
+}
