@@ -1,11 +1,12 @@
 -- An entry is read as it is spelled, put together from its fields.
 use Rattle.std.proofs.Common.{◌≡◌, ℕ, zero, suc, ◌^◌, ◌<◌, ◌≤◌, List, [], ◌∷◌, ◌++◌, length, Option, Result, Ok, Err, refl, sym, ap, subst, ◌∙◌, append_assoc, arith, inl, inr, ◌⊎◌, length-append}
-use Rattle.std.specs.Prelude.{IfSome}
+use Rattle.std.specs.Prelude.{IfSome, IsTrue}
 use Rattle.std.specs.List.{flat_map, AllByRecursion}
 use Rattle.std.proofs.lemmas.List.Elements.{All-from_recursion, recursion_from_All}
 use Rattle.ras_base.specs.LittleEndian.{u16_bytes, u64_bytes}
 use Rattle.mca_status.specs.Classes.{class_number}
 use Rattle.mca_status.specs.declared.classes.ItemClass.{ItemClass}
+use Rattle.dimm_topology.specs.Labels.{Bytes, is_label_or_none}
 use Rattle.ras_facts.specs.declared.name.Name.{Name}
 use Rattle.ras_facts.specs.declared.name.Name.TheVariants.{Bank}
 use Rattle.ras_facts.specs.declared.items.Item.{Item}
@@ -13,10 +14,11 @@ use Rattle.ras_facts.specs.declared.fact.Fact.{Fact}
 use Rattle.ras_facts.specs.Valid.{IsValidItem, IsValidName, IsValidFact}
 use Rattle.entry_format.specs.declared.refused.EntryRefused.{EntryRefused}
 use Rattle.entry_format.specs.declared.refused.EntryRefused.TheVariants.{Cut, Bad}
-use Rattle.entry_format.specs.Spelling.{name_bytes, page_bytes, item_bytes, fact_bytes, entry_bytes}
-use Rattle.entry_format.specs.Reading.{◌>>=◌, both_at, seen_at, marked_at, u16_at, u64_at, byte_at, name_at, class_at, page_at, weight_at, item_at, items_at, list_at, fact_at, entry_at}
+use Rattle.entry_format.specs.Spelling.{name_bytes, page_bytes, label_bytes, item_bytes, fact_bytes, entry_bytes}
+use Rattle.entry_format.specs.Reading.{◌>>=◌, both_at, seen_at, marked_at, u16_at, u64_at, byte_at, name_at, class_at, page_at, weight_at, label_at, item_at, items_at, list_at, fact_at, entry_at}
 use Rattle.entry_format.proofs.Codec.{IsBytes, bind_ok, bind_err, ok_is, given, Takes, Takes-then, CutOf, Reads, ok_more, like_read, both_read, seen_read, marked_read}
 use Rattle.entry_format.proofs.FieldLaws.{u16_read, u64_read, byte_read, class_read, page_read, weight_read}
+use Rattle.entry_format.proofs.LabelLaws.{label_read}
 
 -- ---- a name
 
@@ -66,26 +68,27 @@ name_read =
 -- ---- an item
 
 abbrev ItemFields : Type 0
-ItemFields = ItemClass × (Option ℕ × ℕ)
+ItemFields = ItemClass × (Bytes × (Option ℕ × ℕ))
 
 abbrev item_of : ItemFields → Item
-item_of p = record { class = p.0; page = p.1.0; weight = p.1.1 }
+item_of p = record { class = p.0; label = p.1.0; page = p.1.1.0; weight = p.1.1.1 }
 
 abbrev item_fields : Item → ItemFields
-item_fields item = (item.class, (item.page, item.weight))
+item_fields item = (item.class, (item.label, (item.page, item.weight)))
 
 abbrev item_fields_bytes : ItemFields → List ℕ
-item_fields_bytes p = (class_number p.0 ∷ []) ++ (0 ∷ (page_bytes p.1.0 ++ u16_bytes p.1.1))
+item_fields_bytes p = (class_number p.0 ∷ []) ++ (label_bytes p.1.0 ++ (page_bytes p.1.1.0 ++ u16_bytes p.1.1.1))
 
 abbrev AreItemFields : ItemFields → Type 0
-AreItemFields p = Unit {0} × (IfSome p.1.0 (λ n. n < 2 ^ 52) × ((1 ≤ p.1.1) × (p.1.1 ≤ 32767)))
+AreItemFields p = Unit {0} × (IsTrue (is_label_or_none p.1.0) × (IfSome p.1.1.0 (λ n. n < 2 ^ 52) × ((1 ≤ p.1.1.1) × (p.1.1.1 ≤ 32767))))
 
-item_fields_read : Reads (both_at class_at (marked_at 0 (both_at page_at weight_at))) item_fields_bytes AreItemFields
+item_fields_read : Reads (both_at class_at (both_at label_at (both_at page_at weight_at))) item_fields_bytes AreItemFields
 item_fields_read =
     let last = both_read page_at weight_at page_bytes u16_bytes (λ page. IfSome page (λ n. n < 2 ^ 52)) (λ n. (1 ≤ n) × (n ≤ 32767)) page_read weight_read in
-    let labelled = marked_read 0 (both_at page_at weight_at) (λ (p : Option ℕ × ℕ). page_bytes p.0 ++ u16_bytes p.1) (λ p. IfSome p.0 (λ n. n < 2 ^ 52) × ((1 ≤ p.1) × (p.1 ≤ 32767))) last in
-    both_read class_at (marked_at 0 (both_at page_at weight_at)) (λ c. class_number c ∷ []) (λ (p : Option ℕ × ℕ). 0 ∷ (page_bytes p.0 ++ u16_bytes p.1))
-    (λ _. Unit {0}) (λ p. IfSome p.0 (λ n. n < 2 ^ 52) × ((1 ≤ p.1) × (p.1 ≤ 32767))) class_read labelled
+    let labelled = both_read label_at (both_at page_at weight_at) label_bytes (λ (p : Option ℕ × ℕ). page_bytes p.0 ++ u16_bytes p.1)
+    (λ label. IsTrue (is_label_or_none label)) (λ p. IfSome p.0 (λ n. n < 2 ^ 52) × ((1 ≤ p.1) × (p.1 ≤ 32767))) label_read last in
+    both_read class_at (both_at label_at (both_at page_at weight_at)) (λ c. class_number c ∷ []) (λ (p : Bytes × (Option ℕ × ℕ)). label_bytes p.0 ++ (page_bytes p.1.0 ++ u16_bytes p.1.1))
+    (λ _. Unit {0}) (λ p. IsTrue (is_label_or_none p.0) × (IfSome p.1.0 (λ n. n < 2 ^ 52) × ((1 ≤ p.1.1) × (p.1.1 ≤ 32767)))) class_read labelled
 
 item_spelled : (item : Item) → item_fields_bytes (item_fields item) ≡ item_bytes item
 unfolding item_bytes
@@ -94,11 +97,11 @@ item_spelled item = simp append_assoc
 pub item_read : Reads item_at item_bytes IsValidItem
 unfolding item_at
 item_read =
-    let fields = both_at class_at (marked_at 0 (both_at page_at weight_at)) in
+    let fields = both_at class_at (both_at label_at (both_at page_at weight_at)) in
     let seen = seen_read item_of item_fields (λ p. refl) (λ item. refl) fields item_fields_bytes AreItemFields item_fields_read in
     like_read item_at (λ item. item_fields_bytes (item_fields item)) item_bytes (λ item. AreItemFields (item_fields item)) IsValidItem seen
-    (λ item v. record { page = v.1.0; some = v.1.1.0; weight = v.1.1.1 })
-    (λ item v. (tt, (v.page, (v.some, v.weight)))) item_spelled
+    (λ item v. record { label = v.1.0; page = v.1.1.0; some = v.1.1.1.0; weight = v.1.1.1.1 })
+    (λ item v. (tt, (v.label, (v.page, (v.some, v.weight))))) item_spelled
 
 -- ---- items
 

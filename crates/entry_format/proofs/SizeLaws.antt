@@ -7,7 +7,7 @@ use Rattle.ras_facts.specs.declared.name.Name.{Name}
 use Rattle.ras_facts.specs.declared.name.Name.TheVariants.{Bank}
 use Rattle.ras_facts.specs.declared.items.Item.{Item}
 use Rattle.ras_facts.specs.declared.fact.Fact.{Fact}
-use Rattle.entry_format.specs.Spelling.{name_bytes, page_bytes, item_bytes, fact_bytes, entry_bytes}
+use Rattle.entry_format.specs.Spelling.{name_bytes, page_bytes, label_bytes, item_bytes, fact_bytes, entry_bytes}
 
 name_size : (name : Name) → length (name_bytes name) ≡ 20
 unfolding name_bytes
@@ -18,11 +18,11 @@ unfolding page_bytes
 page_size None = refl
 page_size (Some n) = ap suc (length-u64_bytes n)
 
-item_size : (item : Item) → length (item_bytes item) ≡ length (page_bytes item.page) + 4
-unfolding item_bytes
+item_size : (item : Item) → length (item_bytes item) ≡ length (page_bytes item.page) + 4 + length item.label
+unfolding item_bytes label_bytes
 item_size item = simp (length-append, length-u16_bytes) (omega arith)
 
-entry_size : (fact : Fact) (item : Item) → fact.items ≡ item ∷ [] → length (entry_bytes fact) ≡ length (page_bytes item.page) + 35
+entry_size : (fact : Fact) (item : Item) → fact.items ≡ item ∷ [] → length (entry_bytes fact) ≡ length (page_bytes item.page) + 35 + length item.label
 unfolding entry_bytes fact_bytes
 entry_size fact item one =
     let name = name_bytes fact.name in
@@ -41,9 +41,9 @@ entry_size fact item one =
       item_size item,
     )
 
-at_page : (page : Option ℕ) (n : ℕ) → MatchOption page (length (page_bytes page) ≡ 1) (λ _. length (page_bytes page) ≡ 9) → n ≡ length (page_bytes page) + 35 → MatchOption page (n ≡ 36) (λ _. n ≡ 44)
-at_page None n h e = omega (arith, h, e)
-at_page (Some page) n h e = omega (arith, h, e)
+at_page : (page : Option ℕ) (n l : ℕ) → MatchOption page (length (page_bytes page) ≡ 1) (λ _. length (page_bytes page) ≡ 9) → n ≡ length (page_bytes page) + 35 + l → MatchOption page (n ≡ 36 + l) (λ _. n ≡ 44 + l)
+at_page None n l h e = omega (arith, h, e)
+at_page (Some page) n l h e = omega (arith, h, e)
 
-pub one_item_size : (fact : Fact) (item : Item) → fact.items ≡ item ∷ [] → MatchOption item.page (length (entry_bytes fact) ≡ 36) (λ _. length (entry_bytes fact) ≡ 44)
-one_item_size fact item one = at_page item.page (length (entry_bytes fact)) (page_size item.page) (entry_size fact item one)
+pub one_item_size : (fact : Fact) (item : Item) → fact.items ≡ item ∷ [] → MatchOption item.page (length (entry_bytes fact) ≡ 36 + length item.label) (λ _. length (entry_bytes fact) ≡ 44 + length item.label)
+one_item_size fact item one = at_page item.page (length (entry_bytes fact)) (length item.label) (page_size item.page) (entry_size fact item one)

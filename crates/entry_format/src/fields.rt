@@ -3,15 +3,20 @@
 // Each function reads one at the front of the bytes, and gives the bytes behind it too. It answers `Cut` where the
 // bytes begin a good field and end before it does, and `Bad` where no good field begins with them.
 ghost use Rattle.std.specs.Prelude.{◌≡◌};
-ghost use Rattle.entry_format.specs.Reading.{Gives, u16_at, u64_at, byte_at, behind, name_at, class_of, class_at, page_number_at, page_at, weight_at, item_at};
+ghost use Rattle.entry_format.specs.Reading.{Gives, u16_at, u64_at, byte_at, behind, name_at, class_of, class_at, page_number_at, page_at, weight_at, text_at, label_at, item_at};
 
-use crate::kinds::{BANK, NO_LABEL};
+use crate::kinds::BANK;
 use crate::refused::EntryRefused;
+use dimm_topology::{Label, LabelRefused};
 use mca_status::ItemClass;
 use ras_facts::{Item, Name};
+use std::alloc::Global;
 
 // The pages of 4,096 bytes that 64 bits address are below this number.
 const PAGES: u64 = 1 << 52;
+
+// The most bytes that a label has.
+const MOST_LABEL: u8 = 32;
 
 // The greatest weight.
 const MOST_WEIGHT: u16 = 32767;
@@ -158,17 +163,58 @@ fn weight_at(bytes: &[u8]) -> Result<(u16, &[u8]), EntryRefused>
     }
 }
 
+// The bytes of a label of so many bytes.
+#[tactic(auto, unfolding(crate::specs::Reading::text_at))]
+fn text_at(length: u8, bytes: &[u8]) -> Result<(&[u8], &[u8]), EntryRefused>
+    ensures { Gives (λ x. (x.0.now, x.1.now)) result (text_at length bytes.now) }
+{
+    if length > MOST_LABEL {
+        return Err(EntryRefused::Bad);
+    }
+    // A byte that no label has tells that no entry begins so, also where bytes are missing behind it.
+    let length = usize::from(length);
+    let text = &bytes[..length.min(bytes.len())];
+    if !text.iter().all(|byte| matches!(byte, 0x21..=0x7e)) {
+        return Err(EntryRefused::Bad);
+    }
+    if bytes.len() < length {
+        return Err(EntryRefused::Cut);
+    }
+    if text == b"-".as_slice() {
+        return Err(EntryRefused::Bad);
+    }
+    Ok((text, &bytes[length..]))
+}
+
+// A label.
+#[tactic(auto, unfolding(crate::specs::Reading::label_at))]
+fn label_at(alloc: Global, bytes: &[u8]) -> Result<(Label, &[u8]), EntryRefused>
+    ensures { Gives (λ x. (x.0, x.1.now)) result (label_at bytes.now) }
+{
+    let (length, rest) = byte_at(bytes)?;
+    let (text, rest) = text_at(length, rest)?;
+    if text.is_empty() {
+        return Ok((Label::none(), rest));
+    }
+    match Label::new(alloc, text) {
+        Ok(label) => Ok((label, rest)),
+        Err(LabelRefused::Bad) => Err(EntryRefused::Bad),
+        Err(LabelRefused::NoMemory) => Err(EntryRefused::NoMemory),
+    }
+}
+
 // An item.
 #[tactic(auto, unfolding(crate::specs::Reading::item_at))]
-pub(crate) fn item_at(bytes: &[u8]) -> Result<(Item, &[u8]), EntryRefused>
+pub(crate) fn item_at(alloc: Global, bytes: &[u8]) -> Result<(Item, &[u8]), EntryRefused>
     ensures { Gives (λ x. (x.0, x.1.now)) result (item_at bytes.now) }
 {
     let (class, rest) = class_at(bytes)?;
-    let rest = behind(NO_LABEL, rest)?;
+    let (label, rest) = label_at(alloc, rest)?;
     let (page, rest) = page_at(rest)?;
     let (weight, rest) = weight_at(rest)?;
     let item = Item {
         class,
+        label,
         page,
         weight,
     };

@@ -2,9 +2,10 @@
 ghost use Rattle.std.specs.Prelude.{◌≡◌, ◌++◌, ◌≤◌, length, IfOk, OnOk};
 ghost use Rattle.std.specs.List.{flat_map};
 ghost use Rattle.ras_base.specs.LittleEndian.{u16_bytes, u64_bytes};
-ghost use Rattle.entry_format.specs.Spelling.{name_bytes, page_bytes, item_bytes, fact_bytes, entry_bytes};
+ghost use Rattle.entry_format.specs.Spelling.{name_bytes, page_bytes, label_bytes, item_bytes, fact_bytes, entry_bytes};
 
-use crate::kinds::{BANK, FACT, NO_LABEL};
+use crate::kinds::{BANK, FACT};
+use dimm_topology::Label;
 use ras_base::NoMemory;
 use ras_facts::{Fact, Item, Name};
 use std::alloc::Global;
@@ -65,13 +66,24 @@ fn push_page(bytes: &mut Vec<u8>, page: Option<u64>) -> Result<(), NoMemory>
     }
 }
 
+// Adds a label.
+#[tactic(auto, unfolding(crate::specs::Spelling::label_bytes))]
+fn push_label(bytes: &mut Vec<u8>, label: &Label) -> Result<(), NoMemory>
+    ensures { OnOk result (bytes.new.items ≡ bytes.old.items ++ label_bytes label.now) }
+{
+    let text = label.bytes();
+    bytes.push(text.len() as u8)?;
+    bytes.extend_from_slice(text)?;
+    Ok(())
+}
+
 // Adds an item.
 #[tactic(auto, unfolding(crate::specs::Spelling::item_bytes))]
 fn push_item(bytes: &mut Vec<u8>, item: &Item) -> Result<(), NoMemory>
     ensures { OnOk result (bytes.new.items ≡ bytes.old.items ++ item_bytes item.now) }
 {
     bytes.push(item.class.number())?;
-    bytes.push(NO_LABEL)?;
+    push_label(bytes, &item.label)?;
     push_page(bytes, item.page)?;
     push_u16(bytes, item.weight)
 }
