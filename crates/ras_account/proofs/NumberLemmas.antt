@@ -1,5 +1,5 @@
 -- The numbers that entries bring an account to, counted with no memory.
-use Rattle.std.proofs.Common.{◌≡◌, ◌+◌, ◌<◌, ◌≤◌, ℕ, Bool, true, false, not, ◌||◌, ◌&&◌, if◌then◌else◌, min, List, [], ◌∷◌, ◌++◌, length, take, get_or, refl, sym, ap, subst, ◌∙◌, arith, length-append, true≢false}
+use Rattle.std.proofs.Common.{◌≡◌, ◌+◌, ◌<◌, ℕ, Bool, true, false, not, ◌||◌, ◌&&◌, if◌then◌else◌, min, List, [], ◌∷◌, length, take, get_or, refl, sym, ap, subst, ◌∙◌, arith, length-append, true≢false}
 use Rattle.std.specs.List.{list_any}
 use Rattle.std.proofs.lemmas.List.Folds.{list_any-append}
 use Rattle.std.proofs.lemmas.List.Sums.{fold_more}
@@ -14,7 +14,6 @@ use Rattle.ras_account.specs.Fresh.{same_name}
 use Rattle.ras_account.specs.Sightings.{sightings_in}
 use Rattle.ras_account.specs.Account.{State}
 use Rattle.ras_account.specs.Continued.{is_fresh_in, entry_taken, continued, continued_all}
-use Rattle.ras_account.specs.Taking.{weights_in}
 use Rattle.ras_account.specs.Reserving.{greatest, brings, Numbered, CountsFact}
 use Rattle.ras_account.proofs.KeyLemmas.{same_name-exact}
 use Rattle.ras_account.proofs.LawLemmas.{names-items_taken}

@@ -170,16 +170,6 @@ fn is_name(name: &Name, tsc: u64) -> bool {
 
 const PAGE: u64 = 0x12345;
 
-// Ten errors a page are too many within a day; one of 3000h has a class that the manual doesn't give.
-#[test]
-fn an_odd_error_orders_nothing(rt: HostRuntime) -> Result<(), Fail> {
-    let mut account = Account::new(rt.alloc());
-    let steps = [Step::Item(4, 100, ItemClass::Odd, 0, Some(3), 1, None)];
-    assert!(rt; goes(rt.alloc(), &mut account, &steps)?);
-    assert!(rt; has_pages(&account, &[(3, 0, 100, PageState::Kept)]));
-    Ok(())
-}
-
 #[test]
 fn counts_each_name_once(rt: HostRuntime) -> Result<(), Fail> {
     let mut account = Account::new(rt.alloc());
@@ -216,14 +206,31 @@ fn the_tenth_error_of_a_day(rt: HostRuntime) -> Result<(), Fail> {
     Ok(())
 }
 
+// An error of the class that the manual doesn't give orders nothing; one report of 32,767 errors orders its page at once.
 #[test]
-fn one_report_of_many_errors(rt: HostRuntime) -> Result<(), Fail> {
-    let mut account = Account::new(rt.alloc());
-    let order = Some(Order::Soft(PAGE));
-    let steps = [Step::Item(1000, 100, ItemClass::Ce, 0, Some(PAGE), 32_767, order)];
-    assert!(rt; goes(rt.alloc(), &mut account, &steps)?);
-    assert!(rt; has_modules(&account, &[(0, [32_767, 0, 0, 0, 0, 0, 0, 0, 0, 0])]));
-    assert!(rt; has_pages(&account, &[(PAGE, 0, 100, PageState::Soft)]));
+fn one_report(rt: HostRuntime) -> Result<(), Fail> {
+    for (class, weight, order, state, sums) in [
+        (
+            ItemClass::Odd,
+            1,
+            None,
+            PageState::Kept,
+            [0, 0, 0, 0, 0, 1, 0, 0, 0, 0],
+        ),
+        (
+            ItemClass::Ce,
+            32_767,
+            Some(Order::Soft(PAGE)),
+            PageState::Soft,
+            [32_767, 0, 0, 0, 0, 0, 0, 0, 0, 0],
+        ),
+    ] {
+        let mut account = Account::new(rt.alloc());
+        let steps = [Step::Item(4, 100, class, 0, Some(PAGE), weight, order)];
+        assert!(rt; goes(rt.alloc(), &mut account, &steps)?);
+        assert!(rt; has_modules(&account, &[(0, sums)]));
+        assert!(rt; has_pages(&account, &[(PAGE, 0, 100, state)]));
+    }
     Ok(())
 }
 
@@ -297,19 +304,6 @@ fn two_modules_and_three_pages(rt: HostRuntime) -> Result<(), Fail> {
         (9, 0, 172, PageState::Hard),
     ];
     assert!(rt; has_pages(&account, &rows));
-    Ok(())
-}
-
-// Two items of one report fill one bucket, and the second makes it trip.
-#[test]
-fn two_items_of_one_page(rt: HostRuntime) -> Result<(), Fail> {
-    let mut account = Account::new(rt.alloc());
-    let mut items = Items::new(rt.alloc());
-    items.push(item(rt.alloc(), ItemClass::Ce, b"A", Some(7), 6)?)?;
-    items.push(item(rt.alloc(), ItemClass::Corrected, b"A", Some(7), 6)?)?;
-    let orders = taken(rt.alloc(), &mut account, report(1, 100, items))?;
-    assert!(rt; are(&orders, Some(Order::Soft(7))));
-    assert!(rt; has_modules(&account, &[(b'A', [6, 0, 0, 0, 0, 0, 6, 0, 0, 0])]));
     Ok(())
 }
 
