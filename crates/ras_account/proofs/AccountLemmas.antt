@@ -1,24 +1,21 @@
 -- The law of the account: a list with one entry more continues the account of the list.
-use Rattle.std.proofs.Common.{◌≡◌, ◌<◌, ◌+◌, ℕ, Bool, true, false, not, cond, if◌then◌else◌, nat_eq, List, [], ◌∷◌, ◌++◌, length, filter, map, fold, replicate, refl, sym, ap, ◌∙◌, length-append, append_assoc, append-nil, zero-add, add-zero, add_assoc, true≢false, Option, Some, None, arith}
-use Rattle.std.specs.List.{sum_by, flat_map, filter_map, list_any}
-use Rattle.std.specs.Option.{option_map}
+use Rattle.std.proofs.Common.{◌≡◌, ◌+◌, ℕ, Bool, true, false, not, cond, if◌then◌else◌, nat_eq, List, [], ◌∷◌, ◌++◌, length, filter, map, refl, sym, ap, ◌∙◌, length-append, append_assoc, append-nil, zero-add, add-zero, true≢false, Option, Some, None}
+use Rattle.std.specs.List.{sum_by, flat_map}
 use Rattle.std.proofs.lemmas.List.Elements.{filter-append, filter_map-append}
-use Rattle.std.proofs.lemmas.List.Sums.{fold-append, sum_by-append}
+use Rattle.std.proofs.lemmas.List.Sums.{sum_by-append}
 use Rattle.mca_status.specs.declared.classes.ItemClass.{ItemClass}
 use Rattle.mca_status.specs.declared.classes.ItemClass.TheVariants.{Ce, Ucna, Srao, Srar, Uc, Odd, Corrected, Recoverable, Fatal, Informational}
 use Rattle.mca_status.specs.Classes.{class_number}
 use Rattle.dimm_topology.specs.Labels.{same_label}
 use Rattle.page_policy.specs.declared.buckets.Limit.{Limit}
-use Rattle.page_policy.specs.Rows.{Report}
 use Rattle.page_policy.specs.Tables.{table}
-use Rattle.page_policy.specs.Histories.{rows_of, rows_after}
+use Rattle.page_policy.specs.Histories.{rows_of}
 use Rattle.page_policy.proofs.TableLemmas.{table-more}
 use Rattle.page_policy.proofs.HistoryLemmas.{rows_of-more}
 use Rattle.ras_facts.specs.declared.name.Name.{Name}
-use Rattle.ras_facts.specs.declared.items.Item.{Item}
 use Rattle.ras_account.specs.declared.entry.Entry.{Entry}
 use Rattle.ras_account.specs.declared.entry.Entry.TheVariants.{Fact, Limit as Settles}
-use Rattle.ras_account.specs.Fresh.{names_in, same_limit, limit_in, last_limit, limit_after, is_fresh_behind, fresh_places, fresh}
+use Rattle.ras_account.specs.Fresh.{names_in, limit_after, is_fresh_behind, fresh_places, fresh}
 use Rattle.ras_account.specs.Sightings.{Sighting, sightings, sightings_in, label_of, weight_of, report_of, reports_of}
 use Rattle.ras_account.specs.Account.{State, account_of, counted, classes, class_weight, module_row}
 use Rattle.ras_account.specs.Continued.{is_fresh_in, no_sums, sums_after, modules_after, pages_after, item_taken, items_taken, entry_taken, continued, continued_all}

@@ -1,18 +1,17 @@
 -- What an entry adds to an account, and when it can be taken.
-use Rattle.std.proofs.Common.{◌≡◌, ◌<◌, ◌≤◌, ◌+◌, ℕ, Bool, true, false, if◌then◌else◌, List, [], ◌∷◌, ◌++◌, length, drop, refl, sym, ap, subst, ◌∙◌, arith, append-nil, length-append}
+use Rattle.std.proofs.Common.{◌≡◌, ◌+◌, Bool, true, false, if◌then◌else◌, List, [], ◌∷◌, ◌++◌, length, drop, refl, sym, ap, subst, ◌∙◌, arith, append-nil, length-append}
 use Rattle.std.specs.Map.{keys_of}
 use Rattle.std.proofs.Math.Seq.{drop-append_seam}
 use Rattle.page_policy.specs.declared.buckets.Limit.{Limit}
-use Rattle.page_policy.proofs.WaitingLemmas.{length-keys}
 use Rattle.ras_facts.specs.declared.fact.Fact.{Fact as Report}
 use Rattle.ras_account.specs.declared.entry.Entry.{Entry}
 use Rattle.ras_account.specs.declared.entry.Entry.TheVariants.{Fact, Limit as Settles}
 use Rattle.ras_account.specs.Sightings.{sightings_in}
-use Rattle.ras_account.specs.Account.{State, most_names, most_entries, most_weight}
-use Rattle.ras_account.specs.Continued.{is_fresh_in, items_taken, entry_taken, continued, IsWithin}
+use Rattle.ras_account.specs.Account.{State}
+use Rattle.ras_account.specs.Continued.{is_fresh_in, entry_taken, continued, IsWithin}
 use Rattle.ras_account.specs.Orders.{orders_along}
 use Rattle.ras_account.specs.View.{View, OrderList, Waiting, WaitsFirst, then_waits, nothing, added_by}
-use Rattle.ras_account.specs.Taking.{weights_in, AreNext, adds_fact, CanTakeFact, TakesFact, Takes, Gives, sightings_of}
+use Rattle.ras_account.specs.Taking.{adds_fact, CanTakeFact, TakesFact, Takes, Gives, sightings_of}
 use Rattle.ras_account.proofs.LawLemmas.{names-items_taken}
 use Rattle.ras_account.proofs.TakingLemmas.{keys-modules, keys-pages, total-items, entries-items}
 
@@ -88,3 +87,7 @@ takes_fact old new before after fact fresh taken gives = record {
   waiting = taken.waiting ∙ ap (λ front. then_waits front new.waiting) (sym (added_by-fact old.state fact fresh));
   gives = subst (λ b. Gives before after (if b then orders_along old.state.pages (sightings_in old.state.limit (Fact fact)) else [])) (sym fresh) gives;
 }
+
+-- where nothing waits behind it, what waits in front is all
+pub all_waits : (front : Waiting) → then_waits front nothing ≡ front
+all_waits front = λ i. record { names = append-nil front.names i; labels = append-nil front.labels i; pages = append-nil front.pages i }

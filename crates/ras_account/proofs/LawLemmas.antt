@@ -1,15 +1,14 @@
 -- Laws of the account of a list: each key once, the row of each, and the fresh entries alone.
-use Rattle.std.proofs.Common.{◌≡◌, ◌+◌, Bool, true, false, not, cond, if◌then◌else◌, List, [], ◌∷◌, ◌++◌, map, ℕ, nat_eq, Some, None, refl, sym, ap, subst, ◌∙◌, append_assoc, append-nil}
+use Rattle.std.proofs.Common.{◌≡◌, ◌+◌, Bool, true, false, not, if◌then◌else◌, List, [], ◌∷◌, ◌++◌, map, nat_eq, Some, None, refl, sym, ap, subst, ◌∙◌, append_assoc, append-nil}
 use Rattle.std.specs.List.{list_any, filter_map, IsDistinct}
 use Rattle.std.specs.Map.{keys_of, lookup}
 use Rattle.std.proofs.lemmas.Map.Keys.{IsDistinct-push}
 use Rattle.dimm_topology.specs.Labels.{Bytes, same_label}
-use Rattle.page_policy.specs.Histories.{rows_of}
 use Rattle.page_policy.proofs.TableLemmas.{keys-table, distinct-once, lookup-table}
 use Rattle.page_policy.proofs.HistoryLemmas.{rows_of-once}
 use Rattle.ras_account.specs.declared.entry.Entry.{Entry}
 use Rattle.ras_account.specs.declared.entry.Entry.TheVariants.{Fact, Limit as Settles}
-use Rattle.ras_account.specs.Fresh.{same_name, names_in, is_fresh_behind, fresh}
+use Rattle.ras_account.specs.Fresh.{same_name, is_fresh_behind, fresh}
 use Rattle.ras_account.specs.Sightings.{Sighting, sightings, sightings_in, label_of, reports_of}
 use Rattle.ras_account.specs.Account.{State, account_of, classes, module_row, module_count}
 use Rattle.ras_account.specs.Continued.{is_fresh_in, item_taken, items_taken, entry_taken, continued, continued_all}

@@ -10,5 +10,6 @@ pub mod TakingLemmas
 pub mod EntryLemmas
 pub mod GrowLemmas
 pub mod ReserveLemmas
+pub mod NumberLemmas
 pub mod WorkedRows
 pub mod AgainLemmas

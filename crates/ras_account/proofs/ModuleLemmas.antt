@@ -12,7 +12,7 @@ use Rattle.page_policy.proofs.WaitingLemmas.{covers, covers-max, length-set_valu
 use Rattle.ras_facts.specs.declared.items.Item.{Item}
 use Rattle.ras_account.specs.declared.modules.ModuleRow.{ModuleRow}
 use Rattle.ras_account.specs.Account.{weight_in}
-use Rattle.ras_account.specs.Continued.{no_sums, sums_after, modules_after}
+use Rattle.ras_account.specs.Continued.{sums_after, modules_after}
 use Rattle.ras_account.specs.Parts.{ModuleList, is_next_label, with_item, empty_row, row_of, IsModule, AreModules, sums_before}
 use Rattle.ras_account.specs.Reserving.{all_labels, with_label}
 use Rattle.ras_account.proofs.KeyLemmas.{same_label-exact, same_label-refl}

@@ -1,17 +1,14 @@
 -- The orders of an entry behind a list, and those by which an account is continued.
-use Rattle.std.proofs.Common.{◌≡◌, ℕ, if◌then◌else◌, List, [], ◌∷◌, ◌++◌, Option, Some, None, refl, sym, ap, ◌∙◌, append-nil}
+use Rattle.std.proofs.Common.{◌≡◌, ℕ, if◌then◌else◌, List, [], ◌∷◌, ◌++◌, Option, Some, None, refl, sym, ap, ◌∙◌}
 use Rattle.std.specs.List.{filter_map, cons_option}
-use Rattle.std.proofs.lemmas.List.Elements.{filter_map-append}
 use Rattle.ras_base.specs.Places.{places_behind}
-use Rattle.page_policy.specs.declared.rows.Order.{Order}
 use Rattle.page_policy.specs.Rows.{Report, report, order_between}
-use Rattle.page_policy.specs.Histories.{rows_of, rows_after, state_in, page_history as page_history_of, order_behind}
+use Rattle.page_policy.specs.Histories.{rows_of, state_in}
 use Rattle.page_policy.proofs.HistoryLemmas.{rows_of-more, order-history}
 use Rattle.ras_account.specs.declared.entry.Entry.{Entry}
-use Rattle.ras_account.specs.Fresh.{limit_after, is_fresh_behind}
-use Rattle.ras_account.specs.Sightings.{Sighting, sightings, sightings_in, report_of, reports_of}
+use Rattle.ras_account.specs.Fresh.{limit_after}
+use Rattle.ras_account.specs.Sightings.{Sighting, sightings, sightings_in, reports_of}
 use Rattle.ras_account.specs.Account.{account_of}
-use Rattle.ras_account.specs.Continued.{is_fresh_in, pages_after}
 use Rattle.ras_account.specs.Orders.{order_of, orders_behind, order_in, orders_along, orders_at}
 use Rattle.ras_account.proofs.AccountLemmas.{is_fresh_in-account_of, at_page, pages-more}
 

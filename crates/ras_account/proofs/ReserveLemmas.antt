@@ -1,6 +1,6 @@
 -- Noting entries: what one item and one entry more does to what is noted.
-use Rattle.std.proofs.Common.{◌≡◌, ◌<◌, ◌≤◌, ◌+◌, ℕ, Bool, true, false, not, min, nat_eq, if◌then◌else◌, List, [], ◌∷◌, ◌++◌, length, drop, take, get_or, refl, sym, ap, subst, ◌∙◌, arith, append_assoc, append-nil, length-append, true≢false}
-use Rattle.std.specs.List.{list_any, cons_option}
+use Rattle.std.proofs.Common.{◌≡◌, ◌<◌, ◌+◌, ℕ, Bool, true, false, not, min, nat_eq, if◌then◌else◌, List, [], ◌∷◌, ◌++◌, length, take, get_or, refl, sym, ap, subst, ◌∙◌, arith, append_assoc, append-nil, true≢false}
+use Rattle.std.specs.List.{list_any}
 use Rattle.std.specs.Map.{keys_of}
 use Rattle.std.proofs.lemmas.List.{map-append}
 use Rattle.std.proofs.lemmas.List.Elements.{filter_map-append}
@@ -12,22 +12,21 @@ use Rattle.page_policy.specs.Tables.{added}
 use Rattle.page_policy.specs.Pages.{Held}
 use Rattle.page_policy.proofs.TableLemmas.{added-append}
 use Rattle.page_policy.proofs.PlaceLemmas.{nat_exact, nat_own}
-use Rattle.ras_facts.specs.declared.name.Name.{Name}
 use Rattle.ras_facts.specs.declared.items.Item.{Item}
 use Rattle.ras_facts.specs.declared.fact.Fact.{Fact as Report}
 use Rattle.ras_account.specs.declared.entry.Entry.{Entry}
-use Rattle.ras_account.specs.declared.entry.Entry.TheVariants.{Fact, Limit as Settles}
+use Rattle.ras_account.specs.declared.entry.Entry.TheVariants.{Fact}
 use Rattle.ras_account.specs.declared.reserve.Tally.{Tally}
-use Rattle.ras_account.specs.Fresh.{same_name, same_limit}
+use Rattle.ras_account.specs.Fresh.{same_name}
 use Rattle.ras_account.specs.Sightings.{sightings_in}
 use Rattle.ras_account.specs.Account.{State}
-use Rattle.ras_account.specs.Continued.{is_fresh_in, items_taken, entry_taken, continued, continued_all}
+use Rattle.ras_account.specs.Continued.{is_fresh_in, entry_taken, continued, continued_all}
 use Rattle.ras_account.specs.View.{View, Waiting, nothing}
 use Rattle.ras_account.specs.Kept.{IsKept}
 use Rattle.ras_account.specs.Parts.{NameList, ModuleList}
-use Rattle.ras_account.specs.Taking.{labels_in, pages_in, weights_in}
-use Rattle.ras_account.specs.Reserving.{all_names, all_labels, with_label, greatest, NotesItems, Shadows, Noted, IsNoting}
-use Rattle.ras_account.proofs.KeyLemmas.{same_label-exact, same_label-refl, same_limit-exact}
+use Rattle.ras_account.specs.Taking.{labels_in, pages_in}
+use Rattle.ras_account.specs.Reserving.{all_names, all_labels, greatest, NotesItems, Shadows, Noted, IsNoting}
+use Rattle.ras_account.proofs.KeyLemmas.{same_label-exact, same_label-refl}
 use Rattle.ras_account.proofs.LawLemmas.{names-items_taken}
 use Rattle.ras_account.proofs.EntryLemmas.{named}
 use Rattle.ras_account.proofs.TakingLemmas.{keys-modules, keys-pages, total-items, entries-items, limit-items}

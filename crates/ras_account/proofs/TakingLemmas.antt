@@ -1,15 +1,14 @@
 -- Taking the items of a fact: what each takes of what waits, and what all come to.
-use Rattle.std.proofs.Common.{◌≡◌, ◌<◌, ◌≤◌, ◌+◌, ℕ, zero, suc, Bool, true, false, cond, nat_eq, if◌then◌else◌, ◌||◌, List, [], ◌∷◌, ◌++◌, length, map, take, drop, get_or, filter_map, Option, None, Some, option_to_list, IfSome, IsTrue, refl, sym, ap, subst, ◌∙◌, arith, append_assoc, append-nil, length-append, drop-cons, add-one}
-use Rattle.std.specs.List.{list_any, cons_option, sum_by}
+use Rattle.std.proofs.Common.{◌≡◌, ◌≤◌, ◌+◌, ℕ, Bool, true, false, nat_eq, if◌then◌else◌, ◌||◌, List, [], ◌∷◌, ◌++◌, length, take, drop, Option, None, Some, option_to_list, IfSome, IsTrue, refl, sym, ap, subst, ◌∙◌, arith, append_assoc, append-nil, length-append}
+use Rattle.std.specs.List.{list_any, cons_option}
 use Rattle.std.specs.Map.{keys_of}
 use Rattle.std.specs.Option.{option_map_or}
 use Rattle.std.proofs.lemmas.List.Folds.{list_any-append}
 use Rattle.std.proofs.lemmas.List.Sums.{sum_by-cons}
 use Rattle.dimm_topology.specs.Labels.{Bytes, same_label}
 use Rattle.page_policy.specs.declared.buckets.Limit.{Limit}
-use Rattle.page_policy.specs.declared.rows.Order.{Order}
 use Rattle.page_policy.specs.declared.rows.Row.{Row}
-use Rattle.page_policy.specs.Rows.{Report, report}
+use Rattle.page_policy.specs.Rows.{report}
 use Rattle.page_policy.specs.Tables.{added}
 use Rattle.page_policy.specs.Pages.{is_ready}
 use Rattle.page_policy.proofs.TableLemmas.{keys-updated}
@@ -21,7 +20,7 @@ use Rattle.ras_account.specs.Account.{State, most_weight}
 use Rattle.ras_account.specs.Continued.{no_sums, sums_after, modules_after, pages_after, item_taken, items_taken}
 use Rattle.ras_account.specs.Orders.{order_in, orders_along}
 use Rattle.ras_account.specs.View.{View, Waiting, OrderList}
-use Rattle.ras_account.specs.Taking.{labels_in, pages_in, weights_in, left_labels, left_pages, item_seen, IsNext, Gives, AreNext, sighting, sightings_of, TakesItems, IsAmid}
+use Rattle.ras_account.specs.Taking.{labels_in, pages_in, weights_in, left_pages, item_seen, IsNext, Gives, AreNext, sighting, sightings_of, TakesItems, IsAmid}
 use Rattle.ras_account.proofs.KeyLemmas.{same_label-exact, same_label-refl}
 use Rattle.ras_account.proofs.AccountLemmas.{at_page}
 
@@ -148,7 +147,15 @@ few (Some x) = omega arith
 -- before the first item
 pub amid-start : (v : View) (old : OrderList) (seconds : ℕ) (items : List Item) → (rest : Waiting) × AreNext v items rest → length items ≤ old.room → IsAmid v v old old seconds items items
 amid-start v old seconds items (waiting, next) room = record {
-  rest = waiting; first = next; next = next; names = refl; limit = refl; state = refl; orders = refl; given = refl; room = room;
+  rest = waiting;
+  first = next;
+  next = next;
+  names = refl;
+  limit = refl;
+  state = refl;
+  orders = refl;
+  given = refl;
+  room = room;
 }
 
 -- one item more

@@ -1,5 +1,5 @@
 -- The items of a list's fresh facts, each with what was known as it came.
-use Rattle.std.specs.Prelude.{ℕ, List, [], ◌∷◌, Option, Some, map, flat_map, filter_map, option_map}
+use Rattle.std.specs.Prelude.{ℕ, List, [], Option, Some, map, flat_map, filter_map, option_map}
 use Rattle.page_policy.specs.declared.buckets.Limit.{Limit}
 use Rattle.page_policy.specs.Rows.{Report, report}
 use Rattle.dimm_topology.specs.Labels.{Bytes}

@@ -1,5 +1,5 @@
 -- This file only carries proofs: how the items of a fact are taken, each in turn.
-use Rattle.std.specs.Prelude.{◌≡◌, ℕ, ◌+◌, ◌<◌, ◌≤◌, Bool, true, nat_eq, if◌then◌else◌, List, [], ◌∷◌, ◌++◌, length, take, drop, map, filter_map, option_to_list, IfSome, IsTrue}
+use Rattle.std.specs.Prelude.{◌≡◌, ℕ, ◌+◌, ◌<◌, ◌≤◌, nat_eq, if◌then◌else◌, List, [], ◌∷◌, ◌++◌, length, take, drop, map, filter_map, IfSome, IsTrue}
 use Rattle.std.specs.List.{list_any, sum_by}
 use Rattle.std.specs.Map.{keys_of}
 use Rattle.std.specs.Option.{option_map_or}
@@ -8,7 +8,7 @@ use Rattle.page_policy.specs.declared.buckets.Limit.{Limit}
 use Rattle.page_policy.specs.declared.rows.Order.{Order}
 use Rattle.page_policy.specs.declared.rows.Row.{Row}
 use Rattle.page_policy.specs.Tables.{added}
-use Rattle.page_policy.specs.Pages.{Held, is_held, is_ready}
+use Rattle.page_policy.specs.Pages.{is_held, is_ready}
 use Rattle.ras_facts.specs.declared.items.Item.{Item}
 use Rattle.ras_facts.specs.declared.fact.Fact.{Fact}
 use Rattle.ras_account.specs.declared.entry.Entry.{Entry}
@@ -16,7 +16,7 @@ use Rattle.ras_account.specs.declared.entry.Entry.TheVariants.{Fact as TakenFact
 use Rattle.ras_account.specs.Sightings.{Sighting}
 use Rattle.ras_account.specs.Account.{State, most_names, most_entries, most_weight}
 use Rattle.ras_account.specs.Continued.{item_taken, items_taken, entry_taken, continued}
-use Rattle.ras_account.specs.Orders.{order_in, orders_along, orders_at}
+use Rattle.ras_account.specs.Orders.{orders_along, orders_at}
 use Rattle.ras_account.specs.View.{View, Waiting, OrderList, then_waits, added_by}
 
 -- the labels and the pages that items name, in order

@@ -2,7 +2,7 @@ use Rattle.std.proofs.Common.{◌≡◌, ◌≤◌, ◌+◌, true, List, ℕ, �
 use Rattle.std.specs.List.{sum}
 use Rattle.ras_account.specs.Account.{weight_in}
 use Rattle.ras_account.specs.Continued.{sums_after}
-use Rattle.ras_account.specs.Parts.{ModuleList, is_next_label, with_item, sums_before}
+use Rattle.ras_account.specs.Parts.{ModuleList, is_next_label, with_item}
 use Rattle.ras_account.proofs.TotalLemmas.{weight_in-after}
 use Rattle.ras_account.proofs.ModuleLemmas.{viewed, label-there, sums-within, ten-held, modules-kept, modules-written}
 use Rattle.ras_account.proofs.modules.Modules.count.Goals as goal

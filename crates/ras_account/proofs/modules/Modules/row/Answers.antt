@@ -1,5 +1,5 @@
-use Rattle.std.proofs.Common.{◌≡◌, ◌<◌, length, map, take, Some, slice_get, subst, sym}
-use Rattle.ras_account.specs.Parts.{ModuleList, row_of}
+use Rattle.std.proofs.Common.{◌≡◌, ◌<◌, length, Some, slice_get, subst, sym}
+use Rattle.ras_account.specs.Parts.{ModuleList}
 use Rattle.ras_account.proofs.ModuleLemmas.{row-at}
 use Rattle.ras_account.proofs.modules.Modules.row.Goals as goal
 

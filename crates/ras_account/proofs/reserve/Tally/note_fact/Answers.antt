@@ -1,4 +1,4 @@
-use Rattle.std.proofs.Common.{◌≡◌, ◌+◌, List, not, ◌∙◌, refl, sym, ap, subst, Result, Ok, Err, OnOk, arith}
+use Rattle.std.proofs.Common.{List, not, ◌∙◌, refl, sym, ap, subst, Result, Ok, Err, OnOk, arith}
 use Rattle.std.specs.List.{list_any}
 use Rattle.ras_facts.specs.declared.items.Item.{Item}
 use Rattle.ras_account.specs.Fresh.{same_name}
