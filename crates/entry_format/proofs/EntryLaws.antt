@@ -1,22 +1,25 @@
 -- An entry is read as it is spelled, put together from its fields.
-use Rattle.std.proofs.Common.{◌≡◌, ℕ, zero, suc, ◌^◌, ◌<◌, ◌≤◌, List, [], ◌∷◌, ◌++◌, length, Option, Result, Ok, Err, refl, sym, ap, subst, ◌∙◌, append_assoc, arith, inl, inr, ◌⊎◌, length-append}
+use Rattle.std.proofs.Common.{◌≡◌, ℕ, zero, suc, true, ◌^◌, ◌<◌, ◌≤◌, List, [], ◌∷◌, ◌++◌, length, Option, Result, Ok, Err, refl, sym, ap, subst, ◌∙◌, append_assoc, arith, inl, inr, ◌⊎◌, length-append}
 use Rattle.std.specs.Prelude.{IfSome}
 use Rattle.std.specs.List.{flat_map, AllByRecursion}
 use Rattle.std.proofs.lemmas.List.Elements.{All-from_recursion, recursion_from_All}
 use Rattle.ras_base.specs.LittleEndian.{u16_bytes, u64_bytes}
 use Rattle.mca_status.specs.Classes.{class_number}
 use Rattle.mca_status.specs.declared.classes.ItemClass.{ItemClass}
+use Rattle.dimm_topology.specs.Labels.{Bytes, is_label_or_none}
 use Rattle.ras_facts.specs.declared.name.Name.{Name}
 use Rattle.ras_facts.specs.declared.name.Name.TheVariants.{Bank}
 use Rattle.ras_facts.specs.declared.items.Item.{Item}
 use Rattle.ras_facts.specs.declared.fact.Fact.{Fact}
-use Rattle.ras_facts.specs.Valid.{IsValidItem, IsValidName, IsValidFact}
+use Rattle.ras_facts.specs.Valid.{IsValidItem, IsValidName}
 use Rattle.entry_format.specs.declared.refused.EntryRefused.{EntryRefused}
 use Rattle.entry_format.specs.declared.refused.EntryRefused.TheVariants.{Cut, Bad}
-use Rattle.entry_format.specs.Spelling.{name_bytes, page_bytes, item_bytes, fact_bytes, entry_bytes}
-use Rattle.entry_format.specs.Reading.{◌>>=◌, both_at, seen_at, marked_at, u16_at, u64_at, byte_at, name_at, class_at, page_at, weight_at, item_at, items_at, list_at, fact_at, entry_at}
+use Rattle.entry_format.specs.Writable.{HasLabel, IsWritable}
+use Rattle.entry_format.specs.Spelling.{name_bytes, label_bytes, page_bytes, item_bytes, fact_bytes, entry_bytes}
+use Rattle.entry_format.specs.Reading.{◌>>=◌, both_at, seen_at, marked_at, u16_at, u64_at, byte_at, name_at, class_at, label_at, page_at, weight_at, item_at, items_at, list_at, fact_at, entry_at}
 use Rattle.entry_format.proofs.Codec.{IsBytes, bind_ok, bind_err, ok_is, given, Takes, Takes-then, CutOf, Reads, ok_more, like_read, both_read, seen_read, marked_read}
 use Rattle.entry_format.proofs.FieldLaws.{u16_read, u64_read, byte_read, class_read, page_read, weight_read}
+use Rattle.entry_format.proofs.LabelLaws.{label_read}
 
 -- ---- a name
 
@@ -65,45 +68,58 @@ name_read =
 
 -- ---- an item
 
+-- a valid item with a label or none
+abbrev IsItem : Item → Type 0
+IsItem item = IsValidItem item × HasLabel item
+
 abbrev ItemFields : Type 0
-ItemFields = ItemClass × (Option ℕ × ℕ)
+ItemFields = ItemClass × (Bytes × (Option ℕ × ℕ))
 
 abbrev item_of : ItemFields → Item
-item_of p = record { class = p.0; page = p.1.0; weight = p.1.1 }
+item_of p = record { class = p.0; label = p.1.0; page = p.1.1.0; weight = p.1.1.1 }
 
 abbrev item_fields : Item → ItemFields
-item_fields item = (item.class, (item.page, item.weight))
+item_fields item = (item.class, (item.label, (item.page, item.weight)))
 
 abbrev item_fields_bytes : ItemFields → List ℕ
-item_fields_bytes p = (class_number p.0 ∷ []) ++ (0 ∷ (page_bytes p.1.0 ++ u16_bytes p.1.1))
+item_fields_bytes p = (class_number p.0 ∷ []) ++ (label_bytes p.1.0 ++ (page_bytes p.1.1.0 ++ u16_bytes p.1.1.1))
+
+abbrev IsPageField : Option ℕ → Type 0
+IsPageField page = IfSome page (λ n. n < 2 ^ 52)
+
+abbrev IsWeightField : ℕ → Type 0
+IsWeightField n = (1 ≤ n) × (n ≤ 32767)
+
+abbrev IsLabelField : Bytes → Type 0
+IsLabelField label = is_label_or_none label ≡ true
 
 abbrev AreItemFields : ItemFields → Type 0
-AreItemFields p = Unit {0} × (IfSome p.1.0 (λ n. n < 2 ^ 52) × ((1 ≤ p.1.1) × (p.1.1 ≤ 32767)))
+AreItemFields p = Unit {0} × (IsLabelField p.1.0 × (IsPageField p.1.1.0 × IsWeightField p.1.1.1))
 
-item_fields_read : Reads (both_at class_at (marked_at 0 (both_at page_at weight_at))) item_fields_bytes AreItemFields
+item_fields_read : Reads (both_at class_at (both_at label_at (both_at page_at weight_at))) item_fields_bytes AreItemFields
 item_fields_read =
-    let last = both_read page_at weight_at page_bytes u16_bytes (λ page. IfSome page (λ n. n < 2 ^ 52)) (λ n. (1 ≤ n) × (n ≤ 32767)) page_read weight_read in
-    let labelled = marked_read 0 (both_at page_at weight_at) (λ (p : Option ℕ × ℕ). page_bytes p.0 ++ u16_bytes p.1) (λ p. IfSome p.0 (λ n. n < 2 ^ 52) × ((1 ≤ p.1) × (p.1 ≤ 32767))) last in
-    both_read class_at (marked_at 0 (both_at page_at weight_at)) (λ c. class_number c ∷ []) (λ (p : Option ℕ × ℕ). 0 ∷ (page_bytes p.0 ++ u16_bytes p.1))
-    (λ _. Unit {0}) (λ p. IfSome p.0 (λ n. n < 2 ^ 52) × ((1 ≤ p.1) × (p.1 ≤ 32767))) class_read labelled
+    let last = both_read page_at weight_at page_bytes u16_bytes IsPageField IsWeightField page_read weight_read in
+    let later = both_read label_at (both_at page_at weight_at) label_bytes (λ (p : Option ℕ × ℕ). page_bytes p.0 ++ u16_bytes p.1) IsLabelField (λ p. IsPageField p.0 × IsWeightField p.1) label_read last in
+    both_read class_at (both_at label_at (both_at page_at weight_at)) (λ c. class_number c ∷ []) (λ (p : Bytes × (Option ℕ × ℕ)). label_bytes p.0 ++ (page_bytes p.1.0 ++ u16_bytes p.1.1))
+    (λ _. Unit {0}) (λ p. IsLabelField p.0 × (IsPageField p.1.0 × IsWeightField p.1.1)) class_read later
 
 item_spelled : (item : Item) → item_fields_bytes (item_fields item) ≡ item_bytes item
 unfolding item_bytes
 item_spelled item = simp append_assoc
 
-pub item_read : Reads item_at item_bytes IsValidItem
+pub item_read : Reads item_at item_bytes IsItem
 unfolding item_at
 item_read =
-    let fields = both_at class_at (marked_at 0 (both_at page_at weight_at)) in
+    let fields = both_at class_at (both_at label_at (both_at page_at weight_at)) in
     let seen = seen_read item_of item_fields (λ p. refl) (λ item. refl) fields item_fields_bytes AreItemFields item_fields_read in
-    like_read item_at (λ item. item_fields_bytes (item_fields item)) item_bytes (λ item. AreItemFields (item_fields item)) IsValidItem seen
-    (λ item v. record { page = v.1.0; some = v.1.1.0; weight = v.1.1.1 })
-    (λ item v. (tt, (v.page, (v.some, v.weight)))) item_spelled
+    like_read item_at (λ item. item_fields_bytes (item_fields item)) item_bytes (λ item. AreItemFields (item_fields item)) IsItem seen
+    (λ item v. (record { page = v.1.1.0; some = v.1.1.1.0; weight = v.1.1.1.1 }, v.1.0))
+    (λ item v. (tt, (v.1, (v.0.page, (v.0.some, v.0.weight))))) item_spelled
 
 -- ---- items
 
 abbrev AreItems : ℕ → List Item → Type 0
-AreItems n items = (length items ≡ n) × AllByRecursion IsValidItem items
+AreItems n items = (length items ≡ n) × AllByRecursion IsItem items
 
 abbrev items_bytes : List Item → List ℕ
 items_bytes items = flat_map item_bytes items
@@ -152,7 +168,7 @@ items_cut_in n bytes fits u e c =
       whole = ap (λ (w : List ℕ). w ++ c.missing) t.0.parts ∙ append_assoc (item_bytes u.0) u.1 c.missing ∙ ap (λ (w : List ℕ). item_bytes u.0 ++ w) c.whole;
     }
 
-items_cut_first : (n : ℕ) (bytes : List ℕ) → CutOf item_bytes IsValidItem bytes → CutOf items_bytes (AreItems (suc n)) bytes
+items_cut_first : (n : ℕ) (bytes : List ℕ) → CutOf item_bytes IsItem bytes → CutOf items_bytes (AreItems (suc n)) bytes
 items_cut_first n bytes c =
     let h = some_items_valid n in
     record {
@@ -188,7 +204,7 @@ unfolding items_at
 items_bad_at n go bytes more fits (inl h) = rw (item_read.bad bytes more fits h) refl
 items_bad_at n go bytes more fits (inr h) =
     let t = item_read.takes bytes h.0.0 h.0.1 fits h.1 in
-    rw (ok_more item_at item_bytes IsValidItem item_read bytes more h.0.0 h.0.1 fits h.1, go h.0.1 more t.0.rest_fits (with_first_failed h.0.0 (items_at n h.0.1) Bad h.2)) refl
+    rw (ok_more item_at item_bytes IsItem item_read bytes more h.0.0 h.0.1 fits h.1, go h.0.1 more t.0.rest_fits (with_first_failed h.0.0 (items_at n h.0.1) Bad h.2)) refl
 
 items_bad : (n : ℕ) (bytes more : List ℕ) → IsBytes bytes → items_at n bytes ≡ Err Bad → items_at n (bytes ++ more) ≡ Err Bad
 unfolding items_at
@@ -212,7 +228,7 @@ abbrev list_bytes : List Item → List ℕ
 list_bytes items = u16_bytes (length items) ++ items_bytes items
 
 abbrev IsList : List Item → Type 0
-IsList items = (length items ≤ 65535) × AllByRecursion IsValidItem items
+IsList items = (length items ≤ 65535) × AllByRecursion IsItem items
 
 list_takes : (bytes : List ℕ) (x : List Item) (rest : List ℕ) → IsBytes bytes → list_at bytes ≡ Ok (x, rest) → Takes bytes (list_bytes x) rest × IsList x
 unfolding list_at
@@ -303,20 +319,40 @@ fact_spelled : (fact : Fact) → fact_fields_bytes (fact_fields fact) ≡ fact_b
 unfolding fact_bytes
 fact_spelled fact = simp append_assoc
 
-fact_read : Reads fact_at fact_bytes IsValidFact
+-- items that are valid and have labels, taken apart
+apart : (items : List Item) → AllByRecursion IsItem items → AllByRecursion IsValidItem items × AllByRecursion HasLabel items
+apart [] v = (tt, tt)
+apart (item ∷ items) v = let rest = apart items v.1 in ((v.0.0, rest.0), (v.0.1, rest.1))
+
+joined : (items : List Item) → AllByRecursion IsValidItem items → AllByRecursion HasLabel items → AllByRecursion IsItem items
+joined [] v w = tt
+joined (item ∷ items) v w = ((v.0, w.0), joined items v.1 w.1)
+
+writable_from : (fact : Fact) → AreFactFields (fact_fields fact) → IsWritable fact
+writable_from fact v =
+    let items = apart fact.items v.1.1.1 in
+    record {
+      valid = record { name = v.0; seconds = v.1.0; count = v.1.1.0; items = All-from_recursion IsValidItem fact.items items.0 };
+      labels = All-from_recursion HasLabel fact.items items.1;
+    }
+
+fields_from : (fact : Fact) → IsWritable fact → AreFactFields (fact_fields fact)
+fields_from fact w =
+    let v = w.valid in
+    (v.name, (v.seconds, (v.count, joined fact.items (recursion_from_All IsValidItem fact.items v.items) (recursion_from_All HasLabel fact.items w.labels))))
+
+fact_read : Reads fact_at fact_bytes IsWritable
 unfolding fact_at
 fact_read =
     let fields = both_at name_at (both_at u64_at list_at) in
     let seen = seen_read fact_of fact_fields (λ p. refl) (λ fact. refl) fields fact_fields_bytes AreFactFields fact_fields_read in
-    like_read fact_at (λ fact. fact_fields_bytes (fact_fields fact)) fact_bytes (λ fact. AreFactFields (fact_fields fact)) IsValidFact seen
-    (λ fact v. record { name = v.0; seconds = v.1.0; count = v.1.1.0; items = All-from_recursion IsValidItem fact.items v.1.1.1 })
-    (λ fact v. (v.name, (v.seconds, (v.count, recursion_from_All IsValidItem fact.items v.items)))) fact_spelled
+    like_read fact_at (λ fact. fact_fields_bytes (fact_fields fact)) fact_bytes (λ fact. AreFactFields (fact_fields fact)) IsWritable seen writable_from fields_from fact_spelled
 
 -- ---- an entry
 
-pub entry_read : Reads entry_at entry_bytes IsValidFact
+pub entry_read : Reads entry_at entry_bytes IsWritable
 unfolding entry_at entry_bytes
-entry_read = marked_read 1 fact_at fact_bytes IsValidFact fact_read
+entry_read = marked_read 1 fact_at fact_bytes IsWritable fact_read
 
 pub entry_not_empty : (fact : Fact) → 0 < length (entry_bytes fact)
 unfolding entry_bytes

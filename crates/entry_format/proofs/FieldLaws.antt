@@ -16,7 +16,7 @@ use Rattle.entry_format.specs.Spelling.{page_bytes}
 use Rattle.entry_format.specs.Reading.{Reader, ◌>>=◌, number_at, u16_at, u64_at, byte_at, classes, class_of, some_or_bad, class_at, tested_at, page_number_at, page_at, weight_at}
 use Rattle.entry_format.proofs.Codec.{IsBytes, IsBytes-rest, bind_ok, ok_is, given, test_ok, test_bad, test_not_cut, Takes, CutOf, Reads, ok_more, seen_failed}
 
-IsBytes-drop : (n : ℕ) (bytes : List ℕ) → IsBytes bytes → IsBytes (drop n bytes)
+pub IsBytes-drop : (n : ℕ) (bytes : List ℕ) → IsBytes bytes → IsBytes (drop n bytes)
 IsBytes-drop n bytes h i = rw get_or-drop (h (n + i))
 
 IsBytes-take : (n : ℕ) (bytes : List ℕ) → IsBytes bytes → IsBytes (take n bytes)

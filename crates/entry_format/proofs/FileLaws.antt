@@ -6,7 +6,7 @@ use Rattle.std.specs.List.{AllByRecursion}
 use Rattle.std.proofs.lemmas.List.{append-nil, flat_map_more}
 use Rattle.std.proofs.lemmas.List.Elements.{All-push, recursion_from_All}
 use Rattle.ras_facts.specs.declared.fact.Fact.{Fact}
-use Rattle.ras_facts.specs.Valid.{IsValidFact}
+use Rattle.entry_format.specs.Writable.{IsWritable}
 use Rattle.entry_format.specs.declared.refused.EntryRefused.{EntryRefused}
 use Rattle.entry_format.specs.declared.refused.EntryRefused.TheVariants as entry
 use Rattle.entry_format.specs.declared.refused.EntriesRefused.{EntriesRefused}
@@ -19,7 +19,7 @@ use Rattle.entry_format.proofs.EntryLaws.{entry_not_empty}
 use Rattle.entry_format.proofs.FrontLaws.{same_front, starts_not_cut, empty_has_none}
 
 abbrev AreValid : List Fact → Type 0
-AreValid facts = AllByRecursion IsValidFact facts
+AreValid facts = AllByRecursion IsWritable facts
 
 same_entries : (fs gs : List Fact) (x y : List ℕ) → AreValid fs → AreValid gs → HasNoEntry x → HasNoEntry y → entries_bytes fs ++ x ≡ entries_bytes gs ++ y → (fs ≡ gs) × (x ≡ y)
 same_entries [] [] x y v w no_x no_y e = (refl, e)
@@ -33,19 +33,19 @@ same_entries (f ∷ fs) (g ∷ gs) x y v w no_x no_y e =
     let others = same_entries fs gs x y v.1 w.1 no_x no_y one.1 in
     (ap (λ (k : Fact). k ∷ fs) one.0 ∙ ap (λ (ks : List Fact). g ∷ ks) others.0, others.1)
 
-pub one_reading : (fs gs : List Fact) → All IsValidFact fs → All IsValidFact gs → entries_bytes fs ≡ entries_bytes gs → fs ≡ gs
+pub one_reading : (fs gs : List Fact) → All IsWritable fs → All IsWritable gs → entries_bytes fs ≡ entries_bytes gs → fs ≡ gs
 one_reading fs gs v w e =
-    (same_entries fs gs [] [] (recursion_from_All IsValidFact fs v) (recursion_from_All IsValidFact gs w) empty_has_none empty_has_none
+    (same_entries fs gs [] [] (recursion_from_All IsWritable fs v) (recursion_from_All IsWritable gs w) empty_has_none empty_has_none
     (append-nil (entries_bytes fs) ∙ e ∙ sym (append-nil (entries_bytes gs)))).0
 
 pub one_place : (bytes : List ℕ) (p q : ℕ) → BreaksOffAt bytes p → BreaksOffAt bytes q → p ≡ q
 one_place bytes p q a b =
-    let same = (same_entries a.facts b.facts a.rest b.rest (recursion_from_All IsValidFact a.facts a.valid) (recursion_from_All IsValidFact b.facts b.valid) a.none b.none (sym a.spelled ∙ b.spelled)).0 in
+    let same = (same_entries a.facts b.facts a.rest b.rest (recursion_from_All IsWritable a.facts a.valid) (recursion_from_All IsWritable b.facts b.valid) a.none b.none (sym a.spelled ∙ b.spelled)).0 in
     a.place_is ∙ ap (λ (fs : List Fact). length (entries_bytes fs)) same ∙ sym b.place_is
 
 pub whole_or_broken : (bytes : List ℕ) (fs : List Fact) (p : ℕ) → AreEntriesOf fs bytes → BreaksOffAt bytes p → ⊥
 whole_or_broken bytes fs p a b =
-    let left = (same_entries fs b.facts [] b.rest (recursion_from_All IsValidFact fs a.valid) (recursion_from_All IsValidFact b.facts b.valid) empty_has_none b.none
+    let left = (same_entries fs b.facts [] b.rest (recursion_from_All IsWritable fs a.valid) (recursion_from_All IsWritable b.facts b.valid) empty_has_none b.none
     (append-nil (entries_bytes fs) ∙ sym a.spelled ∙ b.spelled)).1 in
     let some = b.more in
     let none = ap length left in
@@ -55,7 +55,7 @@ whole_or_broken bytes fs p a b =
 
 -- what was read so far, and the bytes that are left
 pub record SoFar (bytes : List ℕ) (facts : List Fact) (rest : List ℕ) : Type 0 where
-  pub valid : All IsValidFact facts
+  pub valid : All IsWritable facts
   pub spelled : bytes ≡ entries_bytes facts ++ rest
 
 broken : (bytes : List ℕ) (facts : List Fact) (rest : List ℕ) → SoFar bytes facts rest → 0 < length rest → HasNoEntry rest → BreaksOffAt bytes (length bytes - length rest)
@@ -82,7 +82,7 @@ shorter bytes fact rest front =
 
 pub one_more : (bytes : List ℕ) (facts : List Fact) (rest : List ℕ) (fact : Fact) (after : List ℕ) (more : List Fact) → SoFar bytes facts rest → IsFront rest fact after → more ≡ facts ++ fact ∷ [] → SoFar bytes more after
 one_more bytes facts rest fact after more so_far front e = record {
-  valid = subst (λ (fs : List Fact). All IsValidFact fs) (sym e) (All-push IsValidFact facts fact so_far.valid front.valid);
+  valid = subst (λ (fs : List Fact). All IsWritable fs) (sym e) (All-push IsWritable facts fact so_far.valid front.valid);
   spelled = so_far.spelled ∙ ap (λ (w : List ℕ). entries_bytes facts ++ w) front.spelled ∙ sym (append_assoc (entries_bytes facts) (entry_bytes fact) after)
       ∙ ap (λ (w : List ℕ). w ++ after) (flat_map_more entry_bytes [] facts fact) ∙ ap (λ (fs : List Fact). entries_bytes fs ++ after) (sym e);
 }

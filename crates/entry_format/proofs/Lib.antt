@@ -1,5 +1,6 @@
 pub mod Codec
 pub mod FieldLaws
+pub mod LabelLaws
 pub mod EntryLaws
 pub mod FrontLaws
 pub mod FileLaws

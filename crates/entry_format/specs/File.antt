@@ -1,7 +1,7 @@
 -- What the bytes of a whole file are.
 use Rattle.std.specs.Prelude.{◌≡◌, ℕ, ◌<◌, List, ◌++◌, length, All}
 use Rattle.ras_facts.specs.declared.fact.Fact.{Fact}
-use Rattle.ras_facts.specs.Valid.{IsValidFact}
+use Rattle.entry_format.specs.Writable.{IsWritable}
 use Rattle.entry_format.specs.declared.refused.EntriesRefused.{EntriesRefused}
 use Rattle.entry_format.specs.declared.refused.EntriesRefused.TheVariants.{Bad, NoMemory}
 use Rattle.entry_format.specs.Spelling.{entries_bytes}
@@ -9,13 +9,13 @@ use Rattle.entry_format.specs.Front.{HasNoEntry}
 
 -- the bytes are the entries of these facts, which are valid
 pub record AreEntriesOf (facts : List Fact) (bytes : List ℕ) : Type 0 where
-  pub valid : All IsValidFact facts
+  pub valid : All IsWritable facts
   pub spelled : bytes ≡ entries_bytes facts
 
 -- up to this place the bytes are entries of valid facts, and from there on there are bytes that begin with none
 pub record BreaksOffAt (bytes : List ℕ) (place : ℕ) : Type 0 where
   pub facts : List Fact
-  pub valid : All IsValidFact facts
+  pub valid : All IsWritable facts
   pub rest : List ℕ
   pub spelled : bytes ≡ entries_bytes facts ++ rest
   pub place_is : place ≡ length (entries_bytes facts)

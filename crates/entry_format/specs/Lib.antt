@@ -1,4 +1,5 @@
 pub mod Spelling
+pub mod Writable
 pub mod Front
 pub mod File
 pub mod Steps

@@ -1,10 +1,11 @@
 -- Reading fields from left to right. It only carries proofs: what may be read is said in Front and Spelling.
 use Rattle.std.specs.Prelude.{◌≡◌, ℕ, zero, suc, List, [], ◌∷◌, length, take, drop, slice_index, Option, Some, None, Result, Ok, Err, Bool, nat_lt, nat_le, ◌==◌, ◌&&◌, ◌^◌, if◌then◌else◌}
 use Rattle.std.specs.Int.{Width, w16, w64, byte_len, from_le_bytes}
-use Rattle.std.specs.List.{find}
+use Rattle.std.specs.List.{find, list_all}
 use Rattle.mca_status.specs.Classes.{class_number}
 use Rattle.mca_status.specs.declared.classes.ItemClass.{ItemClass}
 use Rattle.mca_status.specs.declared.classes.ItemClass as class
+use Rattle.dimm_topology.specs.Labels.{Bytes, is_label, is_label_byte}
 use Rattle.ras_facts.specs.declared.name.Name.{Name}
 use Rattle.ras_facts.specs.declared.name.Name.TheVariants.{Bank}
 use Rattle.ras_facts.specs.declared.items.Item.{Item}
@@ -116,8 +117,26 @@ page_at (suc (suc flag) ∷ rest) = Err Bad
 unfoldable pub weight_at : Reader ℕ
 weight_at = tested_at (λ weight. nat_lt 0 weight && nat_lt weight (2 ^ 15)) u16_at
 
+-- a label of so many bytes: each that is there has to be one of a label, also where the others are cut off
+unfoldable pub text_at : ℕ → Reader Bytes
+text_at n bytes =
+    if nat_lt (length bytes) n then if list_all is_label_byte bytes then Err Cut else Err Bad
+    else if is_label (take n bytes) then Ok (take n bytes, drop n bytes) else Err Bad
+
+-- a label or none, of so many bytes
+unfoldable pub sized_at : ℕ → Reader Bytes
+sized_at n bytes = if n == 0 then Ok ([], bytes) else if nat_le n 32 then text_at n bytes else Err Bad
+
+-- a label behind the number of its bytes
+unfoldable pub label_at : Reader Bytes
+label_at bytes = do
+  n ← byte_at bytes
+  sized_at n.0 n.1
+
 unfoldable pub item_at : Reader Item
-item_at = seen_at (λ p. record { class = p.0; page = p.1.0; weight = p.1.1 }) (both_at class_at (marked_at 0 (both_at page_at weight_at)))
+item_at =
+    seen_at (λ p. record { class = p.0; label = p.1.0; page = p.1.1.0; weight = p.1.1.1 })
+    (both_at class_at (both_at label_at (both_at page_at weight_at)))
 
 -- so many items
 unfoldable pub items_at : ℕ → Reader (List Item)

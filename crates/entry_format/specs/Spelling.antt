@@ -3,6 +3,7 @@ use Rattle.std.specs.Prelude.{ℕ, List, [], ◌∷◌, ◌++◌, length, Option
 use Rattle.std.specs.List.{flat_map}
 use Rattle.ras_base.specs.LittleEndian.{u16_bytes, u64_bytes}
 use Rattle.mca_status.specs.Classes.{class_number}
+use Rattle.dimm_topology.specs.Labels.{Bytes}
 use Rattle.ras_facts.specs.declared.name.Name.{Name}
 use Rattle.ras_facts.specs.declared.name.Name.TheVariants.{Bank}
 use Rattle.ras_facts.specs.declared.items.Item.{Item}
@@ -18,9 +19,13 @@ unfoldable pub page_bytes : Option ℕ → List ℕ
 page_bytes None = 0 ∷ []
 page_bytes (Some page) = 1 ∷ u64_bytes page
 
--- an item: the number of its class (1), a label of no bytes (1), its page, and its weight (2)
+-- a label: the number of its bytes (1), and its bytes; none has no bytes
+unfoldable pub label_bytes : Bytes → List ℕ
+label_bytes label = length label ∷ label
+
+-- an item: the number of its class (1), its label, its page, and its weight (2)
 unfoldable pub item_bytes : Item → List ℕ
-item_bytes item = class_number item.class ∷ 0 ∷ [] ++ page_bytes item.page ++ u16_bytes item.weight
+item_bytes item = class_number item.class ∷ label_bytes item.label ++ page_bytes item.page ++ u16_bytes item.weight
 
 -- a fact: its name, its seconds (8), the number of its items (2), and the items in order
 unfoldable pub fact_bytes : Fact → List ℕ

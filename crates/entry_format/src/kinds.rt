@@ -5,6 +5,3 @@ pub(crate) const FACT: u8 = 1;
 
 // The kind of a name that is a bank's.
 pub(crate) const BANK: u8 = 1;
-
-// The length of the label of an item that has none.
-pub(crate) const NO_LABEL: u8 = 0;

@@ -18,7 +18,7 @@ fn items_at(alloc: Global, count: u16, bytes: &[u8]) -> Result<(Items, &[u8]), E
     let mut items = Items::new(alloc);
     let mut rest = bytes;
     for _ in 0..count {
-        let (item, after) = item_at(rest)?;
+        let (item, after) = item_at(alloc, rest)?;
         items.push(item)?;
         rest = after;
     }

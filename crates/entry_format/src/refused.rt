@@ -3,6 +3,7 @@ ghost use Rattle.std.specs.Prelude.{◌≡◌};
 ghost use Rattle.entry_format.specs.declared.refused.EntryRefused.TheVariants.{NoMemory as NoMemoryForEntry};
 ghost use Rattle.entry_format.specs.declared.refused.EntriesRefused.TheVariants.{NoMemory as NoMemoryForEntries};
 
+use dimm_topology::LabelRefused;
 use ras_base::NoMemory;
 use std::alloc::AllocFailed;
 
@@ -36,6 +37,19 @@ impl From<NoMemory> for EntryRefused {
 
     fn from(_: NoMemory) -> Self {
         EntryRefused::NoMemory
+    }
+}
+
+impl From<LabelRefused> for EntryRefused {
+    ghost use Rattle.entry_format.specs.Steps.{at_label};
+
+    ghost from_gives = { λ refused e. e ≡ at_label refused };
+
+    fn from(refused: LabelRefused) -> Self {
+        match refused {
+            LabelRefused::Bad => EntryRefused::Bad,
+            LabelRefused::NoMemory => EntryRefused::NoMemory,
+        }
     }
 }
 

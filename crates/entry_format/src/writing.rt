@@ -1,10 +1,12 @@
 // Facts as bytes.
-ghost use Rattle.std.specs.Prelude.{◌≡◌, ◌++◌, ◌≤◌, length, IfOk, OnOk};
+ghost use Rattle.std.specs.Prelude.{◌≡◌, ◌++◌, ◌≤◌, length, IfOk, OnOk, IsTrue};
 ghost use Rattle.std.specs.List.{flat_map};
 ghost use Rattle.ras_base.specs.LittleEndian.{u16_bytes, u64_bytes};
-ghost use Rattle.entry_format.specs.Spelling.{name_bytes, page_bytes, item_bytes, fact_bytes, entry_bytes};
+ghost use Rattle.dimm_topology.specs.Labels.{is_label_or_none};
+ghost use Rattle.entry_format.specs.Spelling.{name_bytes, label_bytes, page_bytes, item_bytes, fact_bytes, entry_bytes};
 
-use crate::kinds::{BANK, FACT, NO_LABEL};
+use crate::kinds::{BANK, FACT};
+use dimm_topology::Label;
 use ras_base::NoMemory;
 use ras_facts::{Fact, Item, Name};
 use std::alloc::Global;
@@ -48,6 +50,18 @@ fn push_name(bytes: &mut Vec<u8>, name: &Name) -> Result<(), NoMemory>
     }
 }
 
+// Adds a label behind the number of its bytes.
+#[tactic(auto, unfolding(crate::specs::Spelling::label_bytes))]
+fn push_label(bytes: &mut Vec<u8>, label: &Label) -> Result<(), NoMemory>
+    ensures spelled { OnOk result (bytes.new.items ≡ bytes.old.items ++ label_bytes label.now) }
+    ensures label { IsTrue (is_label_or_none label.now) }
+{
+    let text = label.bytes();
+    bytes.push(text.len() as u8)?;
+    bytes.extend_from_slice(text)?;
+    Ok(())
+}
+
 // Adds a page.
 #[tactic(auto, unfolding(crate::specs::Spelling::page_bytes))]
 fn push_page(bytes: &mut Vec<u8>, page: Option<u64>) -> Result<(), NoMemory>
@@ -71,7 +85,7 @@ fn push_item(bytes: &mut Vec<u8>, item: &Item) -> Result<(), NoMemory>
     ensures { OnOk result (bytes.new.items ≡ bytes.old.items ++ item_bytes item.now) }
 {
     bytes.push(item.class.number())?;
-    bytes.push(NO_LABEL)?;
+    push_label(bytes, &item.label)?;
     push_page(bytes, item.page)?;
     push_u16(bytes, item.weight)
 }
