@@ -8,4 +8,6 @@ pub mod ModuleLemmas
 pub mod PlaceLemmas
 pub mod TakingLemmas
 pub mod EntryLemmas
+pub mod GrowLemmas
+pub mod ReserveLemmas
 pub mod WorkedRows

@@ -1,18 +1,20 @@
 -- The table of modules: a row written at its label's place.
-use Rattle.std.proofs.Common.{◌≡◌, ◌<◌, ◌≤◌, ◌+◌, ℕ, zero, suc, Bool, true, false, if◌then◌else◌, List, [], ◌∷◌, ◌++◌, length, map, take, drop, Some, max, slice_get, refl, sym, ap, subst, ◌∙◌, arith}
+use Rattle.std.proofs.Common.{◌≡◌, ◌<◌, ◌≤◌, ◌+◌, ℕ, zero, suc, Bool, true, false, if◌then◌else◌, List, [], ◌∷◌, ◌++◌, length, map, take, drop, Some, max, slice_get, length-append, refl, sym, ap, subst, ◌∙◌, arith}
 use Rattle.std.specs.List.{list_any, AllByRecursion, sum}
 use Rattle.std.specs.Map.{keys_of, values_of}
 use Rattle.std.proofs.lemmas.List.Sums.{sum_by-cons}
-use Rattle.indexmap.specs.IndexMap.{set_value_at}
+use Rattle.std.proofs.lemmas.List.{take-append-drop, take-append-le}
+use Rattle.indexmap.specs.IndexMap.{set_value_at, insert_entry}
 use Rattle.dimm_topology.specs.Labels.{Bytes, same_label}
 use Rattle.page_policy.specs.Tables.{updated}
 use Rattle.page_policy.specs.Places.{IsPlace, row_before}
-use Rattle.page_policy.proofs.WaitingLemmas.{covers, covers-max, length-set_value_at, next-there, next-place, rows-written, waiting-written}
+use Rattle.page_policy.proofs.WaitingLemmas.{covers, covers-max, length-set_value_at, next-there, next-place, rows-written, waiting-written, insert_entry-last}
 use Rattle.ras_facts.specs.declared.items.Item.{Item}
 use Rattle.ras_account.specs.declared.modules.ModuleRow.{ModuleRow}
 use Rattle.ras_account.specs.Account.{weight_in}
 use Rattle.ras_account.specs.Continued.{no_sums, sums_after, modules_after}
 use Rattle.ras_account.specs.Parts.{ModuleList, is_next_label, with_item, empty_row, row_of, IsModule, AreModules, sums_before}
+use Rattle.ras_account.specs.Reserving.{all_labels, with_label}
 use Rattle.ras_account.proofs.KeyLemmas.{same_label-exact, same_label-refl}
 use Rattle.ras_account.proofs.TotalLemmas.{HasTen, ten-sums_after}
 
@@ -127,3 +129,61 @@ module _ (held : ℕ) (es : Entries) (place : ℕ) (item : Item) (row : ModuleRo
       ∙ waiting-written same_label same_label-exact same_label-refl item.label (record { label = row.label; sums = sums }) held es place at near
       ∙ ap (λ ks. if list_any (same_label item.label) ks then drop held (keys_of es) else drop 1 (drop held (keys_of es))) (sym (keys-row_of (take held es))) in
       λ i. record { rows = rows i; waiting = waiting i }
+
+-- the labels that have a row or wait are the keys of the table
+keys-take : (held : ℕ) (es : Entries) → keys_of (take held es) ≡ take held (keys_of es)
+keys-take zero es = refl
+keys-take (suc held) [] = refl
+keys-take (suc held) (e ∷ es) = ap (λ ks. e.0 ∷ ks) (keys-take held es)
+
+pub all-labels : (held : ℕ) (es : Entries) → all_labels (viewed held es) ≡ keys_of es
+all-labels held es =
+    ap (λ ks. ks ++ drop held (keys_of es)) (keys-row_of (take held es) ∙ keys-take held es) ∙ take-append-drop held (keys_of es)
+
+pub label-known : (held : ℕ) (es : Entries) (v : ModuleList) (k : Bytes) → viewed held es ≡ v → list_any (same_label k) (keys_of es) ≡ true → all_labels v ≡ with_label (all_labels v) k
+label-known held es v k is known =
+    let here : list_any (same_label k) (all_labels v) ≡ true = ap (λ w. list_any (same_label k) (all_labels w)) (sym is) ∙ ap (list_any (same_label k)) (all-labels held es) ∙ known in
+    sym (ap (λ b. if b then all_labels v else all_labels v ++ k ∷ []) here)
+
+-- a label that waits behind all others
+each-behind : (es : Entries) (k : Bytes) (row : ModuleRow) → AllByRecursion IsModule es → row.label ≡ k → length row.sums ≡ 10 → AllByRecursion IsModule (es ++ (k, row) ∷ [])
+each-behind [] k row all is ten = (record { label = is; ten = ten }, tt)
+each-behind (e ∷ es) k row all is ten = (all.0, each-behind es k row all.1 is ten)
+
+keys-behind : (es : Entries) (k : Bytes) (row : ModuleRow) → keys_of (es ++ (k, row) ∷ []) ≡ keys_of es ++ k ∷ []
+keys-behind [] k row = refl
+keys-behind (e ∷ es) k row = ap (λ ks. e.0 ∷ ks) (keys-behind es k row)
+
+module _ (held : ℕ) (es after : Entries) (v : ModuleList) (k : Bytes) (row : ModuleRow) (kept : AreModules held es) (is : viewed held es ≡ v)
+    (none : list_any (same_label k) (keys_of es) ≡ false) (inserted : after ≡ insert_entry same_label es k row) where
+  behind : after ≡ es ++ (k, row) ∷ []
+  behind = inserted ∙ insert_entry-last same_label same_label-exact same_label-refl k es row none
+
+  pub behind-kept : row.label ≡ k → length row.sums ≡ 10 → AreModules held after
+  behind-kept label ten = record {
+    first = omega (arith, kept.first, ap length behind, length-append es ((k, row) ∷ []));
+    each = subst (AllByRecursion IsModule) (sym behind) (each-behind es k row kept.each label ten);
+  }
+
+  pub behind-rows : map row_of (take held after) ≡ v.rows
+  behind-rows =
+      ap (λ (fs : Entries). map row_of (take held fs)) behind
+      ∙ ap (map row_of) (take-append-le held es ((k, row) ∷ []) kept.first)
+      ∙ ap (λ (w : ModuleList). w.rows) is
+
+  pub behind-labels : all_labels (viewed held after) ≡ with_label (all_labels v) k
+  behind-labels =
+      let before : all_labels v ≡ keys_of es = ap all_labels (sym is) ∙ all-labels held es in
+      let new : list_any (same_label k) (all_labels v) ≡ false = ap (list_any (same_label k)) before ∙ none in
+      all-labels held after ∙ ap keys_of behind ∙ keys-behind es k row ∙ ap (λ ks. ks ++ k ∷ []) (sym before)
+      ∙ sym (ap (λ b. if b then all_labels v else all_labels v ++ k ∷ []) new)
+
+-- the row at a place
+pub row-at : (es : Entries) (held i : ℕ) (row : ModuleRow) → AllByRecursion IsModule es → i < length (map row_of (take held es)) → slice_get (values_of es) i ≡ Some row
+    → slice_get (map row_of (take held es)) i ≡ Some (row.label, row.sums)
+row-at [] held i row all within is = cc
+row-at (e ∷ es) zero i row all within is = absurd (omega arith)
+row-at (e ∷ es) (suc held) zero row all within is =
+    let here : e.1 ≡ row = cc in
+    λ j. Some ((sym all.0.label ∙ ap (λ (r : ModuleRow). r.label) here) j, ap (λ (r : ModuleRow). r.sums) here j)
+row-at (e ∷ es) (suc held) (suc i) row all within is = row-at es held i row all.1 (omega arith) is

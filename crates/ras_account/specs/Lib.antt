@@ -8,3 +8,4 @@ pub mod Valid
 pub mod Parts
 pub mod Taking
 pub mod Kept
+pub mod Reserving

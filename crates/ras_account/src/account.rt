@@ -1,23 +1,35 @@
 // The account.
-ghost use Rattle.std.specs.Prelude.{◌≡◌, ◌+◌, ◌<◌, ◌≤◌, ◌++◌, List, [], ◌∷◌, IsTrue, Some, length, slice_get, option_to_list};
+ghost use Rattle.std.specs.Prelude.{◌≡◌, ◌+◌, ◌<◌, ◌≤◌, ◌++◌, List, [], ◌∷◌, IsTrue, Some, Err, IfOk, OnOk, OnErr, length, slice_get, option_to_list};
 ghost use Rattle.std.specs.Bool.{IsFalse};
 ghost use Rattle.ras_account.specs.declared.entry.Entry.{Entry};
 ghost use Rattle.ras_account.specs.Fresh.{is_fresh_behind};
-ghost use Rattle.ras_account.specs.Account.{account_of, most_entries, most_weight};
-ghost use Rattle.ras_account.specs.Continued.{is_fresh_in, entry_taken, continued, IsWithin};
+ghost use Rattle.ras_account.specs.Account.{account_of, weight_in, most_entries, most_weight};
+ghost use Rattle.ras_account.specs.Continued.{is_fresh_in, entry_taken, continued, continued_all, IsWithin, IsPast};
 ghost use Rattle.ras_account.specs.Orders.{order_in, orders_along, orders_at, orders_behind};
 ghost use Rattle.page_policy.specs.Buckets.{IsLimit};
 ghost use Rattle.ras_account.specs.View.{Waiting, nothing, then_waits, WaitsFirst, added_by};
 ghost use Rattle.ras_account.specs.Valid.{IsValidEntry, items_in};
+ghost use Rattle.ras_account.specs.Reserving.{Noted};
 ghost use Rattle.ras_account.specs.Taking.{IsNext, item_seen, Gives, sighting, AreNext, TakesItems, sightings_of, CanTakeFact, TakesFact, Takes};
 
 use crate::modules::Modules;
 use crate::names::Names;
-use crate::{Entry, Orders};
+use crate::reserve::Tally;
+use crate::{Entry, ModuleRow, Orders, ReserveRefused};
 use page_policy::{Limit, Pages};
-use ras_facts::{Fact, Item};
+use ras_base::NoMemory;
+use ras_facts::{Fact, Item, Name};
 use std::alloc::Global;
 use std::marker::Model;
+
+/// The most names that an account holds.
+pub const MOST_NAMES: usize = 200_000;
+
+/// The most entries that an account counts.
+pub const MOST_ENTRIES: u64 = 1 << 62;
+
+/// The most weight that an account counts.
+pub const MOST_WEIGHT: u64 = 1 << 62;
 
 /// The limit in force at first: ten errors a day.
 const FIRST_LIMIT: Limit = Limit {
@@ -38,6 +50,7 @@ pub struct Account {
     total: u64,
     modules: Modules,
     pages: Pages,
+    alloc: Global,
 }
 
 impl Model for Account {
@@ -75,6 +88,7 @@ impl Account {
             total: 0,
             modules: Modules::new(alloc),
             pages: Pages::new(alloc),
+            alloc,
         }
     }
 
@@ -87,6 +101,29 @@ impl Account {
         match entry {
             Entry::Fact(fact) => !self.names.holds(&fact.name),
             Entry::Limit(limit) => *limit != self.limit,
+        }
+    }
+
+    /// Lets what these entries add wait, so that each entry can be taken in turn with no memory: the names, the labels and
+    /// the pages that they bring first. What waited before is given up. What is counted stays, and after a refusal nothing
+    /// waits.
+    ///
+    /// `Full` comes only where with those of the entries that are fresh the account would pass `MOST_NAMES`, `MOST_ENTRIES`
+    /// or `MOST_WEIGHT`, and it always comes there where memory doesn't run out before.
+    pub fn reserve(&mut self, entries: &[Entry]) -> Result<(), ReserveRefused>
+        ensures state { self.new.state ≡ self.old.state }
+        ensures ok { OnOk result (self.new.waiting ≡ added_by self.old.state entries.now) }
+        ensures err { OnErr result (self.new.waiting ≡ nothing) }
+        ensures full { result ≡ Err ReserveRefused.Full → IsPast (continued_all self.old.state entries.now) }
+        ensures within { OnOk result (IsWithin (continued_all self.old.state entries.now)) }
+    {
+        self.give_up();
+        match self.let_wait(entries) {
+            Ok(()) => Ok(()),
+            Err(refused) => {
+                self.give_up();
+                Err(refused)
+            }
         }
     }
 
@@ -104,6 +141,9 @@ impl Account {
         ensures waiting { self.old.waiting ≡ then_waits (added_by self.old.state (entry ∷ [])) self.new.waiting }
         ensures orders { orders.new.orders ≡ orders.old.orders ++ orders_at self.old.state entry }
         ensures room { orders.new.room + length (orders_at self.old.state entry) ≡ orders.old.room }
+
+        // Where what a list of entries adds waits, the entries can be taken in turn.
+        ensures in_turn { (entries : List Entry) → self.old.waiting ≡ added_by self.old.state (entry ∷ entries) → self.new.waiting ≡ added_by self.new.state entries }
 
         // The account of a list becomes that of the list with the entry behind it, and the orders are those of the list.
         ensures history { (history : List Entry) → self.old.state ≡ account_of history → self.new.state ≡ account_of (history ++ entry ∷ []) }
@@ -179,5 +219,117 @@ impl Account {
     {
         self.entries += 1;
         self.limit = limit;
+    }
+
+    /// How many names are counted.
+    pub fn names_len(&self) -> usize
+        ensures count { result ≡ length self.now.state.names }
+        ensures within { IsWithin self.now.state }
+    {
+        self.names.len()
+    }
+
+    /// The counted name at a place, from 0 in the order in which they came.
+    pub fn name(&self, i: usize) -> &Name
+        requires { i < length self.now.state.names }
+        ensures { slice_get self.now.state.names i ≡ Some result.now }
+    {
+        self.names.get(i)
+    }
+
+    /// How many entries are counted.
+    pub fn entries(&self) -> u64
+        ensures count { result ≡ self.now.state.entries }
+        ensures within { IsWithin self.now.state }
+    {
+        self.entries
+    }
+
+    /// The weights of all items together.
+    pub fn total(&self) -> u64
+        ensures total { result ≡ self.now.state.total }
+        ensures rows { result ≡ weight_in self.now.state.modules }
+        ensures within { IsWithin self.now.state }
+    {
+        self.total
+    }
+
+    /// The limit in force.
+    pub fn limit(&self) -> Limit
+        ensures limit { result ≡ self.now.state.limit }
+        ensures valid { IsLimit result }
+    {
+        self.limit
+    }
+
+    /// How many modules have a row.
+    pub fn modules_len(&self) -> usize
+        ensures { result ≡ length self.now.state.modules }
+    {
+        self.modules.len()
+    }
+
+    /// The row of the module at a place, from 0 in the order in which they were first seen.
+    pub fn module(&self, i: usize) -> &ModuleRow
+        requires { i < length self.now.state.modules }
+        ensures { slice_get self.now.state.modules i ≡ Some (result.now.label, result.now.sums) }
+    {
+        self.modules.row(i)
+    }
+
+    /// The pages, in the order in which they were first seen.
+    pub fn pages(&self) -> &Pages
+        ensures { result.now.rows ≡ self.now.state.pages }
+    {
+        &self.pages
+    }
+
+    // Lets nothing wait any longer.
+    fn give_up(&mut self)
+        ensures state { self.new.state ≡ self.old.state }
+        ensures waiting { self.new.waiting ≡ nothing }
+    {
+        self.names.give_up();
+        self.modules.give_up();
+        // Neither answer leaves a page that waits.
+        let _ = self.pages.reserve(&[]);
+    }
+
+    // Lets what these entries add wait, where nothing waits.
+    fn let_wait(&mut self, entries: &[Entry]) -> Result<(), ReserveRefused>
+        requires { self.old.waiting ≡ nothing }
+        ensures state { self.new.state ≡ self.old.state }
+        ensures ok { OnOk result (self.new.waiting ≡ added_by self.old.state entries.now) }
+        ensures full { result ≡ Err ReserveRefused.Full → IsPast (continued_all self.old.state entries.now) }
+        ensures within { OnOk result (IsWithin (continued_all self.old.state entries.now)) }
+    {
+        let tally = self.noted(entries)?;
+        if self.names.len_with_waiting() > MOST_NAMES
+            || tally.entries > MOST_ENTRIES
+            || tally.total > MOST_WEIGHT
+        {
+            return Err(ReserveRefused::Full);
+        }
+        self.pages.reserve(tally.pages.as_slice())?;
+        Ok(())
+    }
+
+    // Notes the entries in order: their names and labels wait, and the tally has the rest.
+    fn noted(&mut self, entries: &[Entry]) -> Result<Tally, NoMemory>
+        requires { self.old.waiting ≡ nothing }
+        ensures state { self.new.state ≡ self.old.state }
+        ensures pages { self.new.waiting.pages ≡ [] }
+        ensures noted { IfOk result (λ tally. Noted self.old.state (continued_all self.old.state entries.now) self.new.waiting tally) }
+    {
+        let mut tally = Tally {
+            limit: self.limit,
+            entries: self.entries,
+            total: self.total,
+            pages: Vec::new(self.alloc),
+        };
+        for entry in entries {
+            tally.note(self.alloc, &mut self.names, &mut self.modules, entry)?;
+        }
+        Ok(tally)
     }
 }

@@ -7,9 +7,10 @@ ghost use Rattle.ras_facts.specs.declared.name.Name.{Name};
 ghost use Rattle.ras_account.specs.declared.entry.Entry.{Entry};
 ghost use Rattle.ras_account.specs.Fresh.{names_in, same_name, is_fresh_behind, fresh};
 ghost use Rattle.ras_account.specs.Sightings.{sightings, label_of};
-ghost use Rattle.ras_account.specs.Account.{account_of, classes, module_count, weight_in};
-ghost use Rattle.ras_account.specs.Continued.{continued, continued_all};
+ghost use Rattle.ras_account.specs.Account.{State, account_of, classes, module_count, weight_in};
+ghost use Rattle.ras_account.specs.Continued.{continued, continued_all, IsWithin};
 ghost use Rattle.ras_account.specs.Orders.{orders_at, orders_behind};
+ghost use Rattle.ras_account.specs.View.{View, WaitsFirst, then_waits, added_by};
 
 /// The laws of the account of a list of entries. The function does nothing: its clauses are what it is for.
 pub fn account_laws()
@@ -38,4 +39,17 @@ pub fn account_laws()
 
     // Accounts that are equal stay equal, whatever follows.
     ensures equal { (one other more : List Entry) → account_of one ≡ account_of other → account_of (one ++ more) ≡ account_of (other ++ more) }
+{}
+
+/// The laws by which each entry of a list can be taken in turn once the list was reserved. The function does nothing: its
+/// clauses are what it is for.
+pub fn reserve_laws()
+    // What a list adds begins with what its first entry adds, and goes on with what the others then add.
+    ensures in_turn { (a : State) (entry : Entry) (entries : List Entry) → added_by a (entry ∷ entries) ≡ then_waits (added_by a (entry ∷ [])) (added_by (continued a entry) entries) }
+
+    // Where what a list adds waits, what its first entry adds waits first.
+    ensures first { (account : View) (entry : Entry) (entries : List Entry) → account.waiting ≡ added_by account.state (entry ∷ entries) → WaitsFirst (added_by account.state (entry ∷ [])) account.waiting }
+
+    // Where the account keeps within the limits with the whole list, it does with the first entry.
+    ensures within { (a : State) (entry : Entry) (entries : List Entry) → IsWithin (continued_all a (entry ∷ entries)) → IsWithin (continued a entry) }
 {}

@@ -10,9 +10,11 @@ mod laws;
 mod modules;
 mod names;
 mod orders;
+mod reserve;
 
-pub use account::Account;
+pub use account::{Account, MOST_ENTRIES, MOST_NAMES, MOST_WEIGHT};
 pub use entry::Entry;
-pub use laws::account_laws;
+pub use laws::{account_laws, reserve_laws};
 pub use modules::ModuleRow;
 pub use orders::Orders;
+pub use reserve::ReserveRefused;

@@ -8,6 +8,7 @@ ghost use Rattle.page_policy.specs.Places.{IsPlace};
 ghost use Rattle.ras_account.specs.Account.{weight_in, most_weight};
 ghost use Rattle.ras_account.specs.Continued.{sums_after};
 ghost use Rattle.ras_account.specs.Parts.{is_next_label, with_item, sums_before};
+ghost use Rattle.ras_account.specs.Reserving.{all_labels, with_label};
 
 use dimm_topology::Label;
 use indexmap::IndexMap;
@@ -31,7 +32,6 @@ pub struct ModuleRow {
 pub(crate) struct Modules {
     table: IndexMap<Label, ModuleRow>,
     held: usize,
-    alloc: Global,
 }
 
 impl Model for Modules {
@@ -58,7 +58,6 @@ impl Modules {
         Modules {
             table: IndexMap::new(alloc),
             held: 0,
-            alloc,
         }
     }
 
@@ -73,6 +72,45 @@ impl Modules {
         let sums = with_weight(known_sums(&self.table, self.held, place), item);
         self.table[place].sums = sums;
         self.held = self.held.max(place + 1);
+    }
+
+    // Lets no label wait any longer.
+    pub(crate) fn give_up(&mut self)
+        ensures rows { self.new.rows ≡ self.old.rows }
+        ensures waiting { self.new.waiting ≡ [] }
+    {
+        self.table.truncate(self.held);
+    }
+
+    // Lets a label wait that neither has a row nor waits yet.
+    pub(crate) fn let_wait(&mut self, alloc: Global, label: &Label) -> Result<(), NoMemory>
+        ensures rows { self.new.rows ≡ self.old.rows }
+        ensures ok { OnOk result (all_labels self.new ≡ with_label (all_labels self.old) label.now) }
+    {
+        if self.table.contains_key(label) {
+            return Ok(());
+        }
+        let row = ModuleRow {
+            label: label.copy(alloc)?,
+            sums: [0; 10],
+        };
+        self.table.insert(label.copy(alloc)?, row)?;
+        Ok(())
+    }
+
+    // How many modules have a row.
+    pub(crate) fn len(&self) -> usize
+        ensures { result ≡ length self.now.rows }
+    {
+        self.held
+    }
+
+    // The row at a place.
+    pub(crate) fn row(&self, i: usize) -> &ModuleRow
+        requires { i < length self.now.rows }
+        ensures { slice_get self.now.rows i ≡ Some (result.now.label, result.now.sums) }
+    {
+        &self.table[i]
     }
 }
 

@@ -59,6 +59,13 @@ impl Names {
         self.counted
     }
 
+    // How many names are counted or wait.
+    pub(crate) fn len_with_waiting(&self) -> usize
+        ensures { result ≡ length (self.now.held ++ self.now.waiting) }
+    {
+        self.all.len()
+    }
+
     // The counted name at a place.
     pub(crate) fn get(&self, i: usize) -> &Name
         requires { i < length self.now.held }
