@@ -11,6 +11,10 @@ IsBytes bytes = (i : ℕ) → get_or bytes i 0 < 256
 pub IsBytes-rest : (b : ℕ) (bytes : List ℕ) → IsBytes (b ∷ bytes) → IsBytes bytes
 IsBytes-rest b bytes h i = h (suc i)
 
+pub not_so : (test : Bool) → (test ≡ true → ⊥) → test ≡ false
+not_so true h = absurd (h refl)
+not_so false h = refl
+
 -- the value of a step that did not fail
 pub bind_ok : {A B : Type 0} (r : Result A EntryRefused) (f : A → Result B EntryRefused) (y : B) → (r >>= f) ≡ Ok y → (x : A) × (r ≡ Ok x) × (f x ≡ Ok y)
 bind_ok (Ok x) f y e = (x, refl, e)

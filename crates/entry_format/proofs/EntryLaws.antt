@@ -1,7 +1,8 @@
 -- An entry is read as it is spelled, put together from its fields.
-use Rattle.std.proofs.Common.{◌≡◌, ℕ, zero, suc, true, ◌^◌, ◌<◌, ◌≤◌, List, [], ◌∷◌, ◌++◌, length, Option, Result, Ok, Err, refl, sym, ap, subst, ◌∙◌, append_assoc, arith, inl, inr, ◌⊎◌, length-append}
+use Rattle.std.proofs.Common.{◌≡◌, ℕ, zero, suc, Bool, true, false, cond, eqb, ◌^◌, ◌<◌, ◌≤◌, List, [], ◌∷◌, ◌++◌, length, Option, Result, Ok, Err, refl, sym, ap, subst, ◌∙◌, append_assoc, arith, inl, inr, ◌⊎◌, length-append}
 use Rattle.std.specs.Prelude.{IfSome}
 use Rattle.std.specs.List.{flat_map, AllByRecursion}
+use Rattle.std.proofs.lemmas.Bool.{eqb-true}
 use Rattle.std.proofs.lemmas.List.Elements.{All-from_recursion, recursion_from_All}
 use Rattle.ras_base.specs.LittleEndian.{u16_bytes, u64_bytes}
 use Rattle.mca_status.specs.Classes.{class_number}
@@ -11,15 +12,20 @@ use Rattle.ras_facts.specs.declared.name.Name.{Name}
 use Rattle.ras_facts.specs.declared.name.Name.TheVariants.{Bank}
 use Rattle.ras_facts.specs.declared.items.Item.{Item}
 use Rattle.ras_facts.specs.declared.fact.Fact.{Fact}
-use Rattle.ras_facts.specs.Valid.{IsValidItem, IsValidName}
+use Rattle.ras_facts.specs.Valid.{IsValidItem, IsValidName, IsValidFact}
+use Rattle.page_policy.specs.declared.buckets.Limit.{Limit}
+use Rattle.page_policy.specs.Buckets.{IsLimit}
+use Rattle.ras_account.specs.declared.entry.Entry.{Entry}
+use Rattle.ras_account.specs.declared.entry.Entry.TheVariants as entry
 use Rattle.entry_format.specs.declared.refused.EntryRefused.{EntryRefused}
 use Rattle.entry_format.specs.declared.refused.EntryRefused.TheVariants.{Cut, Bad}
 use Rattle.entry_format.specs.Writable.{HasLabel, IsWritable}
-use Rattle.entry_format.specs.Spelling.{name_bytes, label_bytes, page_bytes, item_bytes, fact_bytes, entry_bytes}
-use Rattle.entry_format.specs.Reading.{◌>>=◌, both_at, seen_at, marked_at, u16_at, u64_at, byte_at, name_at, class_at, label_at, page_at, weight_at, item_at, items_at, list_at, fact_at, entry_at}
-use Rattle.entry_format.proofs.Codec.{IsBytes, bind_ok, bind_err, ok_is, given, Takes, Takes-then, CutOf, Reads, ok_more, like_read, both_read, seen_read, marked_read}
+use Rattle.entry_format.specs.Spelling.{name_bytes, label_bytes, page_bytes, item_bytes, fact_bytes, limit_bytes, entry_bytes}
+use Rattle.entry_format.specs.Reading.{◌>>=◌, both_at, seen_at, marked_at, u16_at, u64_at, byte_at, name_at, class_at, label_at, page_at, weight_at, item_at, items_at, list_at, fact_at, limit_at, kind_at, entry_at}
+use Rattle.entry_format.proofs.Codec.{IsBytes, IsBytes-rest, bind_ok, bind_err, ok_is, given, Takes, Takes-then, CutOf, Reads, ok_more, like_read, both_read, seen_read, marked_read}
 use Rattle.entry_format.proofs.FieldLaws.{u16_read, u64_read, byte_read, class_read, page_read, weight_read}
 use Rattle.entry_format.proofs.LabelLaws.{label_read}
+use Rattle.entry_format.proofs.LimitLaws.{limit_read}
 
 -- ---- a name
 
@@ -328,7 +334,11 @@ joined : (items : List Item) → AllByRecursion IsValidItem items → AllByRecur
 joined [] v w = tt
 joined (item ∷ items) v w = ((v.0, w.0), joined items v.1 w.1)
 
-writable_from : (fact : Fact) → AreFactFields (fact_fields fact) → IsWritable fact
+-- a valid fact with labels
+abbrev IsWritableFact : Fact → Type 0
+IsWritableFact fact = IsWritable (entry.Fact fact)
+
+writable_from : (fact : Fact) → AreFactFields (fact_fields fact) → IsWritableFact fact
 writable_from fact v =
     let items = apart fact.items v.1.1.1 in
     record {
@@ -336,24 +346,131 @@ writable_from fact v =
       labels = All-from_recursion HasLabel fact.items items.1;
     }
 
-fields_from : (fact : Fact) → IsWritable fact → AreFactFields (fact_fields fact)
+fields_from : (fact : Fact) → IsWritableFact fact → AreFactFields (fact_fields fact)
 fields_from fact w =
-    let v = w.valid in
+    let v : IsValidFact fact = w.valid in
     (v.name, (v.seconds, (v.count, joined fact.items (recursion_from_All IsValidItem fact.items v.items) (recursion_from_All HasLabel fact.items w.labels))))
 
-fact_read : Reads fact_at fact_bytes IsWritable
+fact_read : Reads fact_at fact_bytes IsWritableFact
 unfolding fact_at
 fact_read =
     let fields = both_at name_at (both_at u64_at list_at) in
     let seen = seen_read fact_of fact_fields (λ p. refl) (λ fact. refl) fields fact_fields_bytes AreFactFields fact_fields_read in
-    like_read fact_at (λ fact. fact_fields_bytes (fact_fields fact)) fact_bytes (λ fact. AreFactFields (fact_fields fact)) IsWritable seen writable_from fields_from fact_spelled
+    like_read fact_at (λ fact. fact_fields_bytes (fact_fields fact)) fact_bytes (λ fact. AreFactFields (fact_fields fact)) IsWritableFact seen writable_from fields_from fact_spelled
 
 -- ---- an entry
 
-pub entry_read : Reads entry_at entry_bytes IsWritable
-unfolding entry_at entry_bytes
-entry_read = marked_read 1 fact_at fact_bytes IsWritable fact_read
+abbrev as_fact : Result (Fact × List ℕ) EntryRefused → Result (Entry × List ℕ) EntryRefused
+as_fact read = read >>= λ u. given (entry.Fact u.0) u.1
 
-pub entry_not_empty : (fact : Fact) → 0 < length (entry_bytes fact)
+abbrev as_limit : Result (Limit × List ℕ) EntryRefused → Result (Entry × List ℕ) EntryRefused
+as_limit read = read >>= λ u. given (entry.Limit u.0) u.1
+
+fact_failed : (read : Result (Fact × List ℕ) EntryRefused) (d : EntryRefused) → as_fact read ≡ Err d → read ≡ Err d
+fact_failed (Ok u) d e = absurd cc
+fact_failed (Err c) d e = cc
+
+limit_failed : (read : Result (Limit × List ℕ) EntryRefused) (d : EntryRefused) → as_limit read ≡ Err d → read ≡ Err d
+limit_failed (Ok u) d e = absurd cc
+limit_failed (Err c) d e = cc
+
+-- what is read behind a kind, of which was found out whether it is 1 and whether it is 2
+abbrev read_kind : Bool → Bool → Result (Fact × List ℕ) EntryRefused → Result (Limit × List ℕ) EntryRefused → Result (Entry × List ℕ) EntryRefused
+read_kind one two fact limit = cond one (as_fact fact) (cond two (as_limit limit) (Err Bad))
+
+kind_ok : (one two : Bool) (fact : Result (Fact × List ℕ) EntryRefused) (limit : Result (Limit × List ℕ) EntryRefused) (y : Entry × List ℕ) → read_kind one two fact limit ≡ Ok y
+    → ((one ≡ true) × (as_fact fact ≡ Ok y)) ⊎ ((two ≡ true) × (as_limit limit ≡ Ok y))
+kind_ok true two fact limit y e = inl (refl, e)
+kind_ok false true fact limit y e = inr (refl, e)
+kind_ok false false fact limit y e = absurd cc
+
+kind_cut : (one two : Bool) (fact : Result (Fact × List ℕ) EntryRefused) (limit : Result (Limit × List ℕ) EntryRefused) → read_kind one two fact limit ≡ Err Cut
+    → ((one ≡ true) × (as_fact fact ≡ Err Cut)) ⊎ ((two ≡ true) × (as_limit limit ≡ Err Cut))
+kind_cut true two fact limit e = inl (refl, e)
+kind_cut false true fact limit e = inr (refl, e)
+kind_cut false false fact limit e = absurd cc
+
+kind_bad : (one two : Bool) (fact fact_more : Result (Fact × List ℕ) EntryRefused) (limit limit_more : Result (Limit × List ℕ) EntryRefused)
+    → (fact ≡ Err Bad → fact_more ≡ Err Bad) → (limit ≡ Err Bad → limit_more ≡ Err Bad) → read_kind one two fact limit ≡ Err Bad → read_kind one two fact_more limit_more ≡ Err Bad
+kind_bad true two fact fact_more limit limit_more go also e = rw (go (fact_failed fact Bad e)) refl
+kind_bad false true fact fact_more limit limit_more go also e = rw (also (limit_failed limit Bad e)) refl
+kind_bad false false fact fact_more limit limit_more go also e = refl
+
+-- what was taken behind a kind, with the kind
+with_kind : (kind mark : ℕ) (bytes text rest : List ℕ) → kind ≡ mark → Takes bytes text rest → Takes (kind ∷ bytes) (mark ∷ text) rest
+with_kind kind mark bytes text rest same t = record { parts = ap (λ (w : List ℕ). kind ∷ w) t.parts ∙ ap (λ (k : ℕ). k ∷ (text ++ rest)) same; rest_fits = t.rest_fits }
+
+limit_writable : (limit : Limit) → IsLimit limit → IsWritable (entry.Limit limit)
+limit_writable limit v = record { valid = v; labels = All-from_recursion HasLabel [] tt }
+
+entry_takes : (bytes : List ℕ) (x : Entry) (rest : List ℕ) → IsBytes bytes → entry_at bytes ≡ Ok (x, rest) → Takes bytes (entry_bytes x) rest × IsWritable x
+unfolding entry_at byte_at kind_at entry_bytes
+entry_takes [] x rest fits e = absurd cc
+entry_takes (kind ∷ bytes) x rest fits e =
+    elim (kind_ok (eqb kind 1) (eqb kind 2) (fact_at bytes) (limit_at bytes) (x, rest) e) [
+      | inl h ↦
+      let p = bind_ok (fact_at bytes) (λ u. given (entry.Fact u.0) u.1) (x, rest) h.1 in
+      let t = fact_read.takes bytes p.0.0 p.0.1 (IsBytes-rest kind bytes fits) p.1 in
+      let made : Entry × List ℕ = (entry.Fact p.0.0, p.0.1) in
+      let took = with_kind kind 1 bytes (fact_bytes p.0.0) p.0.1 (eqb-true kind 1 h.0) t.0 in
+      subst (λ (y : Entry × List ℕ). Takes (kind ∷ bytes) (entry_bytes y.0) y.1 × IsWritable y.0) (ok_is made (x, rest) p.2) (took, t.1)
+      | inr h ↦
+      let p = bind_ok (limit_at bytes) (λ u. given (entry.Limit u.0) u.1) (x, rest) h.1 in
+      let t = limit_read.takes bytes p.0.0 p.0.1 (IsBytes-rest kind bytes fits) p.1 in
+      let made : Entry × List ℕ = (entry.Limit p.0.0, p.0.1) in
+      let took = with_kind kind 2 bytes (limit_bytes p.0.0) p.0.1 (eqb-true kind 2 h.0) t.0 in
+      subst (λ (y : Entry × List ℕ). Takes (kind ∷ bytes) (entry_bytes y.0) y.1 × IsWritable y.0) (ok_is made (x, rest) p.2) (took, limit_writable p.0.0 t.1)
+    ]
+
+entry_again : (x : Entry) (rest : List ℕ) → IsWritable x → entry_at (entry_bytes x ++ rest) ≡ Ok (x, rest)
+unfolding entry_at byte_at kind_at entry_bytes
+entry_again (entry.Fact fact) rest v = rw (fact_read.again fact rest v) refl
+entry_again (entry.Limit limit) rest v = rw (limit_read.again limit rest v.valid) refl
+
+entry_cut : (bytes : List ℕ) → IsBytes bytes → entry_at bytes ≡ Err Cut → CutOf entry_bytes IsWritable bytes
+unfolding entry_at byte_at kind_at entry_bytes
+entry_cut [] fits e = record { value = entry.Fact fact_read.some; valid = fact_read.some_valid; missing = entry_bytes (entry.Fact fact_read.some); more = omega arith; whole = refl }
+entry_cut (kind ∷ bytes) fits e =
+    elim (kind_cut (eqb kind 1) (eqb kind 2) (fact_at bytes) (limit_at bytes) e) [
+      | inl h ↦
+      let c = fact_read.cut bytes (IsBytes-rest kind bytes fits) (fact_failed (fact_at bytes) Cut h.1) in
+      record {
+        value = entry.Fact c.value;
+        valid = c.valid;
+        missing = c.missing;
+        more = c.more;
+        whole = ap (λ (w : List ℕ). kind ∷ w) c.whole ∙ ap (λ (k : ℕ). k ∷ fact_bytes c.value) (eqb-true kind 1 h.0);
+      }
+      | inr h ↦
+      let c = limit_read.cut bytes (IsBytes-rest kind bytes fits) (limit_failed (limit_at bytes) Cut h.1) in
+      record {
+        value = entry.Limit c.value;
+        valid = limit_writable c.value c.valid;
+        missing = c.missing;
+        more = c.more;
+        whole = ap (λ (w : List ℕ). kind ∷ w) c.whole ∙ ap (λ (k : ℕ). k ∷ limit_bytes c.value) (eqb-true kind 2 h.0);
+      }
+    ]
+
+entry_bad : (bytes more : List ℕ) → IsBytes bytes → entry_at bytes ≡ Err Bad → entry_at (bytes ++ more) ≡ Err Bad
+unfolding entry_at byte_at kind_at
+entry_bad [] more fits e = absurd cc
+entry_bad (kind ∷ bytes) more fits e =
+    let rest_fits = IsBytes-rest kind bytes fits in
+    kind_bad (eqb kind 1) (eqb kind 2) (fact_at bytes) (fact_at (bytes ++ more)) (limit_at bytes) (limit_at (bytes ++ more))
+    (fact_read.bad bytes more rest_fits) (limit_read.bad bytes more rest_fits) e
+
+pub entry_read : Reads entry_at entry_bytes IsWritable
+entry_read = record {
+  takes = entry_takes;
+  again = entry_again;
+  cut = entry_cut;
+  bad = entry_bad;
+  some = entry.Fact fact_read.some;
+  some_valid = fact_read.some_valid;
+}
+
+pub entry_not_empty : (x : Entry) → 0 < length (entry_bytes x)
 unfolding entry_bytes
-entry_not_empty fact = omega arith
+entry_not_empty (entry.Fact fact) = omega arith
+entry_not_empty (entry.Limit limit) = omega arith

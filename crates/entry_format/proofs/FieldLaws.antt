@@ -26,21 +26,21 @@ IsBytes-take n bytes h i =
       | inr le ↦ rw (get_or_past (take n bytes) i 0 (omega (arith, length-take n bytes))) (omega arith)
     ]
 
-IsBytes-append : (xs ys : List ℕ) → IsBytes xs → IsBytes ys → IsBytes (xs ++ ys)
+pub IsBytes-append : (xs ys : List ℕ) → IsBytes xs → IsBytes ys → IsBytes (xs ++ ys)
 IsBytes-append xs ys f g i =
     elim (cases_lt i (length xs)) [
       | inl lt ↦ rw (get_or_append_left xs ys 0 i lt) (f i)
       | inr le ↦ rw (get_or-append_right xs ys (length xs) i 0 refl le) (g (i - length xs))
     ]
 
-abbrev zero_bytes : ℕ → List ℕ
+abbrev pub zero_bytes : ℕ → List ℕ
 zero_bytes n = replicate n 0
 
 -- bytes with zeros behind them up to a length
-abbrev padded : ℕ → List ℕ → List ℕ
+abbrev pub padded : ℕ → List ℕ → List ℕ
 padded n bytes = bytes ++ zero_bytes (n - length bytes)
 
-length-zeros : (n : ℕ) → length (zero_bytes n) ≡ n
+pub length-zeros : (n : ℕ) → length (zero_bytes n) ≡ n
 length-zeros n = length-replicate n zero
 
 zeros : (n i : ℕ) → get_or (zero_bytes n) i 0 ≡ 0
@@ -50,13 +50,16 @@ zeros n i =
       | inr le ↦ get_or_past (zero_bytes n) i 0 (omega (arith, length-zeros n))
     ]
 
-IsBytes-padded : (n : ℕ) (bytes : List ℕ) → IsBytes bytes → IsBytes (padded n bytes)
-IsBytes-padded n bytes fits = IsBytes-append bytes (zero_bytes (n - length bytes)) fits (λ i. rw (zeros (n - length bytes) i) (omega arith))
+pub zeros_fit : (n : ℕ) → IsBytes (zero_bytes n)
+zeros_fit n i = rw (zeros n i) (omega arith)
 
-length-padded : (n : ℕ) (bytes : List ℕ) → length bytes < n → length (padded n bytes) ≡ n
+pub IsBytes-padded : (n : ℕ) (bytes : List ℕ) → IsBytes bytes → IsBytes (padded n bytes)
+IsBytes-padded n bytes fits = IsBytes-append bytes (zero_bytes (n - length bytes)) fits (zeros_fit (n - length bytes))
+
+pub length-padded : (n : ℕ) (bytes : List ℕ) → length bytes < n → length (padded n bytes) ≡ n
 length-padded n bytes lt = omega (arith, length-append bytes (zero_bytes (n - length bytes)), length-zeros (n - length bytes))
 
-one_fits : IsBytes (1 ∷ [])
+pub one_fits : IsBytes (1 ∷ [])
 one_fits zero = omega arith
 one_fits (suc i) = omega arith
 
@@ -69,7 +72,7 @@ ok x = Ok x
 
 -- ---- numbers
 
-record IsWide (w : Width) (limit : ℕ) : Type 0 where
+pub record IsWide (w : Width) (limit : ℕ) : Type 0 where
   pub len : (n : ℕ) → length (to_le_bytes w n) ≡ byte_len w
   pub back : (bytes : List ℕ) → length bytes ≡ byte_len w → IsBytes bytes → to_le_bytes w (from_le_bytes w bytes) ≡ bytes
   pub again : (n : ℕ) → n < limit → from_le_bytes w (to_le_bytes w n) ≡ n
@@ -85,7 +88,7 @@ wide16 = record {
   some = omega arith;
 }
 
-wide64 : IsWide w64 (2 ^ 64)
+pub wide64 : IsWide w64 (2 ^ 64)
 wide64 = record {
   len = λ n. refl;
   back = λ bytes len fits. le_bytes_8 bytes _ len fits refl;
@@ -121,7 +124,7 @@ number_again w limit wide n rest lt =
     let long : ltb (length (to_le_bytes w n ++ rest)) (byte_len w) ≡ false = le-ltb _ _ (omega (arith, length-append (to_le_bytes w n) rest)) in
     rw (long, take_at (to_le_bytes w n) rest (byte_len w) len, drop_at (to_le_bytes w n) rest (byte_len w) len, wide.again n lt) refl
 
-number_short : (w : Width) (bytes : List ℕ) → number_at w bytes ≡ Err Cut → length bytes < byte_len w
+pub number_short : (w : Width) (bytes : List ℕ) → number_at w bytes ≡ Err Cut → length bytes < byte_len w
 number_short w bytes e = ltb-true _ _ (short_cut (ltb (length bytes) (byte_len w)) (from_le_bytes w (take (byte_len w) bytes), drop (byte_len w) bytes) e)
 
 -- the rest of the zeros are what is missing
@@ -341,15 +344,15 @@ is_page page = ltb page (2 ^ 52)
 abbrev is_beyond : List ℕ → Bool
 is_beyond bytes = ltb 6 (length bytes) && leb 16 (get_or bytes 6 0)
 
-guarded_ok : {A : Type 0} (test : Bool) (r : Result A EntryRefused) (x : A) → cond test (Err Bad) r ≡ Ok x → (test ≡ false) × (r ≡ Ok x)
+pub guarded_ok : {A : Type 0} (test : Bool) (r : Result A EntryRefused) (x : A) → cond test (Err Bad) r ≡ Ok x → (test ≡ false) × (r ≡ Ok x)
 guarded_ok true r x e = absurd cc
 guarded_ok false r x e = (refl, e)
 
-guarded_cut : {A : Type 0} (test : Bool) (r : Result A EntryRefused) → cond test (Err Bad) r ≡ Err Cut → (test ≡ false) × (r ≡ Err Cut)
+pub guarded_cut : {A : Type 0} (test : Bool) (r : Result A EntryRefused) → cond test (Err Bad) r ≡ Err Cut → (test ≡ false) × (r ≡ Err Cut)
 guarded_cut true r e = absurd cc
 guarded_cut false r e = (refl, e)
 
-guarded_bad : {A : Type 0} (test : Bool) (r : Result A EntryRefused) → cond test (Err Bad) r ≡ Err Bad → (test ≡ true) ⊎ ((test ≡ false) × (r ≡ Err Bad))
+pub guarded_bad : {A : Type 0} (test : Bool) (r : Result A EntryRefused) → cond test (Err Bad) r ≡ Err Bad → (test ≡ true) ⊎ ((test ≡ false) × (r ≡ Err Bad))
 guarded_bad true r e = inl refl
 guarded_bad false r e = inr (refl, e)
 
@@ -375,7 +378,7 @@ page_number_again n rest lt =
 page_below : (bytes : List ℕ) → IsBytes bytes → get_or bytes 6 0 < 16 → get_or bytes 7 0 ≡ 0 → from_le_bytes w64 bytes < 2 ^ 52
 page_below bytes fits six seven = omega (arith, fits 0, fits 1, fits 2, fits 3, fits 4, fits 5)
 
-padded_after : (n i : ℕ) (bytes : List ℕ) → length bytes ≤ i → get_or (padded n bytes) i 0 ≡ 0
+pub padded_after : (n i : ℕ) (bytes : List ℕ) → length bytes ≤ i → get_or (padded n bytes) i 0 ≡ 0
 padded_after n i bytes le = get_or-append_right bytes (zero_bytes (n - length bytes)) (length bytes) i 0 refl le ∙ zeros (n - length bytes) (i - length bytes)
 
 padded_six : (n : ℕ) (bytes : List ℕ) → is_beyond bytes ≡ false → get_or (padded n bytes) 6 0 < 16
@@ -416,7 +419,7 @@ long_enough bytes u e =
     let long : byte_len w64 ≤ length bytes = ltb-false _ _ g.0 in
     omega arith
 
-u64_not_bad : (bytes : List ℕ) → u64_at bytes ≡ Err Bad → ⊥
+pub u64_not_bad : (bytes : List ℕ) → u64_at bytes ≡ Err Bad → ⊥
 unfolding u64_at
 u64_not_bad bytes e = short_not_bad (ltb (length bytes) (byte_len w64)) (from_le_bytes w64 (take (byte_len w64) bytes), drop (byte_len w64) bytes) e
 

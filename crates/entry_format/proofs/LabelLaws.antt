@@ -12,7 +12,7 @@ use Rattle.entry_format.specs.declared.refused.EntryRefused.{EntryRefused}
 use Rattle.entry_format.specs.declared.refused.EntryRefused.TheVariants.{Cut, Bad}
 use Rattle.entry_format.specs.Spelling.{label_bytes}
 use Rattle.entry_format.specs.Reading.{byte_at, text_at, sized_at, label_at}
-use Rattle.entry_format.proofs.Codec.{IsBytes, IsBytes-rest, ok_is, Takes, CutOf, Reads}
+use Rattle.entry_format.proofs.Codec.{IsBytes, IsBytes-rest, not_so, ok_is, Takes, CutOf, Reads}
 use Rattle.entry_format.proofs.FieldLaws.{IsBytes-drop}
 
 abbrev dash : List ℕ
@@ -138,10 +138,6 @@ text_again n label rest v =
     let len = v.1 in
     let long : ltb (length (label ++ rest)) n ≡ false = le-ltb _ _ (omega (arith, len, length-append label rest)) in
     rw (long, take_at label rest n len, drop_at label rest n len, v.0) refl
-
-not_so : (test : Bool) → (test ≡ true → ⊥) → test ≡ false
-not_so true h = absurd (h refl)
-not_so false h = refl
 
 second_too : (a b c : Bool) → (b ≡ false → c ≡ false) → (a && b) ≡ false → (a && c) ≡ false
 second_too true b c h e = h e

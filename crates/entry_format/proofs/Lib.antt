@@ -1,8 +1,10 @@
 pub mod Codec
 pub mod FieldLaws
 pub mod LabelLaws
+pub mod LimitLaws
 pub mod EntryLaws
 pub mod FrontLaws
 pub mod FileLaws
 pub mod SizeLaws
+pub mod WritingLaws
 pub mod Loop

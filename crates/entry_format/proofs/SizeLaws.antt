@@ -8,8 +8,10 @@ use Rattle.ras_facts.specs.declared.name.Name.{Name}
 use Rattle.ras_facts.specs.declared.name.Name.TheVariants.{Bank}
 use Rattle.ras_facts.specs.declared.items.Item.{Item}
 use Rattle.ras_facts.specs.declared.fact.Fact.{Fact}
+use Rattle.page_policy.specs.declared.buckets.Limit.{Limit}
+use Rattle.ras_account.specs.declared.entry.Entry.TheVariants as entry
 use Rattle.entry_format.specs.Writable.{HasLabel, IsWritable}
-use Rattle.entry_format.specs.Spelling.{name_bytes, label_bytes, page_bytes, item_bytes, fact_bytes, entry_bytes}
+use Rattle.entry_format.specs.Spelling.{name_bytes, label_bytes, page_bytes, item_bytes, fact_bytes, limit_bytes, entry_bytes}
 use Rattle.entry_format.proofs.LabelLaws.{label_short}
 
 name_size : (name : Name) → length (name_bytes name) ≡ 20
@@ -25,7 +27,7 @@ item_size : (item : Item) → length (item_bytes item) ≡ length (page_bytes it
 unfolding item_bytes label_bytes
 item_size item = simp (length-append, length-u16_bytes) (omega arith)
 
-entry_size : (fact : Fact) (item : Item) → fact.items ≡ item ∷ [] → length (entry_bytes fact) ≡ length (page_bytes item.page) + length item.label + 35
+entry_size : (fact : Fact) (item : Item) → fact.items ≡ item ∷ [] → length (entry_bytes (entry.Fact fact)) ≡ length (page_bytes item.page) + length item.label + 35
 unfolding entry_bytes fact_bytes
 entry_size fact item one =
     let name = name_bytes fact.name in
@@ -51,19 +53,23 @@ at_page : (page : Option ℕ) (label n : ℕ) → IsPageSize page → n ≡ leng
 at_page None label n h e = omega (arith, h, e)
 at_page (Some page) label n h e = omega (arith, h, e)
 
-pub one_item_size : (fact : Fact) (item : Item) → fact.items ≡ item ∷ [] → MatchOption item.page (length (entry_bytes fact) ≡ 36 + length item.label) (λ _. length (entry_bytes fact) ≡ 44 + length item.label)
-one_item_size fact item one = at_page item.page (length item.label) (length (entry_bytes fact)) (page_size item.page) (entry_size fact item one)
+pub one_item_size : (fact : Fact) (item : Item) → fact.items ≡ item ∷ [] → MatchOption item.page (length (entry_bytes (entry.Fact fact)) ≡ 36 + length item.label) (λ _. length (entry_bytes (entry.Fact fact)) ≡ 44 + length item.label)
+one_item_size fact item one = at_page item.page (length item.label) (length (entry_bytes (entry.Fact fact))) (page_size item.page) (entry_size fact item one)
 
 page_most : (page : Option ℕ) → IsPageSize page → length (page_bytes page) ≤ 9
 page_most None h = omega (arith, h)
 page_most (Some page) h = omega (arith, h)
 
 -- the label of the one item
-only_label : (fact : Fact) (item : Item) → fact.items ≡ item ∷ [] → IsWritable fact → length item.label ≤ 32
+only_label : (fact : Fact) (item : Item) → fact.items ≡ item ∷ [] → IsWritable (entry.Fact fact) → length item.label ≤ 32
 only_label fact item one writable =
     let labels = subst (λ (items : List Item). AllByRecursion HasLabel items) one (recursion_from_All HasLabel fact.items writable.labels) in
     label_short item.label labels.0
 
-pub one_item_most : (fact : Fact) (item : Item) → IsWritable fact → fact.items ≡ item ∷ [] → length (entry_bytes fact) ≤ 76
+pub one_item_most : (fact : Fact) (item : Item) → IsWritable (entry.Fact fact) → fact.items ≡ item ∷ [] → length (entry_bytes (entry.Fact fact)) ≤ 76
 one_item_most fact item writable one =
     omega (arith, entry_size fact item one, page_most item.page (page_size item.page), only_label fact item one writable)
+
+pub limit_size : (limit : Limit) → length (entry_bytes (entry.Limit limit)) ≡ 17
+unfolding entry_bytes limit_bytes
+limit_size limit = omega (arith, length-append (u64_bytes limit.capacity) (u64_bytes limit.period), length-u64_bytes limit.capacity, length-u64_bytes limit.period)

@@ -1,24 +1,24 @@
 -- What the bytes of a whole file are.
 use Rattle.std.specs.Prelude.{◌≡◌, ℕ, ◌<◌, List, ◌++◌, length, All}
-use Rattle.ras_facts.specs.declared.fact.Fact.{Fact}
+use Rattle.ras_account.specs.declared.entry.Entry.{Entry}
 use Rattle.entry_format.specs.Writable.{IsWritable}
 use Rattle.entry_format.specs.declared.refused.EntriesRefused.{EntriesRefused}
 use Rattle.entry_format.specs.declared.refused.EntriesRefused.TheVariants.{Bad, NoMemory}
 use Rattle.entry_format.specs.Spelling.{entries_bytes}
 use Rattle.entry_format.specs.Front.{HasNoEntry}
 
--- the bytes are the entries of these facts, which are valid
-pub record AreEntriesOf (facts : List Fact) (bytes : List ℕ) : Type 0 where
-  pub valid : All IsWritable facts
-  pub spelled : bytes ≡ entries_bytes facts
+-- the bytes are the spelling of these entries, which are writable
+pub record AreEntriesOf (entries : List Entry) (bytes : List ℕ) : Type 0 where
+  pub valid : All IsWritable entries
+  pub spelled : bytes ≡ entries_bytes entries
 
--- up to this place the bytes are entries of valid facts, and from there on there are bytes that begin with none
+-- up to this place the bytes spell writable entries, and from there on there are bytes that begin with none
 pub record BreaksOffAt (bytes : List ℕ) (place : ℕ) : Type 0 where
-  pub facts : List Fact
-  pub valid : All IsWritable facts
+  pub entries : List Entry
+  pub valid : All IsWritable entries
   pub rest : List ℕ
-  pub spelled : bytes ≡ entries_bytes facts ++ rest
-  pub place_is : place ≡ length (entries_bytes facts)
+  pub spelled : bytes ≡ entries_bytes entries ++ rest
+  pub place_is : place ≡ length (entries_bytes entries)
   pub more : 0 < length rest
   pub none : HasNoEntry rest
 

@@ -1,5 +1,5 @@
 -- Reading fields from left to right. It only carries proofs: what may be read is said in Front and Spelling.
-use Rattle.std.specs.Prelude.{◌≡◌, ℕ, zero, suc, List, [], ◌∷◌, length, take, drop, slice_index, Option, Some, None, Result, Ok, Err, Bool, nat_lt, nat_le, ◌==◌, ◌&&◌, ◌^◌, if◌then◌else◌}
+use Rattle.std.specs.Prelude.{◌≡◌, ℕ, zero, suc, List, [], ◌∷◌, length, take, drop, slice_index, Option, Some, None, Result, Ok, Err, Bool, nat_lt, nat_le, not, ◌==◌, ◌&&◌, ◌^◌, if◌then◌else◌}
 use Rattle.std.specs.Int.{Width, w16, w64, byte_len, from_le_bytes}
 use Rattle.std.specs.List.{find, list_all}
 use Rattle.mca_status.specs.Classes.{class_number}
@@ -10,6 +10,9 @@ use Rattle.ras_facts.specs.declared.name.Name.{Name}
 use Rattle.ras_facts.specs.declared.name.Name.TheVariants.{Bank}
 use Rattle.ras_facts.specs.declared.items.Item.{Item}
 use Rattle.ras_facts.specs.declared.fact.Fact.{Fact}
+use Rattle.page_policy.specs.declared.buckets.Limit.{Limit}
+use Rattle.ras_account.specs.declared.entry.Entry.{Entry}
+use Rattle.ras_account.specs.declared.entry.Entry.TheVariants as entry
 use Rattle.entry_format.specs.declared.refused.EntryRefused.{EntryRefused}
 use Rattle.entry_format.specs.declared.refused.EntryRefused.TheVariants.{Cut, Bad, NoMemory}
 
@@ -155,5 +158,28 @@ list_at bytes = do
 unfoldable pub fact_at : Reader Fact
 fact_at = seen_at (λ p. record { name = p.0; seconds = p.1.0; items = p.1.1 }) (both_at name_at (both_at u64_at list_at))
 
-unfoldable pub entry_at : Reader Fact
-entry_at = marked_at 1 fact_at
+-- whether a number is from 1 to a most
+abbrev pub is_from_one_to : ℕ → ℕ → Bool
+is_from_one_to most number = nat_le 1 number && nat_le number most
+
+-- whether there are enough bytes to tell that the number that they begin is out of the range
+abbrev pub is_out_of_range : ℕ → List ℕ → Bool
+is_out_of_range most bytes = nat_lt 2 (length bytes) && not (is_from_one_to most (from_le_bytes w64 bytes))
+
+-- a number of 8 bytes from 1 to a most below 2 ^ 24
+unfoldable pub ranged_at : ℕ → Reader ℕ
+ranged_at most bytes = if is_out_of_range most bytes then Err Bad else u64_at bytes
+
+-- a limit
+unfoldable pub limit_at : Reader Limit
+limit_at = seen_at (λ p. record { capacity = p.0; period = p.1 }) (both_at (ranged_at 1000000) (ranged_at 10000000))
+
+-- what stands behind a kind
+unfoldable pub kind_at : ℕ → Reader Entry
+kind_at kind bytes =
+    if kind == 1 then seen_at entry.Fact fact_at bytes else if kind == 2 then seen_at entry.Limit limit_at bytes else Err Bad
+
+unfoldable pub entry_at : Reader Entry
+entry_at bytes = do
+  kind ← byte_at bytes
+  kind_at kind.0 kind.1

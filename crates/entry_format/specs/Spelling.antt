@@ -1,4 +1,4 @@
--- How facts are spelled as the entries of a file. Each number of several bytes stands from its low byte on.
+-- How entries are spelled in a file. Each number of several bytes stands from its low byte on.
 use Rattle.std.specs.Prelude.{ℕ, List, [], ◌∷◌, ◌++◌, length, Option, None, Some}
 use Rattle.std.specs.List.{flat_map}
 use Rattle.ras_base.specs.LittleEndian.{u16_bytes, u64_bytes}
@@ -8,6 +8,9 @@ use Rattle.ras_facts.specs.declared.name.Name.{Name}
 use Rattle.ras_facts.specs.declared.name.Name.TheVariants.{Bank}
 use Rattle.ras_facts.specs.declared.items.Item.{Item}
 use Rattle.ras_facts.specs.declared.fact.Fact.{Fact}
+use Rattle.page_policy.specs.declared.buckets.Limit.{Limit}
+use Rattle.ras_account.specs.declared.entry.Entry.{Entry}
+use Rattle.ras_account.specs.declared.entry.Entry.TheVariants as entry
 
 -- the name of a bank's report: the kind 1, the boot (8 bytes), the processor (2), the bank (1) and the time-stamp
 -- counter (8)
@@ -32,10 +35,15 @@ unfoldable pub fact_bytes : Fact → List ℕ
 fact_bytes fact =
     name_bytes fact.name ++ u64_bytes fact.seconds ++ u16_bytes (length fact.items) ++ flat_map item_bytes fact.items
 
--- an entry: the kind 1, and a fact
-unfoldable pub entry_bytes : Fact → List ℕ
-entry_bytes fact = 1 ∷ fact_bytes fact
+-- a limit: its capacity (8), and its period in seconds (8)
+unfoldable pub limit_bytes : Limit → List ℕ
+limit_bytes limit = u64_bytes limit.capacity ++ u64_bytes limit.period
+
+-- an entry: the kind 1 and a fact, or the kind 2 and a limit
+unfoldable pub entry_bytes : Entry → List ℕ
+entry_bytes (entry.Fact fact) = 1 ∷ fact_bytes fact
+entry_bytes (entry.Limit limit) = 2 ∷ limit_bytes limit
 
 -- the entries of a whole file, one behind the other
-abbrev pub entries_bytes : List Fact → List ℕ
-entries_bytes facts = flat_map entry_bytes facts
+abbrev pub entries_bytes : List Entry → List ℕ
+entries_bytes entries = flat_map entry_bytes entries

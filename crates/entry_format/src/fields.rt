@@ -3,22 +3,17 @@
 // Each function reads one at the front of the bytes, and gives the bytes behind it too. It answers `Cut` where the
 // bytes begin a good field and end before it does, and `Bad` where no good field begins with them.
 ghost use Rattle.std.specs.Prelude.{◌≡◌};
-ghost use Rattle.entry_format.specs.Reading.{Gives, u16_at, u64_at, byte_at, behind, name_at, class_of, class_at, page_number_at, page_at, weight_at, text_at, sized_at, label_at, item_at};
-ghost use Rattle.std.specs.List.{list_all};
-ghost use Rattle.dimm_topology.specs.Labels.{is_label_byte};
+ghost use Rattle.entry_format.specs.Reading.{Gives, u16_at, u64_at, byte_at, behind, name_at, class_of, class_at, page_number_at, page_at, weight_at, item_at};
 
 use crate::kinds::BANK;
+use crate::labels::label_at;
 use crate::refused::EntryRefused;
-use dimm_topology::Label;
 use mca_status::ItemClass;
 use ras_facts::{Item, Name};
 use std::alloc::Global;
 
 // The pages of 4,096 bytes that 64 bits address are below this number.
 const PAGES: u64 = 1 << 52;
-
-// The most bytes of a label.
-const MOST_LABEL: u8 = 32;
 
 // The greatest weight.
 const MOST_WEIGHT: u16 = 32767;
@@ -47,7 +42,7 @@ pub(crate) fn u64_at(bytes: &[u8]) -> Result<(u64, &[u8]), EntryRefused>
 
 // A byte.
 #[tactic(auto, unfolding(crate::specs::Reading::byte_at))]
-fn byte_at(bytes: &[u8]) -> Result<(u8, &[u8]), EntryRefused>
+pub(crate) fn byte_at(bytes: &[u8]) -> Result<(u8, &[u8]), EntryRefused>
     ensures { Gives (λ x. (x.0, x.1.now)) result (byte_at bytes.now) }
 {
     match bytes {
@@ -163,44 +158,6 @@ fn weight_at(bytes: &[u8]) -> Result<(u16, &[u8]), EntryRefused>
     } else {
         Err(EntryRefused::Bad)
     }
-}
-
-// Whether each byte may stand in a label: a printable one of ASCII, and no space.
-fn are_label_bytes(bytes: &[u8]) -> bool
-    ensures { result ≡ list_all is_label_byte bytes.now }
-{
-    bytes.iter().all(|byte| matches!(byte, 0x21..=0x7e))
-}
-
-// A label of so many bytes.
-#[tactic(auto, unfolding(crate::specs::Reading::text_at))]
-fn text_at(alloc: Global, length: u8, bytes: &[u8]) -> Result<(Label, &[u8]), EntryRefused>
-    ensures { Gives (λ x. (x.0, x.1.now)) result (text_at length bytes.now) }
-{
-    let Some((text, rest)) = bytes.split_at_checked(usize::from(length)) else {
-        // A byte that no label has makes this no entry, even where the label's others are cut off.
-        return Err(if are_label_bytes(bytes) {
-            EntryRefused::Cut
-        } else {
-            EntryRefused::Bad
-        });
-    };
-    Ok((Label::new(alloc, text)?, rest))
-}
-
-// A label behind the number of its bytes.
-#[tactic(auto, unfolding(crate::specs::Reading::label_at, crate::specs::Reading::sized_at))]
-fn label_at(alloc: Global, bytes: &[u8]) -> Result<(Label, &[u8]), EntryRefused>
-    ensures { Gives (λ x. (x.0, x.1.now)) result (label_at bytes.now) }
-{
-    let (length, rest) = byte_at(bytes)?;
-    if length == 0 {
-        return Ok((Label::none(), rest));
-    }
-    if length > MOST_LABEL {
-        return Err(EntryRefused::Bad);
-    }
-    text_at(alloc, length, rest)
 }
 
 // An item.

@@ -4,39 +4,39 @@ ghost use Rattle.entry_format.specs.File.{AreEntriesOf, BreaksOffAt, IsBreak};
 
 use crate::reading::split_entry;
 use crate::refused::EntriesRefused;
-use ras_facts::Fact;
+use ras_account::Entry;
 use std::alloc::Global;
 
-// The facts whose entries the bytes are.
-fn all_entries(alloc: Global, bytes: &[u8]) -> Result<Vec<Fact>, EntriesRefused>
-    ensures found { IfOk result (λ facts. AreEntriesOf facts.items bytes.now) }
+// The entries whose spelling the bytes are.
+fn all_entries(alloc: Global, bytes: &[u8]) -> Result<Vec<Entry>, EntriesRefused>
+    ensures found { IfOk result (λ entries. AreEntriesOf entries.items bytes.now) }
     ensures refused { IfErr result (IsBreak bytes.now) }
 {
-    let mut facts = Vec::new(alloc);
+    let mut entries = Vec::new(alloc);
     let mut rest = bytes;
     while !rest.is_empty() {
         match split_entry(alloc, rest) {
-            Ok((fact, after)) => {
-                facts.push(fact)?;
+            Ok((entry, after)) => {
+                entries.push(entry)?;
                 rest = after;
             }
             Err(refused) => return Err(refused.at((bytes.len() - rest.len()) as u64)),
         }
     }
-    Ok(facts)
+    Ok(entries)
 }
 
-/// The facts whose entries the bytes of a file are, in order. Each byte is read once.
+/// The entries whose spelling the bytes of a file are, in order. Each byte is read once.
 ///
-/// It is refused as `Bad` exactly where the bytes aren't the entries of valid facts: the place is that of the first
+/// It is refused as `Bad` exactly where the bytes aren't the spelling of writable entries: the place is that of the first
 /// byte of the first entry that is cut or is none. It is refused as `NoMemory` where memory runs out.
-pub fn read_entries(alloc: Global, bytes: &[u8]) -> Result<Vec<Fact>, EntriesRefused>
+pub fn read_entries(alloc: Global, bytes: &[u8]) -> Result<Vec<Entry>, EntriesRefused>
     // What is read is what the bytes are.
-    ensures found { IfOk result (λ facts. AreEntriesOf facts.items bytes.now) }
+    ensures found { IfOk result (λ entries. AreEntriesOf entries.items bytes.now) }
     ensures refused { IfErr result (IsBreak bytes.now) }
 
     // What the bytes are is read, unless memory runs out.
-    ensures entries { (facts : List Fact) → AreEntriesOf facts bytes.now → result ≢ Err EntriesRefused.NoMemory → IsOkAnd result (λ read. read.items ≡ facts) }
+    ensures entries { (entries : List Entry) → AreEntriesOf entries bytes.now → result ≢ Err EntriesRefused.NoMemory → IsOkAnd result (λ read. read.items ≡ entries) }
     ensures place { (place : ℕ) → BreaksOffAt bytes.now place → result ≢ Err EntriesRefused.NoMemory → result ≡ Err (EntriesRefused.Bad place) }
 {
     all_entries(alloc, bytes)

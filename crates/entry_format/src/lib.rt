@@ -1,13 +1,15 @@
-//! Facts as the entries of a file, and back.
+//! Facts and limits as the entries of a file, and back.
 //!
-//! Each valid fact has one spelling, which `specs/Spelling.antt` gives. What is spelled is read again, whatever follows
+//! Each entry that a file can hold has one spelling, which `specs/Spelling.antt` gives. What is spelled is read again, whatever follows
 //! it, and bytes that are no spelling are refused.
 #![tactic(auto)]
 
 mod fields;
 mod file;
 mod kinds;
+mod labels;
 mod laws;
+mod limits;
 mod reading;
 mod refused;
 mod writing;

@@ -1,13 +1,15 @@
-// Facts from bytes.
+// Entries from bytes.
 ghost use Rattle.std.specs.Prelude.{◌≡◌, ◌≢◌, length, IfOk, IfErr};
 ghost use Rattle.entry_format.specs.Spelling.{entry_bytes};
 ghost use Rattle.entry_format.specs.Front.{StartsWith, IsCut, IsNoEntry, IsReason};
 ghost use Rattle.entry_format.specs.Steps.{IsFront};
-ghost use Rattle.entry_format.specs.Reading.{Gives, items_at, list_at, fact_at, entry_at};
+ghost use Rattle.entry_format.specs.Reading.{Gives, items_at, list_at, fact_at, kind_at, entry_at};
 
-use crate::fields::{behind, item_at, name_at, u16_at, u64_at};
-use crate::kinds::FACT;
+use crate::fields::{byte_at, item_at, name_at, u16_at, u64_at};
+use crate::kinds::{FACT, LIMIT};
+use crate::limits::limit_at;
 use crate::refused::EntryRefused;
+use ras_account::Entry;
 use ras_facts::{Fact, Items};
 use std::alloc::Global;
 
@@ -51,43 +53,54 @@ fn fact_at(alloc: Global, bytes: &[u8]) -> Result<(Fact, &[u8]), EntryRefused>
 }
 
 // An entry.
-#[tactic(auto, unfolding(crate::specs::Reading::entry_at))]
-fn entry_at(alloc: Global, bytes: &[u8]) -> Result<(Fact, &[u8]), EntryRefused>
+#[tactic(auto, unfolding(crate::specs::Reading::entry_at, crate::specs::Reading::kind_at))]
+fn entry_at(alloc: Global, bytes: &[u8]) -> Result<(Entry, &[u8]), EntryRefused>
     ensures { Gives (λ x. (x.0, x.1.now)) result (entry_at bytes.now) }
 {
-    fact_at(alloc, behind(FACT, bytes)?)
+    let (kind, rest) = byte_at(bytes)?;
+    match kind {
+        FACT => {
+            let (fact, rest) = fact_at(alloc, rest)?;
+            Ok((Entry::Fact(fact), rest))
+        }
+        LIMIT => {
+            let (limit, rest) = limit_at(rest)?;
+            Ok((Entry::Limit(limit), rest))
+        }
+        _ => Err(EntryRefused::Bad),
+    }
 }
 
-// The fact whose entry stands at the front of the bytes, and the bytes behind the entry.
-pub(crate) fn split_entry(alloc: Global, bytes: &[u8]) -> Result<(Fact, &[u8]), EntryRefused>
+// The entry that is spelled at the front of the bytes, and the bytes behind it.
+pub(crate) fn split_entry(alloc: Global, bytes: &[u8]) -> Result<(Entry, &[u8]), EntryRefused>
     ensures found { IfOk result (λ read. IsFront bytes.now read.0 read.1.now) }
     ensures refused { IfErr result (IsReason bytes.now) }
 {
     entry_at(alloc, bytes)
 }
 
-// The fact whose entry stands at the front of the bytes, and the length of the entry.
-fn front_entry(alloc: Global, bytes: &[u8]) -> Result<(Fact, usize), EntryRefused>
+// The entry that is spelled at the front of the bytes, and the length of its spelling.
+fn front_entry(alloc: Global, bytes: &[u8]) -> Result<(Entry, usize), EntryRefused>
     ensures found { IfOk result (λ read. StartsWith bytes.now read.0) }
     ensures length { IfOk result (λ read. read.1 ≡ length (entry_bytes read.0)) }
     ensures refused { IfErr result (IsReason bytes.now) }
 {
-    let (fact, rest) = split_entry(alloc, bytes)?;
-    Ok((fact, bytes.len() - rest.len()))
+    let (entry, rest) = split_entry(alloc, bytes)?;
+    Ok((entry, bytes.len() - rest.len()))
 }
 
-/// The fact whose entry stands at the front of the bytes, and how many bytes the entry has. Other bytes may follow it.
+/// The entry that is spelled at the front of the bytes, and how many bytes its spelling has. Other bytes may follow it.
 ///
 /// It is refused as `Cut` exactly where the bytes end before the entry does, as `Bad` exactly where no entry begins so,
 /// and as `NoMemory` where memory runs out.
-pub fn read_entry(alloc: Global, bytes: &[u8]) -> Result<(Fact, usize), EntryRefused>
+pub fn read_entry(alloc: Global, bytes: &[u8]) -> Result<(Entry, usize), EntryRefused>
     // What is read is what stands there.
     ensures found { IfOk result (λ read. StartsWith bytes.now read.0) }
     ensures length { IfOk result (λ read. read.1 ≡ length (entry_bytes read.0)) }
     ensures refused { IfErr result (IsReason bytes.now) }
 
     // What stands there is read, unless memory runs out.
-    ensures entry { (fact : Fact) → StartsWith bytes.now fact → result ≢ Err EntryRefused.NoMemory → result ≡ Ok (fact, length (entry_bytes fact)) }
+    ensures entry { (entry : Entry) → StartsWith bytes.now entry → result ≢ Err EntryRefused.NoMemory → result ≡ Ok (entry, length (entry_bytes entry)) }
     ensures cut { IsCut bytes.now → result ≢ Err EntryRefused.NoMemory → result ≡ Err EntryRefused.Cut }
     ensures bad { IsNoEntry bytes.now → result ≢ Err EntryRefused.NoMemory → result ≡ Err EntryRefused.Bad }
 {

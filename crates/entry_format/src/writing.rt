@@ -1,12 +1,16 @@
-// Facts as bytes.
-ghost use Rattle.std.specs.Prelude.{◌≡◌, ◌++◌, ◌≤◌, length, IfOk, OnOk, IsTrue};
+// Entries as bytes.
+ghost use Rattle.std.specs.Prelude.{◌≡◌, ◌++◌, ◌≤◌, length, All, IfOk, OnOk, IsTrue};
 ghost use Rattle.std.specs.List.{flat_map};
 ghost use Rattle.ras_base.specs.LittleEndian.{u16_bytes, u64_bytes};
 ghost use Rattle.dimm_topology.specs.Labels.{is_label_or_none};
-ghost use Rattle.entry_format.specs.Spelling.{name_bytes, label_bytes, page_bytes, item_bytes, fact_bytes, entry_bytes};
+ghost use Rattle.ras_account.specs.Valid.{items_in};
+ghost use Rattle.entry_format.specs.Spelling.{name_bytes, label_bytes, page_bytes, item_bytes, fact_bytes, limit_bytes, entry_bytes};
+ghost use Rattle.entry_format.specs.Writable.{HasLabel};
 
-use crate::kinds::{BANK, FACT};
+use crate::kinds::{BANK, FACT, LIMIT};
 use dimm_topology::Label;
+use page_policy::Limit;
+use ras_account::Entry;
 use ras_base::NoMemory;
 use ras_facts::{Fact, Item, Name};
 use std::alloc::Global;
@@ -82,7 +86,8 @@ fn push_page(bytes: &mut Vec<u8>, page: Option<u64>) -> Result<(), NoMemory>
 // Adds an item.
 #[tactic(auto, unfolding(crate::specs::Spelling::item_bytes))]
 fn push_item(bytes: &mut Vec<u8>, item: &Item) -> Result<(), NoMemory>
-    ensures { OnOk result (bytes.new.items ≡ bytes.old.items ++ item_bytes item.now) }
+    ensures spelled { OnOk result (bytes.new.items ≡ bytes.old.items ++ item_bytes item.now) }
+    ensures label { OnOk result (HasLabel item.now) }
 {
     bytes.push(item.class.number())?;
     push_label(bytes, &item.label)?;
@@ -92,7 +97,8 @@ fn push_item(bytes: &mut Vec<u8>, item: &Item) -> Result<(), NoMemory>
 
 // Adds items in order.
 fn push_items(bytes: &mut Vec<u8>, items: &[Item]) -> Result<(), NoMemory>
-    ensures { OnOk result (bytes.new.items ≡ bytes.old.items ++ flat_map item_bytes items.now) }
+    ensures spelled { OnOk result (bytes.new.items ≡ bytes.old.items ++ flat_map item_bytes items.now) }
+    ensures labels { OnOk result (All HasLabel items.now) }
 {
     for item in items {
         push_item(bytes, item)?;
@@ -104,7 +110,8 @@ fn push_items(bytes: &mut Vec<u8>, items: &[Item]) -> Result<(), NoMemory>
 #[tactic(auto, unfolding(crate::specs::Spelling::fact_bytes))]
 fn push_fact(bytes: &mut Vec<u8>, fact: &Fact) -> Result<(), NoMemory>
     requires { length fact.now.items ≤ 65535 }
-    ensures { OnOk result (bytes.new.items ≡ bytes.old.items ++ fact_bytes fact.now) }
+    ensures spelled { OnOk result (bytes.new.items ≡ bytes.old.items ++ fact_bytes fact.now) }
+    ensures labels { OnOk result (All HasLabel fact.now.items) }
 {
     let items = fact.items.as_slice();
     push_name(bytes, &fact.name)?;
@@ -113,14 +120,34 @@ fn push_fact(bytes: &mut Vec<u8>, fact: &Fact) -> Result<(), NoMemory>
     push_items(bytes, items)
 }
 
-/// The bytes of the entry of a fact. The fact has at most 65,535 items, which is the most that an entry can hold.
+// Adds a limit.
+#[tactic(auto, unfolding(crate::specs::Spelling::limit_bytes))]
+fn push_limit(bytes: &mut Vec<u8>, limit: Limit) -> Result<(), NoMemory>
+    ensures { OnOk result (bytes.new.items ≡ bytes.old.items ++ limit_bytes limit) }
+{
+    push_u64(bytes, u64::from(limit.capacity))?;
+    push_u64(bytes, u64::from(limit.period))
+}
+
+/// The spelling of an entry. It has at most 65,535 items, which is the most that a spelling can tell.
+///
+/// Each label that was spelled is one or none, so that a valid entry is then one that a file can hold.
 #[tactic(auto, unfolding(crate::specs::Spelling::entry_bytes))]
-pub fn entry_bytes(alloc: Global, fact: &Fact) -> Result<Vec<u8>, NoMemory>
-    requires { length fact.now.items ≤ 65535 }
-    ensures { IfOk result (λ bytes. bytes.items ≡ entry_bytes fact.now) }
+pub fn entry_bytes(alloc: Global, entry: &Entry) -> Result<Vec<u8>, NoMemory>
+    requires { length (items_in entry.now) ≤ 65535 }
+    ensures spelled { IfOk result (λ bytes. bytes.items ≡ entry_bytes entry.now) }
+    ensures labels { IfOk result (λ _. All HasLabel (items_in entry.now)) }
 {
     let mut bytes = Vec::new(alloc);
-    bytes.push(FACT)?;
-    push_fact(&mut bytes, fact)?;
+    match entry {
+        Entry::Fact(fact) => {
+            bytes.push(FACT)?;
+            push_fact(&mut bytes, fact)?;
+        }
+        Entry::Limit(limit) => {
+            bytes.push(LIMIT)?;
+            push_limit(&mut bytes, *limit)?;
+        }
+    }
     Ok(bytes)
 }

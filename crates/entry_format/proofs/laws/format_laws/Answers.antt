@@ -1,6 +1,6 @@
 use Rattle.entry_format.proofs.FrontLaws.{same_front}
 use Rattle.entry_format.proofs.FileLaws.{one_reading, one_place, whole_or_broken}
-use Rattle.entry_format.proofs.SizeLaws.{one_item_size, one_item_most}
+use Rattle.entry_format.proofs.SizeLaws.{one_item_size, one_item_most, limit_size}
 use Rattle.entry_format.proofs.laws.format_laws.Goals as goal
 
 pub returns-clause-none_begins_another : goal.returns-clause-none_begins_another
@@ -20,3 +20,6 @@ returns-clause-size c = one_item_size
 
 pub returns-clause-most : goal.returns-clause-most
 returns-clause-most c = one_item_most
+
+pub returns-clause-limit_size : goal.returns-clause-limit_size
+returns-clause-limit_size c = limit_size
