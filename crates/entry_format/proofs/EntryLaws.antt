@@ -409,17 +409,17 @@ entry_takes [] x rest fits e = absurd cc
 entry_takes (kind ∷ bytes) x rest fits e =
     elim (kind_ok (eqb kind 1) (eqb kind 2) (fact_at bytes) (limit_at bytes) (x, rest) e) [
       | inl h ↦
-      let p = bind_ok (fact_at bytes) (λ u. given (entry.Fact u.0) u.1) (x, rest) h.1 in
-      let t = fact_read.takes bytes p.0.0 p.0.1 (IsBytes-rest kind bytes fits) p.1 in
-      let made : Entry × List ℕ = (entry.Fact p.0.0, p.0.1) in
-      let took = with_kind kind 1 bytes (fact_bytes p.0.0) p.0.1 (eqb-true kind 1 h.0) t.0 in
-      subst (λ (y : Entry × List ℕ). Takes (kind ∷ bytes) (entry_bytes y.0) y.1 × IsWritable y.0) (ok_is made (x, rest) p.2) (took, t.1)
+          let p = bind_ok (fact_at bytes) (λ u. given (entry.Fact u.0) u.1) (x, rest) h.1 in
+          let t = fact_read.takes bytes p.0.0 p.0.1 (IsBytes-rest kind bytes fits) p.1 in
+          let made : Entry × List ℕ = (entry.Fact p.0.0, p.0.1) in
+          let took = with_kind kind 1 bytes (fact_bytes p.0.0) p.0.1 (eqb-true kind 1 h.0) t.0 in
+          subst (λ (y : Entry × List ℕ). Takes (kind ∷ bytes) (entry_bytes y.0) y.1 × IsWritable y.0) (ok_is made (x, rest) p.2) (took, t.1)
       | inr h ↦
-      let p = bind_ok (limit_at bytes) (λ u. given (entry.Limit u.0) u.1) (x, rest) h.1 in
-      let t = limit_read.takes bytes p.0.0 p.0.1 (IsBytes-rest kind bytes fits) p.1 in
-      let made : Entry × List ℕ = (entry.Limit p.0.0, p.0.1) in
-      let took = with_kind kind 2 bytes (limit_bytes p.0.0) p.0.1 (eqb-true kind 2 h.0) t.0 in
-      subst (λ (y : Entry × List ℕ). Takes (kind ∷ bytes) (entry_bytes y.0) y.1 × IsWritable y.0) (ok_is made (x, rest) p.2) (took, limit_writable p.0.0 t.1)
+          let p = bind_ok (limit_at bytes) (λ u. given (entry.Limit u.0) u.1) (x, rest) h.1 in
+          let t = limit_read.takes bytes p.0.0 p.0.1 (IsBytes-rest kind bytes fits) p.1 in
+          let made : Entry × List ℕ = (entry.Limit p.0.0, p.0.1) in
+          let took = with_kind kind 2 bytes (limit_bytes p.0.0) p.0.1 (eqb-true kind 2 h.0) t.0 in
+          subst (λ (y : Entry × List ℕ). Takes (kind ∷ bytes) (entry_bytes y.0) y.1 × IsWritable y.0) (ok_is made (x, rest) p.2) (took, limit_writable p.0.0 t.1)
     ]
 
 entry_again : (x : Entry) (rest : List ℕ) → IsWritable x → entry_at (entry_bytes x ++ rest) ≡ Ok (x, rest)
@@ -433,23 +433,23 @@ entry_cut [] fits e = record { value = entry.Fact fact_read.some; valid = fact_r
 entry_cut (kind ∷ bytes) fits e =
     elim (kind_cut (eqb kind 1) (eqb kind 2) (fact_at bytes) (limit_at bytes) e) [
       | inl h ↦
-      let c = fact_read.cut bytes (IsBytes-rest kind bytes fits) (fact_failed (fact_at bytes) Cut h.1) in
-      record {
-        value = entry.Fact c.value;
-        valid = c.valid;
-        missing = c.missing;
-        more = c.more;
-        whole = ap (λ (w : List ℕ). kind ∷ w) c.whole ∙ ap (λ (k : ℕ). k ∷ fact_bytes c.value) (eqb-true kind 1 h.0);
-      }
+          let c = fact_read.cut bytes (IsBytes-rest kind bytes fits) (fact_failed (fact_at bytes) Cut h.1) in
+          record {
+            value = entry.Fact c.value;
+            valid = c.valid;
+            missing = c.missing;
+            more = c.more;
+            whole = ap (λ (w : List ℕ). kind ∷ w) c.whole ∙ ap (λ (k : ℕ). k ∷ fact_bytes c.value) (eqb-true kind 1 h.0);
+          }
       | inr h ↦
-      let c = limit_read.cut bytes (IsBytes-rest kind bytes fits) (limit_failed (limit_at bytes) Cut h.1) in
-      record {
-        value = entry.Limit c.value;
-        valid = limit_writable c.value c.valid;
-        missing = c.missing;
-        more = c.more;
-        whole = ap (λ (w : List ℕ). kind ∷ w) c.whole ∙ ap (λ (k : ℕ). k ∷ limit_bytes c.value) (eqb-true kind 2 h.0);
-      }
+          let c = limit_read.cut bytes (IsBytes-rest kind bytes fits) (limit_failed (limit_at bytes) Cut h.1) in
+          record {
+            value = entry.Limit c.value;
+            valid = limit_writable c.value c.valid;
+            missing = c.missing;
+            more = c.more;
+            whole = ap (λ (w : List ℕ). kind ∷ w) c.whole ∙ ap (λ (k : ℕ). k ∷ limit_bytes c.value) (eqb-true kind 2 h.0);
+          }
     ]
 
 entry_bad : (bytes more : List ℕ) → IsBytes bytes → entry_at bytes ≡ Err Bad → entry_at (bytes ++ more) ≡ Err Bad

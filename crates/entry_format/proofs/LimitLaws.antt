@@ -173,7 +173,7 @@ still_out most h bytes more e =
     let out = out_true (ltb 2 (length bytes)) (is_from_one_to most (begun bytes)) e in
     let long : 2 < length bytes = ltb-true _ _ out.0 in
     let range : is_from_one_to most (begun (bytes ++ more)) ≡ false =
-        not_so (is_from_one_to most (begun (bytes ++ more))) (λ r. let wrong = sym out.1 ∙ true_ranged most (begun bytes) (ranged_before most h bytes more long (ranged_true most (begun (bytes ++ more)) r)) in cc) in
+    not_so (is_from_one_to most (begun (bytes ++ more))) (λ r. let wrong = sym out.1 ∙ true_ranged most (begun bytes) (ranged_before most h bytes more long (ranged_true most (begun (bytes ++ more)) r)) in cc) in
     and_from _ _ (lt-ltb _ _ (omega (arith, length-append bytes more))) (ap not range)
 
 ranged_bad : (most : ℕ) → IsMost most → (bytes more : List ℕ) → ranged_at most bytes ≡ Err Bad → ranged_at most (bytes ++ more) ≡ Err Bad

@@ -17,7 +17,7 @@ pub one_more_item : (before between after : List ℕ) (items : List Item) (i : �
 one_more_item before between after items i item lt is so_far spelled label =
     let front = take i items in
     let written : after ≡ before ++ flat_map item_bytes (front ++ item ∷ []) =
-        spelled ∙ ap (λ (w : List ℕ). w ++ item_bytes item) so_far.spelled ∙ flat_map_more item_bytes before front item in
+    spelled ∙ ap (λ (w : List ℕ). w ++ item_bytes item) so_far.spelled ∙ flat_map_more item_bytes before front item in
     let more : front ++ item ∷ [] ≡ take (i + 1) items = ap (λ (x : Item). front ++ x ∷ []) is ∙ sym (take_more items i item lt) in
     record {
       spelled = written ∙ ap (λ (xs : List Item). before ++ flat_map item_bytes xs) more;
