@@ -21,7 +21,7 @@ use Rattle.entry_format.specs.declared.refused.EntryRefused.{EntryRefused}
 use Rattle.entry_format.specs.declared.refused.EntryRefused.TheVariants.{Cut, Bad}
 use Rattle.entry_format.specs.Writable.{HasLabel, IsWritable}
 use Rattle.entry_format.specs.Spelling.{name_bytes, label_bytes, page_bytes, item_bytes, fact_bytes, limit_bytes, entry_bytes}
-use Rattle.entry_format.specs.Reading.{◌>>=◌, both_at, seen_at, marked_at, u16_at, u64_at, byte_at, name_at, class_at, label_at, page_at, weight_at, item_at, items_at, list_at, fact_at, limit_at, kind_at, entry_at}
+use Rattle.entry_format.specs.Reading.{◌>>=◌, both_at, seen_at, u16_at, u64_at, byte_at, name_at, class_at, label_at, page_at, weight_at, item_at, items_at, list_at, fact_at, limit_at, kind_at, entry_at}
 use Rattle.entry_format.proofs.Codec.{IsBytes, IsBytes-rest, bind_ok, bind_err, ok_is, given, Takes, Takes-then, CutOf, Reads, ok_more, like_read, both_read, seen_read, marked_read}
 use Rattle.entry_format.proofs.FieldLaws.{u16_read, u64_read, byte_read, class_read, page_read, weight_read}
 use Rattle.entry_format.proofs.LabelLaws.{label_read}

@@ -1,16 +1,15 @@
 -- A limit is read as it is spelled.
-use Rattle.std.proofs.Common.{◌≡◌, ℕ, suc, ◌-◌, ◌^◌, ◌<◌, ◌≤◌, Bool, true, false, ◌&&◌, not, cond, ltb, leb, List, [], ◌∷◌, ◌++◌, length, get_or, Result, Ok, Err, refl, sym, ap, ◌∙◌, arith, subst, inl, inr, length-append}
+use Rattle.std.proofs.Common.{◌≡◌, ℕ, ◌-◌, ◌^◌, ◌<◌, ◌≤◌, Bool, true, false, ◌&&◌, not, ltb, leb, List, [], ◌∷◌, ◌++◌, length, get_or, Ok, Err, refl, sym, ap, ◌∙◌, arith, subst, inl, inr, length-append}
 use Rattle.std.specs.Int.{w64, from_le_bytes}
-use Rattle.std.proofs.lemmas.Bool.{cases_lt, ltb-true, ltb-false, lt-ltb, le-ltb, leb-true, le-leb, and_parts, and_from, and_right, not-true}
-use Rattle.std.proofs.lemmas.List.{get_or_past, get_or_append_left, length-replicate}
+use Rattle.std.proofs.lemmas.Bool.{cases_lt, ltb-true, lt-ltb, leb-true, le-leb, and_parts, and_from, and_right}
+use Rattle.std.proofs.lemmas.List.{get_or_past, get_or_append_left}
 use Rattle.std.proofs.lemmas.Nat.{from_le_bytes-to_le_bytes_8}
 use Rattle.ras_base.specs.LittleEndian.{u64_bytes, length-u64_bytes}
 use Rattle.page_policy.specs.declared.buckets.Limit.{Limit}
 use Rattle.page_policy.specs.Buckets.{IsLimit}
-use Rattle.entry_format.specs.declared.refused.EntryRefused.{EntryRefused}
 use Rattle.entry_format.specs.declared.refused.EntryRefused.TheVariants.{Cut, Bad}
 use Rattle.entry_format.specs.Spelling.{limit_bytes}
-use Rattle.entry_format.specs.Reading.{both_at, seen_at, u64_at, is_from_one_to, is_out_of_range, ranged_at, limit_at}
+use Rattle.entry_format.specs.Reading.{both_at, u64_at, is_from_one_to, is_out_of_range, ranged_at, limit_at}
 use Rattle.entry_format.proofs.Codec.{IsBytes, not_so, Takes, CutOf, Reads, like_read, both_read, seen_read}
 use Rattle.entry_format.proofs.FieldLaws.{IsBytes-append, IsBytes-padded, one_fits, zeros_fit, zero_bytes, length-zeros, padded, padded_after, length-padded, wide64, guarded_ok, guarded_cut, guarded_bad, number_short, u64_not_bad, u64_read}
 
