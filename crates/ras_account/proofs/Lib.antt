@@ -10,4 +10,5 @@ pub mod TakingLemmas
 pub mod EntryLemmas
 pub mod GrowLemmas
 pub mod ReserveLemmas
+pub mod NumberLemmas
 pub mod WorkedRows

@@ -148,7 +148,15 @@ few (Some x) = omega arith
 -- before the first item
 pub amid-start : (v : View) (old : OrderList) (seconds : ℕ) (items : List Item) → (rest : Waiting) × AreNext v items rest → length items ≤ old.room → IsAmid v v old old seconds items items
 amid-start v old seconds items (waiting, next) room = record {
-  rest = waiting; first = next; next = next; names = refl; limit = refl; state = refl; orders = refl; given = refl; room = room;
+  rest = waiting;
+  first = next;
+  next = next;
+  names = refl;
+  limit = refl;
+  state = refl;
+  orders = refl;
+  given = refl;
+  room = room;
 }
 
 -- one item more

@@ -1,5 +1,5 @@
 -- This file only carries proofs: what is noted of entries before any of them is taken.
-use Rattle.std.specs.Prelude.{◌≡◌, ℕ, ◌+◌, min, nat_eq, if◌then◌else◌, List, [], ◌∷◌, ◌++◌}
+use Rattle.std.specs.Prelude.{◌≡◌, ℕ, ◌+◌, min, Bool, false, length, nat_eq, if◌then◌else◌, List, [], ◌∷◌, ◌++◌}
 use Rattle.std.specs.List.{list_any}
 use Rattle.std.specs.Map.{keys_of}
 use Rattle.dimm_topology.specs.Labels.{Bytes, same_label}
@@ -8,8 +8,12 @@ use Rattle.page_policy.specs.Tables.{added}
 use Rattle.page_policy.specs.Pages.{Held}
 use Rattle.ras_facts.specs.declared.name.Name.{Name}
 use Rattle.ras_facts.specs.declared.items.Item.{Item}
+use Rattle.ras_facts.specs.declared.fact.Fact.{Fact as Report}
 use Rattle.ras_account.specs.declared.entry.Entry.{Entry}
+use Rattle.ras_account.specs.declared.entry.Entry.TheVariants.{Fact, Limit as Settles}
 use Rattle.ras_account.specs.declared.reserve.Tally.{Tally}
+use Rattle.ras_account.specs.declared.reserve.Numbers.{Numbers}
+use Rattle.ras_account.specs.Fresh.{same_name}
 use Rattle.ras_account.specs.Account.{State}
 use Rattle.ras_account.specs.Continued.{continued_all}
 use Rattle.ras_account.specs.View.{View, Waiting}
@@ -63,3 +67,22 @@ pub record IsNoting (start : View) (names : NameList) (limit : Limit) (entries t
   pub state : record { names = names.held; limit = limit; entries = entries; total = total; modules = modules.rows; pages = pages.rows } ≡ start.state
   pub pages_wait : pages.waiting ≡ []
   pub shadows : Shadows start.state (continued_all start.state done) names modules tally
+
+-- whether an entry brings this name
+abbrev pub brings : Name → Entry → Bool
+brings name (Fact fact) = same_name name fact.name
+brings name (Settles limit) = false
+
+-- the numbers of an account
+pub record Numbered (a : State) (numbers : Numbers) : Type 0 where
+  pub names_are : min numbers.names greatest ≡ min (length a.names) greatest
+  pub limit : numbers.limit ≡ a.limit
+  pub entries : min numbers.entries greatest ≡ min a.entries greatest
+  pub total : min numbers.total greatest ≡ min a.total greatest
+
+-- the numbers with those of a fact
+pub record CountsFact (old new : Numbers) (fact : Report) : Type 0 where
+  pub names_are : min new.names greatest ≡ min (old.names + 1) greatest
+  pub limit : new.limit ≡ old.limit
+  pub entries : new.entries ≡ old.entries
+  pub total : min new.total greatest ≡ min (old.total + weights_in fact.items) greatest

@@ -1,5 +1,5 @@
 // The account.
-ghost use Rattle.std.specs.Prelude.{◌≡◌, ◌+◌, ◌<◌, ◌≤◌, ◌++◌, List, [], ◌∷◌, IsTrue, Some, Err, IfOk, OnOk, OnErr, length, slice_get, option_to_list};
+ghost use Rattle.std.specs.Prelude.{◌≡◌, ◌↔◌, ◌+◌, ◌<◌, ◌≤◌, ◌++◌, List, [], ◌∷◌, IsTrue, Some, Err, IfOk, OnOk, OnErr, length, slice_get, option_to_list};
 ghost use Rattle.std.specs.Bool.{IsFalse};
 ghost use Rattle.ras_account.specs.declared.entry.Entry.{Entry};
 ghost use Rattle.ras_account.specs.Fresh.{is_fresh_behind};
@@ -9,12 +9,12 @@ ghost use Rattle.ras_account.specs.Orders.{order_in, orders_along, orders_at, or
 ghost use Rattle.page_policy.specs.Buckets.{IsLimit};
 ghost use Rattle.ras_account.specs.View.{Waiting, nothing, then_waits, WaitsFirst, added_by};
 ghost use Rattle.ras_account.specs.Valid.{IsValidEntry, items_in};
-ghost use Rattle.ras_account.specs.Reserving.{Noted};
+ghost use Rattle.ras_account.specs.Reserving.{Noted, Numbered};
 ghost use Rattle.ras_account.specs.Taking.{IsNext, item_seen, Gives, sighting, AreNext, TakesItems, sightings_of, CanTakeFact, TakesFact, Takes};
 
 use crate::modules::Modules;
 use crate::names::Names;
-use crate::reserve::Tally;
+use crate::reserve::{Numbers, Tally, some_brings};
 use crate::{Entry, ModuleRow, Orders, ReserveRefused};
 use page_policy::{Limit, Pages};
 use ras_base::NoMemory;
@@ -55,7 +55,7 @@ pub struct Account {
 
 impl Model for Account {
     ghost use Rattle.page_policy.specs.Buckets.{IsLimit};
-ghost use Rattle.ras_account.specs.View.{View};
+    ghost use Rattle.ras_account.specs.View.{View};
     ghost use Rattle.ras_account.specs.Kept.{IsKept};
 
     ghost Value = { View };
@@ -108,13 +108,13 @@ impl Account {
     /// the pages that they bring first. What waited before is given up. What is counted stays, and after a refusal nothing
     /// waits.
     ///
-    /// `Full` comes only where with those of the entries that are fresh the account would pass `MOST_NAMES`, `MOST_ENTRIES`
-    /// or `MOST_WEIGHT`, and it always comes there where memory doesn't run out before.
+    /// `Full` comes exactly where with those of the entries that are fresh the account would pass `MOST_NAMES`,
+    /// `MOST_ENTRIES` or `MOST_WEIGHT`, also where memory runs out.
     pub fn reserve(&mut self, entries: &[Entry]) -> Result<(), ReserveRefused>
         ensures state { self.new.state ≡ self.old.state }
         ensures ok { OnOk result (self.new.waiting ≡ added_by self.old.state entries.now) }
         ensures err { OnErr result (self.new.waiting ≡ nothing) }
-        ensures full { result ≡ Err ReserveRefused.Full → IsPast (continued_all self.old.state entries.now) }
+        ensures full { (result ≡ Err ReserveRefused.Full) ↔ IsPast (continued_all self.old.state entries.now) }
         ensures within { OnOk result (IsWithin (continued_all self.old.state entries.now)) }
     {
         self.give_up();
@@ -122,7 +122,7 @@ impl Account {
             Ok(()) => Ok(()),
             Err(refused) => {
                 self.give_up();
-                Err(refused)
+                Err(self.reason(refused, entries))
             }
         }
     }
@@ -180,7 +180,10 @@ impl Account {
         self.total += u64::from(item.weight);
         self.modules.count(item);
         if let Some(page) = item.page {
-            if let Some(order) = self.pages.account(page, item.class, seconds, item.weight, self.limit) {
+            if let Some(order) = self
+                .pages
+                .account(page, item.class, seconds, item.weight, self.limit)
+            {
                 orders.push(order);
             }
         }
@@ -331,5 +334,57 @@ impl Account {
             tally.note(self.alloc, &mut self.names, &mut self.modules, entry)?;
         }
         Ok(tally)
+    }
+
+    // Why these entries can't wait, where they were refused for this: a full account is known as such even where memory
+    // is out.
+    fn reason(&self, refused: ReserveRefused, entries: &[Entry]) -> ReserveRefused
+        requires { refused ≡ ReserveRefused.Full → IsPast (continued_all self.now.state entries.now) }
+        ensures { (result ≡ ReserveRefused.Full) ↔ IsPast (continued_all self.now.state entries.now) }
+    {
+        if refused == ReserveRefused::Full || self.would_pass(entries) {
+            ReserveRefused::Full
+        } else {
+            ReserveRefused::NoMemory
+        }
+    }
+
+    // Whether taking these entries in turn would pass what an account holds. It takes no memory, and costs more than noting
+    // them, since each name is looked for among those before it.
+    fn would_pass(&self, entries: &[Entry]) -> bool
+        ensures { IsTrue result ↔ IsPast (continued_all self.now.state entries.now) }
+    {
+        self.numbers_after(entries).are_past()
+    }
+
+    // The numbers after these entries are taken in turn.
+    fn numbers_after(&self, entries: &[Entry]) -> Numbers
+        ensures { Numbered (continued_all self.now.state entries.now) result }
+    {
+        let mut numbers = Numbers {
+            names: self.names.len() as u64,
+            limit: self.limit,
+            entries: self.entries,
+            total: self.total,
+        };
+        for (i, entry) in entries.iter().enumerate() {
+            if self.is_fresh_after(&entries[..i], entry, numbers.limit) {
+                numbers.count(entry);
+            }
+        }
+        numbers
+    }
+
+    // Whether an entry would be fresh if it were taken after these, which leave this limit in force.
+    fn is_fresh_after(&self, before: &[Entry], entry: &Entry, limit: Limit) -> bool
+        requires { limit ≡ (continued_all self.now.state before.now).limit }
+        ensures { result ≡ is_fresh_in (continued_all self.now.state before.now) entry.now }
+    {
+        match entry {
+            Entry::Fact(fact) => {
+                !self.names.holds(&fact.name) && !some_brings(before, &fact.name)
+            }
+            Entry::Limit(new) => *new != limit,
+        }
     }
 }

@@ -18,3 +18,6 @@ pub use laws::{account_laws, reserve_laws};
 pub use modules::ModuleRow;
 pub use orders::Orders;
 pub use reserve::ReserveRefused;
+
+#[cfg(test)]
+mod tests;

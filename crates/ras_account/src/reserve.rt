@@ -1,17 +1,19 @@
 // What entries bring an account to, noted before any of them is taken.
-ghost use Rattle.std.specs.Prelude.{◌≡◌, [], ◌∷◌, OnOk};
+ghost use Rattle.std.specs.Prelude.{◌≡◌, ◌↔◌, [], ◌∷◌, true, min, IsTrue, OnOk};
 ghost use Rattle.ras_account.specs.declared.reserve.ReserveRefused.TheVariants.{NoMemory as NoMemoryForEntries};
 ghost use Rattle.ras_account.specs.Account.{State};
-ghost use Rattle.ras_account.specs.Continued.{continued};
+ghost use Rattle.ras_account.specs.Continued.{is_fresh_in, continued, IsPast};
+ghost use Rattle.std.specs.List.{list_any};
+ghost use Rattle.ras_account.specs.Taking.{weights_in};
 ghost use Rattle.ras_account.specs.Parts.{NameList, ModuleList};
-ghost use Rattle.ras_account.specs.Reserving.{all_labels, NotesItems, Shadows};
+ghost use Rattle.ras_account.specs.Reserving.{all_labels, NotesItems, Shadows, greatest, Numbered, CountsFact, brings};
 
 use crate::modules::Modules;
 use crate::names::Names;
-use crate::Entry;
+use crate::{Entry, MOST_ENTRIES, MOST_NAMES, MOST_WEIGHT};
 use page_policy::Limit;
 use ras_base::NoMemory;
-use ras_facts::{Fact, Item};
+use ras_facts::{Fact, Item, Name};
 use std::alloc::Global;
 
 /// Why entries can't be let wait.
@@ -124,5 +126,71 @@ impl Tally {
         }
         self.total = self.total.saturating_add(u64::from(item.weight));
         Ok(())
+    }
+}
+
+// The numbers that entries bring an account to, and the limit in force then. A number stays at the greatest of 64 bits,
+// which is past all that an account counts.
+#[derive(Clone, Copy)]
+pub(crate) struct Numbers {
+    pub(crate) names: u64,
+    pub(crate) limit: Limit,
+    pub(crate) entries: u64,
+    pub(crate) total: u64,
+}
+
+impl Numbers {
+    // Counts an entry that is fresh.
+    pub(crate) fn count(&mut self, entry: &Entry)
+        ensures { (a : State) → Numbered a self.old → is_fresh_in a entry.now ≡ true → Numbered (continued a entry.now) self.new }
+    {
+        self.entries = self.entries.saturating_add(1);
+        match entry {
+            Entry::Fact(fact) => self.count_fact(fact),
+            Entry::Limit(limit) => self.limit = *limit,
+        }
+    }
+
+    // Counts the name and the weights of a fact.
+    fn count_fact(&mut self, fact: &Fact)
+        ensures { CountsFact self.old self.new fact.now }
+    {
+        self.names = self.names.saturating_add(1);
+        self.total = self.total.saturating_add(weight_of(fact.items.as_slice()));
+    }
+
+    // Whether one of them is past what an account holds.
+    pub(crate) fn are_past(&self) -> bool
+        ensures { (a : State) → Numbered a self.now → IsTrue result ↔ IsPast a }
+    {
+        self.names > MOST_NAMES as u64 || self.entries > MOST_ENTRIES || self.total > MOST_WEIGHT
+    }
+}
+
+// The weights of items together, at most the greatest number of 64 bits.
+fn weight_of(items: &[Item]) -> u64
+    ensures { min result greatest ≡ min (weights_in items.now) greatest }
+{
+    let mut total: u64 = 0;
+    for item in items {
+        total = total.saturating_add(u64::from(item.weight));
+    }
+    total
+}
+
+// Whether one of the entries brings this name.
+pub(crate) fn some_brings(entries: &[Entry], name: &Name) -> bool
+    ensures { result ≡ list_any (brings name.now) entries.now }
+{
+    entries.iter().any(|entry| brings(entry, name))
+}
+
+// Whether an entry brings this name.
+fn brings(entry: &Entry, name: &Name) -> bool
+    ensures { result ≡ brings name.now entry.now }
+{
+    match entry {
+        Entry::Fact(fact) => *name == fact.name,
+        Entry::Limit(_) => false,
     }
 }

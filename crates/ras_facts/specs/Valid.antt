@@ -1,5 +1,6 @@
 -- Which items and facts are valid: each number fits its field, and the journal can hold them.
-use Rattle.std.specs.Prelude.{ℕ, ◌<◌, ◌≤◌, ◌^◌, length, All, IfSome}
+use Rattle.std.specs.Prelude.{ℕ, ◌<◌, ◌≤◌, ◌^◌, length, All, IfSome, IsTrue}
+use Rattle.dimm_topology.specs.Labels.{is_label_or_none}
 use Rattle.ras_facts.specs.declared.name.Name.{Name}
 use Rattle.ras_facts.specs.declared.name.Name.TheVariants.{Bank}
 use Rattle.ras_facts.specs.declared.items.Item.{Item}
@@ -9,8 +10,9 @@ use Rattle.ras_facts.specs.declared.fact.Fact.{Fact}
 abbrev pub IsPage : ℕ → Type 0
 IsPage page = page < 2 ^ 52
 
--- an item stands for 1 to 32,767 errors
+-- an item stands for 1 to 32,767 errors, and its label is one or none
 pub record IsValidItem (item : Item) : Type 0 where
+  pub label : IsTrue (is_label_or_none item.label)
   pub page : IfSome item.page IsPage
   pub some : 1 ≤ item.weight
   pub weight : item.weight ≤ 32767

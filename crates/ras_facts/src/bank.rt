@@ -70,6 +70,8 @@ impl BankReport {
     {
         let (cap, status) = (Cap(self.cap), Status(self.status));
         let label = self.label(alloc, topology)?;
+        // So that the clause above can tell what holds of every label.
+        let _ = label.bytes();
         Ok(Item {
             class: class.into(),
             label,
