@@ -14,14 +14,13 @@ use Rattle.ras_facts.specs.declared.items.Item.{Item}
 use Rattle.ras_facts.specs.declared.fact.Fact.{Fact}
 use Rattle.ras_facts.specs.Valid.{IsValidItem, IsValidName, IsValidFact}
 use Rattle.page_policy.specs.declared.buckets.Limit.{Limit}
-use Rattle.page_policy.specs.Buckets.{IsLimit}
 use Rattle.ras_account.specs.declared.entry.Entry.{Entry}
 use Rattle.ras_account.specs.declared.entry.Entry.TheVariants as entry
+use Rattle.ras_account.specs.Valid.{IsValidEntry}
 use Rattle.entry_format.specs.declared.refused.EntryRefused.{EntryRefused}
 use Rattle.entry_format.specs.declared.refused.EntryRefused.TheVariants.{Cut, Bad}
-use Rattle.entry_format.specs.Writable.{HasLabel, IsWritable}
 use Rattle.entry_format.specs.Spelling.{name_bytes, label_bytes, page_bytes, item_bytes, fact_bytes, limit_bytes, entry_bytes}
-use Rattle.entry_format.specs.Reading.{◌>>=◌, both_at, seen_at, marked_at, u16_at, u64_at, byte_at, name_at, class_at, label_at, page_at, weight_at, item_at, items_at, list_at, fact_at, limit_at, kind_at, entry_at}
+use Rattle.entry_format.specs.Reading.{◌>>=◌, both_at, seen_at, u16_at, u64_at, byte_at, name_at, class_at, label_at, page_at, weight_at, item_at, items_at, list_at, fact_at, limit_at, kind_at, entry_at}
 use Rattle.entry_format.proofs.Codec.{IsBytes, IsBytes-rest, bind_ok, bind_err, ok_is, given, Takes, Takes-then, CutOf, Reads, ok_more, like_read, both_read, seen_read, marked_read}
 use Rattle.entry_format.proofs.FieldLaws.{u16_read, u64_read, byte_read, class_read, page_read, weight_read}
 use Rattle.entry_format.proofs.LabelLaws.{label_read}
@@ -74,10 +73,6 @@ name_read =
 
 -- ---- an item
 
--- a valid item with a label or none
-abbrev IsItem : Item → Type 0
-IsItem item = IsValidItem item × HasLabel item
-
 abbrev ItemFields : Type 0
 ItemFields = ItemClass × (Bytes × (Option ℕ × ℕ))
 
@@ -113,19 +108,19 @@ item_spelled : (item : Item) → item_fields_bytes (item_fields item) ≡ item_b
 unfolding item_bytes
 item_spelled item = simp append_assoc
 
-pub item_read : Reads item_at item_bytes IsItem
+pub item_read : Reads item_at item_bytes IsValidItem
 unfolding item_at
 item_read =
     let fields = both_at class_at (both_at label_at (both_at page_at weight_at)) in
     let seen = seen_read item_of item_fields (λ p. refl) (λ item. refl) fields item_fields_bytes AreItemFields item_fields_read in
-    like_read item_at (λ item. item_fields_bytes (item_fields item)) item_bytes (λ item. AreItemFields (item_fields item)) IsItem seen
-    (λ item v. (record { page = v.1.1.0; some = v.1.1.1.0; weight = v.1.1.1.1 }, v.1.0))
-    (λ item v. (tt, (v.1, (v.0.page, (v.0.some, v.0.weight))))) item_spelled
+    like_read item_at (λ item. item_fields_bytes (item_fields item)) item_bytes (λ item. AreItemFields (item_fields item)) IsValidItem seen
+    (λ item v. record { label = v.1.0; page = v.1.1.0; some = v.1.1.1.0; weight = v.1.1.1.1 })
+    (λ item v. (tt, (v.label, (v.page, (v.some, v.weight))))) item_spelled
 
 -- ---- items
 
 abbrev AreItems : ℕ → List Item → Type 0
-AreItems n items = (length items ≡ n) × AllByRecursion IsItem items
+AreItems n items = (length items ≡ n) × AllByRecursion IsValidItem items
 
 abbrev items_bytes : List Item → List ℕ
 items_bytes items = flat_map item_bytes items
@@ -174,7 +169,7 @@ items_cut_in n bytes fits u e c =
       whole = ap (λ (w : List ℕ). w ++ c.missing) t.0.parts ∙ append_assoc (item_bytes u.0) u.1 c.missing ∙ ap (λ (w : List ℕ). item_bytes u.0 ++ w) c.whole;
     }
 
-items_cut_first : (n : ℕ) (bytes : List ℕ) → CutOf item_bytes IsItem bytes → CutOf items_bytes (AreItems (suc n)) bytes
+items_cut_first : (n : ℕ) (bytes : List ℕ) → CutOf item_bytes IsValidItem bytes → CutOf items_bytes (AreItems (suc n)) bytes
 items_cut_first n bytes c =
     let h = some_items_valid n in
     record {
@@ -210,7 +205,7 @@ unfolding items_at
 items_bad_at n go bytes more fits (inl h) = rw (item_read.bad bytes more fits h) refl
 items_bad_at n go bytes more fits (inr h) =
     let t = item_read.takes bytes h.0.0 h.0.1 fits h.1 in
-    rw (ok_more item_at item_bytes IsItem item_read bytes more h.0.0 h.0.1 fits h.1, go h.0.1 more t.0.rest_fits (with_first_failed h.0.0 (items_at n h.0.1) Bad h.2)) refl
+    rw (ok_more item_at item_bytes IsValidItem item_read bytes more h.0.0 h.0.1 fits h.1, go h.0.1 more t.0.rest_fits (with_first_failed h.0.0 (items_at n h.0.1) Bad h.2)) refl
 
 items_bad : (n : ℕ) (bytes more : List ℕ) → IsBytes bytes → items_at n bytes ≡ Err Bad → items_at n (bytes ++ more) ≡ Err Bad
 unfolding items_at
@@ -234,7 +229,7 @@ abbrev list_bytes : List Item → List ℕ
 list_bytes items = u16_bytes (length items) ++ items_bytes items
 
 abbrev IsList : List Item → Type 0
-IsList items = (length items ≤ 65535) × AllByRecursion IsItem items
+IsList items = (length items ≤ 65535) × AllByRecursion IsValidItem items
 
 list_takes : (bytes : List ℕ) (x : List Item) (rest : List ℕ) → IsBytes bytes → list_at bytes ≡ Ok (x, rest) → Takes bytes (list_bytes x) rest × IsList x
 unfolding list_at
@@ -325,38 +320,14 @@ fact_spelled : (fact : Fact) → fact_fields_bytes (fact_fields fact) ≡ fact_b
 unfolding fact_bytes
 fact_spelled fact = simp append_assoc
 
--- items that are valid and have labels, taken apart
-apart : (items : List Item) → AllByRecursion IsItem items → AllByRecursion IsValidItem items × AllByRecursion HasLabel items
-apart [] v = (tt, tt)
-apart (item ∷ items) v = let rest = apart items v.1 in ((v.0.0, rest.0), (v.0.1, rest.1))
-
-joined : (items : List Item) → AllByRecursion IsValidItem items → AllByRecursion HasLabel items → AllByRecursion IsItem items
-joined [] v w = tt
-joined (item ∷ items) v w = ((v.0, w.0), joined items v.1 w.1)
-
--- a valid fact with labels
-abbrev IsWritableFact : Fact → Type 0
-IsWritableFact fact = IsWritable (entry.Fact fact)
-
-writable_from : (fact : Fact) → AreFactFields (fact_fields fact) → IsWritableFact fact
-writable_from fact v =
-    let items = apart fact.items v.1.1.1 in
-    record {
-      valid = record { name = v.0; seconds = v.1.0; count = v.1.1.0; items = All-from_recursion IsValidItem fact.items items.0 };
-      labels = All-from_recursion HasLabel fact.items items.1;
-    }
-
-fields_from : (fact : Fact) → IsWritableFact fact → AreFactFields (fact_fields fact)
-fields_from fact w =
-    let v : IsValidFact fact = w.valid in
-    (v.name, (v.seconds, (v.count, joined fact.items (recursion_from_All IsValidItem fact.items v.items) (recursion_from_All HasLabel fact.items w.labels))))
-
-fact_read : Reads fact_at fact_bytes IsWritableFact
+fact_read : Reads fact_at fact_bytes IsValidFact
 unfolding fact_at
 fact_read =
     let fields = both_at name_at (both_at u64_at list_at) in
     let seen = seen_read fact_of fact_fields (λ p. refl) (λ fact. refl) fields fact_fields_bytes AreFactFields fact_fields_read in
-    like_read fact_at (λ fact. fact_fields_bytes (fact_fields fact)) fact_bytes (λ fact. AreFactFields (fact_fields fact)) IsWritableFact seen writable_from fields_from fact_spelled
+    like_read fact_at (λ fact. fact_fields_bytes (fact_fields fact)) fact_bytes (λ fact. AreFactFields (fact_fields fact)) IsValidFact seen
+    (λ fact v. record { name = v.0; seconds = v.1.0; count = v.1.1.0; items = All-from_recursion IsValidItem fact.items v.1.1.1 })
+    (λ fact v. (v.name, (v.seconds, (v.count, recursion_from_All IsValidItem fact.items v.items)))) fact_spelled
 
 -- ---- an entry
 
@@ -400,56 +371,53 @@ kind_bad false false fact fact_more limit limit_more go also e = refl
 with_kind : (kind mark : ℕ) (bytes text rest : List ℕ) → kind ≡ mark → Takes bytes text rest → Takes (kind ∷ bytes) (mark ∷ text) rest
 with_kind kind mark bytes text rest same t = record { parts = ap (λ (w : List ℕ). kind ∷ w) t.parts ∙ ap (λ (k : ℕ). k ∷ (text ++ rest)) same; rest_fits = t.rest_fits }
 
-limit_writable : (limit : Limit) → IsLimit limit → IsWritable (entry.Limit limit)
-limit_writable limit v = record { valid = v; labels = All-from_recursion HasLabel [] tt }
-
-entry_takes : (bytes : List ℕ) (x : Entry) (rest : List ℕ) → IsBytes bytes → entry_at bytes ≡ Ok (x, rest) → Takes bytes (entry_bytes x) rest × IsWritable x
+entry_takes : (bytes : List ℕ) (x : Entry) (rest : List ℕ) → IsBytes bytes → entry_at bytes ≡ Ok (x, rest) → Takes bytes (entry_bytes x) rest × IsValidEntry x
 unfolding entry_at byte_at kind_at entry_bytes
 entry_takes [] x rest fits e = absurd cc
 entry_takes (kind ∷ bytes) x rest fits e =
     elim (kind_ok (eqb kind 1) (eqb kind 2) (fact_at bytes) (limit_at bytes) (x, rest) e) [
       | inl h ↦
-      let p = bind_ok (fact_at bytes) (λ u. given (entry.Fact u.0) u.1) (x, rest) h.1 in
-      let t = fact_read.takes bytes p.0.0 p.0.1 (IsBytes-rest kind bytes fits) p.1 in
-      let made : Entry × List ℕ = (entry.Fact p.0.0, p.0.1) in
-      let took = with_kind kind 1 bytes (fact_bytes p.0.0) p.0.1 (eqb-true kind 1 h.0) t.0 in
-      subst (λ (y : Entry × List ℕ). Takes (kind ∷ bytes) (entry_bytes y.0) y.1 × IsWritable y.0) (ok_is made (x, rest) p.2) (took, t.1)
+          let p = bind_ok (fact_at bytes) (λ u. given (entry.Fact u.0) u.1) (x, rest) h.1 in
+          let t = fact_read.takes bytes p.0.0 p.0.1 (IsBytes-rest kind bytes fits) p.1 in
+          let made : Entry × List ℕ = (entry.Fact p.0.0, p.0.1) in
+          let took = with_kind kind 1 bytes (fact_bytes p.0.0) p.0.1 (eqb-true kind 1 h.0) t.0 in
+          subst (λ (y : Entry × List ℕ). Takes (kind ∷ bytes) (entry_bytes y.0) y.1 × IsValidEntry y.0) (ok_is made (x, rest) p.2) (took, t.1)
       | inr h ↦
-      let p = bind_ok (limit_at bytes) (λ u. given (entry.Limit u.0) u.1) (x, rest) h.1 in
-      let t = limit_read.takes bytes p.0.0 p.0.1 (IsBytes-rest kind bytes fits) p.1 in
-      let made : Entry × List ℕ = (entry.Limit p.0.0, p.0.1) in
-      let took = with_kind kind 2 bytes (limit_bytes p.0.0) p.0.1 (eqb-true kind 2 h.0) t.0 in
-      subst (λ (y : Entry × List ℕ). Takes (kind ∷ bytes) (entry_bytes y.0) y.1 × IsWritable y.0) (ok_is made (x, rest) p.2) (took, limit_writable p.0.0 t.1)
+          let p = bind_ok (limit_at bytes) (λ u. given (entry.Limit u.0) u.1) (x, rest) h.1 in
+          let t = limit_read.takes bytes p.0.0 p.0.1 (IsBytes-rest kind bytes fits) p.1 in
+          let made : Entry × List ℕ = (entry.Limit p.0.0, p.0.1) in
+          let took = with_kind kind 2 bytes (limit_bytes p.0.0) p.0.1 (eqb-true kind 2 h.0) t.0 in
+          subst (λ (y : Entry × List ℕ). Takes (kind ∷ bytes) (entry_bytes y.0) y.1 × IsValidEntry y.0) (ok_is made (x, rest) p.2) (took, t.1)
     ]
 
-entry_again : (x : Entry) (rest : List ℕ) → IsWritable x → entry_at (entry_bytes x ++ rest) ≡ Ok (x, rest)
+entry_again : (x : Entry) (rest : List ℕ) → IsValidEntry x → entry_at (entry_bytes x ++ rest) ≡ Ok (x, rest)
 unfolding entry_at byte_at kind_at entry_bytes
 entry_again (entry.Fact fact) rest v = rw (fact_read.again fact rest v) refl
-entry_again (entry.Limit limit) rest v = rw (limit_read.again limit rest v.valid) refl
+entry_again (entry.Limit limit) rest v = rw (limit_read.again limit rest v) refl
 
-entry_cut : (bytes : List ℕ) → IsBytes bytes → entry_at bytes ≡ Err Cut → CutOf entry_bytes IsWritable bytes
+entry_cut : (bytes : List ℕ) → IsBytes bytes → entry_at bytes ≡ Err Cut → CutOf entry_bytes IsValidEntry bytes
 unfolding entry_at byte_at kind_at entry_bytes
 entry_cut [] fits e = record { value = entry.Fact fact_read.some; valid = fact_read.some_valid; missing = entry_bytes (entry.Fact fact_read.some); more = omega arith; whole = refl }
 entry_cut (kind ∷ bytes) fits e =
     elim (kind_cut (eqb kind 1) (eqb kind 2) (fact_at bytes) (limit_at bytes) e) [
       | inl h ↦
-      let c = fact_read.cut bytes (IsBytes-rest kind bytes fits) (fact_failed (fact_at bytes) Cut h.1) in
-      record {
-        value = entry.Fact c.value;
-        valid = c.valid;
-        missing = c.missing;
-        more = c.more;
-        whole = ap (λ (w : List ℕ). kind ∷ w) c.whole ∙ ap (λ (k : ℕ). k ∷ fact_bytes c.value) (eqb-true kind 1 h.0);
-      }
+          let c = fact_read.cut bytes (IsBytes-rest kind bytes fits) (fact_failed (fact_at bytes) Cut h.1) in
+          record {
+            value = entry.Fact c.value;
+            valid = c.valid;
+            missing = c.missing;
+            more = c.more;
+            whole = ap (λ (w : List ℕ). kind ∷ w) c.whole ∙ ap (λ (k : ℕ). k ∷ fact_bytes c.value) (eqb-true kind 1 h.0);
+          }
       | inr h ↦
-      let c = limit_read.cut bytes (IsBytes-rest kind bytes fits) (limit_failed (limit_at bytes) Cut h.1) in
-      record {
-        value = entry.Limit c.value;
-        valid = limit_writable c.value c.valid;
-        missing = c.missing;
-        more = c.more;
-        whole = ap (λ (w : List ℕ). kind ∷ w) c.whole ∙ ap (λ (k : ℕ). k ∷ limit_bytes c.value) (eqb-true kind 2 h.0);
-      }
+          let c = limit_read.cut bytes (IsBytes-rest kind bytes fits) (limit_failed (limit_at bytes) Cut h.1) in
+          record {
+            value = entry.Limit c.value;
+            valid = c.valid;
+            missing = c.missing;
+            more = c.more;
+            whole = ap (λ (w : List ℕ). kind ∷ w) c.whole ∙ ap (λ (k : ℕ). k ∷ limit_bytes c.value) (eqb-true kind 2 h.0);
+          }
     ]
 
 entry_bad : (bytes more : List ℕ) → IsBytes bytes → entry_at bytes ≡ Err Bad → entry_at (bytes ++ more) ≡ Err Bad
@@ -460,7 +428,7 @@ entry_bad (kind ∷ bytes) more fits e =
     kind_bad (eqb kind 1) (eqb kind 2) (fact_at bytes) (fact_at (bytes ++ more)) (limit_at bytes) (limit_at (bytes ++ more))
     (fact_read.bad bytes more rest_fits) (limit_read.bad bytes more rest_fits) e
 
-pub entry_read : Reads entry_at entry_bytes IsWritable
+pub entry_read : Reads entry_at entry_bytes IsValidEntry
 entry_read = record {
   takes = entry_takes;
   again = entry_again;

@@ -6,7 +6,7 @@ use Rattle.std.specs.List.{AllByRecursion}
 use Rattle.std.proofs.lemmas.List.{append-nil, flat_map_more}
 use Rattle.std.proofs.lemmas.List.Elements.{All-push, recursion_from_All}
 use Rattle.ras_account.specs.declared.entry.Entry.{Entry}
-use Rattle.entry_format.specs.Writable.{IsWritable}
+use Rattle.ras_account.specs.Valid.{IsValidEntry}
 use Rattle.entry_format.specs.declared.refused.EntryRefused.{EntryRefused}
 use Rattle.entry_format.specs.declared.refused.EntryRefused.TheVariants as why
 use Rattle.entry_format.specs.declared.refused.EntriesRefused.{EntriesRefused}
@@ -19,7 +19,7 @@ use Rattle.entry_format.proofs.EntryLaws.{entry_not_empty}
 use Rattle.entry_format.proofs.FrontLaws.{same_front, starts_not_cut, empty_has_none}
 
 abbrev AreValid : List Entry → Type 0
-AreValid entries = AllByRecursion IsWritable entries
+AreValid entries = AllByRecursion IsValidEntry entries
 
 same_entries : (fs gs : List Entry) (x y : List ℕ) → AreValid fs → AreValid gs → HasNoEntry x → HasNoEntry y → entries_bytes fs ++ x ≡ entries_bytes gs ++ y → (fs ≡ gs) × (x ≡ y)
 same_entries [] [] x y v w no_x no_y e = (refl, e)
@@ -33,19 +33,19 @@ same_entries (f ∷ fs) (g ∷ gs) x y v w no_x no_y e =
     let others = same_entries fs gs x y v.1 w.1 no_x no_y one.1 in
     (ap (λ (k : Entry). k ∷ fs) one.0 ∙ ap (λ (ks : List Entry). g ∷ ks) others.0, others.1)
 
-pub one_reading : (fs gs : List Entry) → All IsWritable fs → All IsWritable gs → entries_bytes fs ≡ entries_bytes gs → fs ≡ gs
+pub one_reading : (fs gs : List Entry) → All IsValidEntry fs → All IsValidEntry gs → entries_bytes fs ≡ entries_bytes gs → fs ≡ gs
 one_reading fs gs v w e =
-    (same_entries fs gs [] [] (recursion_from_All IsWritable fs v) (recursion_from_All IsWritable gs w) empty_has_none empty_has_none
+    (same_entries fs gs [] [] (recursion_from_All IsValidEntry fs v) (recursion_from_All IsValidEntry gs w) empty_has_none empty_has_none
     (append-nil (entries_bytes fs) ∙ e ∙ sym (append-nil (entries_bytes gs)))).0
 
 pub one_place : (bytes : List ℕ) (p q : ℕ) → BreaksOffAt bytes p → BreaksOffAt bytes q → p ≡ q
 one_place bytes p q a b =
-    let same = (same_entries a.entries b.entries a.rest b.rest (recursion_from_All IsWritable a.entries a.valid) (recursion_from_All IsWritable b.entries b.valid) a.none b.none (sym a.spelled ∙ b.spelled)).0 in
+    let same = (same_entries a.entries b.entries a.rest b.rest (recursion_from_All IsValidEntry a.entries a.valid) (recursion_from_All IsValidEntry b.entries b.valid) a.none b.none (sym a.spelled ∙ b.spelled)).0 in
     a.place_is ∙ ap (λ (fs : List Entry). length (entries_bytes fs)) same ∙ sym b.place_is
 
 pub whole_or_broken : (bytes : List ℕ) (fs : List Entry) (p : ℕ) → AreEntriesOf fs bytes → BreaksOffAt bytes p → ⊥
 whole_or_broken bytes fs p a b =
-    let left = (same_entries fs b.entries [] b.rest (recursion_from_All IsWritable fs a.valid) (recursion_from_All IsWritable b.entries b.valid) empty_has_none b.none
+    let left = (same_entries fs b.entries [] b.rest (recursion_from_All IsValidEntry fs a.valid) (recursion_from_All IsValidEntry b.entries b.valid) empty_has_none b.none
     (append-nil (entries_bytes fs) ∙ sym a.spelled ∙ b.spelled)).1 in
     let some = b.more in
     let none = ap length left in
@@ -55,7 +55,7 @@ whole_or_broken bytes fs p a b =
 
 -- what was read so far, and the bytes that are left
 pub record SoFar (bytes : List ℕ) (entries : List Entry) (rest : List ℕ) : Type 0 where
-  pub valid : All IsWritable entries
+  pub valid : All IsValidEntry entries
   pub spelled : bytes ≡ entries_bytes entries ++ rest
 
 broken : (bytes : List ℕ) (entries : List Entry) (rest : List ℕ) → SoFar bytes entries rest → 0 < length rest → HasNoEntry rest → BreaksOffAt bytes (length bytes - length rest)
@@ -82,7 +82,7 @@ shorter bytes entry rest front =
 
 pub one_more : (bytes : List ℕ) (entries : List Entry) (rest : List ℕ) (entry : Entry) (after : List ℕ) (more : List Entry) → SoFar bytes entries rest → IsFront rest entry after → more ≡ entries ++ entry ∷ [] → SoFar bytes more after
 one_more bytes entries rest entry after more so_far front e = record {
-  valid = subst (λ (fs : List Entry). All IsWritable fs) (sym e) (All-push IsWritable entries entry so_far.valid front.valid);
+  valid = subst (λ (fs : List Entry). All IsValidEntry fs) (sym e) (All-push IsValidEntry entries entry so_far.valid front.valid);
   spelled = so_far.spelled ∙ ap (λ (w : List ℕ). entries_bytes entries ++ w) front.spelled ∙ sym (append_assoc (entries_bytes entries) (entry_bytes entry) after)
       ∙ ap (λ (w : List ℕ). w ++ after) (flat_map_more entry_bytes [] entries entry) ∙ ap (λ (fs : List Entry). entries_bytes fs ++ after) (sym e);
 }

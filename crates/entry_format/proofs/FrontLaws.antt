@@ -3,7 +3,7 @@ use Rattle.std.proofs.Common.{◌≡◌, ◌≢◌, ℕ, List, [], ◌++◌, len
 use Rattle.std.specs.Prelude.{IfOk, IfErr}
 use Rattle.std.proofs.lemmas.List.{append-nil}
 use Rattle.ras_account.specs.declared.entry.Entry.{Entry}
-use Rattle.entry_format.specs.Writable.{IsWritable}
+use Rattle.ras_account.specs.Valid.{IsValidEntry}
 use Rattle.entry_format.specs.declared.refused.EntryRefused.{EntryRefused}
 use Rattle.entry_format.specs.declared.refused.EntryRefused.TheVariants.{Cut, Bad, NoMemory}
 use Rattle.entry_format.specs.Spelling.{entry_bytes}
@@ -15,7 +15,7 @@ use Rattle.entry_format.proofs.EntryLaws.{entry_read, entry_not_empty}
 
 -- ---- no spelling begins another
 
-pub same_front : (f g : Entry) (x y : List ℕ) → IsWritable f → IsWritable g → entry_bytes f ++ x ≡ entry_bytes g ++ y → (f ≡ g) × (x ≡ y)
+pub same_front : (f g : Entry) (x y : List ℕ) → IsValidEntry f → IsValidEntry g → entry_bytes f ++ x ≡ entry_bytes g ++ y → (f ≡ g) × (x ≡ y)
 same_front f g x y v w e =
     let one = sym (entry_read.again f x v) ∙ ap entry_at e ∙ entry_read.again g y w in
     let both : Entry × List ℕ = (f, x) in

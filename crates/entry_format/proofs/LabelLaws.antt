@@ -1,10 +1,9 @@
 -- A label is read as it is spelled.
-use Rattle.std.proofs.Common.{◌≡◌, ℕ, zero, suc, ◌-◌, ◌<◌, ◌≤◌, Bool, true, false, ◌&&◌, cond, eqb, ltb, leb, List, [], ◌∷◌, ◌++◌, length, take, drop, replicate, Result, Ok, Err, refl, sym, ap, ◌∙◌, append_assoc, arith, inl, inr, ◌⊎◌, length-append}
-use Rattle.std.specs.Prelude.{nat_eq, codes}
+use Rattle.std.proofs.Common.{◌≡◌, ℕ, zero, suc, ◌-◌, ◌<◌, ◌≤◌, Bool, true, false, ◌&&◌, cond, eqb, ltb, leb, List, [], ◌∷◌, ◌++◌, length, take, drop, replicate, Result, Ok, Err, refl, sym, ap, ◌∙◌, arith, inl, inr, ◌⊎◌, length-append}
+use Rattle.std.specs.Prelude.{codes}
 use Rattle.std.specs.List.{list_all}
-use Rattle.std.specs.Cmp.Lexicographic.{pointwise}
-use Rattle.std.proofs.lemmas.Bool.{cases_lt, ltb-true, ltb-false, lt-ltb, le-ltb, leb-true, leb-false, le-leb, lt-leb, eqb-true, ne_eqb, and_parts}
-use Rattle.std.proofs.lemmas.List.{take_at, drop_at, take-append-drop, take-append-le, drop-append-le, length-take, length-replicate}
+use Rattle.std.proofs.lemmas.Bool.{cases_lt, ltb-true, ltb-false, lt-ltb, le-ltb, leb-true, le-leb, eqb-true, ne_eqb, and_parts}
+use Rattle.std.proofs.lemmas.List.{take_at, drop_at, take-append-drop, take-append-le, length-take, length-replicate}
 use Rattle.std.proofs.lemmas.List.Folds.{list_all-append}
 use Rattle.std.proofs.lemmas.Grind.{common_steps}
 use Rattle.dimm_topology.specs.Labels.{Bytes, same_label, is_label_byte, is_label, is_label_or_none}
@@ -126,10 +125,9 @@ text_takes n bytes label rest fits e =
     let h = text_ok (ltb (length bytes) n) (list_all is_label_byte bytes) (is_label (take n bytes)) (front_of n bytes) (label, rest) e in
     let long : n ≤ length bytes = ltb-false _ _ h.0 in
     let text-is : take n bytes ≡ label = ap (λ (p : Bytes × List ℕ). p.0) h.1.1 in
-    let rest-is : drop n bytes ≡ rest = ap (λ (p : Bytes × List ℕ). p.1) h.1.1 in
-    (
+    let rest-is : drop n bytes ≡ rest = ap (λ (p : Bytes × List ℕ). p.1) h.1.1 in (
       record { parts = rw (← text-is, ← rest-is) (sym (take-append-drop n bytes)); rest_fits = rw (← rest-is) (IsBytes-drop n bytes fits) },
-      (rw (← text-is) h.1.0, rw (← text-is) (omega (arith, length-take n bytes)))
+      (rw (← text-is) h.1.0, rw (← text-is) (omega (arith, length-take n bytes))),
     )
 
 text_again : (n : ℕ) (label : Bytes) (rest : List ℕ) → IsTextOf n label → text_at n (label ++ rest) ≡ Ok (label, rest)
@@ -206,13 +204,13 @@ unfolding sized_at
 sized_takes n bytes label rest fits e =
     elim (sized_ok (eqb n 0) (leb n 32) bytes (text_at n bytes) (label, rest) e) [
       | inl h ↦
-      let empty : n ≡ 0 = eqb-true _ _ h.0 in
-      let none : [] ≡ label = ap (λ (p : Bytes × List ℕ). p.0) h.1 in
-      let rest-is : bytes ≡ rest = ap (λ (p : Bytes × List ℕ). p.1) h.1 in
-      (record { parts = rw (← none, ← rest-is) refl; rest_fits = rw (← rest-is) fits }, (rw (← none) refl, rw (← none, empty) refl))
+          let empty : n ≡ 0 = eqb-true _ _ h.0 in
+          let none : [] ≡ label = ap (λ (p : Bytes × List ℕ). p.0) h.1 in
+          let rest-is : bytes ≡ rest = ap (λ (p : Bytes × List ℕ). p.1) h.1 in
+          (record { parts = rw (← none, ← rest-is) refl; rest_fits = rw (← rest-is) fits }, (rw (← none) refl, rw (← none, empty) refl))
       | inr h ↦
-      let t = text_takes n bytes label rest fits h in
-      (t.0, (label_or_none label t.1.0, t.1.1))
+          let t = text_takes n bytes label rest fits h in
+          (t.0, (label_or_none label t.1.0, t.1.1))
     ]
 
 -- ---- a label behind the number of its bytes

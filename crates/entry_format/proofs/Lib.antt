@@ -6,5 +6,4 @@ pub mod EntryLaws
 pub mod FrontLaws
 pub mod FileLaws
 pub mod SizeLaws
-pub mod WritingLaws
 pub mod Loop

@@ -1,16 +1,15 @@
 -- A limit is read as it is spelled.
-use Rattle.std.proofs.Common.{◌≡◌, ℕ, suc, ◌-◌, ◌^◌, ◌<◌, ◌≤◌, Bool, true, false, ◌&&◌, not, cond, ltb, leb, List, [], ◌∷◌, ◌++◌, length, get_or, Result, Ok, Err, refl, sym, ap, ◌∙◌, arith, subst, inl, inr, length-append}
+use Rattle.std.proofs.Common.{◌≡◌, ℕ, ◌-◌, ◌^◌, ◌<◌, ◌≤◌, Bool, true, false, ◌&&◌, not, ltb, leb, List, [], ◌∷◌, ◌++◌, length, get_or, Ok, Err, refl, sym, ap, ◌∙◌, arith, subst, inl, inr, length-append}
 use Rattle.std.specs.Int.{w64, from_le_bytes}
-use Rattle.std.proofs.lemmas.Bool.{cases_lt, ltb-true, ltb-false, lt-ltb, le-ltb, leb-true, le-leb, and_parts, and_from, and_right, not-true}
-use Rattle.std.proofs.lemmas.List.{get_or_past, get_or_append_left, length-replicate}
+use Rattle.std.proofs.lemmas.Bool.{cases_lt, ltb-true, lt-ltb, leb-true, le-leb, and_parts, and_from, and_right}
+use Rattle.std.proofs.lemmas.List.{get_or_past, get_or_append_left}
 use Rattle.std.proofs.lemmas.Nat.{from_le_bytes-to_le_bytes_8}
 use Rattle.ras_base.specs.LittleEndian.{u64_bytes, length-u64_bytes}
 use Rattle.page_policy.specs.declared.buckets.Limit.{Limit}
 use Rattle.page_policy.specs.Buckets.{IsLimit}
-use Rattle.entry_format.specs.declared.refused.EntryRefused.{EntryRefused}
 use Rattle.entry_format.specs.declared.refused.EntryRefused.TheVariants.{Cut, Bad}
 use Rattle.entry_format.specs.Spelling.{limit_bytes}
-use Rattle.entry_format.specs.Reading.{both_at, seen_at, u64_at, is_from_one_to, is_out_of_range, ranged_at, limit_at}
+use Rattle.entry_format.specs.Reading.{both_at, u64_at, is_from_one_to, is_out_of_range, ranged_at, limit_at}
 use Rattle.entry_format.proofs.Codec.{IsBytes, not_so, Takes, CutOf, Reads, like_read, both_read, seen_read}
 use Rattle.entry_format.proofs.FieldLaws.{IsBytes-append, IsBytes-padded, one_fits, zeros_fit, zero_bytes, length-zeros, padded, padded_after, length-padded, wide64, guarded_ok, guarded_cut, guarded_bad, number_short, u64_not_bad, u64_read}
 
@@ -173,7 +172,7 @@ still_out most h bytes more e =
     let out = out_true (ltb 2 (length bytes)) (is_from_one_to most (begun bytes)) e in
     let long : 2 < length bytes = ltb-true _ _ out.0 in
     let range : is_from_one_to most (begun (bytes ++ more)) ≡ false =
-        not_so (is_from_one_to most (begun (bytes ++ more))) (λ r. let wrong = sym out.1 ∙ true_ranged most (begun bytes) (ranged_before most h bytes more long (ranged_true most (begun (bytes ++ more)) r)) in cc) in
+    not_so (is_from_one_to most (begun (bytes ++ more))) (λ r. let wrong = sym out.1 ∙ true_ranged most (begun bytes) (ranged_before most h bytes more long (ranged_true most (begun (bytes ++ more)) r)) in cc) in
     and_from _ _ (lt-ltb _ _ (omega (arith, length-append bytes more))) (ap not range)
 
 ranged_bad : (most : ℕ) → IsMost most → (bytes more : List ℕ) → ranged_at most bytes ≡ Err Bad → ranged_at most (bytes ++ more) ≡ Err Bad

@@ -10,7 +10,7 @@ use Rattle.ras_facts.specs.declared.items.Item.{Item}
 use Rattle.ras_facts.specs.declared.fact.Fact.{Fact}
 use Rattle.page_policy.specs.declared.buckets.Limit.{Limit}
 use Rattle.ras_account.specs.declared.entry.Entry.TheVariants as entry
-use Rattle.entry_format.specs.Writable.{HasLabel, IsWritable}
+use Rattle.ras_facts.specs.Valid.{IsValidItem, IsValidFact}
 use Rattle.entry_format.specs.Spelling.{name_bytes, label_bytes, page_bytes, item_bytes, fact_bytes, limit_bytes, entry_bytes}
 use Rattle.entry_format.proofs.LabelLaws.{label_short}
 
@@ -61,14 +61,14 @@ page_most None h = omega (arith, h)
 page_most (Some page) h = omega (arith, h)
 
 -- the label of the one item
-only_label : (fact : Fact) (item : Item) → fact.items ≡ item ∷ [] → IsWritable (entry.Fact fact) → length item.label ≤ 32
-only_label fact item one writable =
-    let labels = subst (λ (items : List Item). AllByRecursion HasLabel items) one (recursion_from_All HasLabel fact.items writable.labels) in
-    label_short item.label labels.0
+only_label : (fact : Fact) (item : Item) → fact.items ≡ item ∷ [] → IsValidFact fact → length item.label ≤ 32
+only_label fact item one valid =
+    let items = subst (λ (items : List Item). AllByRecursion IsValidItem items) one (recursion_from_All IsValidItem fact.items valid.items) in
+    label_short item.label items.0.label
 
-pub one_item_most : (fact : Fact) (item : Item) → IsWritable (entry.Fact fact) → fact.items ≡ item ∷ [] → length (entry_bytes (entry.Fact fact)) ≤ 76
-one_item_most fact item writable one =
-    omega (arith, entry_size fact item one, page_most item.page (page_size item.page), only_label fact item one writable)
+pub one_item_most : (fact : Fact) (item : Item) → IsValidFact fact → fact.items ≡ item ∷ [] → length (entry_bytes (entry.Fact fact)) ≤ 76
+one_item_most fact item valid one =
+    omega (arith, entry_size fact item one, page_most item.page (page_size item.page), only_label fact item one valid)
 
 pub limit_size : (limit : Limit) → length (entry_bytes (entry.Limit limit)) ≡ 17
 unfolding entry_bytes limit_bytes

@@ -1,21 +1,21 @@
 -- What the bytes of a whole file are.
 use Rattle.std.specs.Prelude.{◌≡◌, ℕ, ◌<◌, List, ◌++◌, length, All}
 use Rattle.ras_account.specs.declared.entry.Entry.{Entry}
-use Rattle.entry_format.specs.Writable.{IsWritable}
+use Rattle.ras_account.specs.Valid.{IsValidEntry}
 use Rattle.entry_format.specs.declared.refused.EntriesRefused.{EntriesRefused}
 use Rattle.entry_format.specs.declared.refused.EntriesRefused.TheVariants.{Bad, NoMemory}
 use Rattle.entry_format.specs.Spelling.{entries_bytes}
 use Rattle.entry_format.specs.Front.{HasNoEntry}
 
--- the bytes are the spelling of these entries, which are writable
+-- the bytes are the spelling of these entries, which are valid
 pub record AreEntriesOf (entries : List Entry) (bytes : List ℕ) : Type 0 where
-  pub valid : All IsWritable entries
+  pub valid : All IsValidEntry entries
   pub spelled : bytes ≡ entries_bytes entries
 
--- up to this place the bytes spell writable entries, and from there on there are bytes that begin with none
+-- up to this place the bytes spell valid entries, and from there on there are bytes that begin with none
 pub record BreaksOffAt (bytes : List ℕ) (place : ℕ) : Type 0 where
   pub entries : List Entry
-  pub valid : All IsWritable entries
+  pub valid : All IsValidEntry entries
   pub rest : List ℕ
   pub spelled : bytes ≡ entries_bytes entries ++ rest
   pub place_is : place ≡ length (entries_bytes entries)

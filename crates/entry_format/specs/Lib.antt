@@ -1,5 +1,4 @@
 pub mod Spelling
-pub mod Writable
 pub mod Front
 pub mod File
 pub mod Steps

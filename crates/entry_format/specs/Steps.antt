@@ -1,7 +1,7 @@
 -- What the steps of reading a file give. It only carries proofs: what may be read is said in Front and File.
 use Rattle.std.specs.Prelude.{◌≡◌, ℕ, List, ◌++◌}
 use Rattle.ras_account.specs.declared.entry.Entry.{Entry}
-use Rattle.entry_format.specs.Writable.{IsWritable}
+use Rattle.ras_account.specs.Valid.{IsValidEntry}
 use Rattle.dimm_topology.specs.declared.label.LabelRefused.{LabelRefused}
 use Rattle.dimm_topology.specs.declared.label.LabelRefused.TheVariants as label
 use Rattle.entry_format.specs.declared.refused.EntryRefused.{EntryRefused}
@@ -10,9 +10,9 @@ use Rattle.entry_format.specs.declared.refused.EntriesRefused.{EntriesRefused}
 use Rattle.entry_format.specs.declared.refused.EntriesRefused.TheVariants as file
 use Rattle.entry_format.specs.Spelling.{entry_bytes}
 
--- the bytes are the spelling of this writable entry, and these bytes behind it
+-- the bytes are the spelling of this valid entry, and these bytes behind it
 pub record IsFront (bytes : List ℕ) (entry : Entry) (rest : List ℕ) : Type 0 where
-  pub valid : IsWritable entry
+  pub valid : IsValidEntry entry
   pub spelled : bytes ≡ entry_bytes entry ++ rest
 
 -- the refusal of a file, by that of the entry at a place

@@ -3,14 +3,12 @@
 // Each function reads one at the front of the bytes, and gives the bytes behind it too. It answers `Cut` where the
 // bytes begin a good field and end before it does, and `Bad` where no good field begins with them.
 ghost use Rattle.std.specs.Prelude.{◌≡◌};
-ghost use Rattle.entry_format.specs.Reading.{Gives, u16_at, u64_at, byte_at, behind, name_at, class_of, class_at, page_number_at, page_at, weight_at, item_at};
+ghost use Rattle.entry_format.specs.Reading.{Gives, u16_at, u64_at, byte_at, behind, name_at, class_of, class_at, page_number_at, page_at, weight_at};
 
 use crate::kinds::BANK;
-use crate::labels::label_at;
 use crate::refused::EntryRefused;
 use mca_status::ItemClass;
-use ras_facts::{Item, Name};
-use std::alloc::Global;
+use ras_facts::Name;
 
 // The pages of 4,096 bytes that 64 bits address are below this number.
 const PAGES: u64 = 1 << 52;
@@ -104,7 +102,7 @@ fn class_of(number: u8) -> Option<ItemClass>
 
 // A class.
 #[tactic(auto, unfolding(crate::specs::Reading::class_at))]
-fn class_at(bytes: &[u8]) -> Result<(ItemClass, &[u8]), EntryRefused>
+pub(crate) fn class_at(bytes: &[u8]) -> Result<(ItemClass, &[u8]), EntryRefused>
     ensures { Gives (λ x. (x.0, x.1.now)) result (class_at bytes.now) }
 {
     let (number, rest) = byte_at(bytes)?;
@@ -133,7 +131,7 @@ fn page_number_at(bytes: &[u8]) -> Result<(u64, &[u8]), EntryRefused>
 
 // A page behind its flag.
 #[tactic(auto, unfolding(crate::specs::Reading::page_at))]
-fn page_at(bytes: &[u8]) -> Result<(Option<u64>, &[u8]), EntryRefused>
+pub(crate) fn page_at(bytes: &[u8]) -> Result<(Option<u64>, &[u8]), EntryRefused>
     ensures { Gives (λ x. (x.0, x.1.now)) result (page_at bytes.now) }
 {
     match bytes {
@@ -149,7 +147,7 @@ fn page_at(bytes: &[u8]) -> Result<(Option<u64>, &[u8]), EntryRefused>
 
 // A weight.
 #[tactic(auto, unfolding(crate::specs::Reading::weight_at))]
-fn weight_at(bytes: &[u8]) -> Result<(u16, &[u8]), EntryRefused>
+pub(crate) fn weight_at(bytes: &[u8]) -> Result<(u16, &[u8]), EntryRefused>
     ensures { Gives (λ x. (x.0, x.1.now)) result (weight_at bytes.now) }
 {
     let (weight, rest) = u16_at(bytes)?;
@@ -158,22 +156,4 @@ fn weight_at(bytes: &[u8]) -> Result<(u16, &[u8]), EntryRefused>
     } else {
         Err(EntryRefused::Bad)
     }
-}
-
-// An item.
-#[tactic(auto, unfolding(crate::specs::Reading::item_at))]
-pub(crate) fn item_at(alloc: Global, bytes: &[u8]) -> Result<(Item, &[u8]), EntryRefused>
-    ensures { Gives (λ x. (x.0, x.1.now)) result (item_at bytes.now) }
-{
-    let (class, rest) = class_at(bytes)?;
-    let (label, rest) = label_at(alloc, rest)?;
-    let (page, rest) = page_at(rest)?;
-    let (weight, rest) = weight_at(rest)?;
-    let item = Item {
-        class,
-        label,
-        page,
-        weight,
-    };
-    Ok((item, rest))
 }

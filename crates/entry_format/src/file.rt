@@ -28,7 +28,7 @@ fn all_entries(alloc: Global, bytes: &[u8]) -> Result<Vec<Entry>, EntriesRefused
 
 /// The entries whose spelling the bytes of a file are, in order. Each byte is read once.
 ///
-/// It is refused as `Bad` exactly where the bytes aren't the spelling of writable entries: the place is that of the first
+/// It is refused as `Bad` exactly where the bytes aren't the spelling of valid entries: the place is that of the first
 /// byte of the first entry that is cut or is none. It is refused as `NoMemory` where memory runs out.
 pub fn read_entries(alloc: Global, bytes: &[u8]) -> Result<Vec<Entry>, EntriesRefused>
     // What is read is what the bytes are.

