@@ -2,7 +2,7 @@
 use Rattle.std.proofs.Common.{◌≡◌, ℕ, true, false, List, [], ◌∷◌, ◌++◌, length, None, Some, Option, refl, ap, sym, ◌∙◌, inl, inr, append-nil, length-append, arith}
 use Rattle.std.proofs.lemmas.Bool.Decides.{nat_tests}
 use Rattle.std.specs.Option.{MatchOption, option_to_list}
-use Rattle.entry_format.specs.Writable.{IsWritable}
+use Rattle.ras_account.specs.Valid.{IsValidEntry}
 use Rattle.entry_format.specs.Spelling.{entry_bytes}
 use Rattle.ras_account.specs.declared.entry.Entry.{Entry}
 use Rattle.ras_account.specs.Account.{State, account_of}
@@ -19,7 +19,7 @@ use Rattle.ras_daemon.specs.Event.{IsPrepared, PrepareExit, ReserveExit}
 use Rattle.ras_daemon.specs.PlainFile.{stored}
 use Rattle.ras_daemon.specs.Status.{is_past}
 use Rattle.ras_daemon.specs.Text.{log_lines, repeat_line, done_line}
-use Rattle.ras_daemon.proofs.FileLemmas.{fresh-old, stored-new, stored-old, writable-one}
+use Rattle.ras_daemon.proofs.FileLemmas.{fresh-old, stored-new, stored-old, valid-one}
 
 pub room-within : (a : State) → IsWithin a → is_past a ≡ false
 room-within a within = grind (arith, nat_tests, within.names, within.entries, within.total)
@@ -58,13 +58,13 @@ module _ (before : List Entry) (entry : Entry) (state : State) (is : state ≡ a
     ends = ends;
     account = rw none (sym is ∙ sym (continued-repeat state entry held) ∙ sym (more_account before entry state is));
     room = room_for before entry state is within;
-    writable = λ all. rw (fresh-old before entry repeated) all;
+    valid = λ all. rw (fresh-old before entry repeated) all;
   }
 
   pub prepared_fresh : (number : ℕ) (detail : List ℕ) (event : Prepared) (new : FreshEntry) → event.fresh ≡ Some new → new.entry ≡ entry
       → new.bytes.items ≡ entry_bytes entry → is_fresh_behind before entry ≡ true
-      → event.text.items ≡ log_lines detail entry → event.done.items ≡ done_line number → IsWritable entry → IsPrepared before number detail (entry ∷ []) event
-  prepared_fresh number detail event new some same bytes behind texts ends writable = record {
+      → event.text.items ≡ log_lines detail entry → event.done.items ≡ done_line number → IsValidEntry entry → IsPrepared before number detail (entry ∷ []) event
+  prepared_fresh number detail event new some same bytes behind texts ends valid = record {
     appends = rw (some, behind, bytes) refl;
     ends_at = rw (some, bytes) (sym (length-append (stored before) (entry_bytes entry)) ∙ ap length (sym (stored-new before entry behind)));
     texts = rw behind (texts ∙ sym (append-nil (log_lines detail entry)));
@@ -72,7 +72,7 @@ module _ (before : List Entry) (entry : Entry) (state : State) (is : state ≡ a
     ends = ends;
     account = rw (some, same) (ap (λ a. continued a entry) (sym is) ∙ sym (more_account before entry state is));
     room = room_for before entry state is within;
-    writable = λ all. writable-one before entry all writable;
+    valid = λ all. valid-one before entry all valid;
   }
 
 -- an event that makes nothing
@@ -86,7 +86,7 @@ prepared_none before number detail event none texts ends room = record {
   ends = ends;
   account = rw none (ap account_of (sym (append-nil before)));
   room = rw (append-nil before) room;
-  writable = λ all. rw (append-nil before) all;
+  valid = λ all. rw (append-nil before) all;
 }
 
 -- how making room for entries ends is how preparing their event ends

@@ -3,7 +3,6 @@ use Rattle.std.proofs.Common.{◌≡◌, ℕ, ◌≤◌, Bool, true, false, List
 use Rattle.std.specs.List.{All}
 use Rattle.std.specs.Option.{option_map}
 use Rattle.entry_format.proofs.SizeLaws.{one_item_most, limit_size}
-use Rattle.entry_format.specs.Writable.{HasLabel, IsWritable}
 use Rattle.entry_format.specs.Spelling.{entry_bytes, entries_bytes}
 use Rattle.dimm_topology.specs.declared.row.Row.{Row}
 use Rattle.mca_status.specs.declared.classes.Class.{Class}
@@ -15,9 +14,9 @@ use Rattle.ras_facts.specs.Facts.{bank_fact, bank_item, bank_name, cap_in, statu
 use Rattle.ras_account.specs.declared.entry.Entry.{Entry}
 use Rattle.ras_account.specs.declared.entry.Entry.TheVariants.{Fact as Report, Limit as Settles}
 use Rattle.ras_account.specs.Fresh.{fresh, is_fresh_behind}
-use Rattle.ras_account.specs.Valid.{items_in}
+use Rattle.ras_account.specs.Valid.{IsValidEntry, items_in}
 use Rattle.ras_account.proofs.FreshLemmas.{fresh-snoc}
-use Rattle.ras_daemon.specs.Event.{AreWritable, IsFit, longest_entry}
+use Rattle.ras_daemon.specs.Event.{AreValid, IsFit, longest_entry}
 use Rattle.ras_daemon.specs.PlainFile.{stored}
 
 -- an entry more, which is fresh or not
@@ -39,22 +38,22 @@ stored-new before entry new = ap entries_bytes (fresh-new before entry new) ∙ 
 pub stored-old : (before : List Entry) (entry : Entry) → is_fresh_behind before entry ≡ false → stored (before ++ entry ∷ []) ≡ stored before
 stored-old before entry old = ap entries_bytes (fresh-old before entry old)
 
--- the file can hold the fresh ones of entries that it can hold
-writable-snoc : (entries : List Entry) (entry : Entry) → AreWritable entries → IsWritable entry → AreWritable (entries ++ entry ∷ [])
-writable-snoc [] entry all one = (one, tt)
-writable-snoc (e ∷ entries) entry all one = (all.0, writable-snoc entries entry all.1 one)
+-- the fresh ones of valid entries are valid
+valid-snoc : (entries : List Entry) (entry : Entry) → AreValid entries → IsValidEntry entry → AreValid (entries ++ entry ∷ [])
+valid-snoc [] entry all one = (one, tt)
+valid-snoc (e ∷ entries) entry all one = (all.0, valid-snoc entries entry all.1 one)
 
-pub writable-one : (before : List Entry) (entry : Entry) → AreWritable (fresh before) → IsWritable entry → AreWritable (fresh (before ++ entry ∷ []))
-writable-one before entry all one = by (is_fresh_behind before entry) refl
+pub valid-one : (before : List Entry) (entry : Entry) → AreValid (fresh before) → IsValidEntry entry → AreValid (fresh (before ++ entry ∷ []))
+valid-one before entry all one = by (is_fresh_behind before entry) refl
   where
-    by : (b : Bool) → is_fresh_behind before entry ≡ b → AreWritable (fresh (before ++ entry ∷ []))
-    by true new = rw (fresh-new before entry new) (writable-snoc (fresh before) entry all one)
+    by : (b : Bool) → is_fresh_behind before entry ≡ b → AreValid (fresh (before ++ entry ∷ []))
+    by true new = rw (fresh-new before entry new) (valid-snoc (fresh before) entry all one)
     by false old = rw (fresh-old before entry old) all
 
 -- the entry of an event is short
-pub short_entry : (entry : Entry) → IsFit entry → All HasLabel (items_in entry) → length (entry_bytes entry) ≤ longest_entry
-short_entry (Report fact) fit labels = one_item_most fact fit.one.0 (record { valid = fit.valid; labels = labels }) fit.one.1
-short_entry (Settles limit) fit labels = omega (arith, limit_size limit)
+pub short_entry : (entry : Entry) → IsFit entry → length (entry_bytes entry) ≤ longest_entry
+short_entry (Report fact) fit = one_item_most fact fit.one.0 fit.valid fit.one.1
+short_entry (Settles limit) fit = omega (arith, limit_size limit)
 
 pub few_items : (entry : Entry) → IsFit entry → length (items_in entry) ≤ 65535
 few_items (Report fact) fit = fit.valid.count

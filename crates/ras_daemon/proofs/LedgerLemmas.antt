@@ -9,7 +9,7 @@ use Rattle.board_core.specs.declared.board.DiskCall.TheVariants.{Size, ReadAt}
 use Rattle.board_core.specs.declared.board.FileNo.TheVariants.{Zero}
 use Rattle.board_core.specs.Told.{Told, Relates, MayList, Reads, Steps, called}
 use Rattle.entry_format.specs.File.{AreEntriesOf}
-use Rattle.entry_format.specs.Writable.{IsWritable}
+use Rattle.ras_account.specs.Valid.{IsValidEntry}
 use Rattle.ras_account.specs.declared.entry.Entry.{Entry}
 use Rattle.ras_account.specs.Account.{account_of}
 use Rattle.ras_account.specs.Continued.{IsWithin}
@@ -18,7 +18,7 @@ use Rattle.ras_account.proofs.LawLemmas.{refreshed}
 use Rattle.ras_daemon.specs.declared.ledger.Ledger.{Ledger}
 use Rattle.ras_daemon.specs.declared.ledger.OpenRefused.{OpenRefused}
 use Rattle.ras_daemon.specs.declared.ledger.OpenRefused.TheVariants.{Disk, Damaged, Full, NoMemory}
-use Rattle.ras_daemon.specs.Event.{AreWritable, IsKept, IsRoomRefusal, OpenCause, Reopens}
+use Rattle.ras_daemon.specs.Event.{AreValid, IsKept, IsRoomRefusal, OpenCause, Reopens}
 use Rattle.ras_daemon.specs.PlainFile.{stored, stored_end}
 use Rattle.ras_daemon.specs.Progress.{Cut, IsDisk, Paused, after_all, asks_size, reads_file, reopen_steps}
 use Rattle.ras_daemon.proofs.EventLemmas.{within-room}
@@ -53,8 +53,8 @@ module _ (reported : List Entry) (old mid : Option Told) (size : ℕ) (went : St
       cut_behind (asks_size ∷ []) (reads_file (stored_end reported) ∷ []) asked (cut_first (reads_file (stored_end reported)) [] tt at)
 
 -- what is stored are the fresh entries
-stored-entries : (reported : List Entry) → AreWritable (fresh reported) → AreEntriesOf (fresh reported) (stored reported)
-stored-entries reported writable = record { valid = All-from_recursion IsWritable (fresh reported) writable; spelled = refl }
+stored-entries : (reported : List Entry) → AreValid (fresh reported) → AreEntriesOf (fresh reported) (stored reported)
+stored-entries reported valid = record { valid = All-from_recursion IsValidEntry (fresh reported) valid; spelled = refl }
 
 -- what a whole read of a file gives
 whole-read : (count : ℕ) (buffer file : List ℕ) → length buffer ≡ length file → Reads 0 count buffer file → take count buffer ≡ file
@@ -77,7 +77,7 @@ pub record IsRead (bytes : List ℕ) (result : Result Ledger OpenRefused) : Type
 module _ (reported : List Entry) (old new : Option Told) (bytes : List ℕ) (kept : IsKept reported old) (same : bytes ≡ stored reported)
     (went : new ≡ option_map (after_all (reopen_steps (stored_end reported))) old) where
   are : AreEntriesOf (fresh reported) bytes
-  are = rw same (stored-entries reported kept.writable)
+  are = rw same (stored-entries reported kept.valid)
 
   told : IsSomeAnd new (λ t. t.file0 ≡ stored reported)
   told = by old kept.file went
@@ -97,7 +97,7 @@ module _ (reported : List Entry) (old new : Option Told) (bytes : List ℕ) (kep
       account = read.entries (fresh reported) are ∙ refreshed reported;
       end = read.end ∙ ap length same;
       room = kept.room;
-      writable = kept.writable;
+      valid = kept.valid;
       file = told;
     },
   )

@@ -58,7 +58,7 @@ event_taken before number detail entries event ledger more old new (Ok done) kee
         account = counted ∙ ap (state_after event.fresh) keeps.account ∙ prepared.account;
         end = ended ∙ ap (end_after event.fresh) keeps.end ∙ prepared.ends_at;
         room = prepared.room;
-        writable = prepared.writable keeps.writable;
+        valid = prepared.valid keeps.valid;
         file = went-file before entries number detail old new keeps.file went;
       },
     )
@@ -109,7 +109,7 @@ module _ (before : List Read) (number : ℕ) (line : Line) where
           account = stands.keeps.account;
           end = stands.keeps.end;
           room = stands.keeps.room;
-          writable = stands.keeps.writable;
+          valid = stands.keeps.valid;
           file = row-file old new stands.keeps.file taken.1;
         }) in subst (λ es. Keeps es more.ledger new) (sym (append-nil (reports before))) keeps),
   )
@@ -184,7 +184,7 @@ pub started : (told : Option Told) (run : Run) (P : Type 0) → Fits told 0 → 
 started None run P empty topology account end stands = tt
 started (Some t) run P empty topology account end stands = stands (record {
   rows = topology;
-  keeps = record { account = account; end = end; room = refl; writable = tt; file = none t.file0 empty };
+  keeps = record { account = account; end = end; room = refl; valid = tt; file = none t.file0 empty };
 })
   where
     none : (file : List ℕ) → length file ≡ 0 → file ≡ []
@@ -193,7 +193,7 @@ started (Some t) run P empty topology account end stands = stands (record {
 
 -- what was kept is what the file holds
 pub kept : (before : List Entry) (ledger : Ledger) (told : Option Told) → Keeps before ledger told → IsKept before told
-kept before ledger told keeps = record { room = keeps.room; writable = keeps.writable; file = keeps.file }
+kept before ledger told keeps = record { room = keeps.room; valid = keeps.valid; file = keeps.file }
 
 -- the account was made again, and what it tells was printed or not
 said-file : (before : List Entry) (text : List ℕ) (number : ℕ) (old new : Option Told) → IsSomeAnd old (λ t. t.file0 ≡ stored before) → new ≡ option_map (after_all (say_steps text number)) old
@@ -212,7 +212,7 @@ module _ (before : List Entry) (number : ℕ) where
           account = reopens.1.account;
           end = reopens.1.end;
           room = reopens.1.room;
-          writable = reopens.1.writable;
+          valid = reopens.1.valid;
           file = said-file before (held_text (account_of before)) number mid new reopens.1.file same;
         },
       )

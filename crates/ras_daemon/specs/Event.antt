@@ -7,7 +7,6 @@ use Rattle.std.specs.Vec.{vec_capacity, vec_len}
 use Rattle.board_core.specs.Cause.{Rose}
 use Rattle.board_core.specs.Told.{Told}
 use Rattle.dimm_topology.specs.declared.topology.TopologyRefused.{TopologyRefused}
-use Rattle.entry_format.specs.Writable.{IsWritable}
 use Rattle.page_policy.specs.declared.rows.Order.{Order}
 use Rattle.ras_facts.specs.declared.items.Item.{Item}
 use Rattle.ras_account.specs.declared.entry.Entry.{Entry}
@@ -70,9 +69,9 @@ abbrev pub state_after : Option FreshEntry → State → State
 state_after None state = state
 state_after (Some fresh) state = continued state fresh.entry
 
--- the file can hold the entries, so that they can be read from it again
-abbrev pub AreWritable : List Entry → Type 0
-AreWritable entries = AllByRecursion IsWritable entries
+-- the entries are valid, so a file can hold them, and they can be read from it again
+abbrev pub AreValid : List Entry → Type 0
+AreValid entries = AllByRecursion IsValidEntry entries
 
 -- a fact has one item
 abbrev pub HasOneItem : Entry → Type 0
@@ -96,7 +95,7 @@ pub record IsPrepared (before : List Entry) (number : ℕ) (detail : List ℕ) (
   pub ends : event.done.items ≡ done_line number
   pub account : state_after event.fresh (account_of before) ≡ account_of (before ++ entries)
   pub room : is_past (account_of (before ++ entries)) ≡ false
-  pub writable : AreWritable (fresh before) → AreWritable (fresh (before ++ entries))
+  pub valid : AreValid (fresh before) → AreValid (fresh (before ++ entries))
 
 -- The account can take the fresh entry with no memory, and its bytes are few. There is room for its orders.
 pub record CanTake (account : View) (fresh : FreshEntry) : Type 0 where
@@ -138,7 +137,7 @@ pub record Keeps (reported : List Entry) (ledger : Ledger) (told : Option Told) 
   pub account : ledger.account.state ≡ account_of reported
   pub end : ledger.end ≡ stored_end reported
   pub room : is_past (account_of reported) ≡ false
-  pub writable : AreWritable (fresh reported)
+  pub valid : AreValid (fresh reported)
   pub file : IsSomeAnd told (λ t. t.file0 ≡ stored reported)
 
 -- What a run has at hand behind these lines: the rows that they told, and the account of what they reported.
@@ -162,7 +161,7 @@ TakesEntries before number detail entries (Err exit) old new ledger =
 -- What was reported stands in the file, as the board tells, and can be read from it and counted again.
 pub record IsKept (reported : List Entry) (told : Option Told) : Type 0 where
   pub room : is_past (account_of reported) ≡ false
-  pub writable : AreWritable (fresh reported)
+  pub valid : AreValid (fresh reported)
   pub file : IsSomeAnd told (λ t. t.file0 ≡ stored reported)
 
 -- The account was made again from a file that holds it, or as far as a fault or want of memory let.

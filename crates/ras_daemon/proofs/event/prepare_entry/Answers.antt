@@ -13,8 +13,8 @@ returns-then-not-is_fresh-clause-prepared c = λ before number is done.
 pub returns-clause-prepared : goal.returns-clause-prepared
 returns-clause-prepared c = λ before number is done.
     prepared_fresh before c.args.entry c.args.account.now.state is c.requires.within number c.args.detail.now _ _ refl refl
-    c.in_ok-bytes.ensures.spelled (sym (c.if-not-is_fresh.ensures.history before is)) c.in_ok-text-2.ensures.text done
-    (record { valid = c.requires.fit.valid; labels = c.in_ok-bytes.ensures.labels })
+    c.in_ok-bytes.ensures (sym (c.if-not-is_fresh.ensures.history before is)) c.in_ok-text-2.ensures.text done
+    c.requires.fit.valid
 
 pub returns-clause-can_do : goal.returns-clause-can_do
 returns-clause-can_do c = record {
@@ -23,7 +23,7 @@ returns-clause-can_do c = record {
     within = c.requires.within;
     is_fresh = sym c.if-not-is_fresh.ensures.fresh;
     valid = c.requires.fit.valid;
-    short = rw c.in_ok-bytes.ensures.spelled (short_entry c.args.entry c.requires.fit c.in_ok-bytes.ensures.labels);
+    short = rw c.in_ok-bytes.ensures (short_entry c.args.entry c.requires.fit);
     none = c.in_ok-orders.ensures.orders;
     room = rw (c.in_ok-orders.ensures.room, c.item_count-count.ensures) (omega arith);
   };
