@@ -2,7 +2,10 @@
 use super::check_bank;
 use std::test::Fail;
 
-// What is told first of a corrected error with the everyday address and code.
+// What is told first of a corrected error with the everyday address.
+const CORRECTED_PAGE: &str = "class=CE weight=1 label=- page=0000000012345000";
+
+// The same with the everyday code.
 const CORRECTED: &str = "class=CE weight=1 label=- page=0000000012345000 code=memory:RD:0";
 
 // What is told last where an error's code isn't that of a recoverable one and no flag is set.
@@ -27,8 +30,8 @@ fn thresholds(rt: HostRuntime) -> Result<(), Fail> {
     Ok(())
 }
 
-// Bits 52:38 of the status, where bit 10 of IA32_MCG_CAP says that they are a count and the error is corrected. A count of
-// 10 and more is one too many for a page, and the order would follow.
+// Bits 52:38 of the status, where bit 10 of IA32_MCG_CAP says that they are a count and the error is corrected. From 10
+// on an order to take the page out of use would follow.
 #[test]
 fn weights(rt: HostRuntime) -> Result<(), Fail> {
     let alloc = rt.alloc();
@@ -86,7 +89,7 @@ fn codes(rt: HostRuntime) -> Result<(), Fail> {
     for (number, code, mark) in rows {
         let registers = format!(in alloc; "1000c14 0 8c0000400001{number} 12345040 86")?;
         let told = format!(in alloc;
-            "class=CE weight=1 label=- page=0000000012345000 code={code} threshold=none over=0 mark={mark} ripv=0 eipv=0 mcip=0"
+            "{CORRECTED_PAGE} code={code} threshold=none over=0 mark={mark} ripv=0 eipv=0 mcip=0"
         )?;
         check_bank(&rt, alloc, registers.as_str(), told.as_str())?;
     }

@@ -4,7 +4,7 @@ use crate::Exit;
 use board_core::{DiskCall, FileNo, MemBoard};
 use std::test::Fail;
 
-// The limit at the start is 10 within 86,400 seconds, so the same isn't fresh, and nothing but the done line tells of it.
+// The limit at the start is 10 within 86,400 seconds, so the same isn't fresh: only the done line tells of it.
 #[test]
 fn limits_are_told_where_they_differ(rt: HostRuntime) -> Result<(), Fail> {
     let alloc = rt.alloc();
@@ -61,8 +61,8 @@ fn limits_have_ranges(rt: HostRuntime) -> Result<(), Fail> {
     check_run(&rt, alloc, script, output, 0)
 }
 
-// Two corrected errors of a page within 60 seconds are too many under this limit, also behind a restart, which reads the
-// limit from the file.
+// Two corrected errors of a page within 60 seconds are too many under this limit, also behind a restart, which reads
+// the limit from the file.
 #[test]
 fn a_limit_holds_for_later_errors(rt: HostRuntime) -> Result<(), Fail> {
     let script = concat!(

@@ -16,8 +16,8 @@ fn optional_action(rt: HostRuntime) -> Result<(), Fail> {
         "end entries=1 names=1\n",
     );
     check_run(&rt, alloc, script, output, 0)?;
-    // Without software error recovery the class is another and the address isn't usable, so no page is ordered out of use.
-    // The mark is the code's.
+    // Without software error recovery the class is another and the address isn't usable, so no page is ordered out of
+    // use. The mark is the code's.
     let script = "bank 1 100 0 7 2000 c14 5 bd000000000000c0 12345040 86";
     let output = concat!(
         "log bank=1/0/7/2000 t=100 class=UC weight=1 label=- page=- code=memory:SCRUB:0 ",
@@ -148,8 +148,8 @@ fn orders_only_rise(rt: HostRuntime) -> Result<(), Fail> {
     check_run(&rt, rt.alloc(), script, output, 0)
 }
 
-// Four pages, the first seen of which is ordered last, and the second of which stays in use: a restart tells the others in
-// the order in which they were first seen, each once, and a second restart tells the same.
+// Four pages, the first seen of which is ordered last, and the second of which stays in use: a restart tells the others
+// in the order in which they were first seen, each once, and a second restart tells the same.
 const FOUR_PAGES: &str = concat!(
     "bank 1 100 0 7 1 1000c14 0 8c00004000010090 1000 86\n",
     "bank 1 101 0 7 2 1000c14 0 8c00004000010090 5000 86\n",
