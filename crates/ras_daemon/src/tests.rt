@@ -1,6 +1,9 @@
 // Whole runs over sources and boards in memory.
 mod details;
 mod faults;
+mod limits;
+mod modules;
+mod orders;
 mod restart;
 mod starts;
 mod stored;

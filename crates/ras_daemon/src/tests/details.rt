@@ -1,70 +1,15 @@
 // What the log tells of a bank's registers.
-use super::{check_bank, check_run};
+use super::check_bank;
 use std::test::Fail;
 
-// What is told first of a corrected error with the everyday address and code.
+// What is told first of a corrected error with the everyday address.
+const CORRECTED_PAGE: &str = "class=CE weight=1 label=- page=0000000012345000";
+
+// The same with the everyday code.
 const CORRECTED: &str = "class=CE weight=1 label=- page=0000000012345000 code=memory:RD:0";
 
 // What is told last where an error's code isn't that of a recoverable one and no flag is set.
 const NOTHING_MORE: &str = "over=0 mark=- ripv=0 eipv=0 mcip=0";
-
-#[test]
-fn optional_action(rt: HostRuntime) -> Result<(), Fail> {
-    let alloc = rt.alloc();
-    check_bank(
-        &rt,
-        alloc,
-        "1000c14 5 bd000000000000c0 12345040 86",
-        concat!(
-            "class=SRAO weight=1 label=- page=0000000012345000 code=memory:SCRUB:0 threshold=- ",
-            "over=0 mark=srao ripv=1 eipv=0 mcip=1"
-        ),
-    )?;
-    // Without software error recovery the class is another and the address isn't usable. The mark is the code's.
-    check_bank(
-        &rt,
-        alloc,
-        "c14 5 bd000000000000c0 12345040 86",
-        concat!(
-            "class=UC weight=1 label=- page=- code=memory:SCRUB:0 threshold=- ",
-            "over=0 mark=srao ripv=1 eipv=0 mcip=1"
-        ),
-    )
-}
-
-#[test]
-fn required_action_and_none_and_corrupt_context(rt: HostRuntime) -> Result<(), Fail> {
-    let script = concat!(
-        "bank 1 100 0 1 1 1000c14 5 bd80000000000134 2000 86\n",
-        "bank 1 101 0 7 2 1000c14 0 bc00000000000090 3000 86\n",
-        "bank 1 102 0 4 3 1000c14 0 be00000000800400 0 0\n",
-    );
-    let output = concat!(
-        "log bank=1/0/1/1 t=100 class=SRAR weight=1 label=- page=0000000000002000 code=cache:D:L0:DRD ",
-        "threshold=- over=0 mark=srar ripv=1 eipv=0 mcip=1\n",
-        "done 1\n",
-        "log bank=1/0/7/2 t=101 class=UCNA weight=1 label=- page=0000000000003000 code=memory:RD:0 ",
-        "threshold=- over=0 mark=- ripv=0 eipv=0 mcip=0\n",
-        "done 2\n",
-        "log bank=1/0/4/3 t=102 class=UC weight=1 label=- page=- code=internal-timer ",
-        "threshold=- over=0 mark=- ripv=0 eipv=0 mcip=0\n",
-        "done 3\n",
-        "end entries=3 names=3\n",
-    );
-    check_run(&rt, rt.alloc(), script, output, 0)
-}
-
-#[test]
-fn no_row_of_the_manual(rt: HostRuntime) -> Result<(), Fail> {
-    let script = "bank 1 100 0 7 4 1000c14 0 ad00000000000090 3000 86";
-    let output = concat!(
-        "log bank=1/0/7/4 t=100 class=ODD weight=1 label=- page=0000000000003000 code=memory:RD:0 ",
-        "threshold=- over=0 mark=- ripv=0 eipv=0 mcip=0\n",
-        "done 1\n",
-        "end entries=1 names=1\n",
-    );
-    check_run(&rt, rt.alloc(), script, output, 0)
-}
 
 // Bits 54:53 of the status, where bit 11 of IA32_MCG_CAP says that they are told and the error is corrected.
 #[test]
@@ -85,14 +30,15 @@ fn thresholds(rt: HostRuntime) -> Result<(), Fail> {
     Ok(())
 }
 
-// Bits 52:38 of the status, where bit 10 of IA32_MCG_CAP says that they are a count and the error is corrected.
+// Bits 52:38 of the status, where bit 10 of IA32_MCG_CAP says that they are a count and the error is corrected. From 10
+// on an order to take the page out of use would follow.
 #[test]
 fn weights(rt: HostRuntime) -> Result<(), Fail> {
     let alloc = rt.alloc();
     let rows = [
         ("1000c14 0 8c00000000010090", 1),
         ("1000c14 0 8c0000c000010090", 3),
-        ("1000c14 0 8c1fffc000010090", 32767),
+        ("1000c14 0 8c00024000010090", 9),
         ("1000814 0 8c0000c000010090", 1),
     ];
     for (registers, weight) in rows {
@@ -143,7 +89,7 @@ fn codes(rt: HostRuntime) -> Result<(), Fail> {
     for (number, code, mark) in rows {
         let registers = format!(in alloc; "1000c14 0 8c0000400001{number} 12345040 86")?;
         let told = format!(in alloc;
-            "class=CE weight=1 label=- page=0000000012345000 code={code} threshold=none over=0 mark={mark} ripv=0 eipv=0 mcip=0"
+            "{CORRECTED_PAGE} code={code} threshold=none over=0 mark={mark} ripv=0 eipv=0 mcip=0"
         )?;
         check_bank(&rt, alloc, registers.as_str(), told.as_str())?;
     }

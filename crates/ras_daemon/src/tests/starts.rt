@@ -29,6 +29,8 @@ fn lines_are_refused(rt: HostRuntime) -> Result<(), Fail> {
     let alloc = rt.alloc();
     let rows = [
         ("frob\n", "stop 2 line=1 reason=line.1\n"),
+        ("cpu x 0\n", "stop 2 line=1 reason=line.3\n"),
+        ("module - 0 7 0\n", "stop 2 line=1 reason=line.6\n"),
         ("restart\nfrob\n", "done 1\nstop 2 line=2 reason=line.1\n"),
         ("bank 1\n", "stop 2 line=1 reason=line.2\n"),
         ("restart 1\n", "stop 2 line=1 reason=line.2\n"),
