@@ -50,7 +50,7 @@ pub event_taken : (before : List Entry) (number : ℕ) (detail : List ℕ) (entr
     → TakesEntries before number detail entries result old new more
 event_taken before number detail entries event ledger more old new (Ok done) keeps prepared performs counted ended =
     let steps : prepared_steps ledger.end ledger.account.state event ≡ count_steps before number detail entries =
-        prepared-steps before number detail entries event ledger.end ledger.account.state keeps.end keeps.account prepared in
+    prepared-steps before number detail entries event ledger.end ledger.account.state keeps.end keeps.account prepared in
     let went : new ≡ option_map (after_all (count_steps before number detail entries)) old = performs ∙ ap (λ steps. option_map (after_all steps) old) steps in (
       rw prepared.room refl,
       went,
@@ -64,7 +64,7 @@ event_taken before number detail entries event ledger more old new (Ok done) kee
     )
 event_taken before number detail entries event ledger more old new (Err exit) keeps prepared performs counted ended = λ rest.
     let steps : prepared_steps ledger.end ledger.account.state event ≡ count_steps before number detail entries =
-        prepared-steps before number detail entries event ledger.end ledger.account.state keeps.end keeps.account prepared in
+    prepared-steps before number detail entries event ledger.end ledger.account.state keeps.end keeps.account prepared in
     let same : Performs (count_steps before number detail entries) (Err exit) old new = subst (λ s. Performs s (Err exit) old new) steps performs in
     rw prepared.room (takes_first old new (count_steps before number detail entries) rest exit same)
 
@@ -218,7 +218,7 @@ module _ (before : List Entry) (number : ℕ) where
       )
   restart_said opened old mid new (Err exit) reopens said = λ rest.
       let same : Performs (say_steps (held_text (account_of before)) number) (Err exit) mid new =
-          subst (λ (a : State). Performs (say_steps (held_text a) number) (Err exit) mid new) reopens.1.account said in
+      subst (λ (a : State). Performs (say_steps (held_text a) number) (Err exit) mid new) reopens.1.account said in
       takes_first old new (restart_steps before number) rest exit
       (performs_then old mid new (reopen_steps (stored_end before)) (say_steps (held_text (account_of before)) number) (Err exit) reopens.0 same)
 

@@ -18,7 +18,10 @@ pub enum Line {
     /// A line whose first word begins with `#`.
     Comment,
     /// Which socket a CPU is in.
-    Cpu { cpu: u16, socket: u8 },
+    Cpu {
+        cpu: u16,
+        socket: u8,
+    },
     /// The socket, the bank and the memory channel by which errors of a memory module are reported.
     Module {
         label: Label,
@@ -27,9 +30,16 @@ pub enum Line {
         channel: u8,
     },
     /// The first and the last of the physical addresses of a memory module.
-    Range { label: Label, first: u64, last: u64 },
+    Range {
+        label: Label,
+        first: u64,
+        last: u64,
+    },
     /// How many corrected errors of a page, within how many seconds, are too many.
-    Limit { capacity: u32, period: u32 },
+    Limit {
+        capacity: u32,
+        period: u32,
+    },
     /// The account is to be made again from the file.
     Restart,
     /// A snapshot of a machine-check bank: the boot's number, seconds, the CPU, the bank, the time-stamp counter, and

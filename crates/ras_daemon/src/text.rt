@@ -177,12 +177,7 @@ fn push_label(text: &mut Vec<u8>, label: &Label) -> Result<(), NoMemory>
 
 // Adds the line of an item of a fresh fact, with what is told beside it.
 #[tactic(auto, unfolding(crate::specs::Text::item_line))]
-fn push_item(
-    text: &mut Vec<u8>,
-    fact: &Fact,
-    detail: &[u8],
-    item: &Item,
-) -> Result<(), NoMemory>
+fn push_item(text: &mut Vec<u8>, fact: &Fact, detail: &[u8], item: &Item) -> Result<(), NoMemory>
     ensures { OnOk result (text.new.items ≡ text.old.items ++ item_line fact.now detail.now item.now) }
 {
     push_head(text, fact, item)?;
@@ -197,11 +192,7 @@ fn push_item(
 }
 
 // Adds the line of each item of a fresh fact.
-fn push_items(
-    text: &mut Vec<u8>,
-    fact: &Fact,
-    detail: &[u8],
-) -> Result<(), NoMemory>
+fn push_items(text: &mut Vec<u8>, fact: &Fact, detail: &[u8]) -> Result<(), NoMemory>
     ensures { OnOk result (text.new.items ≡ text.old.items ++ flat_map (item_line fact.now detail.now) fact.now.items) }
 {
     for item in fact.items.as_slice() {
