@@ -1,5 +1,5 @@
 -- A readable script over an empty file is taken to its end.
-use Rattle.std.proofs.Common.{◌≡◌, ◌≢◌, ℕ, ◌⊎◌, Bool, true, false, List, [], ◌∷◌, ◌++◌, length, nat_lt, Option, None, Some, Ok, Err, refl, ap, sym, ◌∙◌, inl, inr, arith, unwrap_or, if◌then◌else◌}
+use Rattle.std.proofs.Common.{◌≡◌, ◌≢◌, ℕ, ◌⊎◌, Bool, true, false, List, [], ◌∷◌, ◌++◌, length, nat_lt, Option, None, Some, Ok, Err, refl, ◌∙◌, inl, inr, arith, unwrap_or, if◌then◌else◌}
 use Rattle.std.specs.List.{AllByRecursion}
 use Rattle.std.proofs.lemmas.Bool.Decides.{nat_tests}
 use Rattle.board_core.specs.Told.{Told}
@@ -12,7 +12,7 @@ use Rattle.ras_daemon.specs.Causes.{SourceCause, DiskCause, PrintCause}
 use Rattle.ras_daemon.specs.Command.{command_of}
 use Rattle.ras_daemon.specs.Ended.{IsAccepted, IsQuiet, IsReadable, OnAnswer, OverTold, Passes}
 use Rattle.ras_daemon.specs.Reports.{Event, Read, nothing, reopens, adds, counts, event_in, reads_of, reports, rows_of}
-use Rattle.ras_daemon.specs.Status.{event_refusal, is_past, lines_status, longest_script, refusal_at, refusal_among, status_of}
+use Rattle.ras_daemon.specs.Status.{event_refusal, is_past, longest_script, refusal_at, refusal_among, status_of}
 
 -- done, or without room
 abbrev pub IsEnd : Exit → Type 0

@@ -1,5 +1,5 @@
 -- The laws of what lines say.
-use Rattle.std.proofs.Common.{◌≡◌, ℕ, ◌-◌, ◌^◌, ◌<◌, ◌≤◌, ◌==◌, ◌&&◌, Bool, true, false, cond, nat_le, List, [], ◌∷◌, length, refl, arith, Result, Ok, Err, None, Some, IfOk, codes}
+use Rattle.std.proofs.Common.{◌≡◌, ℕ, ◌-◌, ◌^◌, ◌<◌, ◌≤◌, ◌==◌, ◌&&◌, Bool, true, false, cond, nat_le, List, [], ◌∷◌, length, refl, arith, Result, Ok, Err, None, Some, IfOk}
 use Rattle.std.specs.Prelude.{slice_index, slice_index_or, IsErr, IsTrue}
 use Rattle.dimm_topology.specs.Labels.{is_label}
 use Rattle.std.proofs.lemmas.Bool.Decides.{nat_tests}

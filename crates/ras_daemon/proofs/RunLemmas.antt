@@ -11,7 +11,7 @@ use Rattle.ras_account.specs.declared.entry.Entry.{Entry}
 use Rattle.ras_account.specs.Account.{State, account_of}
 use Rattle.ras_daemon.specs.declared.event.Prepared.{Prepared}
 use Rattle.ras_daemon.specs.declared.exit.Exit.{Exit}
-use Rattle.ras_daemon.specs.declared.exit.Exit.TheVariants.{Done, DiskFault, PrintFault, NoMemory}
+use Rattle.ras_daemon.specs.declared.exit.Exit.TheVariants.{Done, DiskFault, NoMemory}
 use Rattle.ras_daemon.specs.declared.ledger.Ledger.{Ledger}
 use Rattle.ras_daemon.specs.declared.ledger.OpenRefused.TheVariants.{Disk, NoMemory as OutOfMemory}
 use Rattle.ras_daemon.specs.declared.line.Line.{Line}
@@ -19,11 +19,11 @@ use Rattle.ras_daemon.specs.declared.line.Line.TheVariants.{Restart}
 use Rattle.ras_daemon.specs.declared.line.LineRefused.{LineRefused}
 use Rattle.ras_daemon.specs.declared.line.LineRefused.TheVariants as refused
 use Rattle.ras_daemon.specs.declared.run.Run.{Run}
-use Rattle.ras_daemon.specs.Event.{Fits, IsKept, IsPrepared, Keeps, Reopened, Reopens, Stands, TakesEntries, TakesLine, TakesRow, end_after, orders_given, prepared_steps, restart_steps, state_after}
+use Rattle.ras_daemon.specs.Event.{Fits, IsKept, IsPrepared, Keeps, Reopened, Reopens, Stands, TakesEntries, TakesLine, TakesRow, end_after, prepared_steps, restart_steps, state_after}
 use Rattle.ras_daemon.specs.Line.{line_of, ReadsLine}
 use Rattle.ras_daemon.specs.PlainFile.{stored, stored_end}
 use Rattle.ras_daemon.specs.Progress.{Step, after_all, prints, Performs, Course, Takes, behind, ends, count_steps, reopen_steps, say_steps, read_steps, line_course, lines_course}
-use Rattle.ras_daemon.specs.Reports.{Event, Read, adds, counts, event_in, reads_from, reported_at, reports, row_by, row_in, rows_of}
+use Rattle.ras_daemon.specs.Reports.{Read, adds, counts, event_in, reads_from, reported_at, reports, row_by, row_in, rows_of}
 use Rattle.ras_daemon.specs.Run.{RefusesLine, TookAll, TookSome}
 use Rattle.ras_daemon.specs.Splitting.{lines_of}
 use Rattle.ras_daemon.specs.Status.{refusal_at}

@@ -8,7 +8,7 @@ use Rattle.ras_daemon.specs.declared.exit.Exit.{Exit}
 use Rattle.ras_daemon.specs.declared.exit.Exit.TheVariants.{SourceFault, DiskFault, PrintFault, NoMemory}
 use Rattle.dimm_topology.specs.Refusals.{refusal_of}
 use Rattle.ras_base.specs.Places.{places}
-use Rattle.ras_daemon.specs.Reports.{Event, Read, nothing, reopens, adds, counts, event_in, reads_of, rows_of}
+use Rattle.ras_daemon.specs.Reports.{Event, Read, adds, event_in, reads_of, rows_of}
 use Rattle.ras_daemon.specs.Status.{Place, longest_script}
 
 -- a count of faults didn't rise

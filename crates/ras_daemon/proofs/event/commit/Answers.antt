@@ -1,5 +1,4 @@
 use Rattle.std.proofs.Common.{[], ◌∷◌, ◌++◌}
-use Rattle.ras_daemon.specs.Event.{order_lines, orders_given}
 use Rattle.ras_daemon.specs.Progress.{prints, syncs, text_steps, writes}
 use Rattle.ras_daemon.proofs.StepLemmas.{performs_then}
 use Rattle.ras_daemon.proofs.event.commit.Goals as goal

@@ -1,4 +1,4 @@
-use Rattle.std.proofs.Common.{◌≡◌, List, [], ◌∷◌, refl, subst, ◌∙◌}
+use Rattle.std.proofs.Common.{◌≡◌, List, refl, subst, ◌∙◌}
 use Rattle.std.proofs.lemmas.Result.{err_from_is_err_and, IfOk-weaker}
 use Rattle.std.specs.Option.{option_to_list}
 use Rattle.ras_account.specs.declared.entry.Entry.{Entry}

@@ -1,4 +1,4 @@
-use Rattle.std.proofs.Common.{refl, sym, ap, subst, ◌∙◌, arith}
+use Rattle.std.proofs.Common.{refl, sym, subst, arith}
 use Rattle.ras_account.proofs.AgainLemmas.{waits_alone}
 use Rattle.ras_daemon.specs.Event.{HasRoomFor}
 use Rattle.ras_daemon.proofs.EventLemmas.{prepared_repeat, prepared_fresh}

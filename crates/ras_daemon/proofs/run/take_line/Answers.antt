@@ -1,4 +1,4 @@
-use Rattle.std.proofs.Common.{◌≡◌, refl, sym, subst, ap, ◌∙◌, [], ◌∷◌, ◌++◌, None, Some, Ok}
+use Rattle.std.proofs.Common.{refl, sym, ◌∙◌, [], ◌∷◌}
 use Rattle.dimm_topology.specs.declared.row.Row.TheVariants.{Cpu as CpuRow, Module as ModuleRow, Range as RangeRow}
 use Rattle.ras_facts.specs.declared.bank.BankReport.{BankReport}
 use Rattle.ras_account.specs.declared.entry.Entry.TheVariants.{Limit as Settles}
