@@ -56,8 +56,11 @@ nothing_left front rest is = left_waits front rest nothing (sym is ∙ (λ i. re
 
 -- what waits alone waits first
 pub waits_alone : (front all : Waiting) → all ≡ front → WaitsFirst front all
-waits_alone front all is = (nothing, (λ i. record {
-  names = append-nil front.names i;
-  labels = append-nil front.labels i;
-  pages = append-nil front.pages i;
-}) ∙ sym is)
+waits_alone front all is = (
+  nothing,
+  (λ i. record {
+    names = append-nil front.names i;
+    labels = append-nil front.labels i;
+    pages = append-nil front.pages i;
+  }) ∙ sym is,
+)

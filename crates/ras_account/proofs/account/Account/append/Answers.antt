@@ -1,4 +1,4 @@
-use Rattle.std.proofs.Common.{◌≡◌, sym, ap, ◌∙◌, [], ◌∷◌}
+use Rattle.std.proofs.Common.{sym, ap, ◌∙◌, [], ◌∷◌}
 use Rattle.ras_account.specs.View.{added_by}
 use Rattle.ras_account.proofs.AgainLemmas.{nothing_left, waits_alone}
 use Rattle.ras_account.proofs.account.Account.append.Goals as goal
