@@ -1,9 +1,10 @@
 //! A caller of a board, proved over every board: that the board's clauses say enough of a stop at any moment.
 #![tactic(auto)]
 
-ghost use Rattle.std.specs.Prelude.{◌≡◌, ◌≤◌, length, IfSome};
+ghost use Rattle.std.specs.Prelude.{◌≡◌, ◌≤◌, ◌⊎◌, length, IfSome, OnOk, OnErr};
+ghost use Rattle.board_core.specs.Cause.{Rose};
 ghost use Rattle.board_core.specs.Clock.{Always, Rests};
-ghost use Rattle.board_core.specs.Told.{Told};
+ghost use Rattle.board_core.specs.Told.{Told, Steps, written_through, printed};
 ghost use Rattle.board_checks.specs.Entry.{HasEntry};
 
 use board_core::{Board, Failed, FileNo};
@@ -19,7 +20,9 @@ pub fn write_sync_print<B: Board>(
     board: &mut B,
 ) -> Result<(), Failed>
     requires { IfSome (B.told board.old) (λ told. place ≤ length told.file0) }
-    ensures { (here : Told) → Rests here (B.told board.old) (B.clock board.old)
+    ensures told { OnOk result (Steps (λ t. printed line.now (written_through FileNo.Zero place entry.now t)) (B.told board.old) (B.told board.new)) }
+    ensures cause { OnErr result (Rose (B.disk_faults board.old) (B.disk_faults board.new) ⊎ Rose (B.print_faults board.old) (B.print_faults board.new)) }
+    ensures order { (here : Told) → Rests here (B.told board.old) (B.clock board.old)
         → Always (B.clock board.new) (B.clock board.old).now (HasEntry place entry.now here) }
 {
     board.write_at(FileNo::Zero, place, entry)?;
