@@ -4,7 +4,8 @@ use Rattle.std.specs.Int.{w64, from_le_bytes}
 use Rattle.std.proofs.lemmas.Bool.{cases_lt, ltb-true, lt-ltb, leb-true, le-leb, and_parts, and_from, and_right}
 use Rattle.std.proofs.lemmas.List.{get_or_past, get_or_append_left}
 use Rattle.std.proofs.lemmas.Nat.{from_le_bytes-to_le_bytes_8}
-use Rattle.ras_base.specs.LittleEndian.{u64_bytes, length-u64_bytes}
+use Rattle.ras_base.specs.LittleEndian.{u64_bytes}
+use Rattle.ras_base.specs.LittleEndianLemmas.{length-u64_bytes}
 use Rattle.page_policy.specs.declared.buckets.Limit.{Limit}
 use Rattle.page_policy.specs.Buckets.{IsLimit}
 use Rattle.entry_format.specs.declared.refused.EntryRefused.TheVariants.{Cut, Bad}

@@ -3,7 +3,8 @@ use Rattle.std.proofs.Common.{◌≡◌, ℕ, ◌+◌, ◌≤◌, subst, List, [
 use Rattle.std.specs.Prelude.{MatchOption}
 use Rattle.std.specs.List.{flat_map, AllByRecursion}
 use Rattle.std.proofs.lemmas.List.Elements.{recursion_from_All}
-use Rattle.ras_base.specs.LittleEndian.{u16_bytes, u64_bytes, length-u16_bytes, length-u64_bytes}
+use Rattle.ras_base.specs.LittleEndian.{u16_bytes, u64_bytes}
+use Rattle.ras_base.specs.LittleEndianLemmas.{length-u16_bytes, length-u64_bytes}
 use Rattle.ras_facts.specs.declared.name.Name.{Name}
 use Rattle.ras_facts.specs.declared.name.Name.TheVariants.{Bank}
 use Rattle.ras_facts.specs.declared.items.Item.{Item}

@@ -5,7 +5,7 @@ use Rattle.std.proofs.lemmas.List.Folds.{list_any-append}
 use Rattle.std.proofs.lemmas.List.{map-append}
 use Rattle.std.specs.List.{list_any, filter_map}
 use Rattle.ras_base.specs.Places.{places_behind, places}
-use Rattle.ras_base.specs.PlacesLaws.{places-snoc}
+use Rattle.ras_base.specs.PlacesLemmas.{places-snoc}
 use Rattle.page_policy.specs.declared.buckets.Limit.{Limit}
 use Rattle.ras_facts.specs.declared.name.Name.{Name}
 use Rattle.ras_facts.specs.declared.fact.Fact.{Fact as Report}

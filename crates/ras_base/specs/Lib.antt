@@ -1,5 +1,8 @@
 pub mod Places
-pub mod PlacesLaws
+pub mod PlacesLemmas
 pub mod Prefix
-pub mod PrefixLaws
+pub mod PrefixLemmas
+pub mod Bits
+pub mod Chaining
 pub mod LittleEndian
+pub mod LittleEndianLemmas

@@ -1,5 +1,5 @@
 -- Numbers as bytes from the low one on, as all formats here write them.
-use Rattle.std.specs.Prelude.{◌≡◌, ℕ, List, length, refl}
+use Rattle.std.specs.Prelude.{ℕ, zero, suc, ◌+◌, ◌*◌, List, slice_index}
 use Rattle.std.specs.Int.{to_le_bytes, w16, w32, w64}
 
 -- a number of 2, 4 or 8 bytes
@@ -12,14 +12,7 @@ u32_bytes number = to_le_bytes w32 number
 unfoldable pub u64_bytes : ℕ → List ℕ
 u64_bytes number = to_le_bytes w64 number
 
-pub length-u16_bytes : (number : ℕ) → length (u16_bytes number) ≡ 2
-unfolding u16_bytes
-length-u16_bytes number = refl
-
-pub length-u32_bytes : (number : ℕ) → length (u32_bytes number) ≡ 4
-unfolding u32_bytes
-length-u32_bytes number = refl
-
-pub length-u64_bytes : (number : ℕ) → length (u64_bytes number) ≡ 8
-unfolding u64_bytes
-length-u64_bytes number = refl
+-- the number of so many bytes from a place on, the lowest byte first
+unfoldable pub number_at : ℕ → ℕ → List ℕ → ℕ
+number_at place zero bytes = 0
+number_at place (suc width) bytes = slice_index bytes place + 256 * number_at (place + 1) width bytes

@@ -1,8 +1,13 @@
-//! What several crates share: want of memory, and words on lists that their contracts cite.
+//! What several crates share: want of memory, bits and little-endian numbers, and words that their
+//! contracts cite.
 #![tactic(auto)]
 
 ghost use Rattle.std.specs.Prelude.{◌≡◌};
 
+mod bit_fields;
+pub mod little_endian;
+
+pub use bit_fields::{bits, is_set};
 use std::alloc::{AllocError, AllocFailed};
 
 /// Memory ran out. It is the one answer that no contract ties to a cause.

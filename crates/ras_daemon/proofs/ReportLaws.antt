@@ -11,7 +11,7 @@ use Rattle.mca_status.specs.declared.registers.Status.{Status}
 use Rattle.mca_status.specs.declared.classes.Class.{Class}
 use Rattle.mca_status.proofs.RowLemmas.{class_by}
 use Rattle.ras_base.specs.Places.{places}
-use Rattle.ras_base.specs.PlacesLaws.{places-snoc}
+use Rattle.ras_base.specs.PlacesLemmas.{places-snoc}
 use Rattle.ras_facts.specs.declared.name.Name.TheVariants.{Bank as BankName}
 use Rattle.ras_account.specs.Fresh.{names_in}
 use Rattle.ras_daemon.specs.declared.line.Line.TheVariants.{Bank}

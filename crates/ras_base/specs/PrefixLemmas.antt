@@ -1,5 +1,5 @@
--- Lists that are beginnings of others. It only carries proofs.
-use Rattle.std.specs.Prelude.{◌≡◌, List, [], ◌++◌}
+-- Only for proofs: lists that are beginnings of others.
+use Rattle.std.specs.Prelude.{List, [], ◌++◌}
 use Rattle.std.proofs.Common.{refl, sym, ap, ◌∙◌, append_assoc, append-nil}
 use Rattle.ras_base.specs.Prefix.{IsPrefixOf}
 

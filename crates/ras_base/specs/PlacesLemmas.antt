@@ -1,4 +1,4 @@
--- What `places` gives of a list that grows. It only carries proofs.
+-- Only for proofs: what `places` gives of a list that grows.
 use Rattle.std.specs.Prelude.{◌≡◌, List, [], ◌∷◌, ◌++◌}
 use Rattle.std.proofs.Common.{refl, ap, append_assoc, append-nil}
 use Rattle.ras_base.specs.Places.{places_behind, places}
