@@ -10,7 +10,7 @@ use Rattle.ras_facts.specs.declared.name.Name.TheVariants.{Bank}
 use Rattle.ras_facts.specs.declared.items.Item.{Item}
 use Rattle.ras_facts.specs.declared.fact.Fact.{Fact}
 use Rattle.page_policy.specs.declared.buckets.Limit.{Limit}
-use Rattle.ras_account.specs.declared.entry.Entry.TheVariants as entry
+use Rattle.ras_facts.specs.declared.entry.Entry.TheVariants as entry
 use Rattle.ras_facts.specs.Valid.{IsValidItem, IsValidFact}
 use Rattle.entry_format.specs.Spelling.{name_bytes, label_bytes, page_bytes, item_bytes, fact_bytes, limit_bytes, entry_bytes}
 use Rattle.entry_format.proofs.LabelLaws.{label_short}

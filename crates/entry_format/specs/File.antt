@@ -1,7 +1,7 @@
 -- What the bytes of a whole file are.
 use Rattle.std.specs.Prelude.{◌≡◌, ℕ, ◌<◌, List, ◌++◌, length, All}
-use Rattle.ras_account.specs.declared.entry.Entry.{Entry}
-use Rattle.ras_account.specs.Valid.{IsValidEntry}
+use Rattle.ras_facts.specs.declared.entry.Entry.{Entry}
+use Rattle.ras_facts.specs.Entries.{IsValidEntry}
 use Rattle.entry_format.specs.declared.refused.EntriesRefused.{EntriesRefused}
 use Rattle.entry_format.specs.declared.refused.EntriesRefused.TheVariants.{Bad, NoMemory}
 use Rattle.entry_format.specs.Spelling.{entries_bytes}

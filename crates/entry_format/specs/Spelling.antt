@@ -9,8 +9,8 @@ use Rattle.ras_facts.specs.declared.name.Name.TheVariants.{Bank}
 use Rattle.ras_facts.specs.declared.items.Item.{Item}
 use Rattle.ras_facts.specs.declared.fact.Fact.{Fact}
 use Rattle.page_policy.specs.declared.buckets.Limit.{Limit}
-use Rattle.ras_account.specs.declared.entry.Entry.{Entry}
-use Rattle.ras_account.specs.declared.entry.Entry.TheVariants as entry
+use Rattle.ras_facts.specs.declared.entry.Entry.{Entry}
+use Rattle.ras_facts.specs.declared.entry.Entry.TheVariants as entry
 
 -- the name of a bank's report: the kind 1, the boot (8 bytes), the processor (2), the bank (1) and the time-stamp
 -- counter (8)

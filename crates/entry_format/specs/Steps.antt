@@ -1,7 +1,7 @@
 -- What the steps of reading a file give. It only carries proofs: what may be read is said in Front and File.
 use Rattle.std.specs.Prelude.{◌≡◌, ℕ, List, ◌++◌}
-use Rattle.ras_account.specs.declared.entry.Entry.{Entry}
-use Rattle.ras_account.specs.Valid.{IsValidEntry}
+use Rattle.ras_facts.specs.declared.entry.Entry.{Entry}
+use Rattle.ras_facts.specs.Entries.{IsValidEntry}
 use Rattle.dimm_topology.specs.declared.label.LabelRefused.{LabelRefused}
 use Rattle.dimm_topology.specs.declared.label.LabelRefused.TheVariants as label
 use Rattle.entry_format.specs.declared.refused.EntryRefused.{EntryRefused}

@@ -1,6 +1,6 @@
 // What holds of the format itself.
 ghost use Rattle.std.specs.Prelude.{◌≡◌, ◌+◌, ◌≤◌, ◌++◌, ◌∷◌, [], ℕ, List, All, length, MatchOption};
-ghost use Rattle.ras_account.specs.Valid.{IsValidEntry};
+ghost use Rattle.ras_facts.specs.Entries.{IsValidEntry};
 ghost use Rattle.entry_format.specs.Spelling.{entry_bytes, entries_bytes};
 ghost use Rattle.entry_format.specs.File.{AreEntriesOf, BreaksOffAt};
 

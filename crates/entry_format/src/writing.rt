@@ -2,7 +2,7 @@
 ghost use Rattle.std.specs.Prelude.{◌≡◌, ◌++◌, ◌≤◌, length, IfOk, OnOk};
 ghost use Rattle.std.specs.List.{flat_map};
 ghost use Rattle.ras_base.specs.LittleEndian.{u16_bytes, u64_bytes};
-ghost use Rattle.ras_account.specs.Valid.{items_in};
+ghost use Rattle.ras_facts.specs.Entries.{items_in};
 ghost use Rattle.entry_format.specs.Spelling.{name_bytes, label_bytes, page_bytes, item_bytes, fact_bytes, limit_bytes, entry_bytes};
 
 use crate::kinds::{BANK, FACT, LIMIT};

@@ -13,8 +13,8 @@ use Rattle.page_policy.specs.Histories.{rows_of}
 use Rattle.page_policy.proofs.TableLemmas.{table-more}
 use Rattle.page_policy.proofs.HistoryLemmas.{rows_of-more}
 use Rattle.ras_facts.specs.declared.name.Name.{Name}
-use Rattle.ras_account.specs.declared.entry.Entry.{Entry}
-use Rattle.ras_account.specs.declared.entry.Entry.TheVariants.{Fact, Limit as Settles}
+use Rattle.ras_facts.specs.declared.entry.Entry.{Entry}
+use Rattle.ras_facts.specs.declared.entry.Entry.TheVariants.{Fact, Limit as Settles}
 use Rattle.ras_account.specs.Fresh.{names_in, limit_after, is_fresh_behind, fresh_places, fresh}
 use Rattle.ras_account.specs.Sightings.{Sighting, sightings, sightings_in, label_of, weight_of, report_of, reports_of}
 use Rattle.ras_account.specs.Account.{State, account_of, counted, classes, class_weight, module_row}

@@ -1,10 +1,10 @@
 -- How entries are taken one by one into a new account.
 use Rattle.std.proofs.Common.{◌≡◌, ℕ, ◌+◌, List, [], ◌∷◌, ◌++◌, length, sym, ap, subst, ◌∙◌, append_assoc, append-nil, arith}
 use Rattle.std.specs.List.{AllByRecursion}
-use Rattle.ras_account.specs.declared.entry.Entry.{Entry}
+use Rattle.ras_facts.specs.declared.entry.Entry.{Entry}
 use Rattle.ras_account.specs.Account.{account_of}
 use Rattle.ras_account.specs.Continued.{continued, continued_all, IsWithin}
-use Rattle.ras_account.specs.Valid.{IsValidEntry}
+use Rattle.ras_facts.specs.Entries.{IsValidEntry}
 use Rattle.ras_account.specs.View.{View, Waiting, WaitsFirst, nothing, then_waits}
 use Rattle.ras_account.proofs.AccountLemmas.{account_of-snoc, account_of-append}
 use Rattle.ras_account.proofs.GrowLemmas.{left_waits, within-before}

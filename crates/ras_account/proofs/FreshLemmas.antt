@@ -9,8 +9,8 @@ use Rattle.ras_base.specs.PlacesLemmas.{places-snoc}
 use Rattle.page_policy.specs.declared.buckets.Limit.{Limit}
 use Rattle.ras_facts.specs.declared.name.Name.{Name}
 use Rattle.ras_facts.specs.declared.fact.Fact.{Fact as Report}
-use Rattle.ras_account.specs.declared.entry.Entry.{Entry}
-use Rattle.ras_account.specs.declared.entry.Entry.TheVariants.{Fact, Limit as Settles}
+use Rattle.ras_facts.specs.declared.entry.Entry.{Entry}
+use Rattle.ras_facts.specs.declared.entry.Entry.TheVariants.{Fact, Limit as Settles}
 use Rattle.ras_account.specs.Fresh.{name_in, names_in, same_name, limit_in, last_limit, limit_after, first_limit, is_fresh_behind, fresh_places, fresh}
 use Rattle.ras_account.proofs.KeyLemmas.{same_name-exact}
 

@@ -6,8 +6,8 @@ use Rattle.std.proofs.lemmas.Map.Keys.{IsDistinct-push}
 use Rattle.dimm_topology.specs.Labels.{Bytes, same_label}
 use Rattle.page_policy.proofs.TableLemmas.{keys-table, distinct-once, lookup-table}
 use Rattle.page_policy.proofs.HistoryLemmas.{rows_of-once}
-use Rattle.ras_account.specs.declared.entry.Entry.{Entry}
-use Rattle.ras_account.specs.declared.entry.Entry.TheVariants.{Fact, Limit as Settles}
+use Rattle.ras_facts.specs.declared.entry.Entry.{Entry}
+use Rattle.ras_facts.specs.declared.entry.Entry.TheVariants.{Fact, Limit as Settles}
 use Rattle.ras_account.specs.Fresh.{same_name, is_fresh_behind, fresh}
 use Rattle.ras_account.specs.Sightings.{Sighting, sightings, sightings_in, label_of, reports_of}
 use Rattle.ras_account.specs.Account.{State, account_of, classes, module_row, module_count}

@@ -7,8 +7,8 @@ use Rattle.std.proofs.Math.Bool.{or-false}
 use Rattle.page_policy.specs.declared.buckets.Limit.{Limit}
 use Rattle.ras_facts.specs.declared.name.Name.{Name}
 use Rattle.ras_facts.specs.declared.fact.Fact.{Fact as Report}
-use Rattle.ras_account.specs.declared.entry.Entry.{Entry}
-use Rattle.ras_account.specs.declared.entry.Entry.TheVariants.{Fact, Limit as Settles}
+use Rattle.ras_facts.specs.declared.entry.Entry.{Entry}
+use Rattle.ras_facts.specs.declared.entry.Entry.TheVariants.{Fact, Limit as Settles}
 use Rattle.ras_account.specs.declared.reserve.Numbers.{Numbers}
 use Rattle.ras_account.specs.Fresh.{same_name}
 use Rattle.ras_account.specs.Sightings.{sightings_in}

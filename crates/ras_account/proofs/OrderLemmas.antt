@@ -5,7 +5,7 @@ use Rattle.ras_base.specs.Places.{places_behind}
 use Rattle.page_policy.specs.Rows.{Report, report, order_between}
 use Rattle.page_policy.specs.Histories.{rows_of, state_in}
 use Rattle.page_policy.proofs.HistoryLemmas.{rows_of-more, order-history}
-use Rattle.ras_account.specs.declared.entry.Entry.{Entry}
+use Rattle.ras_facts.specs.declared.entry.Entry.{Entry}
 use Rattle.ras_account.specs.Fresh.{limit_after}
 use Rattle.ras_account.specs.Sightings.{Sighting, sightings, sightings_in, reports_of}
 use Rattle.ras_account.specs.Account.{account_of}

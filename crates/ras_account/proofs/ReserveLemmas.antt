@@ -14,8 +14,8 @@ use Rattle.page_policy.proofs.TableLemmas.{added-append}
 use Rattle.page_policy.proofs.PlaceLemmas.{nat_exact, nat_own}
 use Rattle.ras_facts.specs.declared.items.Item.{Item}
 use Rattle.ras_facts.specs.declared.fact.Fact.{Fact as Report}
-use Rattle.ras_account.specs.declared.entry.Entry.{Entry}
-use Rattle.ras_account.specs.declared.entry.Entry.TheVariants.{Fact}
+use Rattle.ras_facts.specs.declared.entry.Entry.{Entry}
+use Rattle.ras_facts.specs.declared.entry.Entry.TheVariants.{Fact}
 use Rattle.ras_account.specs.declared.reserve.Tally.{Tally}
 use Rattle.ras_account.specs.Fresh.{same_name}
 use Rattle.ras_account.specs.Sightings.{sightings_in}

@@ -7,7 +7,7 @@ use Rattle.mca_status.specs.declared.classes.ItemClass.TheVariants.{Ce, Ucna, Sr
 use Rattle.mca_status.specs.Classes.{class_number}
 use Rattle.dimm_topology.specs.Labels.{Bytes, same_label}
 use Rattle.ras_facts.specs.declared.items.Item.{Item}
-use Rattle.ras_account.specs.declared.entry.Entry.{Entry}
+use Rattle.ras_facts.specs.declared.entry.Entry.{Entry}
 use Rattle.ras_account.specs.Fresh.{names_in, limit_after, fresh}
 use Rattle.ras_account.specs.Sightings.{Sighting, sightings}
 use Rattle.ras_account.specs.Account.{State, account_of, counted, weight_in}

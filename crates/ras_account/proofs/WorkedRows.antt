@@ -7,8 +7,8 @@ use Rattle.page_policy.specs.declared.rows.Order.TheVariants.{Soft as OrderSoft,
 use Rattle.page_policy.specs.declared.rows.PageState.TheVariants.{Kept, Soft, Hard}
 use Rattle.ras_facts.specs.declared.name.Name.TheVariants.{Bank}
 use Rattle.ras_facts.specs.declared.items.Item.{Item}
-use Rattle.ras_account.specs.declared.entry.Entry.{Entry}
-use Rattle.ras_account.specs.declared.entry.Entry.TheVariants.{Fact, Limit as Settles}
+use Rattle.ras_facts.specs.declared.entry.Entry.{Entry}
+use Rattle.ras_facts.specs.declared.entry.Entry.TheVariants.{Fact, Limit as Settles}
 use Rattle.ras_account.specs.Account.{account_of}
 use Rattle.ras_account.specs.Orders.{orders_behind}
 

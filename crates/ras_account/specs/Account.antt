@@ -13,7 +13,7 @@ use Rattle.page_policy.specs.Rows.{Report}
 use Rattle.page_policy.specs.Tables.{table, of_key}
 use Rattle.page_policy.specs.Histories.{rows_of, page_history as page_history_of}
 use Rattle.ras_facts.specs.declared.name.Name.{Name}
-use Rattle.ras_account.specs.declared.entry.Entry.{Entry}
+use Rattle.ras_facts.specs.declared.entry.Entry.{Entry}
 use Rattle.ras_account.specs.Fresh.{names_in, fresh, limit_after}
 use Rattle.ras_account.specs.Sightings.{Sighting, sightings, label_of, weight_of, reports_of}
 

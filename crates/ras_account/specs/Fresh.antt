@@ -5,8 +5,8 @@ use Rattle.ras_base.specs.Places.{places}
 use Rattle.page_policy.specs.declared.buckets.Limit.{Limit}
 use Rattle.ras_facts.specs.declared.name.Name.{Name}
 use Rattle.ras_facts.specs.declared.name.Name.TheVariants.{Bank}
-use Rattle.ras_account.specs.declared.entry.Entry.{Entry}
-use Rattle.ras_account.specs.declared.entry.Entry.TheVariants.{Fact, Limit as Settles}
+use Rattle.ras_facts.specs.declared.entry.Entry.{Entry}
+use Rattle.ras_facts.specs.declared.entry.Entry.TheVariants.{Fact, Limit as Settles}
 
 -- the name that an entry brings, if any
 abbrev pub name_in : Entry → Option Name

@@ -4,7 +4,6 @@ pub mod Account
 pub mod Continued
 pub mod Orders
 pub mod View
-pub mod Valid
 pub mod Parts
 pub mod Taking
 pub mod Kept

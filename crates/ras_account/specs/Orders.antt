@@ -6,7 +6,7 @@ use Rattle.page_policy.specs.declared.rows.Row.{Row}
 use Rattle.page_policy.specs.Rows.{Report, order_between}
 use Rattle.page_policy.specs.Histories.{page_history as page_history_of, state_in, rows_after, order_behind}
 use Rattle.ras_base.specs.Places.{places_behind}
-use Rattle.ras_account.specs.declared.entry.Entry.{Entry}
+use Rattle.ras_facts.specs.declared.entry.Entry.{Entry}
 use Rattle.ras_account.specs.Fresh.{limit_after, is_fresh_behind}
 use Rattle.ras_account.specs.Sightings.{Sighting, sightings, sightings_in, report_of, reports_of}
 use Rattle.ras_account.specs.Account.{State}

@@ -9,8 +9,8 @@ use Rattle.page_policy.specs.Pages.{Held}
 use Rattle.ras_facts.specs.declared.name.Name.{Name}
 use Rattle.ras_facts.specs.declared.items.Item.{Item}
 use Rattle.ras_facts.specs.declared.fact.Fact.{Fact as Report}
-use Rattle.ras_account.specs.declared.entry.Entry.{Entry}
-use Rattle.ras_account.specs.declared.entry.Entry.TheVariants.{Fact, Limit as Settles}
+use Rattle.ras_facts.specs.declared.entry.Entry.{Entry}
+use Rattle.ras_facts.specs.declared.entry.Entry.TheVariants.{Fact, Limit as Settles}
 use Rattle.ras_account.specs.declared.reserve.Tally.{Tally}
 use Rattle.ras_account.specs.declared.reserve.Numbers.{Numbers}
 use Rattle.ras_account.specs.Fresh.{same_name}

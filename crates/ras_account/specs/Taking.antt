@@ -11,8 +11,8 @@ use Rattle.page_policy.specs.Tables.{added}
 use Rattle.page_policy.specs.Pages.{is_held, is_ready}
 use Rattle.ras_facts.specs.declared.items.Item.{Item}
 use Rattle.ras_facts.specs.declared.fact.Fact.{Fact}
-use Rattle.ras_account.specs.declared.entry.Entry.{Entry}
-use Rattle.ras_account.specs.declared.entry.Entry.TheVariants.{Fact as TakenFact}
+use Rattle.ras_facts.specs.declared.entry.Entry.{Entry}
+use Rattle.ras_facts.specs.declared.entry.Entry.TheVariants.{Fact as TakenFact}
 use Rattle.ras_account.specs.Sightings.{Sighting}
 use Rattle.ras_account.specs.Account.{State, most_names, most_entries, most_weight}
 use Rattle.ras_account.specs.Continued.{item_taken, items_taken, entry_taken, continued}

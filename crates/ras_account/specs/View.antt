@@ -4,7 +4,7 @@ use Rattle.std.specs.Map.{keys_of}
 use Rattle.dimm_topology.specs.Labels.{Bytes}
 use Rattle.page_policy.specs.declared.rows.Order.{Order}
 use Rattle.ras_facts.specs.declared.name.Name.{Name}
-use Rattle.ras_account.specs.declared.entry.Entry.{Entry}
+use Rattle.ras_facts.specs.declared.entry.Entry.{Entry}
 use Rattle.ras_account.specs.Account.{State}
 use Rattle.ras_account.specs.Continued.{continued_all}
 

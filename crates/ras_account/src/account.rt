@@ -1,14 +1,14 @@
 // The account.
 ghost use Rattle.std.specs.Prelude.{◌≡◌, ◌↔◌, ◌+◌, ◌<◌, ◌≤◌, ◌++◌, List, [], ◌∷◌, IsTrue, Some, Err, IfOk, OnOk, OnErr, length, slice_get, option_to_list};
 ghost use Rattle.std.specs.Bool.{IsFalse};
-ghost use Rattle.ras_account.specs.declared.entry.Entry.{Entry};
+ghost use Rattle.ras_facts.specs.declared.entry.Entry.{Entry};
 ghost use Rattle.ras_account.specs.Fresh.{is_fresh_behind};
 ghost use Rattle.ras_account.specs.Account.{account_of, weight_in, most_entries, most_weight};
 ghost use Rattle.ras_account.specs.Continued.{is_fresh_in, entry_taken, continued, continued_all, IsWithin, IsPast};
 ghost use Rattle.ras_account.specs.Orders.{order_in, orders_along, orders_at, orders_behind};
 ghost use Rattle.page_policy.specs.Buckets.{IsLimit};
 ghost use Rattle.ras_account.specs.View.{Waiting, nothing, then_waits, WaitsFirst, added_by};
-ghost use Rattle.ras_account.specs.Valid.{IsValidEntry, items_in};
+ghost use Rattle.ras_facts.specs.Entries.{IsValidEntry, items_in};
 ghost use Rattle.ras_account.specs.Reserving.{Noted, Numbered};
 ghost use Rattle.ras_account.specs.Taking.{IsNext, item_seen, Gives, sighting, AreNext, TakesItems, sightings_of, CanTakeFact, TakesFact, Takes};
 

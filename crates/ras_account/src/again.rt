@@ -3,7 +3,7 @@ ghost use Rattle.std.specs.Prelude.{◌≡◌, IfOk, OnOk, Err};
 ghost use Rattle.std.specs.List.{All};
 ghost use Rattle.ras_account.specs.Account.{account_of};
 ghost use Rattle.ras_account.specs.Continued.{continued, IsWithin};
-ghost use Rattle.ras_account.specs.Valid.{IsValidEntry};
+ghost use Rattle.ras_facts.specs.Entries.{IsValidEntry};
 ghost use Rattle.ras_account.specs.View.{nothing};
 
 use crate::{Account, Entry, Orders, ReserveRefused};

@@ -4,7 +4,7 @@ ghost use Rattle.std.specs.List.{IsDistinct, list_any};
 ghost use Rattle.std.specs.Map.{keys_of, lookup};
 ghost use Rattle.dimm_topology.specs.Labels.{Bytes, same_label};
 ghost use Rattle.ras_facts.specs.declared.name.Name.{Name};
-ghost use Rattle.ras_account.specs.declared.entry.Entry.{Entry};
+ghost use Rattle.ras_facts.specs.declared.entry.Entry.{Entry};
 ghost use Rattle.ras_account.specs.Fresh.{names_in, same_name, is_fresh_behind, fresh};
 ghost use Rattle.ras_account.specs.Sightings.{sightings, label_of};
 ghost use Rattle.ras_account.specs.Account.{State, account_of, classes, module_count, weight_in};

@@ -6,7 +6,6 @@
 
 mod account;
 mod again;
-mod entry;
 mod laws;
 mod modules;
 mod names;
@@ -14,10 +13,10 @@ mod orders;
 mod reserve;
 
 pub use account::{Account, MOST_ENTRIES, MOST_NAMES, MOST_WEIGHT};
-pub use entry::Entry;
 pub use laws::{account_laws, reserve_laws};
 pub use modules::ModuleRow;
 pub use orders::Orders;
+pub use ras_facts::Entry;
 pub use reserve::ReserveRefused;
 
 #[cfg(test)]

@@ -1,7 +1,7 @@
 // Rows that were worked out by hand, as calls, and that the calls succeed.
 ghost use Rattle.std.specs.Prelude.{◌≡◌, length, IfOk};
 ghost use Rattle.ras_facts.specs.Valid.{IsValidItem};
-ghost use Rattle.ras_account.specs.Valid.{IsValidEntry, items_in};
+ghost use Rattle.ras_facts.specs.Entries.{IsValidEntry, items_in};
 
 use super::*;
 use dimm_topology::Label;

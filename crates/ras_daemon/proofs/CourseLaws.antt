@@ -5,7 +5,7 @@ use Rattle.std.proofs.lemmas.List.Concat.{flat_map-append}
 use Rattle.std.specs.List.{flat_map}
 use Rattle.board_core.specs.Told.{Told}
 use Rattle.ras_base.specs.Places.{places_behind}
-use Rattle.ras_account.specs.declared.entry.Entry.{Entry}
+use Rattle.ras_facts.specs.declared.entry.Entry.{Entry}
 use Rattle.ras_account.specs.Account.{account_of}
 use Rattle.ras_account.specs.Fresh.{is_fresh_behind}
 use Rattle.ras_daemon.specs.declared.exit.Exit.{Exit}

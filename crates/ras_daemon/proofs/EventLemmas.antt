@@ -2,9 +2,9 @@
 use Rattle.std.proofs.Common.{◌≡◌, ℕ, true, false, List, [], ◌∷◌, ◌++◌, length, None, Some, Option, refl, ap, sym, ◌∙◌, inl, inr, append-nil, length-append, arith}
 use Rattle.std.proofs.lemmas.Bool.Decides.{nat_tests}
 use Rattle.std.specs.Option.{MatchOption, option_to_list}
-use Rattle.ras_account.specs.Valid.{IsValidEntry}
+use Rattle.ras_facts.specs.Entries.{IsValidEntry}
 use Rattle.entry_format.specs.Spelling.{entry_bytes}
-use Rattle.ras_account.specs.declared.entry.Entry.{Entry}
+use Rattle.ras_facts.specs.declared.entry.Entry.{Entry}
 use Rattle.ras_account.specs.Account.{State, account_of}
 use Rattle.ras_account.specs.Continued.{continued, continued_all, is_fresh_in, IsWithin, IsPast}
 use Rattle.ras_account.specs.Fresh.{is_fresh_behind}

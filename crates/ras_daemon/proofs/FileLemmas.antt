@@ -10,10 +10,10 @@ use Rattle.ras_facts.specs.declared.bank.BankReport.{BankReport}
 use Rattle.ras_facts.specs.declared.fact.Fact.{Fact}
 use Rattle.ras_facts.specs.declared.items.Item.{Item}
 use Rattle.ras_facts.specs.Facts.{bank_fact, bank_item, bank_name, cap_in, status_in}
-use Rattle.ras_account.specs.declared.entry.Entry.{Entry}
-use Rattle.ras_account.specs.declared.entry.Entry.TheVariants.{Fact as Report, Limit as Settles}
+use Rattle.ras_facts.specs.declared.entry.Entry.{Entry}
+use Rattle.ras_facts.specs.declared.entry.Entry.TheVariants.{Fact as Report, Limit as Settles}
 use Rattle.ras_account.specs.Fresh.{fresh, is_fresh_behind}
-use Rattle.ras_account.specs.Valid.{IsValidEntry, items_in}
+use Rattle.ras_facts.specs.Entries.{IsValidEntry, items_in}
 use Rattle.ras_account.proofs.FreshLemmas.{fresh-snoc}
 use Rattle.ras_daemon.specs.Event.{AreValid, IsFit, longest_entry}
 use Rattle.ras_daemon.specs.PlainFile.{stored}

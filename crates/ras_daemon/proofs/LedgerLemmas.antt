@@ -9,8 +9,8 @@ use Rattle.board_core.specs.declared.board.DiskCall.TheVariants.{Size, ReadAt}
 use Rattle.board_core.specs.declared.board.FileNo.TheVariants.{Zero}
 use Rattle.board_core.specs.Told.{Told, Relates, MayList, Reads, Steps, called}
 use Rattle.entry_format.specs.File.{AreEntriesOf}
-use Rattle.ras_account.specs.Valid.{IsValidEntry}
-use Rattle.ras_account.specs.declared.entry.Entry.{Entry}
+use Rattle.ras_facts.specs.Entries.{IsValidEntry}
+use Rattle.ras_facts.specs.declared.entry.Entry.{Entry}
 use Rattle.ras_account.specs.Account.{account_of}
 use Rattle.ras_account.specs.Continued.{IsWithin}
 use Rattle.ras_account.specs.Fresh.{fresh}

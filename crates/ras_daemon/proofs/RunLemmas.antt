@@ -7,7 +7,7 @@ use Rattle.board_core.specs.Told.{Told}
 use Rattle.dimm_topology.specs.declared.row.Row.{Row}
 use Rattle.dimm_topology.specs.declared.topology.TopologyRefused.{TopologyRefused}
 use Rattle.dimm_topology.specs.Refusals.{Answers, refusal_of}
-use Rattle.ras_account.specs.declared.entry.Entry.{Entry}
+use Rattle.ras_facts.specs.declared.entry.Entry.{Entry}
 use Rattle.ras_account.specs.Account.{State, account_of}
 use Rattle.ras_daemon.specs.declared.event.Prepared.{Prepared}
 use Rattle.ras_daemon.specs.declared.exit.Exit.{Exit}

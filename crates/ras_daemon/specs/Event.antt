@@ -9,13 +9,13 @@ use Rattle.board_core.specs.Told.{Told}
 use Rattle.dimm_topology.specs.declared.topology.TopologyRefused.{TopologyRefused}
 use Rattle.page_policy.specs.declared.rows.Order.{Order}
 use Rattle.ras_facts.specs.declared.items.Item.{Item}
-use Rattle.ras_account.specs.declared.entry.Entry.{Entry}
-use Rattle.ras_account.specs.declared.entry.Entry.TheVariants.{Fact as Report, Limit as Settles}
+use Rattle.ras_facts.specs.declared.entry.Entry.{Entry}
+use Rattle.ras_facts.specs.declared.entry.Entry.TheVariants.{Fact as Report, Limit as Settles}
 use Rattle.ras_account.specs.Account.{State, account_of}
 use Rattle.ras_account.specs.Continued.{continued, continued_all, is_fresh_in, IsWithin, IsPast}
 use Rattle.ras_account.specs.Fresh.{fresh}
 use Rattle.ras_account.specs.Orders.{orders_at}
-use Rattle.ras_account.specs.Valid.{IsValidEntry, items_in}
+use Rattle.ras_facts.specs.Entries.{IsValidEntry, items_in}
 use Rattle.ras_account.specs.View.{View, WaitsFirst, added_by}
 use Rattle.ras_daemon.specs.declared.event.FreshEntry.{FreshEntry}
 use Rattle.ras_daemon.specs.declared.event.Prepared.{Prepared}

@@ -1,7 +1,7 @@
 -- The bytes of the file that keeps the account: the fresh entries, one behind the other.
 use Rattle.std.specs.Prelude.{ℕ, List, length}
 use Rattle.entry_format.specs.Spelling.{entries_bytes}
-use Rattle.ras_account.specs.declared.entry.Entry.{Entry}
+use Rattle.ras_facts.specs.declared.entry.Entry.{Entry}
 use Rattle.ras_account.specs.Fresh.{fresh}
 
 -- what the file holds once these were reported: each fresh one

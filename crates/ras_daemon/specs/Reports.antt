@@ -7,8 +7,8 @@ use Rattle.dimm_topology.specs.declared.row.Row.TheVariants.{Cpu as CpuRow, Modu
 use Rattle.ras_base.specs.Places.{places}
 use Rattle.ras_facts.specs.declared.bank.BankReport.{BankReport}
 use Rattle.ras_facts.specs.Facts.{bank_fact}
-use Rattle.ras_account.specs.declared.entry.Entry.{Entry}
-use Rattle.ras_account.specs.declared.entry.Entry.TheVariants.{Fact as Report, Limit as Settles}
+use Rattle.ras_facts.specs.declared.entry.Entry.{Entry}
+use Rattle.ras_facts.specs.declared.entry.Entry.TheVariants.{Fact as Report, Limit as Settles}
 use Rattle.ras_daemon.specs.declared.line.Line.{Line}
 use Rattle.ras_daemon.specs.declared.line.Line.TheVariants.{Bank, Cpu, Module, Range, Limit, Restart}
 use Rattle.ras_daemon.specs.declared.line.LineRefused.{LineRefused}

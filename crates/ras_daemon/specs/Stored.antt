@@ -6,7 +6,7 @@ use Rattle.board_core.specs.declared.board.DiskCall.TheVariants.{Size, ReadAt, W
 use Rattle.board_core.specs.declared.board.FileNo.TheVariants.{Zero}
 use Rattle.entry_format.specs.Spelling.{entry_bytes}
 use Rattle.ras_base.specs.Places.{places, places_behind}
-use Rattle.ras_account.specs.declared.entry.Entry.{Entry}
+use Rattle.ras_facts.specs.declared.entry.Entry.{Entry}
 use Rattle.ras_account.specs.Fresh.{fresh, is_fresh_behind}
 use Rattle.ras_daemon.specs.declared.exit.Exit.{Exit}
 use Rattle.ras_daemon.specs.declared.word.Command.{Command}

@@ -17,8 +17,8 @@ use Rattle.ras_facts.specs.declared.fact.Fact.{Fact}
 use Rattle.ras_facts.specs.declared.items.Item.{Item}
 use Rattle.ras_facts.specs.declared.name.Name.{Name}
 use Rattle.ras_facts.specs.declared.name.Name.TheVariants.{Bank}
-use Rattle.ras_account.specs.declared.entry.Entry.{Entry}
-use Rattle.ras_account.specs.declared.entry.Entry.TheVariants.{Fact as Report, Limit as Settles}
+use Rattle.ras_facts.specs.declared.entry.Entry.{Entry}
+use Rattle.ras_facts.specs.declared.entry.Entry.TheVariants.{Fact as Report, Limit as Settles}
 use Rattle.ras_account.specs.Account.{State}
 use Rattle.ras_account.specs.Fresh.{is_fresh_behind}
 use Rattle.ras_account.specs.Orders.{orders_behind}

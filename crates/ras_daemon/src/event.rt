@@ -1,7 +1,7 @@
 // An event that counts an entry: first all that takes memory, and then all that touches the board.
 ghost use Rattle.std.specs.Prelude.{◌≡◌, ◌≤◌, ◌<◌, ◌+◌, ◌++◌, ◌^◌, ℕ, List, [], ◌∷◌, length, IfSome, IfOk, IfErr, OnOk, IsOkUnless};
 ghost use Rattle.std.specs.Option.{option_to_list};
-ghost use Rattle.ras_account.specs.declared.entry.Entry.{Entry};
+ghost use Rattle.ras_facts.specs.declared.entry.Entry.{Entry};
 ghost use Rattle.ras_account.specs.Account.{account_of};
 ghost use Rattle.ras_account.specs.Continued.{continued, continued_all, IsWithin};
 ghost use Rattle.ras_account.specs.Orders.{orders_at};

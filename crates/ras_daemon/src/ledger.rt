@@ -1,7 +1,7 @@
 // The account, and the file that keeps it.
 ghost use Rattle.std.specs.Prelude.{◌≡◌, ◌≢◌, ◌<◌, ◌^◌, ℕ, List, [], length, Err, IfErr, IfOk};
 ghost use Rattle.entry_format.specs.File.{AreEntriesOf, BreaksOffAt};
-ghost use Rattle.ras_account.specs.declared.entry.Entry.{Entry};
+ghost use Rattle.ras_facts.specs.declared.entry.Entry.{Entry};
 ghost use Rattle.ras_account.specs.Account.{account_of};
 ghost use Rattle.ras_account.specs.Continued.{IsWithin};
 ghost use Rattle.ras_daemon.specs.Event.{Fits, IsKept, IsRoomRefusal, OpenCause, Reopens};

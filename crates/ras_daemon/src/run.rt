@@ -3,7 +3,7 @@ ghost use Rattle.std.specs.Prelude.{◌≡◌, ◌≤◌, ◌+◌, ◌<◌, ◌^
 ghost use Rattle.std.specs.Option.{option_to_list};
 ghost use Rattle.dimm_topology.specs.Refusals.{Answers};
 ghost use Rattle.dimm_topology.specs.declared.topology.TopologyRefused.{TopologyRefused};
-ghost use Rattle.ras_account.specs.declared.entry.Entry.{Entry};
+ghost use Rattle.ras_facts.specs.declared.entry.Entry.{Entry};
 ghost use Rattle.ras_daemon.specs.Causes.{Causes, DiskCause, PrintCause};
 ghost use Rattle.ras_daemon.specs.Detail.{bank_detail};
 ghost use Rattle.ras_daemon.specs.Event.{AreFit, Fits, Keeps, Reopened, Stands, TakesEntries, TakesLine, TakesRow, longest_entry};

@@ -4,11 +4,13 @@
 #![tactic(auto)]
 
 mod bank;
+mod entry;
 mod fact;
 mod items;
 mod name;
 
 pub use bank::{BankReport, fact_of_bank};
+pub use entry::Entry;
 pub use fact::Fact;
 pub use items::{Item, Items};
 pub use name::Name;

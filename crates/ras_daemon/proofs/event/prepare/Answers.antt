@@ -1,7 +1,7 @@
 use Rattle.std.proofs.Common.{◌≡◌, List, refl, subst, ◌∙◌}
 use Rattle.std.proofs.lemmas.Result.{err_from_is_err_and, IfOk-weaker}
 use Rattle.std.specs.Option.{option_to_list}
-use Rattle.ras_account.specs.declared.entry.Entry.{Entry}
+use Rattle.ras_facts.specs.declared.entry.Entry.{Entry}
 use Rattle.ras_daemon.specs.Event.{ReserveExit}
 use Rattle.ras_daemon.proofs.EventLemmas.{prepare_exit, slice_of_option}
 use Rattle.ras_daemon.proofs.event.prepare.Goals as goal

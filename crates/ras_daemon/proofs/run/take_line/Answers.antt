@@ -1,7 +1,7 @@
 use Rattle.std.proofs.Common.{refl, sym, ◌∙◌, [], ◌∷◌}
 use Rattle.dimm_topology.specs.declared.row.Row.TheVariants.{Cpu as CpuRow, Module as ModuleRow, Range as RangeRow}
 use Rattle.ras_facts.specs.declared.bank.BankReport.{BankReport}
-use Rattle.ras_account.specs.declared.entry.Entry.TheVariants.{Limit as Settles}
+use Rattle.ras_facts.specs.declared.entry.Entry.TheVariants.{Limit as Settles}
 use Rattle.ras_daemon.specs.declared.line.Line.TheVariants.{Bank, Cpu, Module, Limit, Range}
 use Rattle.ras_daemon.specs.Line.{InRange}
 use Rattle.ras_daemon.specs.Detail.{bank_detail}

@@ -1,7 +1,7 @@
 use Rattle.std.proofs.Common.{◌≡◌, Result, Err, length, sym, ◌∙◌, ap, arith}
 use Rattle.std.proofs.lemmas.List.Elements.{recursion_from_All}
 use Rattle.std.proofs.lemmas.Result.{err_from_is_err_and}
-use Rattle.ras_account.specs.Valid.{IsValidEntry}
+use Rattle.ras_facts.specs.Entries.{IsValidEntry}
 use Rattle.ras_account.proofs.AgainLemmas.{first_valid, takes_more, within_first}
 use Rattle.ras_account.proofs.account.Account.of_entries.Goals as goal
 

@@ -1,5 +1,5 @@
 use Rattle.std.proofs.Common.{sym, ap, subst, ◌∙◌, refl, arith}
-use Rattle.ras_account.specs.declared.entry.Entry.{Entry}
+use Rattle.ras_facts.specs.declared.entry.Entry.{Entry}
 use Rattle.ras_account.specs.declared.reserve.Numbers.{Numbers}
 use Rattle.ras_account.specs.Continued.{is_fresh_in, continued}
 use Rattle.ras_account.specs.Reserving.{Numbered}

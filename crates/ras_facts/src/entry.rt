@@ -1,8 +1,8 @@
 // What an account takes.
 ghost use Rattle.std.specs.Prelude.{◌≡◌, length};
 
+use crate::Fact;
 use page_policy::Limit;
-use ras_facts::Fact;
 
 /// What an account takes.
 #[derive(Debug, Drop)]
@@ -14,7 +14,7 @@ pub enum Entry {
 }
 
 impl Entry {
-    ghost use Rattle.ras_account.specs.Valid.{items_in};
+    ghost use Rattle.ras_facts.specs.Entries.{items_in};
 
     /// How many items the entry has. A limit has none.
     pub fn item_count(&self) -> usize

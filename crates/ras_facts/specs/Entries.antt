@@ -1,10 +1,10 @@
--- Which entries are valid, and how many items one has.
+-- Which entries are valid, and which items one has.
 use Rattle.std.specs.Prelude.{List, []}
 use Rattle.page_policy.specs.Buckets.{IsLimit}
 use Rattle.ras_facts.specs.declared.items.Item.{Item}
+use Rattle.ras_facts.specs.declared.entry.Entry.{Entry}
+use Rattle.ras_facts.specs.declared.entry.Entry.TheVariants.{Fact, Limit as Settles}
 use Rattle.ras_facts.specs.Valid.{IsValidFact}
-use Rattle.ras_account.specs.declared.entry.Entry.{Entry}
-use Rattle.ras_account.specs.declared.entry.Entry.TheVariants.{Fact, Limit as Settles}
 
 -- a valid fact, or a limit in its ranges
 abbrev pub IsValidEntry : Entry → Type 0
