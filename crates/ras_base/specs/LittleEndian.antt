@@ -1,6 +1,10 @@
 -- Numbers as bytes from the low one on, as all formats here write them.
-use Rattle.std.specs.Prelude.{ℕ, zero, suc, ◌+◌, ◌*◌, List, slice_index}
+use Rattle.std.specs.Prelude.{ℕ, zero, suc, ◌+◌, ◌*◌, ◌<◌, List, slice_index}
 use Rattle.std.specs.Int.{to_le_bytes, w16, w32, w64}
+
+-- each number of a list is a byte
+abbrev pub AreBytes : List ℕ → Type 0
+AreBytes bytes = (i : ℕ) → slice_index bytes i < 256
 
 -- a number of 2, 4 or 8 bytes
 unfoldable pub u16_bytes : ℕ → List ℕ

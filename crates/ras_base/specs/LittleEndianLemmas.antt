@@ -6,11 +6,7 @@ use Rattle.std.proofs.lemmas.List.{get_or-drop, get_or-take, get_or_append_left,
 use Rattle.std.proofs.lemmas.List.{get_or_past}
 use Rattle.std.proofs.Math.Nat.{pow-suc}
 use Rattle.std.proofs.lemmas.Nat.{le_bytes_2, le_bytes_4, le_bytes_8, from_le_bytes-to_le_bytes_2, from_le_bytes-to_le_bytes_4, from_le_bytes-to_le_bytes_8}
-use Rattle.ras_base.specs.LittleEndian.{u16_bytes, u32_bytes, u64_bytes, number_at}
-
--- each element is a byte
-abbrev pub AreBytes : List ℕ → Type 0
-AreBytes bytes = (i : ℕ) → get_or bytes i 0 < 256
+use Rattle.ras_base.specs.LittleEndian.{AreBytes, u16_bytes, u32_bytes, u64_bytes, number_at}
 
 -- ---- how many bytes
 
