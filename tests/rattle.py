@@ -62,6 +62,7 @@ def lines_of(file):
     return (TOP / file).read_text().split("\n")
 
 
+@functools.cache
 def crates():
     """The names of the crates, as crates.txt lists them."""
     text = (TOP / "crates.txt").read_text()
