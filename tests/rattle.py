@@ -336,7 +336,21 @@ def item_at(path):
             return None
         return declared_at(parts[1], parts[4:]) if parts[3] == "declared" else specified_at(parts[1], parts[3:])
     crate, *rest = path.split("::")
-    return types_in(crate).get(rest[-1]) if crate in crates() and rest else None
+    return named_by(crate, rest[-1]) if crate in crates() and rest else None
+
+
+def named_by(crate, name):
+    """The type, trait or constant that a crate gives under a name, its own or another crate's."""
+    return types_in(crate).get(name) or (item_at(passed_on(crate)[name]) if name in passed_on(crate) else None)
+
+
+@functools.cache
+def passed_on(crate):
+    """The names of other crates that a crate gives on, each with its full path."""
+    file = code_file(crate, ())
+    uses = re.findall(r"^pub use (\w+::[^;]+);", "\n".join(lines_of(file)), re.M) if file else []
+    found = [pair for path in uses for pair in expand(" ".join(path.split()), "::")]
+    return {name: path for name, path in found if path.split("::")[0] in crates()}
 
 
 def declared_at(crate, parts):
