@@ -1,6 +1,4 @@
-pub mod TableLemmas
-pub mod WaitingLemmas
-pub mod PlaceLemmas
+pub mod PageLemmas
 pub mod HistoryLemmas
 pub mod OrderLemmas
-pub mod WorkedRows
+pub mod WorkedRowLemmas

@@ -3,6 +3,7 @@ use Rattle.std.proofs.Common.{◌≡◌, ℕ, suc, ◌+◌, ◌-◌, ◌<◌, �
 use Rattle.std.specs.List.{filter_map, cons_option, AllByRecursion}
 use Rattle.std.proofs.lemmas.Bool.Decides.{nat_tests}
 use Rattle.std.proofs.lemmas.List.Sums.{fold-append}
+use Rattle.std.proofs.Math.Nat.{le-div_iff_mul-le, mul-le-mul_right, mul_comm}
 use Rattle.ras_base.specs.Places.{places_behind}
 use Rattle.mca_status.specs.declared.classes.ItemClass.{ItemClass}
 use Rattle.mca_status.specs.declared.classes.ItemClass.TheVariants.{Ce, Ucna, Srao, Srar, Uc, Odd, Corrected, Recoverable, Fatal, Informational}
@@ -12,9 +13,9 @@ use Rattle.page_policy.specs.declared.rows.Order.{Order}
 use Rattle.page_policy.specs.declared.rows.Order as Ordered
 use Rattle.page_policy.specs.declared.rows.PageState.{PageState}
 use Rattle.page_policy.specs.declared.rows.PageState.TheVariants.{Kept, Soft, Hard}
-use Rattle.page_policy.specs.declared.rows.Row.{Row}
-use Rattle.page_policy.specs.Buckets.{IsLimit, leak, aged, trips, bucket_after}
-use Rattle.page_policy.specs.Rows.{Report, higher, new_row, row_after, is_corrected, called_for, called_by, order_between}
+use Rattle.page_policy.specs.declared.rows.PageRow.{PageRow}
+use Rattle.page_policy.specs.Buckets.{IsLimit, leak, aged_bucket, trips, bucket_after}
+use Rattle.page_policy.specs.Rows.{Report, higher, new_row, row_after, is_corrected, state_called_for, state_called_by, order_between}
 use Rattle.page_policy.specs.Histories.{first_seconds, page_history, page_row, order_behind, orders_of, AreOnceInOrder, IsSingle}
 
 -- the orders that a page in a state may still be given
@@ -39,8 +40,8 @@ left_before page Hard Hard rest left = left
 
 -- one report more raises the state to one that it calls for
 state-more : (earlier : List Report) (r : Report) → (called : PageState) × ((page_row (earlier ++ r ∷ [])).state ≡ higher (page_row earlier).state called)
-state-more [] r = (called_by (new_row r.seconds) r, refl)
-state-more (q ∷ rs) r = (called_by (page_row (q ∷ rs)) r, ap (λ (row : Row). row.state) (fold-append row_after (new_row q.seconds) (q ∷ rs) (r ∷ [])))
+state-more [] r = (state_called_by (new_row r.seconds) r, refl)
+state-more (q ∷ rs) r = (state_called_by (page_row (q ∷ rs)) r, ap (λ (row : PageRow). row.state) (fold-append row_after (new_row q.seconds) (q ∷ rs) (r ∷ [])))
 
 orders_from : ℕ → List Report → List Report → List Order
 orders_from page earlier rs = filter_map (λ p. order_behind page p.0 p.1) (places_behind earlier rs)
@@ -66,7 +67,7 @@ once_in_order history page = left_from page [] (page_history history page)
 -- single corrected errors within a period
 
 -- nothing leaks within a period
-unaged : (limit : Limit) (now : ℕ) (bucket : Bucket) → IsLimit limit → now < bucket.stamp + limit.period → aged limit now bucket ≡ bucket
+unaged : (limit : Limit) (now : ℕ) (bucket : Bucket) → IsLimit limit → now < bucket.stamp + limit.period → aged_bucket limit now bucket ≡ bucket
 unaged limit now bucket valid early = by (nat_le limit.period (now - bucket.stamp)) refl
   where
     leaked : Bucket
@@ -79,7 +80,7 @@ unaged limit now bucket valid early = by (nat_le limit.period (now - bucket.stam
         late p d is below = grind (arith, nat_tests)
     by false is = refl
 
-called-corrected : (class : ItemClass) (trip : Bool) → is_corrected class ≡ true → called_for class trip ≡ (if trip then Soft else Kept)
+called-corrected : (class : ItemClass) (trip : Bool) → is_corrected class ≡ true → state_called_for class trip ≡ (if trip then Soft else Kept)
 called-corrected Ce trip is = refl
 called-corrected Corrected trip is = refl
 called-corrected Ucna trip is = cc
@@ -97,15 +98,15 @@ module _ (limit : Limit) (from : ℕ) (valid : IsLimit limit) where
   reaches count = nat_le limit.capacity (count + 1)
 
   -- what a single corrected error does to a row
-  record Goes (old new : Row) : Type 0 where
+  record Goes (old new : PageRow) : Type 0 where
     stamp : new.bucket.stamp ≡ old.bucket.stamp
     count : new.bucket.count ≡ (if reaches old.bucket.count then 0 else old.bucket.count + 1)
     state : new.state ≡ higher old.state (if reaches old.bucket.count then Soft else Kept)
 
-  goes : (row : Row) (r : Report) → row.bucket.stamp ≡ from → IsSingle limit from r → Goes row (row_after row r)
+  goes : (row : PageRow) (r : Report) → row.bucket.stamp ≡ from → IsSingle limit from r → Goes row (row_after row r)
   goes row r stamped single =
       let early : r.seconds < row.bucket.stamp + limit.period = omega (arith, single.within, stamped) in
-      let still : aged limit r.seconds row.bucket ≡ row.bucket = unaged limit r.seconds row.bucket valid early in
+      let still : aged_bucket limit r.seconds row.bucket ≡ row.bucket = unaged limit r.seconds row.bucket valid early in
       let tests : trips r.limit r.seconds r.weight row.bucket ≡ reaches row.bucket.count =
       (λ i. trips (single.limit_is i) r.seconds (single.one i) row.bucket) ∙ ap (λ (b : Bucket). nat_le limit.capacity (b.count + 1)) still in
       let bucket : (row_after row r).bucket ≡ bucket_after limit r.seconds 1 row.bucket =
@@ -117,7 +118,7 @@ module _ (limit : Limit) (from : ℕ) (valid : IsLimit limit) where
       }
 
   -- the row of a page after n of them
-  record Steady (n : ℕ) (row : Row) : Type 0 where
+  record Steady (n : ℕ) (row : PageRow) : Type 0 where
     stamp : row.bucket.stamp ≡ from
     below : n < limit.capacity → (row.bucket.count ≡ n) × (row.state ≡ Kept)
     reached : limit.capacity ≤ n → row.state ≡ Soft
@@ -134,7 +135,7 @@ module _ (limit : Limit) (from : ℕ) (valid : IsLimit limit) where
   soft_stays false = refl
 
   -- below the capacity: with one error more, and at the capacity
-  module _ (n : ℕ) (old new : Row) (steady : Steady n old) (step : Goes old new) where
+  module _ (n : ℕ) (old new : PageRow) (steady : Steady n old) (step : Goes old new) where
     goes_on : n + 1 < limit.capacity → (new.bucket.count ≡ n + 1) × (new.state ≡ Kept)
     goes_on more =
         let here : (old.bucket.count ≡ n) × (old.state ≡ Kept) = steady.below (omega arith) in
@@ -176,7 +177,7 @@ module _ (limit : Limit) (from : ℕ) (valid : IsLimit limit) where
   steady-new : Steady 0 (new_row from)
   steady-new = record { stamp = refl; below = λ h. (refl, refl); reached = λ h. absurd (omega (arith, valid.capacity_from)) }
 
-  steady-all : (rs : List Report) (n : ℕ) (row : Row) → Steady n row → AllByRecursion (IsSingle limit from) rs → Steady (length rs + n) (fold row_after row rs)
+  steady-all : (rs : List Report) (n : ℕ) (row : PageRow) → Steady n row → AllByRecursion (IsSingle limit from) rs → Steady (length rs + n) (fold row_after row rs)
   steady-all [] n row steady all = subst (λ m. Steady m row) (sym (zero-add n)) steady
   steady-all (r ∷ rs) n row steady all =
       let next : Steady (n + 1) (row_after row r) = steady-more n row (row_after row r) steady (goes row r steady.stamp all.0) in
@@ -197,7 +198,7 @@ pub order-at_capacity : (limit : Limit) (page : ℕ) (earlier : List Report) (la
     → order_behind page earlier last ≡ (if length earlier + 1 == limit.capacity then Some (Ordered.TheVariants.Soft page) else None)
 order-at_capacity limit page earlier last valid all =
     let from : ℕ = first_seconds (earlier ++ last ∷ []) in
-    let row : Row = fold row_after (new_row from) earlier in
+    let row : PageRow = fold row_after (new_row from) earlier in
     let parts : AllByRecursion (IsSingle limit from) earlier × IsSingle limit from last = split (IsSingle limit from) earlier last (by_recursion (IsSingle limit from) (earlier ++ last ∷ []) all) in
     let steady : Steady limit from valid (length earlier) row =
     subst (λ m. Steady limit from valid m row) (add-zero (length earlier)) (steady-all limit from valid earlier 0 (new_row from) (steady-new limit from valid) parts.0) in
@@ -208,3 +209,20 @@ order-at_capacity limit page earlier last valid all =
     before : (rs : List Report) → (page_row rs).state ≡ (fold row_after (new_row (first_seconds (rs ++ last ∷ []))) rs).state
     before [] = refl
     before (r ∷ rs) = refl
+
+-- a whole period lets out as much as the capacity
+pub empties : (limit : Limit) (now : ℕ) (bucket : Bucket) → IsLimit limit → bucket.count ≤ limit.capacity → bucket.stamp + limit.period ≤ now → (aged_bucket limit now bucket).count ≡ 0
+empties limit now bucket is below late = by (nat_le limit.period passed) refl
+  where
+    passed : ℕ
+    passed = now - bucket.stamp
+
+    leaks : limit.capacity ≤ leak limit passed
+    leaks =
+        let whole : limit.period ≤ passed = omega (arith, late) in
+        (le-div_iff_mul-le (omega (arith, is.period_from))).1
+        (rw (mul_comm limit.capacity limit.period) (mul-le-mul_right limit.capacity whole))
+
+    by : (b : Bool) → nat_le limit.period passed ≡ b → (if b then record { count = bucket.count - leak limit passed; stamp = now } else bucket).count ≡ 0
+    by true test = omega (arith, below, leaks)
+    by false test = absurd (grind (arith, nat_tests, late, test))

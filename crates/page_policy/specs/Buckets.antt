@@ -1,33 +1,41 @@
 -- The leaky bucket of a page's corrected errors. The rule is that of mcelog's page error limits.
-use Rattle.std.specs.Prelude.{ℕ, ◌+◌, ◌-◌, ◌*◌, ◌/◌, ◌≤◌, Bool, nat_le, if◌then◌else◌}
+use Rattle.std.specs.Prelude.{ℕ, ◌+◌, ◌-◌, ◌*◌, ◌/◌, ◌≤◌, Bool, nat_le, ◌&&◌, if◌then◌else◌, Option, Some, None}
+use Rattle.page_policy.specs.declared.buckets.TheConstants.{MOST_CAPACITY, MOST_PERIOD, MOST_COUNT}
 use Rattle.page_policy.specs.declared.buckets.Limit.{Limit}
 use Rattle.page_policy.specs.declared.buckets.Bucket.{Bucket}
 
 -- a limit in its ranges
 pub record IsLimit (limit : Limit) : Type 0 where
   pub capacity_from : 1 ≤ limit.capacity
-  pub capacity_to : limit.capacity ≤ 1000000
+  pub capacity_to : limit.capacity ≤ MOST_CAPACITY
   pub period_from : 1 ≤ limit.period
-  pub period_to : limit.period ≤ 10000000
+  pub period_to : limit.period ≤ MOST_PERIOD
+
+-- the limit of two numbers, where both are in their ranges
+abbrev pub limit_of : ℕ → ℕ → Option Limit
+limit_of capacity period =
+    if (nat_le 1 capacity && nat_le capacity MOST_CAPACITY) && (nat_le 1 period && nat_le period MOST_PERIOD)
+    then Some (record { capacity = capacity; period = period })
+    else None
 
 -- the most errors that a bucket holds: one fewer than the greatest capacity
 abbrev pub most_count : ℕ
-most_count = 999999
+most_count = MOST_COUNT
 
 -- how many errors leak out in so many seconds, in whole errors
 abbrev pub leak : Limit → ℕ → ℕ
 leak limit seconds = seconds * limit.capacity / limit.period
 
 -- a bucket once it has leaked until now: nothing, before a whole period has passed since the stamp
-abbrev pub aged : Limit → ℕ → Bucket → Bucket
-aged limit now bucket =
+abbrev pub aged_bucket : Limit → ℕ → Bucket → Bucket
+aged_bucket limit now bucket =
     if nat_le limit.period (now - bucket.stamp)
     then record { count = bucket.count - leak limit (now - bucket.stamp); stamp = now }
     else bucket
 
 -- the errors in a bucket with those of a report of this weight
 abbrev pub count_with : Limit → ℕ → ℕ → Bucket → ℕ
-count_with limit now weight bucket = (aged limit now bucket).count + weight
+count_with limit now weight bucket = (aged_bucket limit now bucket).count + weight
 
 -- whether the report makes the bucket trip: its capacity is reached
 abbrev pub trips : Limit → ℕ → ℕ → Bucket → Bool
@@ -37,5 +45,5 @@ trips limit now weight bucket = nat_le limit.capacity (count_with limit now weig
 abbrev pub bucket_after : Limit → ℕ → ℕ → Bucket → Bucket
 bucket_after limit now weight bucket = record {
   count = if trips limit now weight bucket then 0 else count_with limit now weight bucket;
-  stamp = (aged limit now bucket).stamp;
+  stamp = (aged_bucket limit now bucket).stamp;
 }

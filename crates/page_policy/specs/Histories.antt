@@ -9,40 +9,42 @@ use Rattle.page_policy.specs.declared.rows.Order.{Order}
 use Rattle.page_policy.specs.declared.rows.Order.TheVariants.{Soft, Hard}
 use Rattle.page_policy.specs.declared.rows.PageState.{PageState}
 use Rattle.page_policy.specs.declared.rows.PageState.TheVariants.{Kept}
-use Rattle.page_policy.specs.declared.rows.Row.{Row}
+use Rattle.page_policy.specs.declared.rows.PageRow.{PageRow}
 use Rattle.page_policy.specs.Rows.{Report, new_row, row_after, is_corrected, order_between}
-use Rattle.page_policy.specs.Tables.{of_key, table, updated}
+use Rattle.row_tables.specs.Tables.{of_key, table, updated_rows}
 
 -- the page that a report names
-abbrev pub page_of : Report → Option ℕ
-page_of r = Some r.page
+abbrev pub page_in : Report → Option ℕ
+page_in r = Some r.page
 
 -- the reports of a page in a history, in order
 abbrev pub page_history : List Report → ℕ → List Report
-page_history history page = of_key nat_eq page_of history page
+page_history history page = of_key nat_eq page_in history page
 
 -- the time of the first report of a list
 abbrev pub first_seconds : List Report → ℕ
 first_seconds [] = 0
 first_seconds (r ∷ rs) = r.seconds
 
--- the row that the reports of one page give: they are taken in order, from a new row at the first one's time
-abbrev pub page_row : List Report → Row
+-- the row that the reports of one page give: they are taken in order, from a new row at the first
+-- one's time
+abbrev pub page_row : List Report → PageRow
 page_row reports = fold row_after (new_row (first_seconds reports)) reports
 
 -- the rows of a history: each page in first-seen order, with the row that its own reports give
-abbrev pub rows_of : List Report → List (ℕ × Row)
-rows_of history = table nat_eq page_of page_row history
+abbrev pub page_rows_of : List Report → List (ℕ × PageRow)
+page_rows_of history = table nat_eq page_in page_row history
 
 -- the state of a page in a table: one that isn't there is Kept
-abbrev pub state_in : List (ℕ × Row) → ℕ → PageState
-state_in rows page = option_map_or (λ (row : Row). row.state) (lookup (nat_eq page) rows) Kept
+abbrev pub state_in : List (ℕ × PageRow) → ℕ → PageState
+state_in rows page = option_map_or (λ (row : PageRow). row.state) (lookup (nat_eq page) rows) Kept
 
 -- a table of rows continued by a report: it changes its page's row, or begins one behind the others
-abbrev pub rows_after : List (ℕ × Row) → Report → List (ℕ × Row)
-rows_after rows r = updated nat_eq r.page (row_after (new_row r.seconds) r) (λ row. row_after row r) rows
+abbrev pub rows_after : List (ℕ × PageRow) → Report → List (ℕ × PageRow)
+rows_after rows r = updated_rows nat_eq r.page (row_after (new_row r.seconds) r) (λ row. row_after row r) rows
 
--- the order of a report behind the earlier reports of its page: it comes where the page's state rises
+-- the order of a report behind the earlier reports of its page: it comes where the page's state
+-- rises
 abbrev pub order_behind : ℕ → List Report → Report → Option Order
 order_behind page earlier r = order_between page (page_row earlier).state (page_row (earlier ++ r ∷ [])).state
 
@@ -50,7 +52,8 @@ order_behind page earlier r = order_between page (page_row earlier).state (page_
 abbrev pub orders_of : List Report → ℕ → List Order
 orders_of history page = filter_map (λ p. order_behind page p.0 p.1) (places (page_history history page))
 
--- the orders that a page may be given in all its time: at most one Soft and one Hard, the Soft first
+-- the orders that a page may be given in all its time: at most one Soft and one Hard, the Soft
+-- first
 abbrev pub AreOnceInOrder : ℕ → List Order → Type 0
 AreOnceInOrder page orders =
     (orders ≡ [])

@@ -1,6 +1,5 @@
-pub mod Tables
 pub mod Buckets
 pub mod Rows
 pub mod Histories
 pub mod Pages
-pub mod Places
+pub mod AreSmall

@@ -1,6 +1,7 @@
--- What one report of a page does to the page's row, and the order that follows. These rules are this
--- project's own: a page is ordered away softly at too many corrected errors or at an uncorrected one
--- that nothing has used yet, and hard at each other uncorrected error of a known class.
+-- What one report of a page does to the page's row, and the order that follows. These rules are
+-- this project's own: a page is ordered away softly at too many corrected errors or at an
+-- uncorrected one that nothing has used yet, and hard at each other uncorrected error of a known
+-- class.
 use Rattle.std.specs.Prelude.{ℕ, Bool, true, false, nat_lt, if◌then◌else◌, Option, Some, None}
 use Rattle.mca_status.specs.declared.classes.ItemClass.{ItemClass}
 use Rattle.mca_status.specs.declared.classes.ItemClass.TheVariants.{Ce, Ucna, Srao, Srar, Uc, Odd, Corrected, Recoverable, Fatal, Informational}
@@ -9,7 +10,7 @@ use Rattle.page_policy.specs.declared.rows.Order.{Order}
 use Rattle.page_policy.specs.declared.rows.Order as Ordered
 use Rattle.page_policy.specs.declared.rows.PageState.{PageState}
 use Rattle.page_policy.specs.declared.rows.PageState.TheVariants.{Kept, Soft, Hard}
-use Rattle.page_policy.specs.declared.rows.Row.{Row}
+use Rattle.page_policy.specs.declared.rows.PageRow.{PageRow}
 use Rattle.page_policy.specs.Buckets.{trips, bucket_after}
 
 -- a report of a page: an item that names it, with its time in seconds and the limit in force
@@ -37,17 +38,17 @@ is_corrected Fatal = false
 is_corrected Informational = false
 
 -- the state that an item calls for; the Bool is whether the bucket trips at it
-abbrev pub called_for : ItemClass → Bool → PageState
-called_for Ce trip = if trip then Soft else Kept
-called_for Corrected trip = if trip then Soft else Kept
-called_for Ucna trip = Soft
-called_for Srao trip = Hard
-called_for Srar trip = Hard
-called_for Recoverable trip = Hard
-called_for Uc trip = Hard
-called_for Fatal trip = Hard
-called_for Odd trip = Kept
-called_for Informational trip = Kept
+abbrev pub state_called_for : ItemClass → Bool → PageState
+state_called_for Ce trip = if trip then Soft else Kept
+state_called_for Corrected trip = if trip then Soft else Kept
+state_called_for Ucna trip = Soft
+state_called_for Srao trip = Hard
+state_called_for Srar trip = Hard
+state_called_for Recoverable trip = Hard
+state_called_for Uc trip = Hard
+state_called_for Fatal trip = Hard
+state_called_for Odd trip = Kept
+state_called_for Informational trip = Kept
 
 -- how high a state is
 abbrev pub height : PageState → ℕ
@@ -60,18 +61,18 @@ abbrev pub higher : PageState → PageState → PageState
 higher one other = if nat_lt (height one) (height other) then other else one
 
 -- the row of a page that is first reported at this time
-abbrev pub new_row : ℕ → Row
+abbrev pub new_row : ℕ → PageRow
 new_row seconds = record { bucket = record { count = 0; stamp = seconds }; state = Kept }
 
 -- the state that a report of a page with this row calls for
-abbrev pub called_by : Row → Report → PageState
-called_by row r = called_for r.class (trips r.limit r.seconds r.weight row.bucket)
+abbrev pub state_called_by : PageRow → Report → PageState
+state_called_by row r = state_called_for r.class (trips r.limit r.seconds r.weight row.bucket)
 
 -- the row after a report of its page: corrected errors fill the bucket, and the state only rises
-abbrev pub row_after : Row → Report → Row
+abbrev pub row_after : PageRow → Report → PageRow
 row_after row r = record {
   bucket = if is_corrected r.class then bucket_after r.limit r.seconds r.weight row.bucket else row.bucket;
-  state = higher row.state (called_by row r);
+  state = higher row.state (state_called_by row r);
 }
 
 -- the order that takes a page to a state

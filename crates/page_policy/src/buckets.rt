@@ -3,13 +3,42 @@
 ghost use Rattle.std.specs.Prelude.{◌≡◌, ◌↔◌, ◌≤◌, ◌<◌, ◌+◌, IsTrue};
 ghost use Rattle.std.specs.Bool.{OnTrue, OnFalse};
 
-/// How many corrected errors within which time are too many for a page.
+/// The greatest capacity of a limit.
+pub const MOST_CAPACITY: u32 = 1_000_000;
+
+/// The greatest period of a limit, in seconds.
+pub const MOST_PERIOD: u32 = 10_000_000;
+
+/// The most errors that a bucket holds: one fewer than the greatest capacity.
+pub const MOST_COUNT: u32 = MOST_CAPACITY - 1;
+
+/// How many corrected errors within which time are too many for a page or a module.
 #[derive(Clone, Copy, Debug, PartialEq, Eq)]
 pub struct Limit {
     /// The number of errors at which a bucket trips, from 1 to 1,000,000.
     pub capacity: u32,
     /// The time in which so many errors leak out of a bucket, from 1 to 10,000,000 seconds.
     pub period: u32,
+}
+
+impl Limit {
+    ghost use Rattle.page_policy.specs.Buckets.{limit_of};
+
+    /// The limit of these two numbers. It is None exactly where one of them is out of its range.
+    pub fn of(capacity: u64, period: u64) -> Option<Limit>
+        ensures { result ≡ limit_of capacity period }
+    {
+        if (1..=u64::from(MOST_CAPACITY)).contains(&capacity)
+            && (1..=u64::from(MOST_PERIOD)).contains(&period)
+        {
+            Some(Limit {
+                capacity: capacity as u32,
+                period: period as u32,
+            })
+        } else {
+            None
+        }
+    }
 }
 
 /// A leaky bucket, after that of mcelog: it fills with a page's corrected errors, and they leak out
@@ -23,15 +52,15 @@ pub struct Bucket {
 }
 
 impl Bucket {
-    ghost use Rattle.page_policy.specs.Buckets.{IsLimit, most_count, aged, trips, bucket_after};
+    ghost use Rattle.page_policy.specs.Buckets.{IsLimit, most_count, aged_bucket, trips, bucket_after};
 
-    /// Lets out what has leaked by this time, in seconds, and fills in a report's errors. The answer
-    /// is whether the bucket trips: it held the limit's capacity or more, and was emptied.
+    /// Lets out what has leaked by this time, in seconds, and fills in a report's errors. The
+    /// answer is whether the bucket trips: it held the limit's capacity or more, and was emptied.
     ///
     /// Nothing leaks before a whole period of the limit has passed since the stamp, and so nothing
     /// at an earlier time than the stamp either. After a whole period capacity errors leak per
-    /// period, in whole errors. Under a limit whose capacity is below what the bucket holds, it trips
-    /// whatever the weight.
+    /// period, in whole errors. Under a limit whose capacity is below what the bucket holds, it
+    /// trips whatever the weight.
     pub fn step(&mut self, limit: Limit, now: u64, weight: u16) -> bool
         requires limit { IsLimit limit }
         requires count { self.old.count ≤ most_count }
@@ -56,7 +85,7 @@ impl Bucket {
     // Lets out what has leaked by this time.
     fn age(&mut self, limit: Limit, now: u64)
         requires limit { IsLimit limit }
-        ensures { self.new ≡ aged limit now self.old }
+        ensures { self.new ≡ aged_bucket limit now self.old }
     {
         let passed = now.saturating_sub(self.stamp);
         if passed < u64::from(limit.period) {

@@ -1,21 +1,21 @@
 //! When memory pages are taken out of use: a leaky bucket of corrected errors for each page, the
 //! states of pages, and the orders that follow where a state rises.
 //!
-//! `Pages` holds a row for each page, in the order in which pages were first seen. What a page's row
-//! says is a function of the reports of that page alone. The definitions in `specs/` say which one,
-//! and the contracts of `Pages` say that each call keeps it.
+//! `Pages` holds a row for each page, in the order in which pages were first seen. What a page's
+//! row says is a function of the reports of that page alone. The definitions in `specs/` say which
+//! one, and the contracts of `Pages` say that each call keeps it.
 #![tactic(auto)]
 
 mod buckets;
 mod laws;
 mod pages;
 mod rows;
-mod table;
 
-pub use buckets::{Bucket, Limit};
+pub use buckets::{Bucket, Limit, MOST_CAPACITY, MOST_PERIOD};
 pub use laws::page_laws;
-pub use pages::{Pages, RowRefused};
-pub use rows::{Order, PageState, Row};
+pub use pages::Pages;
+pub use row_tables::RowRefused;
+pub use rows::{Order, PageRow, PageState};
 
 #[cfg(test)]
 mod tests;

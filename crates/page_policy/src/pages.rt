@@ -2,94 +2,74 @@
 
 ghost use Rattle.std.specs.Prelude.{◌≡◌, ℕ, ◌≢◌, ◌↔◌, ◌≤◌, ◌<◌, ◌++◌, List, [], ◌∷◌, false, IsTrue, Some, Err, OnOk, OnErr, length, slice_get, nat_eq};
 ghost use Rattle.std.specs.Map.{keys_of, lookup};
-ghost use Rattle.page_policy.specs.Tables.{added};
+ghost use Rattle.row_tables.specs.Tables.{added_keys};
+ghost use Rattle.row_tables.specs.Held.{is_held, is_ready};
 ghost use Rattle.page_policy.specs.Buckets.{IsLimit, most_count};
-ghost use Rattle.page_policy.specs.Rows.{Report, report, height, called_for, order_between};
-ghost use Rattle.page_policy.specs.Histories.{rows_of, state_in, page_history, order_behind};
-ghost use Rattle.page_policy.specs.Pages.{is_held, is_ready, taken};
+ghost use Rattle.page_policy.specs.Rows.{Report, report, height, state_called_for, order_between};
+ghost use Rattle.page_policy.specs.Histories.{page_rows_of, state_in, page_history, order_behind};
+ghost use Rattle.page_policy.specs.Pages.{pages_after};
 
 use crate::rows::order_for;
-use crate::table::{add_pages, place_of, row_or_new};
-use crate::{Bucket, Limit, Order, PageState, Row};
-use indexmap::IndexMap;
+use crate::{Bucket, Limit, Order, PageRow, PageState};
 use mca_status::ItemClass;
 use ras_base::NoMemory;
+use row_tables::{RowRefused, RowTable};
 use std::alloc::Global;
 use std::marker::Model;
 
-/// Why a row can't be put behind the others.
-#[derive(Clone, Copy, Debug, PartialEq, Eq)]
-pub enum RowRefused {
-    /// The page has a row.
-    Repeated,
-    /// Memory ran out.
-    NoMemory,
-}
-
 /// The pages that were reported, in the order in which they were first seen, each with its row.
 ///
-/// Pages can wait behind those that are held, so that their reports can be taken with no memory. Only
-/// `reserve` and `account` concern pages that wait.
+/// Pages can wait behind those that are held, so that their reports can be taken with no memory.
+/// Only `reserve` and `account` concern pages that wait.
 #[derive(Drop)]
 pub struct Pages {
-    table: IndexMap<u64, Row>,
-    held: usize,
+    table: RowTable<u64, PageRow>,
 }
 
 impl Model for Pages {
-    ghost use Rattle.std.specs.Prelude.{take, drop};
-    ghost use Rattle.std.specs.Map.{keys_of};
-    ghost use Rattle.page_policy.specs.Pages.{Held};
-    ghost use Rattle.page_policy.specs.Places.{IsKept};
+    ghost use Rattle.std.specs.Prelude.{ℕ};
+    ghost use Rattle.row_tables.specs.Held.{Held};
+    ghost use Rattle.page_policy.specs.declared.rows.PageRow.{PageRow};
+    ghost use Rattle.page_policy.specs.AreSmall.{AreSmall};
 
-    ghost Value = { Held };
+    ghost Value = { Held ℕ PageRow };
 
-    ghost view = { λ p. record {
-      rows = take p.held p.table.entries;
-      waiting = drop p.held (keys_of p.table.entries);
-    } };
+    ghost view = { λ p. p.table };
 
-    ghost invariant = { λ p. IsKept p.held p.table.entries };
+    ghost invariant = { λ p. AreSmall p.table.rows };
 }
 
 impl Pages {
     /// No pages.
     pub fn new(alloc: Global) -> Pages
-        ensures rows { result.rows ≡ rows_of [] }
+        ensures rows { result.rows ≡ page_rows_of [] }
         ensures waiting { result.waiting ≡ [] }
     {
         Pages {
-            table: IndexMap::new(alloc),
-            held: 0,
+            table: RowTable::new(alloc),
         }
     }
 
-    /// Lets these pages wait, so that a report of each can be taken in turn with no memory: those that
-    /// aren't held, in the order in which they are first seen, each once. What waited before is given
-    /// up. The pages held stay, and after `NoMemory` none waits.
+    /// Lets these pages wait, so that a report of each can be taken in turn with no memory: those
+    /// that aren't held, in the order in which they are first seen, each once. What waited before
+    /// is given up. The pages held stay, and after `NoMemory` none waits.
     pub fn reserve(&mut self, pages: &[u64]) -> Result<(), NoMemory>
         ensures rows { self.new.rows ≡ self.old.rows }
-        ensures ok { OnOk result (self.new.waiting ≡ added nat_eq (keys_of self.old.rows) pages.now) }
+        ensures ok { OnOk result (self.new.waiting ≡ added_keys nat_eq (keys_of self.old.rows) pages.now) }
         ensures err { OnErr result (self.new.waiting ≡ []) }
     {
-        self.table.truncate(self.held);
-        match add_pages(&mut self.table, pages) {
-            Ok(()) => Ok(()),
-            Err(NoMemory) => {
-                self.table.truncate(self.held);
-                Err(NoMemory)
-            }
-        }
+        self.table.reserve(pages, PageRow::new(0))
     }
 
-    /// Takes a report of a page: an item's class and weight, with the time of the report in seconds and
-    /// the limit in force. The answer is the order that follows, if any.
+    /// Takes a report of a page: an item's class and weight, with the time of the report in seconds
+    /// and the limit in force. The answer is the order that follows, if any.
     ///
-    /// The page has to be held, or to be the first that waits; it is then held, behind the others. A new
-    /// page starts Kept, with an empty bucket of that time. Ce and Corrected fill the page's bucket,
-    /// and lead to Soft where it trips. Ucna leads to Soft; Srao, Srar, Uc, Recoverable and Fatal lead
-    /// to Hard; Odd and Informational lead to nothing. A state only rises, and an order comes exactly
-    /// where it rose: a bucket that trips at a page that is Soft or Hard is emptied, and no order comes.
+    /// The page has to be held, or to be the first that waits; it is then held, behind the others.
+    /// A new page starts Kept, with an empty bucket of that time. Ce and Corrected fill the page's
+    /// bucket, and lead to Soft where it trips. Ucna leads to Soft; Srao, Srar, Uc, Recoverable and
+    /// Fatal lead to Hard; Odd and Informational lead to nothing. A state only rises, and an order
+    /// comes exactly where it rose: a bucket that trips at a page that is Soft or Hard is emptied,
+    /// and no order comes.
     pub fn account(
         &mut self,
         page: u64,
@@ -98,32 +78,32 @@ impl Pages {
         weight: u16,
         limit: Limit,
     ) -> Option<Order>
-        requires ready { IsTrue (is_ready self.old page) }
+        requires ready { IsTrue (is_ready nat_eq self.old page) }
         requires limit { IsLimit limit }
-        ensures pages { self.new ≡ taken self.old (report page class seconds weight limit) }
+        ensures pages { self.new ≡ pages_after self.old (report page class seconds weight limit) }
         ensures order { result ≡ order_between page (state_in self.old.rows page) (state_in self.new.rows page) }
 
         // Soft is ordered of a page that is Kept alone, and Hard only where the class calls for it,
         // whatever the bucket says.
         ensures soft { result ≡ Some (Order.Soft page) → state_in self.old.rows page ≡ PageState.Kept }
-        ensures hard { result ≡ Some (Order.Hard page) → called_for class false ≡ PageState.Hard }
+        ensures hard { result ≡ Some (Order.Hard page) → state_called_for class false ≡ PageState.Hard }
 
         // No state falls, and no other page's row changes.
         ensures never_falls { (other : _) → height (state_in self.old.rows other) ≤ height (state_in self.new.rows other) }
         ensures others { (other : _) → other ≢ page → lookup (nat_eq other) self.new.rows ≡ lookup (nat_eq other) self.old.rows }
 
         // Where the pages of a list of reports wait, the reports can be taken in turn.
-        ensures in_turn { (pages : List ℕ) → self.old.waiting ≡ added nat_eq (keys_of self.old.rows) (page ∷ pages) → self.new.waiting ≡ added nat_eq (keys_of self.new.rows) pages }
+        ensures in_turn { (pages : List ℕ) → self.old.waiting ≡ added_keys nat_eq (keys_of self.old.rows) (page ∷ pages) → self.new.waiting ≡ added_keys nat_eq (keys_of self.new.rows) pages }
 
-        // The rows of a history become those of the history with this report, and the order is the one there.
-        ensures history { (history : List Report) → self.old.rows ≡ rows_of history → self.new.rows ≡ rows_of (history ++ report page class seconds weight limit ∷ []) }
-        ensures history_order { (history : List Report) → self.old.rows ≡ rows_of history → result ≡ order_behind page (page_history history page) (report page class seconds weight limit) }
+        // The rows of a history become those of the history with this report, and the order is the
+        // one there.
+        ensures history { (history : List Report) → self.old.rows ≡ page_rows_of history → self.new.rows ≡ page_rows_of (history ++ report page class seconds weight limit ∷ []) }
+        ensures history_order { (history : List Report) → self.old.rows ≡ page_rows_of history → result ≡ order_behind page (page_history history page) (report page class seconds weight limit) }
     {
-        let place = place_of(&self.table, page);
-        let before = row_or_new(&self.table, self.held, place, seconds);
+        let (place, known) = self.table.find(&page);
+        let before = known.unwrap_or(PageRow::new(seconds));
         let after = before.after(class, seconds, weight, limit);
-        self.table[place] = after;
-        self.held = self.held.max(place + 1);
+        self.table.put(place, after);
         order_for(page, before.state, after.state)
     }
 
@@ -131,14 +111,14 @@ impl Pages {
     pub fn len(&self) -> usize
         ensures { result ≡ length self.now.rows }
     {
-        self.held
+        self.table.len()
     }
 
     /// Whether no page is held.
     pub fn is_empty(&self) -> bool
         ensures { IsTrue result ↔ (self.now.rows ≡ []) }
     {
-        self.held == 0
+        self.table.is_empty()
     }
 
     /// The page at a place, from 0 in first-seen order, with its bucket and its state.
@@ -147,8 +127,8 @@ impl Pages {
         ensures row { slice_get self.now.rows i ≡ Some (result.0, record { bucket = result.1; state = result.2 }) }
         ensures count { result.1.count ≤ most_count }
     {
-        let row = self.table[i];
-        (self.table.keys().as_slice()[i], row.bucket, row.state)
+        let row = self.table.row(i);
+        (*self.table.key(i), row.bucket, row.state)
     }
 
     /// Puts the row of a page behind the others. After a refusal all stays as it was.
@@ -165,17 +145,8 @@ impl Pages {
         ensures ok { OnOk result (self.new.rows ≡ self.old.rows ++ (page, record { bucket = bucket; state = state }) ∷ []) }
         ensures waiting { self.new.waiting ≡ [] }
         ensures err { OnErr result (self.new.rows ≡ self.old.rows) }
-        ensures repeated { (result ≡ Err RowRefused.Repeated) ↔ IsTrue (is_held self.old.rows page) }
+        ensures repeated { (result ≡ Err RowRefused.Repeated) ↔ IsTrue (is_held nat_eq self.old.rows page) }
     {
-        if self.table.contains_key(&page) {
-            return Err(RowRefused::Repeated);
-        }
-        match self.table.insert(page, Row { bucket, state }) {
-            Ok(_) => {
-                self.held = self.table.len();
-                Ok(())
-            }
-            Err(_) => Err(RowRefused::NoMemory),
-        }
+        self.table.push_row(page, PageRow { bucket, state })
     }
 }

@@ -2,7 +2,7 @@
 
 ghost use Rattle.std.specs.Prelude.{◌≡◌, ◌≤◌};
 ghost use Rattle.page_policy.specs.Buckets.{IsLimit, most_count};
-ghost use Rattle.page_policy.specs.Rows.{report, new_row, row_after, is_corrected, called_for, higher, order_between};
+ghost use Rattle.page_policy.specs.Rows.{report, new_row, row_after, is_corrected, state_called_for, higher, order_between};
 
 use crate::{Bucket, Limit};
 use mca_status::ItemClass;
@@ -18,30 +18,30 @@ pub enum PageState {
     Hard,
 }
 
-/// An order to take a page out of use, with the page's number: its address over 4,096.
+/// An order to take a page out of use, by the page's number: its address over 4,096.
 #[derive(Clone, Copy, Debug, PartialEq, Eq)]
 pub enum Order {
-    /// Move its contents away first.
+    /// Move the page's contents away first.
     Soft(u64),
-    /// Take it away at once.
+    /// Take the page away at once.
     Hard(u64),
 }
 
 /// What is known of a page.
 #[derive(Clone, Copy, Debug, PartialEq, Eq)]
-pub struct Row {
+pub struct PageRow {
     /// The bucket of its corrected errors.
     pub bucket: Bucket,
     /// Its state.
     pub state: PageState,
 }
 
-impl Row {
+impl PageRow {
     // The row of a page that is first reported at this time.
-    pub(crate) fn new(seconds: u64) -> Row
+    pub(crate) fn new(seconds: u64) -> PageRow
         ensures { result ≡ new_row seconds }
     {
-        Row {
+        PageRow {
             bucket: Bucket {
                 count: 0,
                 stamp: seconds,
@@ -51,7 +51,7 @@ impl Row {
     }
 
     // The row after a report of the page.
-    pub(crate) fn after(self, class: ItemClass, seconds: u64, weight: u16, limit: Limit) -> Row
+    pub(crate) fn after(self, class: ItemClass, seconds: u64, weight: u16, limit: Limit) -> PageRow
         requires limit { IsLimit limit }
         requires count { self.bucket.count ≤ most_count }
         ensures row { (page : _) → result ≡ row_after self (report page class seconds weight limit) }
@@ -59,16 +59,16 @@ impl Row {
     {
         let mut bucket = self.bucket;
         let trips = counts(class) && bucket.step(limit, seconds, weight);
-        Row {
+        PageRow {
             bucket,
-            state: self.state.raised(calls_for(class, trips)),
+            state: self.state.higher_of(calls_for(class, trips)),
         }
     }
 }
 
 impl PageState {
     // The higher of two states.
-    fn raised(self, other: PageState) -> PageState
+    fn higher_of(self, other: PageState) -> PageState
         ensures { result ≡ higher self other }
     {
         match (self, other) {
@@ -86,9 +86,10 @@ fn counts(class: ItemClass) -> bool
     matches!(class, ItemClass::Ce | ItemClass::Corrected)
 }
 
-// The state that an item calls for; `trips` is whether the bucket trips, and counts for corrected items.
+// The state that an item calls for; `trips` is whether the bucket trips, and counts for corrected
+// items.
 fn calls_for(class: ItemClass, trips: bool) -> PageState
-    ensures { result ≡ called_for class trips }
+    ensures { result ≡ state_called_for class trips }
 {
     match class {
         ItemClass::Ce | ItemClass::Corrected if trips => PageState::Soft,

@@ -8,10 +8,10 @@ use Rattle.mca_status.specs.declared.classes.ItemClass.TheVariants.{Ce, Ucna, Sr
 use Rattle.mca_status.specs.Classes.{class_number}
 use Rattle.dimm_topology.specs.Labels.{same_label}
 use Rattle.page_policy.specs.declared.buckets.Limit.{Limit}
-use Rattle.page_policy.specs.Tables.{table}
-use Rattle.page_policy.specs.Histories.{rows_of}
-use Rattle.page_policy.proofs.TableLemmas.{table-more}
-use Rattle.page_policy.proofs.HistoryLemmas.{rows_of-more}
+use Rattle.row_tables.specs.Tables.{table}
+use Rattle.page_policy.specs.Histories.{page_rows_of as rows_of}
+use Rattle.row_tables.proofs.TableLemmas.{table-more}
+use Rattle.page_policy.proofs.HistoryLemmas.{page_rows_of-more as rows_of-more}
 use Rattle.ras_facts.specs.declared.name.Name.{Name}
 use Rattle.ras_facts.specs.declared.entry.Entry.{Entry}
 use Rattle.ras_facts.specs.declared.entry.Entry.TheVariants.{Fact, Limit as Settles}

@@ -4,8 +4,8 @@ use Rattle.std.specs.List.{list_any, filter_map, IsDistinct}
 use Rattle.std.specs.Map.{keys_of, lookup}
 use Rattle.std.proofs.lemmas.Map.Keys.{IsDistinct-push}
 use Rattle.dimm_topology.specs.Labels.{Bytes, same_label}
-use Rattle.page_policy.proofs.TableLemmas.{keys-table, distinct-once, lookup-table}
-use Rattle.page_policy.proofs.HistoryLemmas.{rows_of-once}
+use Rattle.row_tables.proofs.TableLemmas.{keys-table, distinct-once, lookup-table}
+use Rattle.page_policy.proofs.HistoryLemmas.{page_rows_of-once as rows_of-once}
 use Rattle.ras_facts.specs.declared.entry.Entry.{Entry}
 use Rattle.ras_facts.specs.declared.entry.Entry.TheVariants.{Fact, Limit as Settles}
 use Rattle.ras_account.specs.Fresh.{same_name, is_fresh_behind, fresh}

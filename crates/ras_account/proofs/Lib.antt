@@ -13,3 +13,4 @@ pub mod ReserveLemmas
 pub mod NumberLemmas
 pub mod WorkedRows
 pub mod AgainLemmas
+pub mod WaitingLemmas

@@ -6,9 +6,9 @@ use Rattle.std.proofs.lemmas.List.Sums.{sum_by-cons}
 use Rattle.std.proofs.lemmas.List.{take-append-drop, take-append-le}
 use Rattle.indexmap.specs.IndexMap.{set_value_at, insert_entry}
 use Rattle.dimm_topology.specs.Labels.{Bytes, same_label}
-use Rattle.page_policy.specs.Tables.{updated}
-use Rattle.page_policy.specs.Places.{IsPlace, row_before}
-use Rattle.page_policy.proofs.WaitingLemmas.{covers, covers-max, length-set_value_at, next-there, next-place, rows-written, waiting-written, insert_entry-last}
+use Rattle.row_tables.specs.Tables.{updated_rows as updated}
+use Rattle.ras_account.specs.Places.{IsPlace, row_before}
+use Rattle.ras_account.proofs.WaitingLemmas.{covers, covers-max, length-set_value_at, next-there, next-place, rows-written, waiting-written, insert_entry-last}
 use Rattle.ras_facts.specs.declared.items.Item.{Item}
 use Rattle.ras_account.specs.declared.modules.ModuleRow.{ModuleRow}
 use Rattle.ras_account.specs.Account.{weight_in}

@@ -3,8 +3,8 @@ use Rattle.std.proofs.Common.{◌≡◌, ℕ, if◌then◌else◌, List, [], ◌
 use Rattle.std.specs.List.{filter_map, cons_option}
 use Rattle.ras_base.specs.Places.{places_behind}
 use Rattle.page_policy.specs.Rows.{Report, report, order_between}
-use Rattle.page_policy.specs.Histories.{rows_of, state_in}
-use Rattle.page_policy.proofs.HistoryLemmas.{rows_of-more, order-history}
+use Rattle.page_policy.specs.Histories.{page_rows_of as rows_of, state_in}
+use Rattle.page_policy.proofs.HistoryLemmas.{page_rows_of-more as rows_of-more, order-history}
 use Rattle.ras_facts.specs.declared.entry.Entry.{Entry}
 use Rattle.ras_account.specs.Fresh.{limit_after}
 use Rattle.ras_account.specs.Sightings.{Sighting, sightings, sightings_in, reports_of}

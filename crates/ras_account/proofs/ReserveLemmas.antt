@@ -8,10 +8,10 @@ use Rattle.std.proofs.lemmas.List.Sums.{sum_by-append, fold_more}
 use Rattle.indexmap.specs.IndexSet.{insert_key}
 use Rattle.dimm_topology.specs.Labels.{Bytes, same_label}
 use Rattle.page_policy.specs.declared.buckets.Limit.{Limit}
-use Rattle.page_policy.specs.Tables.{added}
-use Rattle.page_policy.specs.Pages.{Held}
-use Rattle.page_policy.proofs.TableLemmas.{added-append}
-use Rattle.page_policy.proofs.PlaceLemmas.{nat_exact, nat_own}
+use Rattle.row_tables.specs.Tables.{added_keys as added}
+use Rattle.ras_account.specs.PageWords.{Held}
+use Rattle.row_tables.proofs.TableLemmas.{added-append}
+use Rattle.ras_base.specs.ExactLemmas.{nat_exact, nat_own}
 use Rattle.ras_facts.specs.declared.items.Item.{Item}
 use Rattle.ras_facts.specs.declared.fact.Fact.{Fact as Report}
 use Rattle.ras_facts.specs.declared.entry.Entry.{Entry}

@@ -7,13 +7,13 @@ use Rattle.std.proofs.lemmas.List.Folds.{list_any-append}
 use Rattle.std.proofs.lemmas.List.Sums.{sum_by-cons}
 use Rattle.dimm_topology.specs.Labels.{Bytes, same_label}
 use Rattle.page_policy.specs.declared.buckets.Limit.{Limit}
-use Rattle.page_policy.specs.declared.rows.Row.{Row}
+use Rattle.page_policy.specs.declared.rows.PageRow.{PageRow as Row}
 use Rattle.page_policy.specs.Rows.{report}
-use Rattle.page_policy.specs.Tables.{added}
-use Rattle.page_policy.specs.Pages.{is_ready}
-use Rattle.page_policy.proofs.TableLemmas.{keys-updated}
+use Rattle.row_tables.specs.Tables.{added_keys as added}
+use Rattle.ras_account.specs.PageWords.{is_ready}
+use Rattle.row_tables.proofs.TableLemmas.{keys-updated}
 use Rattle.page_policy.proofs.HistoryLemmas.{keys-rows_after}
-use Rattle.page_policy.proofs.PlaceLemmas.{nat_own}
+use Rattle.ras_base.specs.ExactLemmas.{nat_own}
 use Rattle.ras_facts.specs.declared.items.Item.{Item}
 use Rattle.ras_account.specs.Sightings.{Sighting}
 use Rattle.ras_account.specs.Account.{State, most_weight}

@@ -8,10 +8,10 @@ use Rattle.mca_status.specs.declared.classes.ItemClass.TheVariants.{Ce, Ucna, Sr
 use Rattle.mca_status.specs.Classes.{class_number}
 use Rattle.dimm_topology.specs.Labels.{Bytes, same_label}
 use Rattle.page_policy.specs.declared.buckets.Limit.{Limit}
-use Rattle.page_policy.specs.declared.rows.Row.{Row}
+use Rattle.page_policy.specs.declared.rows.PageRow.{PageRow as Row}
 use Rattle.page_policy.specs.Rows.{Report}
-use Rattle.page_policy.specs.Tables.{table, of_key}
-use Rattle.page_policy.specs.Histories.{rows_of, page_history as page_history_of}
+use Rattle.row_tables.specs.Tables.{table, of_key}
+use Rattle.page_policy.specs.Histories.{page_rows_of as rows_of, page_history as page_history_of}
 use Rattle.ras_facts.specs.declared.name.Name.{Name}
 use Rattle.ras_facts.specs.declared.entry.Entry.{Entry}
 use Rattle.ras_account.specs.Fresh.{names_in, fresh, limit_after}

@@ -4,8 +4,8 @@ use Rattle.std.specs.List.{list_any}
 use Rattle.std.specs.Option.{option_map_or}
 use Rattle.mca_status.specs.Classes.{class_number}
 use Rattle.dimm_topology.specs.Labels.{Bytes, same_label}
-use Rattle.page_policy.specs.declared.rows.Row.{Row}
-use Rattle.page_policy.specs.Tables.{updated}
+use Rattle.page_policy.specs.declared.rows.PageRow.{PageRow as Row}
+use Rattle.row_tables.specs.Tables.{updated_rows as updated}
 use Rattle.page_policy.specs.Histories.{rows_after}
 use Rattle.ras_facts.specs.declared.items.Item.{Item}
 use Rattle.ras_facts.specs.declared.entry.Entry.{Entry}

@@ -8,3 +8,5 @@ pub mod Parts
 pub mod Taking
 pub mod Kept
 pub mod Reserving
+pub mod Places
+pub mod PageWords

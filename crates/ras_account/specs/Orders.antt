@@ -2,7 +2,7 @@
 use Rattle.std.specs.Prelude.{ℕ, if◌then◌else◌, Option, List, [], ◌∷◌, filter_map, option_and_then}
 use Rattle.std.specs.List.{cons_option}
 use Rattle.page_policy.specs.declared.rows.Order.{Order}
-use Rattle.page_policy.specs.declared.rows.Row.{Row}
+use Rattle.page_policy.specs.declared.rows.PageRow.{PageRow as Row}
 use Rattle.page_policy.specs.Rows.{Report, order_between}
 use Rattle.page_policy.specs.Histories.{page_history as page_history_of, state_in, rows_after, order_behind}
 use Rattle.ras_base.specs.Places.{places_behind}

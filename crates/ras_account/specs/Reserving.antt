@@ -4,8 +4,8 @@ use Rattle.std.specs.List.{list_any}
 use Rattle.std.specs.Map.{keys_of}
 use Rattle.dimm_topology.specs.Labels.{Bytes, same_label}
 use Rattle.page_policy.specs.declared.buckets.Limit.{Limit}
-use Rattle.page_policy.specs.Tables.{added}
-use Rattle.page_policy.specs.Pages.{Held}
+use Rattle.row_tables.specs.Tables.{added_keys as added}
+use Rattle.ras_account.specs.PageWords.{Held}
 use Rattle.ras_facts.specs.declared.name.Name.{Name}
 use Rattle.ras_facts.specs.declared.items.Item.{Item}
 use Rattle.ras_facts.specs.declared.fact.Fact.{Fact as Report}

@@ -6,9 +6,9 @@ use Rattle.std.specs.Option.{option_map_or}
 use Rattle.dimm_topology.specs.Labels.{Bytes, same_label}
 use Rattle.page_policy.specs.declared.buckets.Limit.{Limit}
 use Rattle.page_policy.specs.declared.rows.Order.{Order}
-use Rattle.page_policy.specs.declared.rows.Row.{Row}
-use Rattle.page_policy.specs.Tables.{added}
-use Rattle.page_policy.specs.Pages.{is_held, is_ready}
+use Rattle.page_policy.specs.declared.rows.PageRow.{PageRow as Row}
+use Rattle.row_tables.specs.Tables.{added_keys as added}
+use Rattle.ras_account.specs.PageWords.{is_held, is_ready}
 use Rattle.ras_facts.specs.declared.items.Item.{Item}
 use Rattle.ras_facts.specs.declared.fact.Fact.{Fact}
 use Rattle.ras_facts.specs.declared.entry.Entry.{Entry}

@@ -3,8 +3,8 @@ ghost use Rattle.std.specs.Prelude.{◌≡◌, ◌+◌, ◌<◌, ◌≤◌, ◌^
 ghost use Rattle.std.specs.List.{list_any};
 ghost use Rattle.std.specs.Map.{keys_of};
 ghost use Rattle.dimm_topology.specs.Labels.{same_label};
-ghost use Rattle.page_policy.specs.Tables.{added};
-ghost use Rattle.page_policy.specs.Places.{IsPlace};
+ghost use Rattle.row_tables.specs.Tables.{added_keys as added};
+ghost use Rattle.ras_account.specs.Places.{IsPlace};
 ghost use Rattle.ras_account.specs.Account.{weight_in, most_weight};
 ghost use Rattle.ras_account.specs.Continued.{sums_after};
 ghost use Rattle.ras_account.specs.Parts.{is_next_label, with_item, sums_before};

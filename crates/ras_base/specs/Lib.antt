@@ -6,3 +6,4 @@ pub mod Bits
 pub mod Chaining
 pub mod LittleEndian
 pub mod LittleEndianLemmas
+pub mod ExactLemmas

@@ -5,9 +5,11 @@
 ghost use Rattle.std.specs.Prelude.{◌≡◌};
 
 mod bit_fields;
+mod exact;
 pub mod little_endian;
 
 pub use bit_fields::{bits, is_set};
+pub use exact::ExactEq;
 use std::alloc::{AllocError, AllocFailed};
 
 /// Memory ran out. It is the one answer that no contract ties to a cause.

@@ -5,7 +5,7 @@ use Rattle.std.proofs.lemmas.List.Concat.{flat_map-append}
 use Rattle.std.proofs.lemmas.Option.{slice_get_within, get_or_from_slice_get}
 use Rattle.std.specs.List.{filter_map, flat_map, slice_get}
 use Rattle.page_policy.specs.declared.rows.Order.{Order}
-use Rattle.page_policy.specs.declared.rows.Row.{Row}
+use Rattle.page_policy.specs.declared.rows.PageRow.{PageRow as Row}
 use Rattle.page_policy.specs.Rows.{order_to}
 use Rattle.ras_daemon.specs.Event.{order_lines}
 use Rattle.ras_daemon.specs.Text.{order_line, standing_order}

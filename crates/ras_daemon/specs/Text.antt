@@ -10,7 +10,7 @@ use Rattle.mca_status.specs.declared.classes.ItemClass.TheVariants.{Ce, Ucna, Sr
 use Rattle.page_policy.specs.declared.buckets.Limit.{Limit}
 use Rattle.page_policy.specs.declared.rows.Order.{Order}
 use Rattle.page_policy.specs.declared.rows.Order.TheVariants.{Soft, Hard}
-use Rattle.page_policy.specs.declared.rows.Row.{Row}
+use Rattle.page_policy.specs.declared.rows.PageRow.{PageRow as Row}
 use Rattle.page_policy.specs.Rows.{order_to}
 use Rattle.ras_base.specs.Places.{places_behind}
 use Rattle.ras_facts.specs.declared.fact.Fact.{Fact}

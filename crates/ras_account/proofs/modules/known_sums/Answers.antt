@@ -1,5 +1,5 @@
 use Rattle.std.proofs.Common.{[], ap, sym}
-use Rattle.page_policy.proofs.WaitingLemmas.{row_before-held, row_before-new}
+use Rattle.ras_account.proofs.WaitingLemmas.{row_before-held, row_before-new}
 use Rattle.ras_account.specs.declared.modules.ModuleRow.{ModuleRow}
 use Rattle.ras_account.specs.Parts.{empty_row}
 use Rattle.ras_account.proofs.modules.known_sums.Goals as goal

@@ -1,6 +1,6 @@
 use Rattle.std.proofs.Common.{◌∙◌, ap, unwrap_or}
 use Rattle.dimm_topology.specs.Labels.{same_label}
-use Rattle.page_policy.proofs.WaitingLemmas.{is_place}
+use Rattle.ras_account.proofs.WaitingLemmas.{is_place}
 use Rattle.ras_account.proofs.KeyLemmas.{same_label-exact, same_label-refl}
 use Rattle.ras_account.proofs.modules.place_of.Goals as goal
 

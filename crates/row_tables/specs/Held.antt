@@ -1,0 +1,41 @@
+-- What contracts see of a table: the keys that are held, each with its row, and the keys that wait.
+use Rattle.std.specs.Prelude.{◌≡◌, ℕ, zero, suc, Bool, true, false, if◌then◌else◌, List, [], ◌∷◌, ◌++◌, map, take, drop}
+use Rattle.std.specs.List.{list_any}
+use Rattle.std.specs.Map.{keys_of}
+use Rattle.row_tables.specs.Tables.{updated_rows}
+
+-- the keys held, with their rows, in the order in which they came, and the keys that wait
+pub record Held (K R : Type 0) : Type 0 where
+  pub rows : List (K × R)
+  pub waiting : List K
+
+-- the first place of a key in a list
+abbrev pub IsPlace : {K : Type 0} → (K → K → Bool) → K → List K → ℕ → Type 0
+IsPlace same key [] place = ⊥
+IsPlace same key (k ∷ ks) zero = same key k ≡ true
+IsPlace same key (k ∷ ks) (suc place) = (same key k ≡ false) × IsPlace same key ks place
+
+module _ {K R : Type 0} where
+  -- the keys that are held or wait
+  abbrev pub all_keys : Held K R → List K
+  all_keys held = keys_of held.rows ++ held.waiting
+
+  -- keys with the same row each
+  abbrev pub waiting_rows : R → List K → List (K × R)
+  waiting_rows row keys = map {B = K × R} (λ key. (key, row)) keys
+
+  module _ (same : K → K → Bool) where
+    -- whether a key is among the rows
+    abbrev pub is_held : List (K × R) → K → Bool
+    is_held rows key = list_any (same key) (keys_of rows)
+
+    -- whether a key is held, or is the first that waits
+    abbrev pub is_ready : Held K R → K → Bool
+    is_ready held key = list_any (same key) (keys_of held.rows ++ take 1 held.waiting)
+
+    -- the table with this row at a key, which is held already or is held now behind the others
+    abbrev pub with_row : Held K R → K → R → Held K R
+    with_row held key row = record {
+      rows = updated_rows same key row (λ old. row) held.rows;
+      waiting = if is_held held.rows key then held.waiting else drop 1 held.waiting;
+    }

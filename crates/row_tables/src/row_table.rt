@@ -1,0 +1,254 @@
+//! The table of keys that are held, each with its row, and of keys that wait.
+
+ghost use Rattle.std.specs.Prelude.{◌≡◌, ◌↔◌, ◌<◌, ◌≤◌, ◌^◌, ◌++◌, [], ◌∷◌, not, map, IsTrue, Some, Err, IfOk, OnOk, OnErr, length, slice_get, take, drop};
+ghost use Rattle.std.specs.Bool.{IsFalse};
+ghost use Rattle.std.specs.List.{list_any};
+ghost use Rattle.std.specs.Map.{keys_of, values_of, lookup};
+ghost use Rattle.row_tables.specs.Tables.{added_keys};
+ghost use Rattle.row_tables.specs.Held.{all_keys, is_held, is_ready, with_row, waiting_rows, IsPlace};
+
+use indexmap::IndexMap;
+use ras_base::{ExactEq, NoMemory};
+use std::alloc::Global;
+use std::hash::Hash;
+use std::marker::Model;
+
+/// Why a row can't be put behind the others.
+#[derive(Clone, Copy, Debug, PartialEq, Eq)]
+pub enum RowRefused {
+    /// The key has a row.
+    Repeated,
+    /// Memory ran out.
+    NoMemory,
+}
+
+/// Keys in the order in which they came, each with its row, and behind them keys that wait to be
+/// held.
+///
+/// A key waits so that its row can begin later with no memory. Each key is there once.
+#[derive(Drop)]
+pub struct RowTable<K: Hash + ExactEq + Copy, R: Copy> {
+    table: IndexMap<K, R>,
+    held: usize,
+}
+
+impl<K: Hash + ExactEq + Copy, R: Copy> Model for RowTable<K, R> {
+    ghost use Rattle.std.specs.Prelude.{◌≤◌, length, take, drop};
+    ghost use Rattle.std.specs.Map.{keys_of};
+    ghost use Rattle.row_tables.specs.Held.{Held};
+
+    ghost Value = { Held K R };
+
+    ghost view = { λ t. record {
+      rows = take t.held t.table.entries;
+      waiting = drop t.held (keys_of t.table.entries);
+    } };
+
+    ghost invariant = { λ t. t.held ≤ length t.table.entries };
+}
+
+impl<K: Hash + ExactEq + Copy, R: Copy> RowTable<K, R> {
+    /// A table with no rows, in which no key waits.
+    pub fn new(alloc: Global) -> RowTable<K, R>
+        ensures rows { result.rows ≡ [] }
+        ensures waiting { result.waiting ≡ [] }
+    {
+        RowTable {
+            table: IndexMap::new(alloc),
+            held: 0,
+        }
+    }
+
+    /// How many keys are held.
+    pub fn len(&self) -> usize
+        ensures { result ≡ length self.now.rows }
+    {
+        self.held
+    }
+
+    /// Whether no key is held.
+    pub fn is_empty(&self) -> bool
+        ensures { IsTrue result ↔ (self.now.rows ≡ []) }
+    {
+        self.held == 0
+    }
+
+    /// How many keys are held or wait.
+    pub fn len_with_waiting(&self) -> usize
+        ensures { result ≡ length (all_keys self.now) }
+    {
+        self.table.len()
+    }
+
+    /// The key that is held at a place, from 0.
+    pub fn key(&self, place: usize) -> &K
+        requires { place < length self.now.rows }
+        ensures { slice_get (keys_of self.now.rows) place ≡ Some result.now }
+    {
+        &self.table.keys().as_slice()[place]
+    }
+
+    /// The row at a place, from 0.
+    pub fn row(&self, place: usize) -> &R
+        requires { place < length self.now.rows }
+        ensures { slice_get (values_of self.now.rows) place ≡ Some result.now }
+    {
+        &self.table[place]
+    }
+
+    /// Whether a key is held.
+    pub fn holds(&self, key: &K) -> bool
+        ensures { result ≡ is_held K.eq self.now.rows key.now }
+    {
+        match self.table.get_index_of(key) {
+            Some(place) => place < self.held,
+            None => false,
+        }
+    }
+
+    /// Whether a key is the first that waits. It hashes nothing.
+    pub fn waits_first(&self, key: &K) -> bool
+        ensures { result ≡ list_any (K.eq key.now) (take 1 self.now.waiting) }
+    {
+        self.held < self.table.len() && *key == self.table.keys().as_slice()[self.held]
+    }
+
+    /// The place of a key that is held or waits first, and its row where it is held.
+    pub fn find(&self, key: &K) -> (usize, Option<R>)
+        requires { IsTrue (is_ready K.eq self.now key.now) }
+        ensures place { IsPlace K.eq key.now (all_keys self.now) result.0 }
+        ensures there { result.0 < length (all_keys self.now) }
+        ensures next { result.0 ≤ length self.now.rows }
+        ensures row { result.1 ≡ lookup (K.eq key.now) self.now.rows }
+    {
+        let place = place_of(&self.table, key);
+        (place, row_at(&self.table, self.held, place))
+    }
+
+    /// Puts a row at a place that `find` gave. A key that waited is held now.
+    pub fn put(&mut self, place: usize, row: R)
+        requires there { place < length (all_keys self.old) }
+        requires next { place ≤ length self.old.rows }
+        ensures { (key : _) → IsPlace K.eq key (all_keys self.old) place → self.new ≡ with_row K.eq self.old key row }
+    {
+        // What the length says bounds the place.
+        let _len = self.table.len();
+        self.table[place] = row;
+        self.held = self.held.max(place + 1);
+    }
+
+    /// Begins the row of the first key that waits, which is held now behind the others.
+    pub fn begin_next(&mut self, row: R)
+        requires { 0 < length self.old.waiting }
+        ensures rows { self.new.rows ≡ self.old.rows ++ waiting_rows row (take 1 self.old.waiting) }
+        ensures waiting { self.new.waiting ≡ drop 1 self.old.waiting }
+    {
+        let _len = self.table.len();
+        self.table[self.held] = row;
+        self.held += 1;
+    }
+
+    /// Puts the row of a key behind the others. After a refusal all stays as it was.
+    ///
+    /// `Repeated` comes exactly where the key is held.
+    pub fn push_row(&mut self, key: K, row: R) -> Result<(), RowRefused>
+        requires { self.old.waiting ≡ [] }
+        ensures ok { OnOk result (self.new.rows ≡ self.old.rows ++ (key, row) ∷ []) }
+        ensures waiting { self.new.waiting ≡ [] }
+        ensures err { OnErr result (self.new.rows ≡ self.old.rows) }
+        ensures repeated { (result ≡ Err RowRefused.Repeated) ↔ IsTrue (is_held K.eq self.old.rows key) }
+    {
+        match insert_last(&mut self.table, key, row) {
+            Ok(true) => {
+                self.held = self.table.len();
+                Ok(())
+            }
+            Ok(false) => Err(RowRefused::Repeated),
+            Err(NoMemory) => Err(RowRefused::NoMemory),
+        }
+    }
+
+    /// Lets no key wait any longer.
+    pub fn give_up(&mut self)
+        ensures rows { self.new.rows ≡ self.old.rows }
+        ensures waiting { self.new.waiting ≡ [] }
+    {
+        self.table.truncate(self.held);
+    }
+
+    /// Lets a key wait behind the others that do, where it is neither held nor waits yet. The
+    /// answer is whether it is such a key. Nothing reads `row` while the key waits.
+    pub fn let_wait(&mut self, key: K, row: R) -> Result<bool, NoMemory>
+        ensures rows { self.new.rows ≡ self.old.rows }
+        ensures ok { OnOk result (self.new.waiting ≡ self.old.waiting ++ added_keys K.eq (all_keys self.old) (key ∷ [])) }
+        ensures fresh { IfOk result (λ fresh. fresh ≡ not (list_any (K.eq key) (all_keys self.old))) }
+        ensures err { OnErr result (self.new.waiting ≡ self.old.waiting) }
+    {
+        insert_last(&mut self.table, key, row)
+    }
+
+    /// Lets these keys wait: those that aren't held, in the order in which they are first seen,
+    /// each once. What waited before is given up, and after `NoMemory` no key waits.
+    pub fn reserve(&mut self, keys: &[K], row: R) -> Result<(), NoMemory>
+        ensures rows { self.new.rows ≡ self.old.rows }
+        ensures ok { OnOk result (self.new.waiting ≡ added_keys K.eq (keys_of self.old.rows) keys.now) }
+        ensures err { OnErr result (self.new.waiting ≡ []) }
+    {
+        self.give_up();
+        for key in keys {
+            if let Err(NoMemory) = self.let_wait(*key, row) {
+                self.give_up();
+                return Err(NoMemory);
+            }
+        }
+        Ok(())
+    }
+}
+
+// The place of a key that is in the table.
+fn place_of<K: Hash + ExactEq + Copy, R: Copy>(table: &IndexMap<K, R>, key: &K) -> usize
+    requires { IsTrue (is_held K.eq table.now.entries key.now) }
+    ensures place { IsPlace K.eq key.now (keys_of table.now.entries) result }
+    ensures within { result < length table.now.entries }
+    ensures small { result < 2 ^ 63 }
+{
+    table.get_index_of(key).unwrap_or(table.len())
+}
+
+// The row at a place, if it is one of the first `held`.
+fn row_at<K: Hash + ExactEq + Copy, R: Copy>(
+    table: &IndexMap<K, R>,
+    held: usize,
+    place: usize,
+) -> Option<R>
+    requires { place < length table.now.entries }
+    ensures { (key : _) → IsPlace K.eq key (keys_of table.now.entries) place → result ≡ lookup (K.eq key) (take held table.now.entries) }
+{
+    if place < held {
+        Some(table[place])
+    } else {
+        None
+    }
+}
+
+// Inserts a key behind the others, where it isn't there. The answer is whether it wasn't.
+fn insert_last<K: Hash + ExactEq + Copy, R: Copy>(
+    table: &mut IndexMap<K, R>,
+    key: K,
+    row: R,
+) -> Result<bool, NoMemory>
+    ensures ok { OnOk result (table.new.entries ≡ table.old.entries ++ waiting_rows row (added_keys K.eq (keys_of table.old.entries) (key ∷ []))) }
+    ensures fresh { IfOk result (λ fresh. fresh ≡ not (is_held K.eq table.old.entries key)) }
+    ensures err { OnErr result (table.new.entries ≡ table.old.entries) }
+    ensures absent { OnErr result (IsFalse (is_held K.eq table.old.entries key)) }
+{
+    let (place, known) = table.insert_full(key, row)?;
+    match known {
+        None => Ok(true),
+        Some(known) => {
+            // The key was there: its row goes back to its place.
+            table[place] = known;
+            Ok(false)
+        }
+    }
+}
