@@ -6,6 +6,7 @@ from rattle import CRATES, code_files, code_items, constructors_of, crates, expa
 from rattle import path_of, spec_items
 
 CITED = {"definition", "record", "data", "struct", "enum", "trait", "const"}
+KINDS = {"TheVariants", "TheConstants"}
 SPEC_WORD = re.compile(r"[^\s(){}\[\];,&]+")
 CODE_WORD = re.compile(r"[^\s(){}\[\];,&<>?!:]+")
 
@@ -80,7 +81,7 @@ def named_by(crate, name):
 
 def declared_at(crate, parts):
     """The type, or the constant, of code that a path of specs/declared means."""
-    names = [part for part in parts if not part[0].islower()]
+    names = [part for part in parts if not part[0].islower() and part not in KINDS]
     return items_in(crate).get(names[0] if names else parts[-1])
 
 

@@ -134,13 +134,16 @@ def imports_in(lines):
 def spec_blocks(lines):
     """Cuts lines into definitions: each one's head, the head's place, and its lines with those of
     the comment above it."""
-    heads, is_inner = [], False
+    heads, depth = [], 0
     for place, line in enumerate(lines):
-        if line and not line.startswith((" ", "--")):
-            is_inner = bool(SPEC_MODULE.match(line))
-        bare = line[2:] if is_inner and line.startswith("  ") else line
-        if match := SPEC_HEAD.match(bare):
-            heads.append((match, place))
+        bare = line.lstrip(" ")
+        indent = len(line) - len(bare)
+        if bare and indent <= depth and not bare.startswith("--"):
+            depth = indent
+            if SPEC_MODULE.match(bare):
+                depth += 2
+            elif match := SPEC_HEAD.match(bare):
+                heads.append((match, place))
     starts = [with_comments(lines, place) for _, place in heads]
     ends = [*starts[1:], len(lines)]
     return [(*head, lines[start:end]) for head, start, end in zip(heads, starts, ends)]
