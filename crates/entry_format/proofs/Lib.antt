@@ -1,9 +1,7 @@
-pub mod Codec
-pub mod FieldLaws
-pub mod LabelLaws
-pub mod LimitLaws
-pub mod EntryLaws
-pub mod FrontLaws
-pub mod FileLaws
-pub mod SizeLaws
-pub mod Loop
+pub mod CodecLemmas
+pub mod FieldLemmas
+pub mod NameFormatLemmas
+pub mod EntryLemmas
+pub mod LoopLemmas
+pub mod FileLemmas
+pub mod SizeLemmas

@@ -1,10 +1,10 @@
-// The entries of a whole file.
+//! The entries of a whole file.
 ghost use Rattle.std.specs.Prelude.{◌≡◌, ◌≢◌, ◌-◌, ℕ, List, IfOk, IfErr, IsOkAnd};
 ghost use Rattle.entry_format.specs.File.{AreEntriesOf, BreaksOffAt, IsBreak};
 
-use crate::reading::split_entry;
-use crate::refused::EntriesRefused;
-use ras_account::Entry;
+use crate::reading::entry_at;
+use crate::{EntriesRefused, EntryRefused};
+use ras_facts::Entry;
 use std::alloc::Global;
 
 // The entries whose spelling the bytes are.
@@ -15,12 +15,16 @@ fn all_entries(alloc: Global, bytes: &[u8]) -> Result<Vec<Entry>, EntriesRefused
     let mut entries = Vec::new(alloc);
     let mut rest = bytes;
     while !rest.is_empty() {
-        match split_entry(alloc, rest) {
+        match entry_at(alloc, rest) {
             Ok((entry, after)) => {
                 entries.push(entry)?;
                 rest = after;
             }
-            Err(refused) => return Err(refused.at((bytes.len() - rest.len()) as u64)),
+            Err(EntryRefused::Bad) => {
+                let place = (bytes.len() - rest.len()) as u64;
+                return Err(EntriesRefused::Bad { place });
+            }
+            Err(EntryRefused::NoMemory) => return Err(EntriesRefused::NoMemory),
         }
     }
     Ok(entries)
@@ -28,16 +32,19 @@ fn all_entries(alloc: Global, bytes: &[u8]) -> Result<Vec<Entry>, EntriesRefused
 
 /// The entries whose spelling the bytes of a file are, in order. Each byte is read once.
 ///
-/// It is refused as `Bad` exactly where the bytes aren't the spelling of valid entries: the place is that of the first
-/// byte of the first entry that is cut or is none. It is refused as `NoMemory` where memory runs out.
+/// It is refused as `Bad` exactly where the bytes aren't the spelling of valid entries: the place
+/// is that of the first byte of the first entry that is cut or is none. It is refused as `NoMemory`
+/// where memory runs out.
 pub fn read_entries(alloc: Global, bytes: &[u8]) -> Result<Vec<Entry>, EntriesRefused>
     // What is read is what the bytes are.
     ensures found { IfOk result (λ entries. AreEntriesOf entries.items bytes.now) }
     ensures refused { IfErr result (IsBreak bytes.now) }
 
     // What the bytes are is read, unless memory runs out.
-    ensures entries { (entries : List Entry) → AreEntriesOf entries bytes.now → result ≢ Err EntriesRefused.NoMemory → IsOkAnd result (λ read. read.items ≡ entries) }
-    ensures place { (place : ℕ) → BreaksOffAt bytes.now place → result ≢ Err EntriesRefused.NoMemory → result ≡ Err (EntriesRefused.Bad place) }
+    ensures entries { (entries : List Entry) → AreEntriesOf entries bytes.now
+        → result ≢ Err EntriesRefused.NoMemory → IsOkAnd result (λ read. read.items ≡ entries) }
+    ensures place { (place : ℕ) → BreaksOffAt bytes.now place
+        → result ≢ Err EntriesRefused.NoMemory → result ≡ Err (EntriesRefused.Bad place) }
 {
     all_entries(alloc, bytes)
 }

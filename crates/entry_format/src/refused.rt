@@ -1,35 +1,22 @@
-// Why bytes could not be read.
+//! Why bytes could not be read.
 ghost use Rattle.std.specs.Prelude.{◌≡◌};
-ghost use Rattle.entry_format.specs.declared.refused.EntryRefused.TheVariants.{NoMemory as NoMemoryForEntry};
+ghost use Rattle.entry_format.specs.declared.refused.EntryRefused.TheVariants.{Bad as NoEntry, NoMemory as NoMemoryForEntry};
 ghost use Rattle.entry_format.specs.declared.refused.EntriesRefused.TheVariants.{NoMemory as NoMemoryForEntries};
 
 use dimm_topology::LabelRefused;
 use ras_base::NoMemory;
 use std::alloc::AllocFailed;
+use thiserror::Error;
 
-/// Why no entry was read.
-#[derive(Clone, Copy, Debug, PartialEq, Eq)]
+/// Why bytes were not read as entries.
+#[derive(Clone, Copy, Debug, PartialEq, Eq, Drop, Error)]
 pub enum EntryRefused {
-    /// The bytes end before the entry does.
-    Cut,
-    /// No entry begins with the bytes.
+    /// They are none: they end before an entry does, or no entry begins so.
+    #[error("the bytes are no entry")]
     Bad,
     /// Memory ran out.
+    #[error("memory ran out")]
     NoMemory,
-}
-
-impl EntryRefused {
-    ghost use Rattle.entry_format.specs.Steps.{at_place};
-
-    // Why no entries were read, where this is why the entry at a place was not.
-    pub(crate) fn at(self, place: u64) -> EntriesRefused
-        ensures { result ≡ at_place place self }
-    {
-        match self {
-            EntryRefused::Cut | EntryRefused::Bad => EntriesRefused::Bad { place },
-            EntryRefused::NoMemory => EntriesRefused::NoMemory,
-        }
-    }
 }
 
 impl From<NoMemory> for EntryRefused {
@@ -40,28 +27,25 @@ impl From<NoMemory> for EntryRefused {
     }
 }
 
-impl From<LabelRefused> for EntryRefused {
-    ghost use Rattle.entry_format.specs.Steps.{at_label};
+impl<T: Drop> From<AllocFailed<T>> for EntryRefused {
+    ghost from_gives = { λ _ e. e ≡ NoMemoryForEntry };
 
-    ghost from_gives = { λ refused e. e ≡ at_label refused };
-
-    fn from(refused: LabelRefused) -> Self {
-        match refused {
-            LabelRefused::Bad => EntryRefused::Bad,
-            LabelRefused::NoMemory => EntryRefused::NoMemory,
-        }
+    fn from(_: AllocFailed<T>) -> Self {
+        EntryRefused::NoMemory
     }
 }
 
-/// Why the entries of a file were not read.
-#[derive(Clone, Copy, Debug, PartialEq, Eq)]
+/// Why the bytes of a file were not read as entries.
+#[derive(Clone, Copy, Debug, PartialEq, Eq, Drop, Error)]
 pub enum EntriesRefused {
-    /// Bytes that are no entry.
+    /// From a place on the bytes are no entry.
+    #[error("no entry stands at byte {place}")]
     Bad {
         /// The place of the first byte where an entry should begin and none stands, from 0.
         place: u64,
     },
     /// Memory ran out.
+    #[error("memory ran out")]
     NoMemory,
 }
 

@@ -1,35 +1,17 @@
-// Entries as bytes.
+//! Entries as bytes.
 ghost use Rattle.std.specs.Prelude.{◌≡◌, ◌++◌, ◌≤◌, length, IfOk, OnOk};
 ghost use Rattle.std.specs.List.{flat_map};
-ghost use Rattle.ras_base.specs.LittleEndian.{u16_bytes, u64_bytes};
 ghost use Rattle.ras_facts.specs.Entries.{items_in};
 ghost use Rattle.entry_format.specs.Spelling.{name_bytes, label_bytes, page_bytes, item_bytes, fact_bytes, limit_bytes, entry_bytes};
 
-use crate::kinds::{BANK, FACT, LIMIT};
+use crate::names::{BANK, BLOCK, BOOT, RECORD};
+use crate::reading::{FACT, LIMIT};
 use dimm_topology::Label;
 use page_policy::Limit;
-use ras_account::Entry;
 use ras_base::NoMemory;
-use ras_facts::{Fact, Item, Name};
+use ras_base::little_endian::{push_u16, push_u64};
+use ras_facts::{Entry, Fact, Item, MOST_ITEMS, Name};
 use std::alloc::Global;
-
-// Adds a number of 2 bytes.
-#[tactic(auto, unfolding(ras_base::specs::LittleEndian::u16_bytes))]
-fn push_u16(bytes: &mut Vec<u8>, number: u16) -> Result<(), NoMemory>
-    ensures { OnOk result (bytes.new.items ≡ bytes.old.items ++ u16_bytes number) }
-{
-    bytes.extend_from_slice(&number.to_le_bytes())?;
-    Ok(())
-}
-
-// Adds a number of 8 bytes.
-#[tactic(auto, unfolding(ras_base::specs::LittleEndian::u64_bytes))]
-fn push_u64(bytes: &mut Vec<u8>, number: u64) -> Result<(), NoMemory>
-    ensures { OnOk result (bytes.new.items ≡ bytes.old.items ++ u64_bytes number) }
-{
-    bytes.extend_from_slice(&number.to_le_bytes())?;
-    Ok(())
-}
 
 // Adds the name of a report.
 #[tactic(auto, unfolding(crate::specs::Spelling::name_bytes))]
@@ -48,6 +30,24 @@ fn push_name(bytes: &mut Vec<u8>, name: &Name) -> Result<(), NoMemory>
             push_u16(bytes, *cpu)?;
             bytes.push(*bank)?;
             push_u64(bytes, *tsc)
+        }
+        Name::Record { id } => {
+            bytes.push(RECORD)?;
+            push_u64(bytes, *id)
+        }
+        Name::Block {
+            boot,
+            source,
+            number,
+        } => {
+            bytes.push(BLOCK)?;
+            push_u64(bytes, *boot)?;
+            push_u16(bytes, *source)?;
+            push_u64(bytes, *number)
+        }
+        Name::Boot { boot } => {
+            bytes.push(BOOT)?;
+            push_u64(bytes, *boot)
         }
     }
 }
@@ -104,7 +104,7 @@ fn push_items(bytes: &mut Vec<u8>, items: &[Item]) -> Result<(), NoMemory>
 // Adds a fact.
 #[tactic(auto, unfolding(crate::specs::Spelling::fact_bytes))]
 fn push_fact(bytes: &mut Vec<u8>, fact: &Fact) -> Result<(), NoMemory>
-    requires { length fact.now.items ≤ 65535 }
+    requires { length fact.now.items ≤ MOST_ITEMS }
     ensures { OnOk result (bytes.new.items ≡ bytes.old.items ++ fact_bytes fact.now) }
 {
     let items = fact.items.as_slice();
@@ -123,22 +123,31 @@ fn push_limit(bytes: &mut Vec<u8>, limit: Limit) -> Result<(), NoMemory>
     push_u64(bytes, u64::from(limit.period))
 }
 
-/// The spelling of an entry. It has at most 65,535 items, which is the most that a spelling can tell.
+/// Adds the spelling of an entry. It has at most 65,535 items, which is the most that a spelling
+/// can tell. Where memory runs out, some of its bytes may have been added.
 #[tactic(auto, unfolding(crate::specs::Spelling::entry_bytes))]
-pub fn entry_bytes(alloc: Global, entry: &Entry) -> Result<Vec<u8>, NoMemory>
-    requires { length (items_in entry.now) ≤ 65535 }
-    ensures { IfOk result (λ bytes. bytes.items ≡ entry_bytes entry.now) }
+pub fn push_entry(bytes: &mut Vec<u8>, entry: &Entry) -> Result<(), NoMemory>
+    requires { length (items_in entry.now) ≤ MOST_ITEMS }
+    ensures { OnOk result (bytes.new.items ≡ bytes.old.items ++ entry_bytes entry.now) }
 {
-    let mut bytes = Vec::new(alloc);
     match entry {
         Entry::Fact(fact) => {
             bytes.push(FACT)?;
-            push_fact(&mut bytes, fact)?;
+            push_fact(bytes, fact)
         }
         Entry::Limit(limit) => {
             bytes.push(LIMIT)?;
-            push_limit(&mut bytes, *limit)?;
+            push_limit(bytes, *limit)
         }
     }
+}
+
+/// The spelling of an entry, alone. It has at most 65,535 items.
+pub fn entry_bytes(alloc: Global, entry: &Entry) -> Result<Vec<u8>, NoMemory>
+    requires { length (items_in entry.now) ≤ MOST_ITEMS }
+    ensures { IfOk result (λ bytes. bytes.items ≡ entry_bytes entry.now) }
+{
+    let mut bytes = Vec::new(alloc);
+    push_entry(&mut bytes, entry)?;
     Ok(bytes)
 }

@@ -11,8 +11,9 @@ use Rattle.ras_facts.specs.declared.name.Name.{Name}
 use Rattle.ras_facts.specs.declared.fact.Fact.{Fact as Report}
 use Rattle.ras_facts.specs.declared.entry.Entry.{Entry}
 use Rattle.ras_facts.specs.declared.entry.Entry.TheVariants.{Fact, Limit as Settles}
-use Rattle.ras_account.specs.Fresh.{name_in, names_in, same_name, limit_in, last_limit, limit_after, first_limit, is_fresh_behind, fresh_places, fresh}
-use Rattle.ras_account.proofs.KeyLemmas.{same_name-exact}
+use Rattle.ras_account.specs.Fresh.{name_in, names_in, limit_in, last_limit, limit_after, first_limit, is_fresh_behind, fresh_places, fresh}
+use Rattle.ras_facts.specs.Names.{same_name}
+use Rattle.ras_facts.proofs.NameLemmas.{same_name-exact}
 
 pub names_in-append : (xs ys : List Entry) → names_in (xs ++ ys) ≡ names_in xs ++ names_in ys
 names_in-append xs ys = filter_map-append name_in xs ys

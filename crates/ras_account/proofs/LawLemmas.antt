@@ -8,11 +8,13 @@ use Rattle.row_tables.proofs.TableLemmas.{keys-table, distinct-once, lookup-tabl
 use Rattle.page_policy.proofs.HistoryLemmas.{page_rows_of-once as rows_of-once}
 use Rattle.ras_facts.specs.declared.entry.Entry.{Entry}
 use Rattle.ras_facts.specs.declared.entry.Entry.TheVariants.{Fact, Limit as Settles}
-use Rattle.ras_account.specs.Fresh.{same_name, is_fresh_behind, fresh}
+use Rattle.ras_account.specs.Fresh.{is_fresh_behind, fresh}
+use Rattle.ras_facts.specs.Names.{same_name}
 use Rattle.ras_account.specs.Sightings.{Sighting, sightings, sightings_in, label_of, reports_of}
 use Rattle.ras_account.specs.Account.{State, account_of, classes, module_row, module_count}
 use Rattle.ras_account.specs.Continued.{is_fresh_in, item_taken, items_taken, entry_taken, continued, continued_all}
-use Rattle.ras_account.proofs.KeyLemmas.{same_name-laws, same_label-exact, same_label-refl, IsDistinct-nil}
+use Rattle.ras_account.proofs.KeyLemmas.{same_label-exact, same_label-refl, IsDistinct-nil}
+use Rattle.ras_facts.proofs.NameLemmas.{same_name-laws}
 use Rattle.ras_account.proofs.FreshLemmas.{fresh-snoc}
 use Rattle.ras_account.proofs.AccountLemmas.{account_of-snoc, account_of-append, account_of-repeat, is_fresh_in-account_of}
 

@@ -10,12 +10,12 @@ use Rattle.ras_facts.specs.declared.fact.Fact.{Fact as Report}
 use Rattle.ras_facts.specs.declared.entry.Entry.{Entry}
 use Rattle.ras_facts.specs.declared.entry.Entry.TheVariants.{Fact, Limit as Settles}
 use Rattle.ras_account.specs.declared.reserve.Numbers.{Numbers}
-use Rattle.ras_account.specs.Fresh.{same_name}
+use Rattle.ras_facts.specs.Names.{same_name}
 use Rattle.ras_account.specs.Sightings.{sightings_in}
 use Rattle.ras_account.specs.Account.{State}
 use Rattle.ras_account.specs.Continued.{is_fresh_in, entry_taken, continued, continued_all}
 use Rattle.ras_account.specs.Reserving.{greatest, brings, Numbered, CountsFact}
-use Rattle.ras_account.proofs.KeyLemmas.{same_name-exact}
+use Rattle.ras_facts.proofs.NameLemmas.{same_name-exact}
 use Rattle.ras_account.proofs.LawLemmas.{names-items_taken}
 use Rattle.ras_account.proofs.EntryLemmas.{named}
 use Rattle.ras_account.proofs.TakingLemmas.{total-items, entries-items, limit-items}

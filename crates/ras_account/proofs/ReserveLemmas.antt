@@ -17,7 +17,7 @@ use Rattle.ras_facts.specs.declared.fact.Fact.{Fact as Report}
 use Rattle.ras_facts.specs.declared.entry.Entry.{Entry}
 use Rattle.ras_facts.specs.declared.entry.Entry.TheVariants.{Fact}
 use Rattle.ras_account.specs.declared.reserve.Tally.{Tally}
-use Rattle.ras_account.specs.Fresh.{same_name}
+use Rattle.ras_facts.specs.Names.{same_name}
 use Rattle.ras_account.specs.Sightings.{sightings_in}
 use Rattle.ras_account.specs.Account.{State}
 use Rattle.ras_account.specs.Continued.{is_fresh_in, entry_taken, continued, continued_all}

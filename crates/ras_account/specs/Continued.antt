@@ -10,7 +10,8 @@ use Rattle.page_policy.specs.Histories.{rows_after}
 use Rattle.ras_facts.specs.declared.items.Item.{Item}
 use Rattle.ras_facts.specs.declared.entry.Entry.{Entry}
 use Rattle.ras_facts.specs.declared.entry.Entry.TheVariants.{Fact, Limit as Settles}
-use Rattle.ras_account.specs.Fresh.{same_name, same_limit}
+use Rattle.ras_account.specs.Fresh.{same_limit}
+use Rattle.ras_facts.specs.Names.{same_name}
 use Rattle.ras_account.specs.Sightings.{Sighting, sightings_in, report_of}
 use Rattle.ras_account.specs.Account.{State, most_names, most_entries, most_weight}
 

@@ -4,7 +4,7 @@ use Rattle.std.specs.List.{filter_map, list_any}
 use Rattle.ras_base.specs.Places.{places}
 use Rattle.page_policy.specs.declared.buckets.Limit.{Limit}
 use Rattle.ras_facts.specs.declared.name.Name.{Name}
-use Rattle.ras_facts.specs.declared.name.Name.TheVariants.{Bank}
+use Rattle.ras_facts.specs.Names.{same_name}
 use Rattle.ras_facts.specs.declared.entry.Entry.{Entry}
 use Rattle.ras_facts.specs.declared.entry.Entry.TheVariants.{Fact, Limit as Settles}
 
@@ -16,10 +16,6 @@ name_in (Settles limit) = None
 -- the names that the entries of a list bring, in order
 abbrev pub names_in : List Entry → List Name
 names_in entries = filter_map name_in entries
-
--- two names are the same where all their fields are
-abbrev pub same_name : Name → Name → Bool
-same_name (Bank boot cpu bank tsc) (Bank boot' cpu' bank' tsc') = (boot == boot') && ((cpu == cpu') && ((bank == bank') && (tsc == tsc')))
 
 -- the limit that an entry sets, if any
 abbrev pub limit_in : Entry → Option Limit

@@ -13,7 +13,7 @@ use Rattle.ras_facts.specs.declared.entry.Entry.{Entry}
 use Rattle.ras_facts.specs.declared.entry.Entry.TheVariants.{Fact, Limit as Settles}
 use Rattle.ras_account.specs.declared.reserve.Tally.{Tally}
 use Rattle.ras_account.specs.declared.reserve.Numbers.{Numbers}
-use Rattle.ras_account.specs.Fresh.{same_name}
+use Rattle.ras_facts.specs.Names.{same_name}
 use Rattle.ras_account.specs.Account.{State}
 use Rattle.ras_account.specs.Continued.{continued_all}
 use Rattle.ras_account.specs.View.{View, Waiting}

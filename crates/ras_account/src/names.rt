@@ -2,7 +2,7 @@
 ghost use Rattle.std.specs.Prelude.{◌≡◌, ◌<◌, ◌++◌, [], ◌∷◌, not, Some, IfOk, OnOk, OnErr, length, take, drop, slice_get};
 ghost use Rattle.std.specs.List.{list_any};
 ghost use Rattle.indexmap.specs.IndexSet.{insert_key};
-ghost use Rattle.ras_account.specs.Fresh.{same_name};
+ghost use Rattle.ras_facts.specs.Names.{same_name};
 ghost use Rattle.ras_account.specs.Account.{most_names};
 
 use indexmap::IndexSet;

@@ -164,8 +164,10 @@ fn has_names(account: &Account, tscs: &[u64]) -> bool {
 
 // Whether a name has this time stamp.
 fn is_name(name: &Name, tsc: u64) -> bool {
-    let Name::Bank { tsc: counted, .. } = name;
-    *counted == tsc
+    match name {
+        Name::Bank { tsc: counted, .. } => *counted == tsc,
+        Name::Record { .. } | Name::Block { .. } | Name::Boot { .. } => false,
+    }
 }
 
 const PAGE: u64 = 0x12345;

@@ -1,7 +1,7 @@
 -- What the file holds as entries are reported.
 use Rattle.std.proofs.Common.{◌≡◌, ◌≤◌, Bool, true, false, List, [], ◌∷◌, ◌++◌, length, Option, None, Some, if◌then◌else◌, refl, ap, sym, ◌∙◌, append_assoc, append-nil, arith}
 use Rattle.std.specs.Option.{option_map}
-use Rattle.entry_format.proofs.SizeLaws.{one_item_most, limit_size}
+use Rattle.entry_format.proofs.SizeLemmas.{one_item_most, limit_size}
 use Rattle.entry_format.specs.Spelling.{entry_bytes, entries_bytes}
 use Rattle.dimm_topology.specs.declared.row.Row.{Row}
 use Rattle.mca_status.specs.declared.classes.Class.{Class}

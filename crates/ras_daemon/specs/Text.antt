@@ -16,7 +16,7 @@ use Rattle.ras_base.specs.Places.{places_behind}
 use Rattle.ras_facts.specs.declared.fact.Fact.{Fact}
 use Rattle.ras_facts.specs.declared.items.Item.{Item}
 use Rattle.ras_facts.specs.declared.name.Name.{Name}
-use Rattle.ras_facts.specs.declared.name.Name.TheVariants.{Bank}
+use Rattle.ras_facts.specs.declared.name.Name.TheVariants.{Bank, Record, Block, Boot}
 use Rattle.ras_facts.specs.declared.entry.Entry.{Entry}
 use Rattle.ras_facts.specs.declared.entry.Entry.TheVariants.{Fact as Report, Limit as Settles}
 use Rattle.ras_account.specs.Account.{State}
@@ -36,6 +36,10 @@ ended_line text = text ++ 10 ∷ []
 abbrev pub name_text : Name → List ℕ
 name_text (Bank boot cpu bank tsc) =
     codes "bank=" ++ decimal boot ++ codes "/" ++ decimal cpu ++ codes "/" ++ decimal bank ++ codes "/" ++ decimal tsc
+name_text (Record id) = codes "record=" ++ encode_lower (to_be_bytes w64 id)
+name_text (Block boot source number) =
+    codes "block=" ++ decimal boot ++ codes "/" ++ decimal source ++ codes "/" ++ decimal number
+name_text (Boot boot) = codes "bert=" ++ decimal boot
 
 abbrev pub class_text : ItemClass → List ℕ
 class_text Ce = codes "CE"

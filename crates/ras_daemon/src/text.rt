@@ -49,6 +49,29 @@ fn push_name(text: &mut Vec<u8>, name: &Name) -> Result<(), NoMemory>
             text.extend_from_slice(b"/")?;
             push_number(text, *tsc)
         }
+        Name::Record { id } => {
+            let mut digits = [0u8; 16];
+            let _ = hex::encode_to_slice(id.to_be_bytes(), &mut digits);
+            text.extend_from_slice(b"record=")?;
+            text.extend_from_slice(&digits)?;
+            Ok(())
+        }
+        Name::Block {
+            boot,
+            source,
+            number,
+        } => {
+            text.extend_from_slice(b"block=")?;
+            push_number(text, *boot)?;
+            text.extend_from_slice(b"/")?;
+            push_number(text, u64::from(*source))?;
+            text.extend_from_slice(b"/")?;
+            push_number(text, *number)
+        }
+        Name::Boot { boot } => {
+            text.extend_from_slice(b"bert=")?;
+            push_number(text, *boot)
+        }
     }
 }
 

@@ -1,4 +1,4 @@
--- Which entries are valid, and which items one has.
+-- Which entries are valid, and what one has.
 use Rattle.std.specs.Prelude.{List, []}
 use Rattle.page_policy.specs.Buckets.{IsLimit}
 use Rattle.ras_facts.specs.declared.items.Item.{Item}

@@ -33,7 +33,8 @@ misc_in bank = record { 0 = bank.misc }
 abbrev pub bank_name : BankReport → Name
 bank_name bank = Bank bank.boot bank.cpu bank.bank bank.tsc
 
--- the label of the module that owns the error of a snapshot, by the rows of a topology; the empty one is none
+-- the label of the module that owns the error of a snapshot, by the rows of a topology; the empty
+-- one is none
 abbrev pub bank_label : BankReport → List Row → Bytes
 bank_label bank rows =
     unwrap_or

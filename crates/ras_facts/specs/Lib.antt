@@ -1,3 +1,4 @@
 pub mod Facts
 pub mod Valid
 pub mod Entries
+pub mod Names

@@ -1,4 +1,4 @@
-// The fact that the snapshot of a machine-check bank gives.
+//! The fact that the snapshot of a machine-check bank gives.
 ghost use Rattle.std.specs.Prelude.{◌≡◌, ◌↔◌, Ok, None, IfOk, IfSome};
 ghost use Rattle.std.specs.Bool.{IsFalse};
 ghost use Rattle.mca_status.specs.Registers.{valid};
@@ -12,7 +12,8 @@ use mca_status::{Cap, Class, Misc, Status, class_of, usable_address, usable_page
 use ras_base::NoMemory;
 use std::alloc::Global;
 
-/// A snapshot of a machine-check bank: where and when it was taken, and the registers as they were read.
+/// A snapshot of a machine-check bank: where and when it was taken, and the registers as they were
+/// read.
 #[derive(Clone, Copy, Debug, PartialEq, Eq)]
 pub struct BankReport {
     /// The boot in which the bank was read.
@@ -50,7 +51,8 @@ impl BankReport {
         }
     }
 
-    // The label of the module that the error belongs to, by its address or else by the memory channel of its code.
+    // The label of the module that the error belongs to, by its address or else by the memory
+    // channel of its code.
     fn label(&self, alloc: Global, topology: &Topology) -> Result<Label, NoMemory>
         ensures { IfOk result (λ label. label ≡ bank_label self.now topology.now) }
     {
@@ -81,9 +83,9 @@ impl BankReport {
     }
 }
 
-/// The fact that a bank's snapshot gives: one item with the class, the owner by the topology, the usable page and the
-/// weight of the error. It is None exactly where the bank holds no error (VAL is 0), which takes no memory. (Intel SDM,
-/// volume 3, chapter "Machine-Check Architecture".)
+/// The fact that a bank's snapshot gives: one item with the class, the owner by the topology, the
+/// usable page and the weight of the error. It is None exactly where the bank holds no error (VAL
+/// is 0), which takes no memory. (Intel SDM, volume 3, chapter "Machine-Check Architecture".)
 pub fn fact_of_bank(
     alloc: Global,
     bank: &BankReport,

@@ -1,4 +1,4 @@
-// What an account takes.
+//! What an account takes.
 ghost use Rattle.std.specs.Prelude.{◌≡◌, length};
 
 use crate::Fact;
@@ -16,7 +16,7 @@ pub enum Entry {
 impl Entry {
     ghost use Rattle.ras_facts.specs.Entries.{items_in};
 
-    /// How many items the entry has. A limit has none.
+    /// How many items the entry has. Only a fact has some.
     pub fn item_count(&self) -> usize
         ensures { result ≡ length (items_in self.now) }
     {

@@ -1,4 +1,4 @@
-// What a report tells.
+//! What a report tells.
 
 use crate::{Items, Name};
 

@@ -1,4 +1,5 @@
-// The items of a report.
+//! The items of a report.
+
 ghost use Rattle.std.specs.Prelude.{◌≡◌, ◌++◌, [], ◌∷◌, OnOk, OnErr};
 
 use dimm_topology::Label;
@@ -6,6 +7,15 @@ use mca_status::ItemClass;
 use ras_base::NoMemory;
 use std::alloc::Global;
 use std::marker::Model;
+
+/// The most items that a valid fact has.
+pub const MOST_ITEMS: usize = 65_535;
+
+/// The most errors that a valid item stands for.
+pub const MOST_WEIGHT: u16 = 32_767;
+
+/// How many pages of 4,096 bytes 64 bits address: the numbers of pages are below this.
+pub const PAGES: u64 = 1 << 52;
 
 /// One of the things that a report tells.
 #[derive(Debug, Drop, PartialEq, Eq)]
@@ -45,7 +55,8 @@ impl Items {
         }
     }
 
-    /// Puts an item behind the others. Where memory runs out the list stays, and the item is given up.
+    /// Puts an item behind the others. Where memory runs out the list stays, and the item is given
+    /// up.
     pub fn push(&mut self, item: Item) -> Result<(), NoMemory>
         ensures ok { OnOk result (self.new ≡ self.old ++ item ∷ []) }
         ensures err { OnErr result (self.new ≡ self.old) }

@@ -12,7 +12,7 @@ mod name;
 pub use bank::{BankReport, fact_of_bank};
 pub use entry::Entry;
 pub use fact::Fact;
-pub use items::{Item, Items};
+pub use items::{Item, Items, MOST_ITEMS, MOST_WEIGHT, PAGES};
 pub use name::Name;
 
 #[cfg(test)]

@@ -1,14 +1,43 @@
-// What names a report.
+//! What names a report.
+ghost use Rattle.std.specs.Prelude.{◌≡◌};
+ghost use Rattle.ras_facts.specs.Names.{boot_of};
 
 /// The name of a report. Two reports with one name tell of one error, which is counted once.
 #[derive(Clone, Copy, Debug, PartialEq, Eq, Hash)]
 pub enum Name {
-    /// An error in a machine-check bank: the boot in which it was found, the processor's number, the bank's number,
-    /// and the processor's time-stamp counter as the error was logged.
+    /// An error in a machine-check bank: the boot in which it was found, the processor's number,
+    /// the bank's number, and the processor's time-stamp counter as the error was logged.
     Bank {
         boot: u64,
         cpu: u16,
         bank: u8,
         tsc: u64,
     },
+    /// A record of the record store, by its identifier. It is used once in the life of a store.
+    Record {
+        id: u64,
+    },
+    /// A generic error status block: the boot in which it was read, the identifier of its source in
+    /// the table HEST, and its number among the blocks of that source and boot.
+    Block {
+        boot: u64,
+        source: u16,
+        number: u64,
+    },
+    /// The boot error region, as it was read in this boot.
+    Boot {
+        boot: u64,
+    },
+}
+
+impl Name {
+    /// The boot in which the report was made; None for a record, which outlives boots.
+    pub fn boot(&self) -> Option<u64>
+        ensures { result ≡ boot_of self.now }
+    {
+        match self {
+            Name::Bank { boot, .. } | Name::Block { boot, .. } | Name::Boot { boot } => Some(*boot),
+            Name::Record { .. } => None,
+        }
+    }
 }

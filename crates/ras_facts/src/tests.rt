@@ -1,4 +1,4 @@
-// What no clause says: that the calls succeed, and what lines of a log give.
+//! What no clause says: that the calls succeed, and what lines of a log give.
 use super::*;
 use dimm_topology::{Label, Topology};
 use mca_status::ItemClass;
@@ -79,13 +79,16 @@ fn gives_the_item_of_a_bank(rt: HostRuntime) -> Result<(), Fail> {
             },
         ) = fact
         {
-            let Name::Bank {
-                boot,
-                cpu,
-                bank,
-                tsc,
-            } = name;
-            assert_eq!(rt; (boot, cpu, bank, tsc, seconds), (1, 0, 7, 0x1000, 100));
+            assert_eq!(rt;
+                name,
+                Name::Bank {
+                    boot: 1,
+                    cpu: 0,
+                    bank: 7,
+                    tsc: 0x1000
+                }
+            );
+            assert_eq!(rt; seconds, 100);
             assert_eq!(rt;
                 items.into_vec().as_slice(),
                 [Item {

@@ -1,5 +1,5 @@
 use Rattle.std.proofs.Common.{length}
-use Rattle.entry_format.proofs.FileLaws.{SoFar}
+use Rattle.entry_format.proofs.FileLemmas.{SoFar}
 use Rattle.entry_format.proofs.file.all_entries.Given as goal
 
 abbrev pub invariant-loop-rest : goal.invariant-loop-rest

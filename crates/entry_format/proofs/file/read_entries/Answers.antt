@@ -1,4 +1,4 @@
-use Rattle.entry_format.proofs.FileLaws.{entries_are_read, break_is_refused}
+use Rattle.entry_format.proofs.FileLemmas.{entries_are_read, break_is_refused}
 use Rattle.entry_format.proofs.file.read_entries.Goals as goal
 
 pub returns-clause-entries : goal.returns-clause-entries

@@ -1,6 +1,5 @@
-use Rattle.entry_format.proofs.FrontLaws.{same_front}
-use Rattle.entry_format.proofs.FileLaws.{one_reading, one_place, whole_or_broken}
-use Rattle.entry_format.proofs.SizeLaws.{one_item_size, one_item_most, limit_size}
+use Rattle.entry_format.proofs.FileLemmas.{same_front, one_reading, one_place, whole_or_broken}
+use Rattle.entry_format.proofs.SizeLemmas.{one_item_most, limit_size}
 use Rattle.entry_format.proofs.laws.format_laws.Goals as goal
 
 pub returns-clause-none_begins_another : goal.returns-clause-none_begins_another
@@ -14,9 +13,6 @@ returns-clause-one_place c = one_place
 
 pub returns-clause-whole_or_broken : goal.returns-clause-whole_or_broken
 returns-clause-whole_or_broken c = whole_or_broken
-
-pub returns-clause-size : goal.returns-clause-size
-returns-clause-size c = one_item_size
 
 pub returns-clause-most : goal.returns-clause-most
 returns-clause-most c = one_item_most

@@ -1,6 +1,6 @@
 use Rattle.std.proofs.Common.{◌≡◌, not, ◌&&◌, true, false, ◌∙◌, sym, ap}
 use Rattle.std.specs.List.{list_any}
-use Rattle.ras_account.specs.Fresh.{same_name}
+use Rattle.ras_facts.specs.Names.{same_name}
 use Rattle.ras_account.specs.Continued.{is_fresh_in, continued_all}
 use Rattle.ras_account.specs.View.{View}
 use Rattle.ras_account.specs.Reserving.{brings}

@@ -1,8 +1,8 @@
 use Rattle.std.proofs.Common.{◌∙◌, sym, ap}
 use Rattle.std.specs.List.{list_any, position}
-use Rattle.ras_account.specs.Fresh.{same_name}
+use Rattle.ras_facts.specs.Names.{same_name}
 use Rattle.ras_account.specs.Parts.{NameList}
-use Rattle.ras_account.proofs.KeyLemmas.{eq-same_name}
+use Rattle.ras_facts.proofs.NameLemmas.{eq-same_name}
 use Rattle.ras_account.proofs.PlaceLemmas.{list_any-take-Some, list_any-take-None}
 use Rattle.ras_account.proofs.names.Names.holds.Goals as goal
 

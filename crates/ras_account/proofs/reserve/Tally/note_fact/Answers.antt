@@ -1,7 +1,7 @@
 use Rattle.std.proofs.Common.{List, not, ◌∙◌, refl, sym, ap, subst, Result, Ok, Err, OnOk, arith}
 use Rattle.std.specs.List.{list_any}
 use Rattle.ras_facts.specs.declared.items.Item.{Item}
-use Rattle.ras_account.specs.Fresh.{same_name}
+use Rattle.ras_facts.specs.Names.{same_name}
 use Rattle.ras_account.specs.Reserving.{all_labels, NotesItems}
 use Rattle.ras_account.proofs.ReserveLemmas.{shadows-fact}
 use Rattle.ras_account.proofs.reserve.Tally.note_fact.Goals as goal

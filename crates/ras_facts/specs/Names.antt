@@ -1,0 +1,21 @@
+-- When two names are the same, and the boot that a name tells.
+use Rattle.std.specs.Prelude.{ℕ, ◌==◌, Bool, false, ◌&&◌, Option, Some, None}
+use Rattle.ras_facts.specs.declared.name.Name.{Name}
+use Rattle.ras_facts.specs.declared.name.Name.TheVariants.{Bank, Record, Block, Boot}
+
+-- two names are the same where they are of one kind and all their fields are the same
+abbrev pub same_name : Name → Name → Bool
+same_name (Bank boot cpu bank tsc) (Bank boot' cpu' bank' tsc') =
+    (boot == boot') && ((cpu == cpu') && ((bank == bank') && (tsc == tsc')))
+same_name (Record id) (Record id') = id == id'
+same_name (Block boot source number) (Block boot' source' number') =
+    (boot == boot') && ((source == source') && (number == number'))
+same_name (Boot boot) (Boot boot') = boot == boot'
+same_name _ _ = false
+
+-- the boot of a name; a record's name has none
+abbrev pub boot_of : Name → Option ℕ
+boot_of (Bank boot cpu bank tsc) = Some boot
+boot_of (Record id) = None
+boot_of (Block boot source number) = Some boot
+boot_of (Boot boot) = Some boot
