@@ -1,22 +1,24 @@
 -- What the device's commands do, by the way they end.
 use Rattle.std.proofs.Common.{◌≡◌, ℕ, ◌+◌, ◌<◌, ◌≤◌, Bool, true, false, nat_eq, nat_lt, if◌then◌else◌, List, length, take, drop, None, Some, ◌||◌, refl, sym, ap, subst, ◌∙◌, arith, true≢false}
-use Rattle.std.specs.Int.{w32, w64, from_le_bytes}
 use Rattle.std.proofs.lemmas.Bool.{lt-ltb, le-ltb}
-use Rattle.std.proofs.lemmas.List.{drop-drop, length-take-le, length-drop}
+use Rattle.std.proofs.lemmas.List.{length-take-le, length-drop}
+use Rattle.ras_base.specs.LittleEndian.{number_at}
+use Rattle.ras_base.specs.LittleEndianLemmas.{number_at-drop}
 use Rattle.erst_store.specs.declared.store.PutRefused.{PutRefused}
 use Rattle.erst_store.specs.declared.store.PutRefused.TheVariants.{ReservedId, TooLong, StoreFull}
 use Rattle.erst_store.specs.declared.device.Status.TheVariants.{Success, NotEnoughSpace, NotFound}
 use Rattle.erst_store.specs.Store.{Stored, most_bytes, is_reserved, is_full_for, refusal_of, with_record, holds}
-use Rattle.erst_store.specs.Device.{Device, range_length, length_at, id_at, record_at, is_record_out, is_write_refused, written, cleared}
+use Rattle.erst_store.specs.Actions.{range_length}
+use Rattle.erst_store.specs.Device.{Device, length_at, id_at, record_at, is_record_out, is_write_refused, after_write, after_clear}
 use Rattle.erst_store.specs.DeviceView.{FoundRecord}
 
 -- ---- the record in the range
 
-length_there : (range : List ℕ) (offset : ℕ) → from_le_bytes w32 (take 4 (drop 20 (drop offset range))) ≡ length_at range offset
-length_there range offset = ap (λ (xs : List ℕ). from_le_bytes w32 (take 4 xs)) (drop-drop 20 offset range)
+length_there : (range : List ℕ) (offset : ℕ) → number_at 20 4 (drop offset range) ≡ length_at range offset
+length_there range offset = number_at-drop offset 20 4 range
 
-id_there : (range : List ℕ) (offset : ℕ) → from_le_bytes w64 (take 8 (drop 96 (drop offset range))) ≡ id_at range offset
-id_there range offset = ap (λ (xs : List ℕ). from_le_bytes w64 (take 8 xs)) (drop-drop 96 offset range)
+id_there : (range : List ℕ) (offset : ℕ) → number_at 96 8 (drop offset range) ≡ id_at range offset
+id_there range offset = number_at-drop offset 96 8 range
 
 pub out_far : (range : List ℕ) (offset : ℕ) → 16256 < offset → is_record_out range offset ≡ true
 out_far range offset far =
@@ -31,16 +33,16 @@ out_middle : (a b c : Bool) → b ≡ true → (a || (b || c)) ≡ true
 out_middle true b c is = refl
 out_middle false b c is = ap (λ x. x || c) is
 
-pub out_short : (range : List ℕ) (offset n : ℕ) → n ≡ from_le_bytes w32 (take 4 (drop 20 (drop offset range))) → n < 128 → is_record_out range offset ≡ true
+pub out_short : (range : List ℕ) (offset n : ℕ) → n ≡ number_at 20 4 (drop offset range) → n < 128 → is_record_out range offset ≡ true
 out_short range offset n is short =
     out_middle _ _ _ (lt-ltb (length_at range offset) 128 (omega (arith, short, is ∙ length_there range offset)))
 
-pub out_long : (range : List ℕ) (offset n : ℕ) → length range ≡ 16384 → offset ≤ 16256 → n ≡ from_le_bytes w32 (take 4 (drop 20 (drop offset range))) → length (drop offset range) < n → is_record_out range offset ≡ true
+pub out_long : (range : List ℕ) (offset n : ℕ) → length range ≡ 16384 → offset ≤ 16256 → n ≡ number_at 20 4 (drop offset range) → length (drop offset range) < n → is_record_out range offset ≡ true
 out_long range offset n whole near is long =
     out_last _ _ _ (lt-ltb range_length (offset + length_at range offset) (omega (arith, whole, near, long, length-drop offset range, is ∙ length_there range offset)))
 
-pub found_record : (range : List ℕ) (offset n id : ℕ) (bytes : List ℕ) → length range ≡ 16384 → offset ≤ 16256 → n ≡ from_le_bytes w32 (take 4 (drop 20 (drop offset range)))
-    → 128 ≤ n → n ≤ length (drop offset range) → id ≡ from_le_bytes w64 (take 8 (drop 96 (drop offset range))) → bytes ≡ take n (drop offset range) → FoundRecord range offset id bytes
+pub found_record : (range : List ℕ) (offset n id : ℕ) (bytes : List ℕ) → length range ≡ 16384 → offset ≤ 16256 → n ≡ number_at 20 4 (drop offset range)
+    → 128 ≤ n → n ≤ length (drop offset range) → id ≡ number_at 96 8 (drop offset range) → bytes ≡ take n (drop offset range) → FoundRecord range offset id bytes
 found_record range offset n id bytes whole near is long room id_is bytes_are =
     let length_is : n ≡ length_at range offset = is ∙ length_there range offset in
     let first : nat_lt range_length (offset + 128) ≡ false = le-ltb _ _ (omega (arith, near)) in
@@ -76,24 +78,24 @@ module _ (d : Device) (id : ℕ) (bytes : List ℕ) (there : FoundRecord d.range
   at_id : is_write_refused d ≡ (is_record_out d.range d.offset || (is_reserved id || is_full_for id d.store))
   at_id = ap (λ (k : ℕ). is_record_out d.range d.offset || (is_reserved k || is_full_for k d.store)) there.id_is
 
-  pub written_put : (store : List Stored) → refusal_of id bytes d.store ≡ None → store ≡ with_record id bytes d.store → record d { store = store; cursor = 0; status = Success } ≡ written d
+  pub written_put : (store : List Stored) → refusal_of id bytes d.store ≡ None → store ≡ with_record id bytes d.store → record d { store = store; cursor = 0; status = Success } ≡ after_write d
   written_put store free is =
       let no : is_write_refused d ≡ false = at_id ∙ unrefused _ (is_reserved id) (nat_lt most_bytes (length bytes)) (is_full_for id d.store) there.inside free in
       ap (λ (s : List Stored). record d { store = s; cursor = 0; status = Success })
       (is ∙ ap (λ (k : ℕ). with_record k bytes d.store) (sym there.id_is) ∙ ap (λ (bs : List ℕ). with_record (id_at d.range d.offset) bs d.store) (sym there.bytes_are))
       ∙ sym (ap (λ b. if b then record d { status = NotEnoughSpace } else record d { store = with_record (id_at d.range d.offset) (record_at d.range d.offset) d.store; cursor = 0; status = Success }) no)
 
-  pub not_written : (store : List Stored) (e : PutRefused) → refusal_of id bytes d.store ≡ Some e → store ≡ d.store → record d { store = store; status = NotEnoughSpace } ≡ written d
+  pub not_written : (store : List Stored) (e : PutRefused) → refusal_of id bytes d.store ≡ Some e → store ≡ d.store → record d { store = store; status = NotEnoughSpace } ≡ after_write d
   not_written store e cause is =
       let yes_so : is_write_refused d ≡ true = at_id ∙ refused _ (is_reserved id) (nat_lt most_bytes (length bytes)) (is_full_for id d.store) e long_is cause in
       ap (λ (s : List Stored). record d { store = s; status = NotEnoughSpace }) is
       ∙ sym (ap (λ b. if b then record d { status = NotEnoughSpace } else record d { store = with_record (id_at d.range d.offset) (record_at d.range d.offset) d.store; cursor = 0; status = Success }) yes_so)
 
-pub out_written : (d : Device) → is_record_out d.range d.offset ≡ true → record d { status = NotEnoughSpace } ≡ written d
+pub out_written : (d : Device) → is_record_out d.range d.offset ≡ true → record d { status = NotEnoughSpace } ≡ after_write d
 out_written d out =
     sym (ap (λ b. if (b || (is_reserved (id_at d.range d.offset) || is_full_for (id_at d.range d.offset) d.store)) then record d { status = NotEnoughSpace } else record d { store = with_record (id_at d.range d.offset) (record_at d.range d.offset) d.store; cursor = 0; status = Success }) out)
 
 -- ---- a clear
 
-pub not_cleared : (d : Device) (store : List Stored) → nat_eq (length d.store) 0 ≡ false → holds d.id d.store ≡ false → store ≡ d.store → record d { store = store; status = NotFound } ≡ cleared d
+pub not_cleared : (d : Device) (store : List Stored) → nat_eq (length d.store) 0 ≡ false → holds d.id d.store ≡ false → store ≡ d.store → record d { store = store; status = NotFound } ≡ after_clear d
 not_cleared d store some other is = ap (λ (s : List Stored). record d { store = s; status = NotFound }) is ∙ sym (rw (some, other) refl)

@@ -1,4 +1,2 @@
-pub mod StoreLemmas
 pub mod ReadingLemmas
 pub mod DeviceLemmas
-pub mod LawLemmas

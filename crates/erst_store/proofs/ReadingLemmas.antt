@@ -134,7 +134,7 @@ record_again r rest fits =
     in
     let room : nat_lt (length (r.bytes ++ rest)) (length r.bytes) ≡ false = le-ltb _ _ (omega (arith, length-append r.bytes rest)) in
     ap record_at grouped
-    ∙ rw (u64_again r.id (u32_bytes (length r.bytes) ++ (r.bytes ++ rest)) (omega (arith, fits.below)), u32_again (length r.bytes) (r.bytes ++ rest) (omega (arith, fits.bytes)), room, take_at r.bytes rest (length r.bytes) refl, drop_at r.bytes rest (length r.bytes) refl) refl
+    ∙ rw (u64_again r.id (u32_bytes (length r.bytes) ++ (r.bytes ++ rest)) (omega (arith, fits.below)), u32_again (length r.bytes) (r.bytes ++ rest) (omega (arith, fits.size)), room, take_at r.bytes rest (length r.bytes) refl, drop_at r.bytes rest (length r.bytes) refl) refl
 
 -- ---- which record may follow
 
@@ -162,7 +162,7 @@ follows before r later kept =
     let fits : Fits r = each_middle Fits before r later kept.each in
     let new : holds r.id before ≡ false = new_behind (ids before) r.id (ids later) (subst (IsDistinct nat_eq) (map-append (λ (q : Stored). q.id) before (r ∷ later)) kept.distinct) in
     let good : is_reserved r.id ≡ false = not_reserved r.id fits.above fits.below in
-    let short : nat_lt most_bytes (length r.bytes) ≡ false = le-ltb _ _ fits.bytes in
+    let short : nat_lt most_bytes (length r.bytes) ≡ false = le-ltb _ _ fits.size in
     let room : nat_eq (length before) most_records ≡ false = not_equal _ _ (omega (arith, kept.count, length-append before (r ∷ later))) in
     let unrefused : refusal_of r.id r.bytes before ≡ None = rw (good, short, room) refl in
     rw (unrefused, new) refl

@@ -1,25 +1,48 @@
--- What the device's actions keep, and what a listing gives.
-use Rattle.std.specs.Prelude.{◌≡◌, ℕ, zero, suc, ◌⊎◌, List, [], ◌∷◌, length, Option, Some}
+-- What the device keeps, which actions change its store, and what a listing gives.
+use Rattle.std.specs.Prelude.{◌≡◌, ℕ, zero, suc, ◌-◌, ◌^◌, ◌+◌, ◌<◌, ◌⊎◌, List, [], ◌∷◌, length, Option, Some}
+use Rattle.ras_base.specs.LittleEndian.{AreBytes}
 use Rattle.erst_store.specs.declared.device.Command.{Command}
 use Rattle.erst_store.specs.declared.device.Command.TheVariants.{Write, Clear}
-use Rattle.erst_store.specs.Store.{IsStore}
-use Rattle.erst_store.specs.Device.{Device, range_length, id_at, act}
+use Rattle.erst_store.specs.Store.{IsStore, all_ones}
+use Rattle.erst_store.specs.Actions.{execute_operation, get_record_identifier, range_length}
+use Rattle.erst_store.specs.Device.{Device, id_at, act}
+
+-- A device as `Dev` keeps it: its store can be one, its range has its length and holds bytes, and each of its numbers has
+-- 64 bits.
+pub record IsDevice (d : Device) : Type 0 where
+  pub store : IsStore d.store
+  pub length : length d.range ≡ range_length
+  pub bytes : AreBytes d.range
+  pub action : d.action < 2 ^ 64
+  pub value : d.value < 2 ^ 64
+  pub id : d.id < 2 ^ 64
+  pub offset : d.offset < 2 ^ 64
+  pub busy : d.busy < 2 ^ 64
+  pub cursor : d.cursor < 2 ^ 64
+  pub slow : d.slow < 2 ^ 64
 
 -- an action that may change the store: EXECUTE under a write or a clear
 abbrev pub MayChange : ℕ → Device → Type 0
-MayChange action d = (action ≡ 5) × ((d.command ≡ Some Write) ⊎ (d.command ≡ Some Clear))
+MayChange action d = (action ≡ execute_operation) × ((d.command ≡ Some Write) ⊎ (d.command ≡ Some Clear))
 
 -- the one identifier at which a command changes the store: a write's is in the range, and a clear's was set
 abbrev pub id_changed : Option Command → Device → ℕ
 id_changed (Some Write) d = id_at d.range d.offset
 id_changed _ d = d.id
 
--- the values that so many GET_RECORD_IDENTIFIER give, one after the other
+-- the values that so many GET_RECORD_IDENTIFIER give, one after the other, and the device after them
 abbrev pub listing : ℕ → Device → List ℕ
 listing zero d = []
-listing (suc count) d = (act 8 d).value ∷ listing count (act 8 d)
+listing (suc count) d = (act get_record_identifier d).value ∷ listing count (act get_record_identifier d)
 
--- a device as `Dev` keeps it: its store can be one, and its range has its length
-pub record IsDevice (d : Device) : Type 0 where
-  pub store : IsStore d.store
-  pub range : length d.range ≡ range_length
+abbrev pub after_listings : ℕ → Device → Device
+after_listings zero d = d
+after_listings (suc count) d = after_listings count (act get_record_identifier d)
+
+-- how many GET_RECORD_IDENTIFIER come to the end of a listing and tell it
+abbrev pub left_to_list : Device → ℕ
+left_to_list d = length d.store - d.cursor + 1
+
+-- a device at whose Action register a listing ended: it begins anew with the next
+abbrev pub listed_to_end : Device → Device
+listed_to_end d = record d { action = get_record_identifier; value = all_ones; cursor = 0 }

@@ -3,5 +3,8 @@ pub mod StoreFile
 pub mod StoreReading
 pub mod View
 pub mod Device
+pub mod Actions
 pub mod DeviceLaws
 pub mod DeviceView
+pub mod StoreLemmas
+pub mod ActionLemmas

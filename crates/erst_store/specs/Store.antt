@@ -1,6 +1,7 @@
 -- What a record store is: a list of records in the order in which they first came, each under an identifier of its own.
 use Rattle.std.specs.Prelude.{◌≡◌, ℕ, ◌-◌, ◌^◌, ◌<◌, ◌≤◌, Bool, ◌&&◌, ◌||◌, not, nat_eq, nat_lt, List, [], ◌∷◌, ◌++◌, if◌then◌else◌, length, map, filter, Option, None, Some, Result, Ok, Err}
 use Rattle.std.specs.List.{AllByRecursion, IsDistinct, list_any}
+use Rattle.ras_base.specs.LittleEndian.{AreBytes}
 use Rattle.erst_store.specs.declared.store.PutRefused.{PutRefused}
 use Rattle.erst_store.specs.declared.store.PutRefused.TheVariants.{ReservedId, TooLong, StoreFull, NoMemory}
 
@@ -34,7 +35,8 @@ contents records = map (λ r. r.bytes) records
 pub record Fits (r : Stored) : Type 0 where
   pub above : 0 < r.id
   pub below : r.id < all_ones
-  pub bytes : length r.bytes ≤ most_bytes
+  pub size : length r.bytes ≤ most_bytes
+  pub bytes : AreBytes r.bytes
 
 -- a list of records that a store can be
 pub record IsStore (records : List Stored) : Type 0 where
@@ -52,13 +54,13 @@ bytes_under id [] = None
 bytes_under id (r ∷ rs) = if nat_eq r.id id then Some r.bytes else bytes_under id rs
 
 -- a record with these bytes where it has this identifier, and else as it is
-abbrev pub rewritten : ℕ → List ℕ → Stored → Stored
-rewritten id bytes r = if nat_eq r.id id then record { id = r.id; bytes = bytes } else r
+abbrev pub record_after_put : ℕ → List ℕ → Stored → Stored
+record_after_put id bytes r = if nat_eq r.id id then record { id = r.id; bytes = bytes } else r
 
--- a store after a record was put: it stands in the place of the one under its identifier, and else behind all others
+-- a store after a record was put: it stands in the place of the one under its identifier, and else after all others
 abbrev pub with_record : ℕ → List ℕ → List Stored → List Stored
 with_record id bytes records =
-    if holds id records then map (rewritten id bytes) records
+    if holds id records then map (record_after_put id bytes) records
     else records ++ record { id = id; bytes = bytes } ∷ []
 
 -- all records but the one under this identifier, in their order

@@ -1,28 +1,27 @@
-// The error record serialization device.
-ghost use Rattle.std.specs.Prelude.{◌≡◌, ◌≢◌, ◌+◌, ◌≤◌, length, take, drop, Some, IfOk, OnOk, OnErr};
-ghost use Rattle.std.specs.Int.{w32, w64, from_le_bytes};
+//! The error record serialization device.
+ghost use Rattle.std.specs.Prelude.{◌≡◌, ◌≢◌, ◌+◌, ◌≤◌, ◌↔◌, length, take, drop, Some, IfOk, OnOk, OnErr, IsTrue};
 ghost use Rattle.std.specs.Option.{option_map};
 ghost use Rattle.erst_store.specs.declared.device.Command.TheVariants.{Write};
+ghost use Rattle.erst_store.specs.Actions.{execute_operation, range_length};
 ghost use Rattle.erst_store.specs.Store.{refusal_of, Answers};
-ghost use Rattle.erst_store.specs.Device.{new_device, act, checked, listed, written, read, cleared, commanded, filled, overwritten, with_put, status_number};
-ghost use Rattle.erst_store.specs.DeviceLaws.{IsDevice};
+ghost use Rattle.erst_store.specs.Device.{new_device, act, after_check, after_listing, after_write, after_read, after_clear, after_command, range_with_record, range_with, with_put, status_number};
+ghost use Rattle.erst_store.specs.DeviceLaws.{IsDevice, MayChange};
 ghost use Rattle.erst_store.specs.DeviceView.{FindsRecord};
 
+use crate::actions::{BEGIN_CLEAR_OPERATION, BEGIN_DUMMY_WRITE_OPERATION, BEGIN_READ_OPERATION};
+use crate::actions::{BEGIN_WRITE_OPERATION, CHECK_BUSY_STATUS, END_OPERATION, EXECUTE_OPERATION};
+use crate::actions::{GET_COMMAND_STATUS, GET_ERROR_LOG_ADDRESS_RANGE};
+use crate::actions::{GET_ERROR_LOG_ADDRESS_RANGE_ATTRIBUTES, GET_ERROR_LOG_ADDRESS_RANGE_LENGTH};
+use crate::actions::{GET_RECORD_COUNT, GET_RECORD_IDENTIFIER, RANGE_ADDRESS, RANGE_ATTRIBUTES};
+use crate::actions::{RANGE_LENGTH, SET_RECORD_IDENTIFIER, SET_RECORD_OFFSET};
 use crate::store::{PutRefused, Store};
 use ras_base::NoMemory;
+use ras_base::little_endian::{u32_at, u64_at};
 use std::alloc::Global;
 use std::marker::Model;
 
-/// Where the error log address range stands.
-const RANGE_ADDRESS: u64 = 0xf001_0000;
-
-/// How many bytes the error log address range has.
-pub const RANGE_LENGTH: usize = 16_384;
-
-/// The attributes of the error log address range: neither non-volatile nor slow.
-const RANGE_ATTRIBUTES: u64 = 0;
-
-// How many bytes the header of a record has, and where its length and its identifier stand in it (UEFI 2.10, N.2.1).
+// How many bytes the header of a record has, and where its length and its identifier stand in it
+// (UEFI 2.10, N.2.1).
 const HEADER_LENGTH: usize = 128;
 
 const LENGTH_PLACE: usize = 20;
@@ -31,37 +30,6 @@ const ID_PLACE: usize = 96;
 
 /// The number that stands for no record.
 const NO_RECORD: u64 = u64::MAX;
-
-// The numbers of the actions (ACPI 6.5, 18.5.1.1).
-const BEGIN_WRITE: u64 = 0;
-
-const BEGIN_READ: u64 = 1;
-
-const BEGIN_CLEAR: u64 = 2;
-
-const END: u64 = 3;
-
-const SET_RECORD_OFFSET: u64 = 4;
-
-const EXECUTE: u64 = 5;
-
-const CHECK_BUSY: u64 = 6;
-
-const GET_COMMAND_STATUS: u64 = 7;
-
-const GET_RECORD_ID: u64 = 8;
-
-const SET_RECORD_ID: u64 = 9;
-
-const GET_RECORD_COUNT: u64 = 10;
-
-const BEGIN_DUMMY_WRITE: u64 = 11;
-
-const GET_RANGE_ADDRESS: u64 = 13;
-
-const GET_RANGE_LENGTH: u64 = 14;
-
-const GET_RANGE_ATTRIBUTES: u64 = 15;
 
 /// A command that EXECUTE carries out.
 #[derive(Clone, Copy, Debug, PartialEq, Eq)]
@@ -76,7 +44,7 @@ pub enum Command {
     Dummy,
 }
 
-/// How the last command went (ACPI 6.5, 18.5.1.3).
+/// How the last command went (ACPI 6.5, 18.5.1.1).
 #[derive(Clone, Copy, Debug, PartialEq, Eq)]
 pub enum Status {
     /// 0: it was carried out.
@@ -121,8 +89,8 @@ pub struct Dev {
 }
 
 impl Model for Dev {
-    ghost use Rattle.std.specs.Prelude.{◌≡◌, length};
     ghost use Rattle.erst_store.specs.Device.{Device};
+    ghost use Rattle.erst_store.specs.DeviceLaws.{IsDevice};
 
     ghost Value = { Device };
 
@@ -140,14 +108,27 @@ impl Model for Dev {
       slow = d.slow;
     } };
 
-    ghost invariant = { λ d. length d.range.items ≡ 16384 };
+    ghost invariant = { λ d. IsDevice (record {
+      store = d.store;
+      action = d.action;
+      value = d.value;
+      command = d.command;
+      id = d.id;
+      offset = d.offset;
+      status = d.status;
+      busy = d.busy;
+      cursor = d.cursor;
+      range = d.range.items;
+      slow = d.slow;
+    }) };
 }
 
 impl Dev {
     /// A device over this store, with no command, all numbers 0 and a range of zeros. Each EXECUTE is followed by `slow`
     /// busy answers.
     pub fn new(alloc: Global, store: Store, slow: u64) -> Result<Dev, NoMemory>
-        ensures { IfOk result (λ device. device ≡ new_device store slow) }
+        ensures new { IfOk result (λ device. device ≡ new_device store slow) }
+        ensures kept { IfOk result IsDevice }
     {
         let mut range = Vec::new(alloc);
         range.resize(RANGE_LENGTH, 0)?;
@@ -168,13 +149,16 @@ impl Dev {
 
     /// Writes a number to the Action register, which does the action of that number (ACPI 6.5, 18.5.1.1).
     ///
-    /// `NoMemory` comes only at EXECUTE under a write command, and leaves the device as it was.
+    /// `NoMemory` comes only at EXECUTE_OPERATION under a write command, and leaves the device as it was.
     pub fn write_action(&mut self, action: u64) -> Result<(), NoMemory>
         ensures ok { OnOk result (self.new ≡ act action self.old) }
         ensures err { OnErr result (self.new ≡ self.old) }
-        ensures memory { OnErr result ((action ≡ 5) × (self.old.command ≡ Some Write)) }
+        ensures memory {
+            OnErr result ((action ≡ execute_operation) × (self.old.command ≡ Some Write))
+        }
+        ensures kept { IsDevice self.new }
     {
-        if action == EXECUTE {
+        if action == EXECUTE_OPERATION {
             return self.execute();
         }
         self.act(action);
@@ -183,38 +167,54 @@ impl Dev {
 
     /// Writes a number to the Value register.
     pub fn write_value(&mut self, value: u64)
-        ensures { self.new ≡ record self.old { value = value } }
+        ensures value { self.new ≡ record self.old { value = value } }
+        ensures kept { IsDevice self.new }
     {
         self.value = value;
     }
 
     /// Reads the Value register.
     pub fn read_value(&self) -> u64
-        ensures { result ≡ self.now.value }
+        ensures value { result ≡ self.now.value }
+        ensures kept { IsDevice self.now }
     {
         self.value
     }
 
     /// Reads the Action register: the number last written to it.
     pub fn read_action(&self) -> u64
-        ensures { result ≡ self.now.action }
+        ensures action { result ≡ self.now.action }
+        ensures kept { IsDevice self.now }
     {
         self.action
     }
 
+    /// Whether this action may change the store: EXECUTE_OPERATION under a write or a clear.
+    pub fn may_change(&self, action: u64) -> bool
+        ensures { IsTrue result ↔ MayChange action self.now }
+    {
+        action == EXECUTE_OPERATION
+            && matches!(self.command, Some(Command::Write | Command::Clear))
+    }
+
     /// Copies the bytes of the range from a place on into a buffer, all of it.
     pub fn range_read(&self, place: u32, buf: &mut [u8])
-        requires { place + length buf.old ≤ 16384 }
-        ensures { buf.new ≡ take (length buf.old) (drop place self.now.range) }
+        requires { place + length buf.old ≤ range_length }
+        ensures read { buf.new ≡ take (length buf.old) (drop place self.now.range) }
+        ensures kept { IsDevice self.now }
     {
         let start = place as usize;
         buf.copy_from_slice(&self.range[start..start + buf.len()]);
     }
 
     /// Writes bytes into the range from a place on.
+    #[tactic(auto, unfolding(crate::specs::Device::range_with))]
     pub fn range_write(&mut self, place: u32, bytes: &[u8])
-        requires { place + length bytes.now ≤ 16384 }
-        ensures { self.new ≡ record self.old { range = overwritten self.old.range place bytes.now } }
+        requires { place + length bytes.now ≤ range_length }
+        ensures range {
+            self.new ≡ record self.old { range = range_with place bytes.now self.old.range }
+        }
+        ensures kept { IsDevice self.new }
     {
         let start = place as usize;
         self.range[start..start + bytes.len()].copy_from_slice(bytes);
@@ -225,51 +225,62 @@ impl Dev {
         ensures same { result.now ≡ self.now.store }
         ensures kept { IsDevice self.now }
     {
-        let _count = self.store.len();
         &self.store
+    }
+
+    /// The store behind the device, which is given up.
+    pub fn into_store(self) -> Store
+        ensures same { result ≡ self.store }
+        ensures kept { IsDevice self }
+    {
+        self.store
     }
 
     /// Puts a record into the store, as `Store::put`, and lists identifiers from the first one again.
     ///
     /// A refusal leaves the device as it was.
+    #[tactic(auto, unfolding(crate::specs::Device::with_put))]
     pub fn put(&mut self, id: u64, bytes: &[u8]) -> Result<(), PutRefused>
         ensures ok { OnOk result (self.new ≡ with_put id bytes.now self.old) }
         ensures err { OnErr result (self.new ≡ self.old) }
         ensures refused { Answers result (refusal_of id bytes.now self.old.store) }
+        ensures kept { IsDevice self.new }
     {
         self.store.put(id, bytes)?;
         self.cursor = 0;
         Ok(())
     }
 
-    // Does an action other than EXECUTE.
+    // Does an action other than EXECUTE_OPERATION.
+    #[tactic(auto, unfolding(crate::specs::Device::act))]
     fn act(&mut self, action: u64)
-        requires { action ≢ 5 }
-        ensures { self.new ≡ act action self.old }
+        requires { action ≢ execute_operation }
+        ensures does { self.new ≡ act action self.old }
+        ensures kept { IsDevice self.new }
     {
         self.action = action;
         match action {
-            BEGIN_WRITE => self.command = Some(Command::Write),
-            BEGIN_READ => self.command = Some(Command::Read),
-            BEGIN_CLEAR => self.command = Some(Command::Clear),
-            BEGIN_DUMMY_WRITE => self.command = Some(Command::Dummy),
-            END => self.command = None,
+            BEGIN_WRITE_OPERATION => self.command = Some(Command::Write),
+            BEGIN_READ_OPERATION => self.command = Some(Command::Read),
+            BEGIN_CLEAR_OPERATION => self.command = Some(Command::Clear),
+            BEGIN_DUMMY_WRITE_OPERATION => self.command = Some(Command::Dummy),
+            END_OPERATION => self.command = None,
             SET_RECORD_OFFSET => self.offset = self.value,
-            SET_RECORD_ID => self.id = self.value,
-            CHECK_BUSY => self.check_busy(),
+            SET_RECORD_IDENTIFIER => self.id = self.value,
+            CHECK_BUSY_STATUS => self.check_busy(),
             GET_COMMAND_STATUS => self.value = self.status.number(),
-            GET_RECORD_ID => self.list_id(),
+            GET_RECORD_IDENTIFIER => self.list_id(),
             GET_RECORD_COUNT => self.value = self.store.len() as u64,
-            GET_RANGE_ADDRESS => self.value = RANGE_ADDRESS,
-            GET_RANGE_LENGTH => self.value = RANGE_LENGTH as u64,
-            GET_RANGE_ATTRIBUTES => self.value = RANGE_ATTRIBUTES,
+            GET_ERROR_LOG_ADDRESS_RANGE => self.value = RANGE_ADDRESS,
+            GET_ERROR_LOG_ADDRESS_RANGE_LENGTH => self.value = RANGE_LENGTH as u64,
+            GET_ERROR_LOG_ADDRESS_RANGE_ATTRIBUTES => self.value = RANGE_ATTRIBUTES,
             _ => {}
         }
     }
 
     // Answers whether the device is busy, and uses up one busy answer.
     fn check_busy(&mut self)
-        ensures { self.new ≡ checked self.old }
+        ensures { self.new ≡ after_check self.old }
     {
         if self.busy > 0 {
             self.value = 1;
@@ -281,7 +292,8 @@ impl Dev {
 
     // Answers the identifier at the cursor and moves on, or ends the list and begins it again.
     fn list_id(&mut self)
-        ensures { self.new ≡ listed self.old }
+        ensures lists { self.new ≡ after_listing self.old }
+        ensures kept { IsDevice self.new }
     {
         if self.cursor < self.store.len() {
             self.value = self.store.id(self.cursor);
@@ -293,25 +305,31 @@ impl Dev {
     }
 
     // Carries out the command.
+    #[tactic(auto, unfolding(crate::specs::Device::act))]
     fn execute(&mut self) -> Result<(), NoMemory>
-        ensures ok { OnOk result (self.new ≡ act 5 self.old) }
+        ensures ok { OnOk result (self.new ≡ act execute_operation self.old) }
         ensures err { OnErr result (self.new ≡ self.old) }
         ensures memory { OnErr result (self.old.command ≡ Some Write) }
+        ensures kept { IsDevice self.new }
     {
-        self.status = self.carry_out()?;
-        self.action = EXECUTE;
+        let command = self.command;
+        self.status = self.carry_out(command)?;
+        self.action = EXECUTE_OPERATION;
         self.value = 0;
         self.busy = self.slow;
         Ok(())
     }
 
-    // Carries out the command, and answers its status.
-    fn carry_out(&mut self) -> Result<Status, NoMemory>
-        ensures ok { IfOk result (λ status. record self.new { status = status } ≡ commanded self.old.command self.old) }
+    // Carries out a command, and answers its status.
+    fn carry_out(&mut self, command: Option<Command>) -> Result<Status, NoMemory>
+        ensures ok {
+            IfOk result (λ status.
+                record self.new { status = status } ≡ after_command command self.old)
+        }
         ensures err { OnErr result (self.new ≡ self.old) }
-        ensures memory { OnErr result (self.old.command ≡ Some Write) }
+        ensures memory { OnErr result (command ≡ Some Write) }
     {
-        match self.command {
+        match command {
             Some(Command::Write) => self.write_record(),
             Some(Command::Read) => Ok(self.read_record()),
             Some(Command::Clear) => Ok(self.clear_record()),
@@ -322,7 +340,7 @@ impl Dev {
 
     // Puts the record in the range into the store.
     fn write_record(&mut self) -> Result<Status, NoMemory>
-        ensures ok { IfOk result (λ status. record self.new { status = status } ≡ written self.old) }
+        ensures ok { IfOk result (λ status. record self.new { status = status } ≡ after_write self.old) }
         ensures err { OnErr result (self.new ≡ self.old) }
     {
         let Some((id, bytes)) = record_in(&self.range, self.offset) else {
@@ -340,7 +358,7 @@ impl Dev {
 
     // Copies the record under the identifier into the range, with zeros behind it.
     fn read_record(&mut self) -> Status
-        ensures { record self.new { status = result } ≡ read self.old }
+        ensures { record self.new { status = result } ≡ after_read self.old }
     {
         if self.store.is_empty() {
             return Status::StoreEmpty;
@@ -357,7 +375,7 @@ impl Dev {
 
     // Removes the record under the identifier.
     fn clear_record(&mut self) -> Status
-        ensures { record self.new { status = result } ≡ cleared self.old }
+        ensures { record self.new { status = result } ≡ after_clear self.old }
     {
         if self.store.is_empty() {
             return Status::StoreEmpty;
@@ -373,9 +391,9 @@ impl Dev {
 
 // Copies bytes into the range from a place on, and fills it with zeros behind them.
 fn fill_range(range: &mut [u8], start: usize, bytes: &[u8])
-    requires range { length range.old ≡ 16384 }
-    requires room { start + length bytes.now ≤ 16384 }
-    ensures { range.new ≡ filled range.old start bytes.now }
+    requires range { length range.old ≡ range_length }
+    requires room { start + length bytes.now ≤ range_length }
+    ensures { range.new ≡ range_with_record range.old start bytes.now }
 {
     let end = start + bytes.len();
     range[start..end].copy_from_slice(bytes);
@@ -385,7 +403,7 @@ fn fill_range(range: &mut [u8], start: usize, bytes: &[u8])
 // The identifier and the bytes of the record that stands in the range at an offset, if a whole one stands there.
 #[tactic(auto, using(crate::proofs::DeviceLemmas::out_far))]
 fn record_in(range: &[u8], offset: u64) -> Option<(u64, &[u8])>
-    requires { length range.now ≡ 16384 }
+    requires { length range.now ≡ range_length }
     ensures { FindsRecord range.now offset (option_map (λ x. (x.0, x.1.now)) result) }
 {
     if offset > (RANGE_LENGTH - HEADER_LENGTH) as u64 {
@@ -400,34 +418,4 @@ fn record_in(range: &[u8], offset: u64) -> Option<(u64, &[u8])>
         return None;
     }
     Some((u64_at(rest, ID_PLACE), &rest[..length]))
-}
-
-// The number in 4 bytes at a place, low byte first.
-fn u32_at(bytes: &[u8], place: usize) -> u32
-    requires { place + 4 ≤ length bytes.now }
-    ensures { result ≡ from_le_bytes w32 (take 4 (drop place bytes.now)) }
-{
-    u32::from_le_bytes([
-        bytes[place],
-        bytes[place + 1],
-        bytes[place + 2],
-        bytes[place + 3],
-    ])
-}
-
-// The number in 8 bytes at a place, low byte first.
-fn u64_at(bytes: &[u8], place: usize) -> u64
-    requires { place + 8 ≤ length bytes.now }
-    ensures { result ≡ from_le_bytes w64 (take 8 (drop place bytes.now)) }
-{
-    u64::from_le_bytes([
-        bytes[place],
-        bytes[place + 1],
-        bytes[place + 2],
-        bytes[place + 3],
-        bytes[place + 4],
-        bytes[place + 5],
-        bytes[place + 6],
-        bytes[place + 7],
-    ])
 }

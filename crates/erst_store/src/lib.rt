@@ -4,13 +4,15 @@
 //! its two registers and its address range show, and does the actions of ACPI 6.5, section 18.5, "Error Serialization".
 #![tactic(auto)]
 
+pub mod actions;
 mod device;
 mod laws;
 mod reading;
 mod store;
 
-pub use device::{Command, Dev, RANGE_LENGTH, Status};
-pub use laws::action_laws;
+pub use actions::RANGE_LENGTH;
+pub use device::{Command, Dev, Status};
+pub use laws::{action_laws, device_laws};
 pub use reading::StoreRefused;
 pub use store::{MOST_BYTES, MOST_RECORDS, PutRefused, Store};
 

@@ -1,4 +1,4 @@
-// The store file: a store as bytes, and bytes as a store.
+//! The store file: a store as bytes, and bytes as a store.
 ghost use Rattle.std.specs.Prelude.{◌≡◌, ◌≤◌, List, [], ◌++◌, length, IfOk, OnOk};
 ghost use Rattle.std.specs.Int.{w32, w64};
 ghost use Rattle.ras_base.specs.LittleEndian.{u32_bytes, u64_bytes};

@@ -1,10 +1,10 @@
-// The record store.
-ghost use Rattle.std.specs.Prelude.{◌≡◌, ◌<◌, ◌≤◌, length, [], Option, Some, false, nat_eq, OnOk, OnErr, slice_get};
+//! The record store.
+ghost use Rattle.std.specs.Prelude.{◌≡◌, ◌<◌, ◌≤◌, length, [], Option, Some, false, nat_eq, IfOk, OnOk, OnErr, slice_get};
 ghost use Rattle.std.specs.List.{position};
 ghost use Rattle.std.specs.Bool.{IsFalse};
 ghost use Rattle.std.specs.Option.{option_map};
 ghost use Rattle.erst_store.specs.Store.{Fits, IsStore, ids, contents, holds, bytes_under, with_record, without, refusal_of, Answers, SameBut};
-ghost use Rattle.erst_store.specs.View.{StandsAt, Places, Finds};
+ghost use Rattle.erst_store.specs.View.{views, StandsAt, Places, Finds};
 
 use ras_base::NoMemory;
 use std::alloc::Global;
@@ -85,6 +85,7 @@ impl Store {
         ensures refused { Answers result (refusal_of id bytes.now self.old) }
         ensures found { OnOk result (bytes_under id self.new ≡ Some bytes.now) }
         ensures others { SameBut id self.old self.new }
+        ensures kept { OnOk result (IsStore self.new) }
     {
         if id == 0 || id == u64::MAX {
             return Err(PutRefused::ReservedId);
@@ -98,6 +99,14 @@ impl Store {
             None => self.push(id, bytes)?,
         }
         Ok(())
+    }
+
+    /// The same records once more.
+    pub fn copy(&self, alloc: Global) -> Result<Store, NoMemory>
+        ensures { IfOk result (λ store. store ≡ self.now) }
+    {
+        let records = copies(alloc, &self.records)?;
+        Ok(Store { alloc, records })
     }
 
     /// How many records the store holds.
@@ -127,7 +136,8 @@ impl Store {
 
     // Where the record of an identifier stands.
     pub(crate) fn place(&self, id: u64) -> Option<usize>
-        ensures { Places id self.now result }
+        ensures place { Places id self.now result }
+        ensures kept { IsStore self.now }
     {
         place_of(&self.records, id)
     }
@@ -155,6 +165,7 @@ impl Store {
         ensures there { result ≡ holds id self.old }
         ensures rest { self.new ≡ without id self.old }
         ensures none { IsFalse result → self.new ≡ self.old }
+        ensures kept { IsStore self.new }
     {
         match self.place(id) {
             Some(place) => {
@@ -168,7 +179,8 @@ impl Store {
     // Removes the record at the place where its identifier stands.
     fn remove_at(&mut self, id: u64, place: usize)
         requires { StandsAt id self.old place }
-        ensures { self.new ≡ without id self.old }
+        ensures rest { self.new ≡ without id self.old }
+        ensures kept { IsStore self.new }
     {
         let _ = self.records.remove(place);
     }
@@ -179,6 +191,7 @@ impl Store {
         requires short { length bytes.now ≤ 16384 }
         ensures ok { OnOk result (self.new ≡ with_record id bytes.now self.old) }
         ensures err { OnErr result (self.new ≡ self.old) }
+        ensures kept { IsStore self.new }
     {
         let bytes = Vec::from_slice(self.alloc, bytes)?;
         self.records[place] = Record { id, bytes };
@@ -192,11 +205,27 @@ impl Store {
         requires room { length self.old < 1024 }
         ensures ok { OnOk result (self.new ≡ with_record id bytes.now self.old) }
         ensures err { OnErr result (self.new ≡ self.old) }
+        ensures kept { IsStore self.new }
     {
         let bytes = Vec::from_slice(self.alloc, bytes)?;
         self.records.push(Record { id, bytes })?;
         Ok(())
     }
+}
+
+// The same records once more.
+fn copies(alloc: Global, records: &[Record]) -> Result<Vec<Record>, NoMemory>
+    ensures { IfOk result (λ copied. views copied.items ≡ views records.now) }
+{
+    let mut copied = Vec::with_capacity(alloc, records.len())?;
+    for record in records {
+        let bytes = Vec::from_slice(alloc, &record.bytes)?;
+        copied.push(Record {
+            id: record.id,
+            bytes,
+        })?;
+    }
+    Ok(copied)
 }
 
 // Where the record of an identifier stands.

@@ -1,5 +1,5 @@
-use Rattle.erst_store.proofs.StoreLemmas.{placed}
+use Rattle.erst_store.specs.StoreLemmas.{placed}
 use Rattle.erst_store.proofs.store.Store.place.Goals as goal
 
-pub returns : goal.returns
-returns c = rw (← c.self.view_is) (placed c.args.id c.self.inside.records.items c.place_of.result (rw (← c.deref.ensures.value) c.place_of.ensures))
+pub returns-clause-place : goal.returns-clause-place
+returns-clause-place c = rw (← c.self.view_is) (placed c.args.id c.self.inside.records.items c.place_of.result (rw (← c.deref.ensures.value) c.place_of.ensures))

@@ -1,5 +1,5 @@
-use Rattle.erst_store.proofs.StoreLemmas.{without-absent}
+use Rattle.erst_store.specs.StoreLemmas.{without-absent}
 use Rattle.erst_store.proofs.store.Store.remove.Goals as goal
 
 pub returns-in-None-clause-rest : goal.returns-in-None-clause-rest
-returns-in-None-clause-rest c = without-absent c.args.id c.args.self.now c.in-None.ensures
+returns-in-None-clause-rest c = without-absent c.args.id c.args.self.now c.in-None.ensures.place

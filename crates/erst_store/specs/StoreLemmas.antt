@@ -1,4 +1,4 @@
--- Records that are found, replaced and removed by their identifiers.
+-- Only for proofs: records that are found, replaced and removed by their identifiers.
 use Rattle.std.proofs.Common.{◌≡◌, ℕ, zero, suc, ◌+◌, ◌<◌, ◌≤◌, Bool, true, false, cond, not, nat_eq, nat_lt, if◌then◌else◌, List, [], ◌∷◌, ◌++◌, length, map, set, get_or, Option, None, Some, ◌||◌, refl, sym, ap, subst, ◌∙◌, arith, true≢false, length-append, slice_get}
 use Rattle.std.specs.List.{AllByRecursion, IsDistinct, list_any, position, position_or_len, remove}
 use Rattle.std.proofs.lemmas.Bool.{eqb-true}
@@ -7,8 +7,9 @@ use Rattle.std.proofs.lemmas.Cmp.{nat_eq_equiv}
 use Rattle.std.proofs.lemmas.List.{get_or-map, map-append, map-set}
 use Rattle.std.proofs.lemmas.List.Quantifiers.{position-Some}
 use Rattle.std.proofs.lemmas.Map.Keys.{IsDistinct-push, IsDistinct-head, IsDistinct-tail, IsDistinct-cons}
+use Rattle.ras_base.specs.LittleEndian.{AreBytes}
 use Rattle.erst_store.specs.declared.store.Record.{Record}
-use Rattle.erst_store.specs.Store.{Stored, Fits, IsStore, most_records, most_bytes, ids, contents, holds, bytes_under, rewritten, with_record, without}
+use Rattle.erst_store.specs.Store.{Stored, Fits, IsStore, most_records, most_bytes, ids, contents, holds, bytes_under, is_full_for, record_after_put, with_record, without}
 use Rattle.erst_store.specs.View.{view, views, StandsAt, Places, Finds}
 
 pub same_test : (a b : ℕ) → a ≡ b → nat_eq a b ≡ true
@@ -39,9 +40,9 @@ pub length-views : (records : List Record) → length (views records) ≡ length
 length-views [] = refl
 length-views (r ∷ rs) = ap suc (length-views rs)
 
-length-rewritten : (id : ℕ) (bytes : List ℕ) (rs : List Stored) → length (map (rewritten id bytes) rs) ≡ length rs
-length-rewritten id bytes [] = refl
-length-rewritten id bytes (r ∷ rs) = ap suc (length-rewritten id bytes rs)
+length-record_after_put : (id : ℕ) (bytes : List ℕ) (rs : List Stored) → length (map (record_after_put id bytes) rs) ≡ length rs
+length-record_after_put id bytes [] = refl
+length-record_after_put id bytes (r ∷ rs) = ap suc (length-record_after_put id bytes rs)
 
 pub placed : (id : ℕ) (records : List Record) (o : Option ℕ) → o ≡ position (λ r. nat_eq r.id id) records → Places id (views records) o
 placed id [] None is = refl
@@ -80,59 +81,59 @@ stands-holds id (r ∷ rs) (suc place) there = by (nat_eq id r.id) (stands-holds
 -- ---- replaced
 
 module _ (id : ℕ) (bytes : List ℕ) where
-  rewritten-same : (r : Stored) → r.id ≡ id → rewritten id bytes r ≡ record { id = id; bytes = bytes }
-  rewritten-same r same = ap (λ b. if b then record { id = r.id; bytes = bytes } else r) (same_test r.id id same) ∙ ap (λ (k : ℕ). record { id = k; bytes = bytes }) same
+  record_after_put-same : (r : Stored) → r.id ≡ id → record_after_put id bytes r ≡ record { id = id; bytes = bytes }
+  record_after_put-same r same = ap (λ b. if b then record { id = r.id; bytes = bytes } else r) (same_test r.id id same) ∙ ap (λ (k : ℕ). record { id = k; bytes = bytes }) same
 
-  rewritten-other : (r : Stored) → nat_eq r.id id ≡ false → rewritten id bytes r ≡ r
-  rewritten-other r other = ap (λ b. if b then record { id = r.id; bytes = bytes } else r) other
+  record_after_put-other : (r : Stored) → nat_eq r.id id ≡ false → record_after_put id bytes r ≡ r
+  record_after_put-other r other = ap (λ b. if b then record { id = r.id; bytes = bytes } else r) other
 
-  rewritten-none : (k : ℕ) (rs : List Stored) → k ≡ id → AllByRecursion (λ y. nat_eq k y ≡ false) (ids rs) → map (rewritten id bytes) rs ≡ rs
-  rewritten-none k [] is apart = refl
-  rewritten-none k (r ∷ rs) is apart = λ i. rewritten-other r (other_test k r.id id is apart.0) i ∷ rewritten-none k rs is apart.1 i
+  record_after_put-none : (k : ℕ) (rs : List Stored) → k ≡ id → AllByRecursion (λ y. nat_eq k y ≡ false) (ids rs) → map (record_after_put id bytes) rs ≡ rs
+  record_after_put-none k [] is apart = refl
+  record_after_put-none k (r ∷ rs) is apart = λ i. record_after_put-other r (other_test k r.id id is apart.0) i ∷ record_after_put-none k rs is apart.1 i
 
-  pub rewritten-at : (rs : List Stored) (place : ℕ) → IsDistinct nat_eq (ids rs) → StandsAt id rs place → set rs place (record { id = id; bytes = bytes }) ≡ map (rewritten id bytes) rs
-  rewritten-at [] place distinct there = absurd (omega (arith, there.within))
-  rewritten-at (r ∷ rs) zero distinct there =
-      λ i. sym (rewritten-same r there.same) i ∷ sym (rewritten-none r.id rs there.same (IsDistinct-head nat_eq r.id (ids rs) distinct)) i
-  rewritten-at (r ∷ rs) (suc place) distinct there =
+  pub record_after_put-at : (rs : List Stored) (place : ℕ) → IsDistinct nat_eq (ids rs) → StandsAt id rs place → set rs place (record { id = id; bytes = bytes }) ≡ map (record_after_put id bytes) rs
+  record_after_put-at [] place distinct there = absurd (omega (arith, there.within))
+  record_after_put-at (r ∷ rs) zero distinct there =
+      λ i. sym (record_after_put-same r there.same) i ∷ sym (record_after_put-none r.id rs there.same (IsDistinct-head nat_eq r.id (ids rs) distinct)) i
+  record_after_put-at (r ∷ rs) (suc place) distinct there =
       let later : StandsAt id rs place = record { within = omega (arith, there.within); same = there.same } in
       let other = apart_at r.id id rs place (IsDistinct-head nat_eq r.id (ids rs) distinct) later in
-      λ i. sym (rewritten-other r other) i ∷ rewritten-at rs place (IsDistinct-tail nat_eq r.id (ids rs) distinct) later i
+      λ i. sym (record_after_put-other r other) i ∷ record_after_put-at rs place (IsDistinct-tail nat_eq r.id (ids rs) distinct) later i
 
-  rewritten-id : (r : Stored) → (rewritten id bytes r).id ≡ r.id
-  rewritten-id r = by (nat_eq r.id id)
+  record_after_put-id : (r : Stored) → (record_after_put id bytes r).id ≡ r.id
+  record_after_put-id r = by (nat_eq r.id id)
     where
       by : (b : Bool) → (if b then record { id = r.id; bytes = bytes } else r).id ≡ r.id
       by true = refl
       by false = refl
 
-  rewritten-ids : (rs : List Stored) → ids (map (rewritten id bytes) rs) ≡ ids rs
-  rewritten-ids [] = refl
-  rewritten-ids (r ∷ rs) = λ i. rewritten-id r i ∷ rewritten-ids rs i
+  record_after_put-ids : (rs : List Stored) → ids (map (record_after_put id bytes) rs) ≡ ids rs
+  record_after_put-ids [] = refl
+  record_after_put-ids (r ∷ rs) = λ i. record_after_put-id r i ∷ record_after_put-ids rs i
 
-  rewritten-fits : (r : Stored) → length bytes ≤ most_bytes → Fits r → Fits (rewritten id bytes r)
-  rewritten-fits r short fits = by (nat_eq r.id id)
+  record_after_put-fits : (r : Stored) → length bytes ≤ most_bytes → AreBytes bytes → Fits r → Fits (record_after_put id bytes r)
+  record_after_put-fits r short are fits = by (nat_eq r.id id)
     where
       by : (b : Bool) → Fits (if b then record { id = r.id; bytes = bytes } else r)
-      by true = record { above = fits.above; below = fits.below; bytes = short }
+      by true = record { above = fits.above; below = fits.below; size = short; bytes = are }
       by false = fits
 
-  rewritten-each : (rs : List Stored) → length bytes ≤ most_bytes → AllByRecursion Fits rs → AllByRecursion Fits (map (rewritten id bytes) rs)
-  rewritten-each [] short each = tt
-  rewritten-each (r ∷ rs) short each = (rewritten-fits r short each.0, rewritten-each rs short each.1)
+  record_after_put-each : (rs : List Stored) → length bytes ≤ most_bytes → AreBytes bytes → AllByRecursion Fits rs → AllByRecursion Fits (map (record_after_put id bytes) rs)
+  record_after_put-each [] short are each = tt
+  record_after_put-each (r ∷ rs) short are each = (record_after_put-fits r short are each.0, record_after_put-each rs short are each.1)
 
-  pub IsStore-rewritten : (rs : List Stored) → length bytes ≤ most_bytes → IsStore rs → IsStore (map (rewritten id bytes) rs)
-  IsStore-rewritten rs short kept = record {
-    count = omega (arith, kept.count, length-rewritten id bytes rs);
-    each = rewritten-each rs short kept.each;
-    distinct = subst (IsDistinct nat_eq) (sym (rewritten-ids rs)) kept.distinct;
+  pub IsStore-record_after_put : (rs : List Stored) → length bytes ≤ most_bytes → AreBytes bytes → IsStore rs → IsStore (map (record_after_put id bytes) rs)
+  IsStore-record_after_put rs short are kept = record {
+    count = omega (arith, kept.count, length-record_after_put id bytes rs);
+    each = record_after_put-each rs short are kept.each;
+    distinct = subst (IsDistinct nat_eq) (sym (record_after_put-ids rs)) kept.distinct;
   }
 
-  pub with_record-there : (rs : List Stored) → holds id rs ≡ true → with_record id bytes rs ≡ map (rewritten id bytes) rs
-  with_record-there rs there = ap (λ b. if b then map (rewritten id bytes) rs else rs ++ record { id = id; bytes = bytes } ∷ []) there
+  pub with_record-there : (rs : List Stored) → holds id rs ≡ true → with_record id bytes rs ≡ map (record_after_put id bytes) rs
+  with_record-there rs there = ap (λ b. if b then map (record_after_put id bytes) rs else rs ++ record { id = id; bytes = bytes } ∷ []) there
 
   pub with_record-new : (rs : List Stored) → holds id rs ≡ false → with_record id bytes rs ≡ rs ++ record { id = id; bytes = bytes } ∷ []
-  with_record-new rs new = ap (λ b. if b then map (rewritten id bytes) rs else rs ++ record { id = id; bytes = bytes } ∷ []) new
+  with_record-new rs new = ap (λ b. if b then map (record_after_put id bytes) rs else rs ++ record { id = id; bytes = bytes } ∷ []) new
 
 -- ---- one record more
 
@@ -221,17 +222,17 @@ without-twice id (r ∷ rs) = by (nat_eq r.id id) refl (without-twice id rs)
 -- ---- what a put leaves
 
 module _ (id : ℕ) (bytes : List ℕ) where
-  found-rewritten : (rs : List Stored) → holds id rs ≡ true → bytes_under id (map (rewritten id bytes) rs) ≡ Some bytes
-  found-rewritten [] there = absurd (true≢false (sym there))
-  found-rewritten (r ∷ rs) there = by (nat_eq r.id id) refl (found-rewritten rs)
+  found-record_after_put : (rs : List Stored) → holds id rs ≡ true → bytes_under id (map (record_after_put id bytes) rs) ≡ Some bytes
+  found-record_after_put [] there = absurd (true≢false (sym there))
+  found-record_after_put (r ∷ rs) there = by (nat_eq r.id id) refl (found-record_after_put rs)
     where
       later : nat_eq r.id id ≡ false → holds id rs ≡ true
       later other = sym (ap (λ b. b || holds id rs) (flip_test id r.id ∙ other)) ∙ there
 
-      by : (b : Bool) → nat_eq r.id id ≡ b → (holds id rs ≡ true → bytes_under id (map (rewritten id bytes) rs) ≡ Some bytes)
-          → bytes_under id ((if b then record { id = r.id; bytes = bytes } else r) ∷ map (rewritten id bytes) rs) ≡ Some bytes
-      by true is ih = ap (λ c. if c then Some bytes else bytes_under id (map (rewritten id bytes) rs)) is
-      by false is ih = ap (λ c. if c then Some r.bytes else bytes_under id (map (rewritten id bytes) rs)) is ∙ ih (later is)
+      by : (b : Bool) → nat_eq r.id id ≡ b → (holds id rs ≡ true → bytes_under id (map (record_after_put id bytes) rs) ≡ Some bytes)
+          → bytes_under id ((if b then record { id = r.id; bytes = bytes } else r) ∷ map (record_after_put id bytes) rs) ≡ Some bytes
+      by true is ih = ap (λ c. if c then Some bytes else bytes_under id (map (record_after_put id bytes) rs)) is
+      by false is ih = ap (λ c. if c then Some r.bytes else bytes_under id (map (record_after_put id bytes) rs)) is ∙ ih (later is)
 
   found-pushed : (rs : List Stored) → holds id rs ≡ false → bytes_under id (rs ++ record { id = id; bytes = bytes } ∷ []) ≡ Some bytes
   found-pushed [] new = ap (λ c. if c then Some bytes else None) (same_test id id refl)
@@ -246,17 +247,17 @@ module _ (id : ℕ) (bytes : List ℕ) where
   pub found-with_record : (rs : List Stored) → bytes_under id (with_record id bytes rs) ≡ Some bytes
   found-with_record rs = by (holds id rs) refl
     where
-      by : (b : Bool) → holds id rs ≡ b → bytes_under id (if b then map (rewritten id bytes) rs else rs ++ record { id = id; bytes = bytes } ∷ []) ≡ Some bytes
-      by true is = found-rewritten rs is
+      by : (b : Bool) → holds id rs ≡ b → bytes_under id (if b then map (record_after_put id bytes) rs else rs ++ record { id = id; bytes = bytes } ∷ []) ≡ Some bytes
+      by true is = found-record_after_put rs is
       by false is = found-pushed rs is
 
-  others-rewritten : (rs : List Stored) → without id (map (rewritten id bytes) rs) ≡ without id rs
-  others-rewritten [] = refl
-  others-rewritten (r ∷ rs) = by (nat_eq r.id id) refl (others-rewritten rs)
+  others-record_after_put : (rs : List Stored) → without id (map (record_after_put id bytes) rs) ≡ without id rs
+  others-record_after_put [] = refl
+  others-record_after_put (r ∷ rs) = by (nat_eq r.id id) refl (others-record_after_put rs)
     where
-      by : (b : Bool) → nat_eq r.id id ≡ b → without id (map (rewritten id bytes) rs) ≡ without id rs → without id ((if b then record { id = r.id; bytes = bytes } else r) ∷ map (rewritten id bytes) rs) ≡ picked id b r (without id rs)
-      by true is ih = ap (λ c. picked id c (record { id = r.id; bytes = bytes }) (without id (map (rewritten id bytes) rs))) is ∙ ih
-      by false is ih = ap (λ c. picked id c r (without id (map (rewritten id bytes) rs))) is ∙ ap (λ (qs : List Stored). r ∷ qs) ih
+      by : (b : Bool) → nat_eq r.id id ≡ b → without id (map (record_after_put id bytes) rs) ≡ without id rs → without id ((if b then record { id = r.id; bytes = bytes } else r) ∷ map (record_after_put id bytes) rs) ≡ picked id b r (without id rs)
+      by true is ih = ap (λ c. picked id c (record { id = r.id; bytes = bytes }) (without id (map (record_after_put id bytes) rs))) is ∙ ih
+      by false is ih = ap (λ c. picked id c r (without id (map (record_after_put id bytes) rs))) is ∙ ap (λ (qs : List Stored). r ∷ qs) ih
 
   others-pushed : (rs : List Stored) → without id (rs ++ record { id = id; bytes = bytes } ∷ []) ≡ without id rs
   others-pushed [] = ap (λ c. picked id c (record { id = id; bytes = bytes }) []) (same_test id id refl)
@@ -265,8 +266,8 @@ module _ (id : ℕ) (bytes : List ℕ) where
   pub others-with_record : (rs : List Stored) → without id (with_record id bytes rs) ≡ without id rs
   others-with_record rs = by (holds id rs)
     where
-      by : (b : Bool) → without id (if b then map (rewritten id bytes) rs else rs ++ record { id = id; bytes = bytes } ∷ []) ≡ without id rs
-      by true = others-rewritten rs
+      by : (b : Bool) → without id (if b then map (record_after_put id bytes) rs else rs ++ record { id = id; bytes = bytes } ∷ []) ≡ without id rs
+      by true = others-record_after_put rs
       by false = others-pushed rs
 
 -- ---- the fields of a store
@@ -295,15 +296,15 @@ module _ (records : List Record) (now : List Stored) (is : views records ≡ now
   now_kept : IsStore now
   now_kept = subst IsStore is kept
 
-  set_is : (r : Record) (place : ℕ) → StandsAt r.id now place → views (set records place r) ≡ map (rewritten r.id r.bytes.items) now
+  set_is : (r : Record) (place : ℕ) → StandsAt r.id now place → views (set records place r) ≡ map (record_after_put r.id r.bytes.items) now
   set_is r place there =
-      map-set view records place r ∙ ap (λ (rs : List Stored). set rs place (view r)) is ∙ rewritten-at r.id r.bytes.items now place now_kept.distinct there
+      map-set view records place r ∙ ap (λ (rs : List Stored). set rs place (view r)) is ∙ record_after_put-at r.id r.bytes.items now place now_kept.distinct there
 
   pub views-set : (r : Record) (place : ℕ) → StandsAt r.id now place → views (set records place r) ≡ with_record r.id r.bytes.items now
   views-set r place there = set_is r place there ∙ sym (with_record-there r.id r.bytes.items now (stands-holds r.id now place there))
 
-  pub IsStore-set : (r : Record) (place : ℕ) → StandsAt r.id now place → length r.bytes.items ≤ most_bytes → IsStore (views (set records place r))
-  IsStore-set r place there short = subst IsStore (sym (set_is r place there)) (IsStore-rewritten r.id r.bytes.items now short now_kept)
+  pub IsStore-set : (r : Record) (place : ℕ) → StandsAt r.id now place → length r.bytes.items ≤ most_bytes → AreBytes r.bytes.items → IsStore (views (set records place r))
+  IsStore-set r place there short are = subst IsStore (sym (set_is r place there)) (IsStore-record_after_put r.id r.bytes.items now short are now_kept)
 
   push_is : (r : Record) → views (records ++ r ∷ []) ≡ now ++ view r ∷ []
   push_is r = map-append view records (r ∷ []) ∙ ap (λ (rs : List Stored). rs ++ view r ∷ []) is
@@ -340,8 +341,32 @@ under-at id (r ∷ rs) (suc place) bytes distinct there is =
 
 pub short-at : (rs : List Stored) (place : ℕ) (bytes : List ℕ) → AllByRecursion Fits rs → slice_get (contents rs) place ≡ Some bytes → length bytes ≤ most_bytes
 short-at [] place bytes each is = absurd cc
-short-at (r ∷ rs) zero bytes each is = let same : r.bytes ≡ bytes = cc in subst (λ (bs : List ℕ). length bs ≤ most_bytes) same each.0.bytes
+short-at (r ∷ rs) zero bytes each is = let same : r.bytes ≡ bytes = cc in subst (λ (bs : List ℕ). length bs ≤ most_bytes) same each.0.size
 short-at (r ∷ rs) (suc place) bytes each is = short-at rs place bytes each.1 is
+
+-- what is found under an identifier is a store's
+pub bytes_at : (id : ℕ) (rs : List Stored) (bytes : List ℕ) → AllByRecursion Fits rs → bytes_under id rs ≡ Some bytes → AreBytes bytes
+bytes_at id [] bytes each is = absurd cc
+bytes_at id (r ∷ rs) bytes each is = by (nat_eq r.id id) is (bytes_at id rs bytes each.1)
+  where
+    by : (b : Bool) → (if b then Some r.bytes else bytes_under id rs) ≡ Some bytes → (bytes_under id rs ≡ Some bytes → AreBytes bytes) → AreBytes bytes
+    by true here ih = let same : r.bytes ≡ bytes = cc in subst AreBytes same each.0.bytes
+    by false later ih = ih later
+
+-- what a put gives is a store
+pub IsStore-put : (id : ℕ) (bytes : List ℕ) (rs : List Stored) → IsStore rs → Fits (record { id = id; bytes = bytes }) → is_full_for id rs ≡ false → IsStore (with_record id bytes rs)
+IsStore-put id bytes rs kept fits room = by (holds id rs) refl
+  where
+    free : holds id rs ≡ false → length rs < most_records
+    free new = with_test (nat_eq (length rs) most_records) refl
+      where
+        with_test : (b : Bool) → nat_eq (length rs) most_records ≡ b → length rs < most_records
+        with_test true is = absurd (true≢false (sym (rw (is, new) refl) ∙ room))
+        with_test false is = let other : nat_eq (length rs) most_records ≡ false = is in grind (arith, nat_tests, kept.count)
+
+    by : (b : Bool) → holds id rs ≡ b → IsStore (if b then map (record_after_put id bytes) rs else rs ++ record { id = id; bytes = bytes } ∷ [])
+    by true there = IsStore-record_after_put id bytes rs fits.size fits.bytes kept
+    by false new = IsStore-push rs (record { id = id; bytes = bytes }) kept fits (free new) new
 
 pub found-at : (id : ℕ) (rs : List Stored) (place : ℕ) (bytes : List ℕ) → IsStore rs → StandsAt id rs place → slice_get (contents rs) place ≡ Some bytes → Finds id rs (Some bytes)
 found-at id rs place bytes kept there is = (under-at id rs place bytes kept.distinct there is, short-at rs place bytes kept.each is)
