@@ -1,8 +1,10 @@
 -- The first entries of bytes, from a place on.
-use Rattle.std.proofs.Common.{◌≡◌, ℕ, zero, suc, ◌+◌, ◌-◌, ◌<◌, ◌∙◌, true, false, List, [], ◌∷◌, length, get_or, refl, sym, ap, subst, arith, ◌||◌}
+use Rattle.std.proofs.Common.{◌≡◌, ℕ, zero, suc, ◌+◌, ◌-◌, ◌<◌, ◌∙◌, true, false, List, [], ◌∷◌, length, get_or, refl, sym, ap, subst, arith, ◌||◌, not, Result, Ok, Err}
+use Rattle.std.specs.Result.{is_ok, is_err, IsOk}
+use Rattle.cper_sections.specs.Sections.{section_of}
 use Rattle.std.specs.List.{list_any}
 use Rattle.std.proofs.lemmas.List.Folds.{list_any_at}
-use Rattle.apei_sources.specs.Entries.{has_entry, is_refused, first_of, rest_of}
+use Rattle.apei_sources.specs.Entries.{has_entry, is_refused, first_of, rest_of, entry_guid, entry_bytes}
 use Rattle.apei_sources.specs.Cut.{cut, AreInside}
 
 cut_suc : (more left : ℕ) (bytes : List ℕ) → more ≡ suc left → cut more bytes ≡ first_of bytes ∷ cut left (rest_of bytes)
@@ -78,3 +80,18 @@ module _ (count passed i : ℕ) (bytes rest : List ℕ) (within : i < count)
       ∙ ap (λ (xs : List (List ℕ)). get_or xs (i - passed) [])
       (sym (cut_suc (count - passed) (count - (passed + 1)) rest (omega arith)))
       ∙ left
+
+-- what can be read is not refused
+pub not_is_ok : {X Y : Type 0} (read : Result X Y) → not (is_ok read) ≡ is_err read
+not_is_ok (Ok x) = refl
+not_is_ok (Err y) = refl
+
+not_err : {X Y : Type 0} (read : Result X Y) → is_err read ≡ false → is_ok read ≡ true
+not_err (Ok x) is = refl
+not_err (Err y) is = cc
+
+-- so the section of an entry of a block can be read
+pub section_read : (count i : ℕ) (bytes : List ℕ) → list_any is_refused (cut count bytes) ≡ false → i < count
+    → IsOk (section_of (entry_guid (get_or (cut count bytes) i [])) (entry_bytes (get_or (cut count bytes) i [])))
+unfolding is_refused
+section_read count i bytes none below = not_err _ (readable_at count i bytes none below)

@@ -6,7 +6,7 @@ use Rattle.std.proofs.lemmas.List.{length-take, length-drop, nil_from_length, ta
 use Rattle.apei_sources.specs.Entries.{header_length, entry_length, first_of, rest_of, has_entry, entries_in, entries_of}
 use Rattle.apei_sources.specs.Laid.{IsEntry}
 use Rattle.apei_sources.specs.Cut.{cut, AreInside}
-use Rattle.apei_sources.proofs.FrontLemmas.{number_at-append, number_at-take}
+use Rattle.ras_base.specs.LittleEndianLemmas.{number_at-append, number_at-take}
 
 -- the entries of bytes by those behind the first
 abbrev pub with_first : List ℕ → Option (List (List ℕ)) → Option (List (List ℕ))
@@ -91,9 +91,8 @@ pub record Cuts (bytes : List ℕ) (entries : List (List ℕ)) : Type 0 where
 first_length : (bytes : List ℕ) → Fits bytes → entry_length (first_of bytes) ≡ entry_length bytes
 first_length bytes f =
     rw (
-      number_at-take 20 2 (entry_length bytes) bytes (omega (arith, f)) f.inside,
-      number_at-take 24 4
-          (entry_length bytes) bytes (omega (arith, f)) f.inside,
+      number_at-take (entry_length bytes) 20 2 bytes (omega (arith, f)),
+      number_at-take (entry_length bytes) 24 4 bytes (omega (arith, f)),
     ) refl
 
 pub first_is : (bytes : List ℕ) → has_entry bytes ≡ true → IsEntry (first_of bytes)

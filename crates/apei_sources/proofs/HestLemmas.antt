@@ -2,10 +2,11 @@
 use Rattle.std.proofs.Common.{◌≡◌, ℕ, zero, suc, ◌+◌, ◌-◌, ◌<◌, ◌∙◌, List, [], ◌∷◌, ◌++◌, drop, None, Result, Ok, Err, refl, sym, ap, arith}
 use Rattle.apei_sources.specs.declared.refusals.TableRefused.{TableRefused}
 use Rattle.apei_sources.specs.declared.refusals.TableRefused.TheVariants.{Short, Signature, Length, Sum, SourceType, SourceOut, RepeatedId, NoMemory}
-use Rattle.apei_sources.specs.Refusals.{◌>>=◌, Answers}
+use Rattle.ras_base.specs.Chaining.{◌>>=◌}
+use Rattle.apei_sources.specs.Refusals.{Answers}
 use Rattle.apei_sources.specs.Steps.{Fails}
 use Rattle.apei_sources.specs.Sources.{source_of, size_at}
-use Rattle.apei_sources.specs.Hest.{Sources, type_of, followed, sources_in, count_of, hest_table, hest_of}
+use Rattle.apei_sources.specs.Hest.{Sources, type_with_id, followed, sources_in, source_count, hest_table, hest_of}
 
 -- an answer that is the refusal itself
 pub fails : {Y : Type 0} (why : TableRefused) (answer : Result Y TableRefused) → answer ≡ Err why → Fails why answer
@@ -30,7 +31,7 @@ fails_so SourceOut answer later so is = so is
 fails_so RepeatedId answer later so is = so is
 fails_so NoMemory answer later so is = tt
 
-pub followed_new : (before : Sources) (id kind : ℕ) → type_of id before ≡ None
+pub followed_new : (before : Sources) (id kind : ℕ) → type_with_id id before ≡ None
     → followed before (id, kind) ≡ Ok (before ++ (id, kind) ∷ [])
 followed_new before id kind new = rw new refl
 
@@ -98,7 +99,7 @@ unfolding hest_of
 hest_refused bytes why is = rw is refl
 
 pub hest_read : (bytes table : List ℕ) → hest_table bytes ≡ Ok table
-    → hest_of bytes ≡ sources_in (count_of table) [] (drop 40 table)
+    → hest_of bytes ≡ sources_in (source_count table) [] (drop 40 table)
 unfolding hest_of
 hest_read bytes table is = rw is refl
 
@@ -112,7 +113,7 @@ answers SourceOut answer is = is
 answers RepeatedId answer is = is
 answers NoMemory answer is = tt
 
-pub hest_walked : (bytes table rest : List ℕ) (count : ℕ) → hest_table bytes ≡ Ok table → count ≡ count_of table
+pub hest_walked : (bytes table rest : List ℕ) (count : ℕ) → hest_table bytes ≡ Ok table → count ≡ source_count table
     → rest ≡ drop 40 table
     → hest_of bytes ≡ sources_in count [] rest
 hest_walked bytes table rest count is counted behind =

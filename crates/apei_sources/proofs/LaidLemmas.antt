@@ -9,17 +9,17 @@ use Rattle.std.proofs.lemmas.Map.Made.{is_some-lookup}
 use Rattle.std.proofs.lemmas.Map.Views.{Contains-keys_from_lookup, IsSome-lookup_from_Contains}
 use Rattle.apei_sources.specs.declared.refusals.TableRefused.{TableRefused}
 use Rattle.apei_sources.specs.declared.refusals.TableRefused.TheVariants.{Short, Signature, Length, Sum, SourceType, SourceOut, RepeatedId, NoMemory}
-use Rattle.apei_sources.specs.Sources.{kind_of, id_of, source_of, size_at}
-use Rattle.apei_sources.specs.Hest.{Sources, type_of, followed, sources_in}
+use Rattle.apei_sources.specs.Sources.{source_type, source_id, source_of, size_at}
+use Rattle.apei_sources.specs.Hest.{Sources, type_with_id, followed, sources_in}
 use Rattle.apei_sources.specs.Laid.{IsSource, IsNoSource}
 use Rattle.apei_sources.proofs.LookupLemmas.{nat_exact}
 use Rattle.apei_sources.proofs.SourceLemmas.{Begins, Sized, sized, size_at-append, source_of-append, out_type, out_out}
 use Rattle.apei_sources.proofs.HestLemmas.{sources_in_more, sources_in_refused, sources_in_repeated, sources_in_none}
 
 -- the identifiers of sources
-pub keys-told : (spans : List (List ℕ)) → keys_of (map source_of spans) ≡ map id_of spans
+pub keys-told : (spans : List (List ℕ)) → keys_of (map source_of spans) ≡ map source_id spans
 keys-told [] = refl
-keys-told (span ∷ spans) = ap (λ ids. id_of span ∷ ids) (keys-told spans)
+keys-told (span ∷ spans) = ap (λ ids. source_id span ∷ ids) (keys-told spans)
 
 -- What the walk along so many sources behind others answers, in words.
 pub record Read (count : ℕ) (before : Sources) (bytes : List ℕ) (all : Sources) : Type 0 where
@@ -109,7 +109,7 @@ module _ (count : ℕ) (before : Sources) (bytes : List ℕ) (size : ℕ) (begin
         (told_more broken.spans) broken.refused;
   }
 
-  pub repeated : is_some (type_of (id_of bytes) before) ≡ true → IsDistinct nat_eq (keys_of before)
+  pub repeated : is_some (type_with_id (source_id bytes) before) ≡ true → IsDistinct nat_eq (keys_of before)
       → Broken (suc count) before bytes RepeatedId
   repeated there once =
       ends count before bytes RepeatedId once (
@@ -118,11 +118,11 @@ module _ (count : ℕ) (before : Sources) (bytes : List ℕ) (size : ℕ) (begin
         sym split,
         begins.source,
         subst (Contains (keys_of before)) (ap (λ source. source.0) (sym same))
-            (Contains-keys_from_lookup nat_exact (id_of bytes) before there),
+            (Contains-keys_from_lookup nat_exact (source_id bytes) before there),
       )
 
 -- a new identifier
-once-push : (before : Sources) (id kind : ℕ) → is_some (type_of id before) ≡ false
+once-push : (before : Sources) (id kind : ℕ) → is_some (type_with_id id before) ≡ false
     → IsDistinct nat_eq (keys_of before) → IsDistinct nat_eq (keys_of (before ++ (id, kind) ∷ []))
 once-push before id kind new once =
     subst (IsDistinct nat_eq) (sym (map-append (λ source. source.0) before ((id, kind) ∷ [])))
@@ -152,7 +152,7 @@ walked (suc count) before bytes once =
         → Walked count (before ++ source_of bytes ∷ []) xs (sources_in count (before ++ source_of bytes ∷ []) xs)
 
     added : (size : ℕ) → size_at bytes ≡ Ok size → Begins bytes size → Rest → (b : Bool)
-        → is_some (type_of (id_of bytes) before) ≡ b → Goal
+        → is_some (type_with_id (source_id bytes) before) ≡ b → Goal
     added size is begins rest true there =
         subst (Walked (suc count) before bytes)
         (sym (sources_in_repeated count before bytes size RepeatedId is (rw there refl)))
@@ -161,13 +161,13 @@ walked (suc count) before bytes once =
         subst (Walked (suc count) before bytes)
         (sym (sources_in_more count before (before ++ source_of bytes ∷ []) bytes size is (rw new refl)))
         (goes_on count before bytes size begins _
-        (rest (drop size bytes) (once-push before (id_of bytes) (kind_of bytes) new once)))
+        (rest (drop size bytes) (once-push before (source_id bytes) (source_type bytes) new once)))
 
     by : (read : Result ℕ TableRefused) → size_at bytes ≡ read → Sized bytes read → Rest → Goal
     by (Err why) is out rest =
         subst (Walked (suc count) before bytes) (sym (sources_in_refused count before bytes why is))
         (ends count before bytes why once (refused_so (keys_of before) bytes why out))
-    by (Ok size) is begins rest = added size is begins rest (is_some (type_of (id_of bytes) before)) refl
+    by (Ok size) is begins rest = added size is begins rest (is_some (type_with_id (source_id bytes) before)) refl
 
 -- and where the words hold, the walk answers so
 all_at : (P : ℕ → Type 0) (xs : List ℕ) (y : ℕ) (ys : List ℕ) → AllByRecursion P (xs ++ y ∷ ys) → P y
@@ -183,7 +183,7 @@ apart (x ∷ xs) y ys once =
     rw turned (apart xs y ys once.1)
 
 new_id : (before : Sources) (source : ℕ × ℕ) (behind : Sources)
-    → IsDistinct nat_eq (keys_of (before ++ source ∷ behind)) → is_some (type_of source.0 before) ≡ false
+    → IsDistinct nat_eq (keys_of (before ++ source ∷ behind)) → is_some (type_with_id source.0 before) ≡ false
 new_id before source behind once =
     is_some-lookup (nat_eq source.0) before
     ∙ apart (keys_of before) source.0 (keys_of behind)
@@ -200,7 +200,7 @@ walks [] more before rest each once = λ i. sources_in (zero_more i) (sym (appen
 walks (span ∷ spans) more before rest each once =
     let source : source_of (span ++ (concat spans ++ rest)) ≡ source_of span =
     source_of-append span (concat spans ++ rest) each.0 in
-    let new : is_some (type_of (id_of span) before) ≡ false = new_id before (source_of span) (map source_of spans) once in
+    let new : is_some (type_with_id (source_id span) before) ≡ false = new_id before (source_of span) (map source_of spans) once in
     let added : followed before (source_of span) ≡ Ok (before ++ source_of span ∷ []) = rw new refl in
     let told : (before ++ source_of span ∷ []) ++ map source_of spans ≡ before ++ map source_of (span ∷ spans) =
     append_assoc before (source_of span ∷ []) (map source_of spans) in
@@ -224,8 +224,8 @@ stops left before bytes RepeatedId is =
     let whole : bytes ≡ is.0 ++ is.1 = is.2 in
     let size : size_at bytes ≡ Ok (length is.0) = ap (λ xs. size_at xs) whole ∙ size_at-append is.0 is.1 is.3 in
     let source : source_of bytes ≡ source_of is.0 = ap (λ xs. source_of xs) whole ∙ source_of-append is.0 is.1 is.3 in
-    let there : is_some (type_of (id_of is.0) before) ≡ true =
-    IsSome-lookup_from_Contains nat_eq_equiv (id_of is.0) before is.4 in
+    let there : is_some (type_with_id (source_id is.0) before) ≡ true =
+    IsSome-lookup_from_Contains nat_eq_equiv (source_id is.0) before is.4 in
     let refused : followed before (source_of is.0) ≡ Err RepeatedId = rw there refl in
     sources_in_repeated left before bytes (length is.0) RepeatedId size (ap (followed before) source ∙ refused)
 stops left before bytes Short is = absurd is

@@ -1,4 +1,3 @@
-pub mod FrontLemmas
 pub mod EntryLemmas
 pub mod CutLemmas
 pub mod HestLemmas

@@ -5,14 +5,14 @@ use Rattle.std.specs.List.{IsDistinct}
 use Rattle.std.specs.Map.{keys_of, lookup}
 use Rattle.std.proofs.lemmas.Bool.Decides.{nat_tests}
 use Rattle.std.proofs.lemmas.Map.Views.{Contains-from_lookup, lookup-from_Contains, Contains-keys_from_lookup, IsSome-lookup_from_Contains}
-use Rattle.apei_sources.specs.Hest.{Sources, type_of}
+use Rattle.apei_sources.specs.Hest.{Sources, type_with_id}
 
 pub nat_exact : (x y : ℕ) → nat_eq x y ≡ true → x ≡ y
 nat_exact x y is = grind (arith, nat_tests)
 
 -- its type is found exactly where the source is there
 pub one_of : (sources : Sources) (id kind : ℕ) (found : Option ℕ) → IsDistinct nat_eq (keys_of sources)
-    → found ≡ type_of id sources
+    → found ≡ type_with_id id sources
     → (found ≡ Some kind) ↔ Contains sources (id, kind)
 one_of sources id kind found once is = (
   λ there. Contains-from_lookup nat_exact id kind sources (sym is ∙ there),
@@ -21,7 +21,7 @@ one_of sources id kind found once is = (
 )
 
 -- and none exactly where no source has the identifier
-pub none_of : (sources : Sources) (id : ℕ) (found : Option ℕ) → found ≡ type_of id sources
+pub none_of : (sources : Sources) (id : ℕ) (found : Option ℕ) → found ≡ type_with_id id sources
     → IsNone found ↔ (Contains (keys_of sources) id → ⊥)
 none_of sources id None is = (
   λ none there. by (lookup (nat_eq id) sources) (sym is)

@@ -6,9 +6,9 @@ use Rattle.std.proofs.lemmas.List.{length-take, take-append-drop, get_or_append_
 use Rattle.apei_sources.specs.declared.sources.Layout.{Layout}
 use Rattle.apei_sources.specs.declared.refusals.TableRefused.{TableRefused}
 use Rattle.apei_sources.specs.declared.refusals.TableRefused.TheVariants.{SourceType, SourceOut}
-use Rattle.apei_sources.specs.Sources.{layouts, kind_of, id_of, source_of, layout_of, banks_of, size_of, size_by, size_at}
+use Rattle.apei_sources.specs.Sources.{layouts, source_type, source_id, source_of, layout_of, banks_of, size_of, size_by, size_at}
 use Rattle.apei_sources.specs.Laid.{IsSource}
-use Rattle.apei_sources.proofs.FrontLemmas.{number_at-append}
+use Rattle.ras_base.specs.LittleEndianLemmas.{number_at-append}
 
 -- the count of banks stands in the fixed bytes, behind the identifier
 abbrev pub IsLayout : Option Layout → Type 0
@@ -42,7 +42,7 @@ banks_of-append (Some place) fixed span rest within long = get_or_append_left sp
 -- a source, and what follows it
 module _ (span rest : List ℕ) (source : IsSource span) where
   part : (4 ≤ source.0.fixed) × IfSome source.0.banks_at (λ place. place < source.0.fixed)
-  part = layout_is (kind_of span) source.0 source.1
+  part = layout_is (source_type span) source.0 source.1
 
   long : source.0.fixed ≤ length span
   long = omega (arith, source.2)
@@ -50,10 +50,10 @@ module _ (span rest : List ℕ) (source : IsSource span) where
   pub source_long : 4 ≤ length span
   source_long = omega (arith, source.2, part.0)
 
-  same_kind : kind_of (span ++ rest) ≡ kind_of span
+  same_kind : source_type (span ++ rest) ≡ source_type span
   same_kind = number_at-append 0 2 span rest (omega (arith, source_long))
 
-  same_id : id_of (span ++ rest) ≡ id_of span
+  same_id : source_id (span ++ rest) ≡ source_id span
   same_id = number_at-append 2 2 span rest (omega (arith, source_long))
 
   pub source_of-append : source_of (span ++ rest) ≡ source_of span
@@ -68,7 +68,7 @@ module _ (span rest : List ℕ) (source : IsSource span) where
   unfolding size_at
   size_at-append =
       let more : nat_lt (length (span ++ rest)) 4 ≡ false = grind (arith, length-append span rest, source_long) in
-      let known : layout_of (kind_of (span ++ rest)) ≡ Some source.0 = ap (λ kind. layout_of kind) same_kind ∙ source.1 in
+      let known : layout_of (source_type (span ++ rest)) ≡ Some source.0 = ap (λ kind. layout_of kind) same_kind ∙ source.1 in
       let fits : nat_lt (length (span ++ rest)) (size_of source.0 (span ++ rest)) ≡ false =
       grind (arith, length-append span rest, same_size) in
       rw (more, known, fits, same_size) refl
@@ -80,28 +80,28 @@ pub record Begins (bytes : List ℕ) (size : ℕ) : Type 0 where
 
 -- why none is
 abbrev pub IsOut : List ℕ → TableRefused → Type 0
-IsOut bytes SourceType = (4 ≤ length bytes) × (layout_of (kind_of bytes) ≡ None)
+IsOut bytes SourceType = (4 ≤ length bytes) × (layout_of (source_type bytes) ≡ None)
 IsOut bytes SourceOut =
     (length bytes < 4)
-    ⊎ ((layout : Layout) × (layout_of (kind_of bytes) ≡ Some layout) × (length bytes < size_of layout bytes))
+    ⊎ ((layout : Layout) × (layout_of (source_type bytes) ≡ Some layout) × (length bytes < size_of layout bytes))
 IsOut bytes _ = ⊥
 
 abbrev pub Sized : List ℕ → Result ℕ TableRefused → Type 0
 Sized bytes (Ok size) = Begins bytes size
 Sized bytes (Err why) = IsOut bytes why
 
-begins : (bytes : List ℕ) (layout : Layout) → layout_of (kind_of bytes) ≡ Some layout
+begins : (bytes : List ℕ) (layout : Layout) → layout_of (source_type bytes) ≡ Some layout
     → size_of layout bytes ≤ length bytes → Begins bytes (size_of layout bytes)
 begins bytes layout known fits =
     let part : (4 ≤ layout.fixed) × IfSome layout.banks_at (λ place. place < layout.fixed) =
-    layout_is (kind_of bytes) layout known in
+    layout_is (source_type bytes) layout known in
     let whole : length (take (size_of layout bytes) bytes) ≡ size_of layout bytes =
     omega (arith, length-take (size_of layout bytes) bytes) in
     let all : take (size_of layout bytes) bytes ++ drop (size_of layout bytes) bytes ≡ bytes =
     take-append-drop (size_of layout bytes) bytes in
-    let kind : kind_of (take (size_of layout bytes) bytes) ≡ kind_of bytes =
+    let kind : source_type (take (size_of layout bytes) bytes) ≡ source_type bytes =
     sym (number_at-append 0 2 (take (size_of layout bytes) bytes) (drop (size_of layout bytes) bytes)
-    (omega (arith, whole, part.0))) ∙ ap (λ xs. kind_of xs) all in
+    (omega (arith, whole, part.0))) ∙ ap (λ xs. source_type xs) all in
     let banks : banks_of layout.banks_at (take (size_of layout bytes) bytes) ≡ banks_of layout.banks_at bytes =
     sym (banks_of-append layout.banks_at layout.fixed (take (size_of layout bytes) bytes)
     (drop (size_of layout bytes) bytes) part.1 (omega (arith, whole)))
@@ -111,7 +111,7 @@ begins bytes layout known fits =
       source = (layout, ap (λ k. layout_of k) kind ∙ known, whole ∙ ap (λ n. layout.fixed + 28 * n) (sym banks));
     }
 
-sized_by : (bytes : List ℕ) (known : Option Layout) → 4 ≤ length bytes → layout_of (kind_of bytes) ≡ known
+sized_by : (bytes : List ℕ) (known : Option Layout) → 4 ≤ length bytes → layout_of (source_type bytes) ≡ known
     → Sized bytes (size_by known bytes)
 sized_by bytes None head is = (head, is)
 sized_by bytes (Some layout) head is = by (nat_lt (length bytes) (size_of layout bytes)) refl
@@ -126,9 +126,9 @@ unfolding size_at
 sized bytes = by (nat_lt (length bytes) 4) refl
   where
     by : (b : Bool) → nat_lt (length bytes) 4 ≡ b
-        → Sized bytes (if b then Err SourceOut else size_by (layout_of (kind_of bytes)) bytes)
+        → Sized bytes (if b then Err SourceOut else size_by (layout_of (source_type bytes)) bytes)
     by true few = inl (grind arith)
-    by false head = sized_by bytes (layout_of (kind_of bytes)) (grind arith) refl
+    by false head = sized_by bytes (layout_of (source_type bytes)) (grind arith) refl
 
 -- and where none is there, none is read
 pub out_type : (bytes : List ℕ) → IsOut bytes SourceType → size_at bytes ≡ Err SourceType
@@ -145,6 +145,6 @@ out_out bytes (inr known) = by (nat_lt (length bytes) 4)
     out : nat_lt (length bytes) (size_of known.0 bytes) ≡ true
     out = grind (arith, known.2)
 
-    by : (b : Bool) → (if b then Err SourceOut else size_by (layout_of (kind_of bytes)) bytes) ≡ Err SourceOut
+    by : (b : Bool) → (if b then Err SourceOut else size_by (layout_of (source_type bytes)) bytes) ≡ Err SourceOut
     by true = refl
     by false = rw (known.1, out) refl

@@ -1,9 +1,10 @@
--- A generic error status block: ACPI 6.5, section 18.3.2.7.1, "Generic Error Data". Its header has 20 bytes, with the
--- block status (4) at 0 and the data's length (4) at 12, and the data follows. The count of entries in the status is not
--- compared, and raw data is not read.
+-- A generic error status block: ACPI 6.5, section 18.3.2.7.1, "Generic Error Data". Its header has
+-- 20 bytes, with the block status (4) at 0 and the data's length (4) at 12, and the data follows.
+-- The count of entries in the status is not compared, and raw data is not read.
 use Rattle.std.specs.Prelude.{ℕ, ◌+◌, ◌==◌, nat_lt, List, [], length, take, drop, get_or, Option, Some, None, Result, Ok, Err, if◌then◌else◌}
 use Rattle.std.specs.List.{list_any}
-use Rattle.cper_sections.specs.Numbers.{number_at}
+use Rattle.ras_base.specs.LittleEndian.{number_at}
+use Rattle.apei_sources.specs.declared.blocks.TheConstants.{BLOCK_HEADER_LENGTH}
 use Rattle.apei_sources.specs.declared.refusals.BlockRefused.{BlockRefused}
 use Rattle.apei_sources.specs.declared.refusals.BlockRefused.TheVariants.{Short, EntryOut, Section}
 use Rattle.apei_sources.specs.Entries.{is_refused, entries_of}
@@ -18,16 +19,16 @@ abbrev pub entry_at : BlockParts → ℕ → List ℕ
 entry_at block i = get_or block.entries i []
 
 -- the block status
-abbrev pub status_of : List ℕ → ℕ
-status_of bytes = number_at 0 4 bytes
+abbrev pub block_status : List ℕ → ℕ
+block_status bytes = number_at 0 4 bytes
 
 -- the length of the data
-abbrev pub data_length_of : List ℕ → ℕ
-data_length_of bytes = number_at 12 4 bytes
+abbrev pub data_length : List ℕ → ℕ
+data_length bytes = number_at 12 4 bytes
 
 -- the data
 abbrev pub data_of : List ℕ → List ℕ
-data_of bytes = take (data_length_of bytes) (drop 20 bytes)
+data_of bytes = take (data_length bytes) (drop BLOCK_HEADER_LENGTH bytes)
 
 -- a block of a status whose data was cut into entries
 abbrev pub block_with : ℕ → Option (List (List ℕ)) → Result BlockParts BlockRefused
@@ -35,10 +36,11 @@ block_with status None = Err EntryOut
 block_with status (Some entries) =
     if list_any is_refused entries then Err Section else Ok (record { status = status; entries = entries })
 
--- the block at the front of bytes, or the first reason that none is there; nothing follows a status of 0
+-- the block at the front of bytes, or the first reason that none is there; nothing follows a status
+-- of 0
 unfoldable pub block_of : List ℕ → Result BlockParts BlockRefused
 block_of bytes =
-    if nat_lt (length bytes) 20 then Err Short
-    else (if status_of bytes == 0 then Ok (record { status = 0; entries = [] })
-    else (if nat_lt (length bytes) (20 + data_length_of bytes) then Err Short
-    else block_with (status_of bytes) (entries_of (data_of bytes))))
+    if nat_lt (length bytes) BLOCK_HEADER_LENGTH then Err Short
+    else (if block_status bytes == 0 then Ok (record { status = 0; entries = [] })
+    else (if nat_lt (length bytes) (BLOCK_HEADER_LENGTH + data_length bytes) then Err Short
+    else block_with (block_status bytes) (entries_of (data_of bytes))))

@@ -1,4 +1,4 @@
--- The first entries of data, by their number: the view of a block. It only carries proofs.
+-- Only for proofs: the first entries of data, by their number, as a block keeps them.
 use Rattle.std.specs.Prelude.{◌≡◌, ℕ, zero, suc, true, false, List, [], ◌∷◌}
 use Rattle.std.specs.List.{list_any}
 use Rattle.apei_sources.specs.Entries.{has_entry, first_of, rest_of, is_refused}

@@ -1,18 +1,21 @@
--- The data of a generic error status block, which its entries fill: ACPI 6.5, section 18.3.2.7.1, "Generic Error Data".
--- That the revision tells which header an entry has is this project's profile.
-use Rattle.std.specs.Prelude.{ℕ, zero, suc, ◌+◌, ◌/◌, ◌^◌, Bool, ◌&&◌, nat_eq, nat_le, is_err, List, [], ◌∷◌, length, take, drop, Option, Some, None, if◌then◌else◌}
+-- The data of a generic error status block, which its entries fill: ACPI 6.5, section 18.3.2.7.1,
+-- "Generic Error Data". That the revision tells which header an entry has is this project's
+-- profile.
+use Rattle.std.specs.Prelude.{ℕ, zero, suc, ◌+◌, Bool, ◌&&◌, nat_eq, nat_le, is_err, List, [], ◌∷◌, length, take, drop, Option, Some, None, if◌then◌else◌}
 use Rattle.std.specs.Option.{option_map}
-use Rattle.uuid.specs.Parts.{swap_fields}
-use Rattle.cper_sections.specs.Numbers.{number_at}
+use Rattle.ras_base.specs.Bits.{bits}
+use Rattle.ras_base.specs.LittleEndian.{number_at}
+use Rattle.cper_sections.specs.Guids.{guid_of}
 use Rattle.cper_sections.specs.Sections.{section_of}
+use Rattle.apei_sources.specs.declared.entries.TheConstants.{ENTRY_HEADER_LENGTH, LONG_ENTRY_HEADER_LENGTH, TIMESTAMP_REVISION}
 
 -- the high byte of an entry's revision
 abbrev pub major_revision : List ℕ → ℕ
-major_revision entry = number_at 20 2 entry / 2 ^ 8
+major_revision entry = bits 8 8 (number_at 20 2 entry)
 
--- the bytes of an entry's header: from revision 3 on a timestamp of 8 bytes ends it
+-- the bytes of an entry's header: from revision 3 on a timestamp ends it
 abbrev pub header_length : List ℕ → ℕ
-header_length entry = if nat_le 3 (major_revision entry) then 72 else 64
+header_length entry = if nat_le TIMESTAMP_REVISION (major_revision entry) then LONG_ENTRY_HEADER_LENGTH else ENTRY_HEADER_LENGTH
 
 -- the bytes of an entry, its header and its data
 abbrev pub entry_length : List ℕ → ℕ
@@ -20,7 +23,7 @@ entry_length entry = header_length entry + number_at 24 4 entry
 
 -- the type of the section that an entry holds, a GUID
 abbrev pub entry_guid : List ℕ → List ℕ
-entry_guid entry = swap_fields (take 16 entry)
+entry_guid entry = guid_of entry
 
 -- an entry's severity
 abbrev pub entry_severity : List ℕ → ℕ
@@ -34,9 +37,9 @@ entry_bytes entry = drop (header_length entry) entry
 unfoldable pub is_refused : List ℕ → Bool
 is_refused entry = is_err (section_of (entry_guid entry) (entry_bytes entry))
 
--- whether the entry at the front of data lies inside it, the header of 64 bytes first
+-- whether the entry at the front of data lies inside it, its header first
 abbrev pub has_entry : List ℕ → Bool
-has_entry bytes = nat_le 64 (length bytes) && nat_le (entry_length bytes) (length bytes)
+has_entry bytes = nat_le ENTRY_HEADER_LENGTH (length bytes) && nat_le (entry_length bytes) (length bytes)
 
 -- the entry at the front, and the bytes behind it
 abbrev pub first_of : List ℕ → List ℕ
@@ -45,7 +48,8 @@ first_of bytes = take (entry_length bytes) bytes
 abbrev pub rest_of : List ℕ → List ℕ
 rest_of bytes = drop (entry_length bytes) bytes
 
--- the entries that bytes are, at most so many, each behind the one before it; None where one passes the end
+-- the entries that bytes are, at most so many, each behind the one before it; None where one passes
+-- the end
 unfoldable pub entries_in : ℕ → List ℕ → Option (List (List ℕ))
 entries_in zero bytes = if nat_eq (length bytes) 0 then Some [] else None
 entries_in (suc most) bytes =
@@ -53,7 +57,7 @@ entries_in (suc most) bytes =
     else (if has_entry bytes then option_map (λ behind. first_of bytes ∷ behind) (entries_in most (rest_of bytes))
     else None)
 
--- the entries of a block's data, which can't be more than its bytes; None where one passes its end. specs/Laid.antt
--- says what this cutting comes to
+-- the entries of a block's data, which can't be more than its bytes; None where one passes its end.
+-- specs/Laid.antt says what this cutting comes to
 abbrev pub entries_of : List ℕ → Option (List (List ℕ))
 entries_of bytes = entries_in (length bytes) bytes

@@ -1,11 +1,13 @@
--- The hardware error source table: ACPI 6.5, section 18.3.2, "ACPI Error Source". Its fixed part has 40 bytes, the last
--- four of which count the sources that follow. specs/Laid.antt says what the walk along them comes to.
+-- The hardware error source table: ACPI 6.5, section 18.3.2, "ACPI Error Source". Its fixed part
+-- has 40 bytes, the last four of which count the sources that follow. specs/Laid.antt says what the
+-- walk along them comes to.
 use Rattle.std.specs.Prelude.{ℕ, zero, suc, nat_eq, is_some, List, [], ◌∷◌, ◌++◌, drop, codes, Option, Result, Ok, Err, if◌then◌else◌}
 use Rattle.std.specs.Map.{lookup}
-use Rattle.cper_sections.specs.Numbers.{number_at}
+use Rattle.ras_base.specs.LittleEndian.{number_at}
+use Rattle.apei_sources.specs.declared.hest_table.TheConstants.{HEST_FIXED_LENGTH}
 use Rattle.apei_sources.specs.declared.refusals.TableRefused.{TableRefused}
 use Rattle.apei_sources.specs.declared.refusals.TableRefused.TheVariants.{RepeatedId}
-use Rattle.apei_sources.specs.Refusals.{◌>>=◌}
+use Rattle.ras_base.specs.Chaining.{◌>>=◌}
 use Rattle.apei_sources.specs.Tables.{table_of}
 use Rattle.apei_sources.specs.Sources.{source_of, size_at}
 
@@ -14,16 +16,16 @@ abbrev pub Sources : Type 0
 Sources = List (ℕ × ℕ)
 
 -- the type of the source of an identifier
-abbrev pub type_of : ℕ → Sources → Option ℕ
-type_of id sources = lookup (nat_eq id) sources
+abbrev pub type_with_id : ℕ → Sources → Option ℕ
+type_with_id id sources = lookup (nat_eq id) sources
 
 -- how many sources a table counts
-abbrev pub count_of : List ℕ → ℕ
-count_of table = number_at 36 4 table
+abbrev pub source_count : List ℕ → ℕ
+source_count table = number_at 36 4 table
 
 -- the sources before and one behind them, where none of them has its identifier
 abbrev pub followed : Sources → ℕ × ℕ → Result Sources TableRefused
-followed before source = if is_some (type_of source.0 before) then Err RepeatedId else Ok (before ++ source ∷ [])
+followed before source = if is_some (type_with_id source.0 before) then Err RepeatedId else Ok (before ++ source ∷ [])
 
 -- the sources before, and those of so many at the front of bytes, each behind the one before it
 unfoldable pub sources_in : ℕ → Sources → List ℕ → Result Sources TableRefused
@@ -35,11 +37,11 @@ sources_in (suc count) before bytes = do
 
 -- the table at the front of bytes, or why none is there
 abbrev pub hest_table : List ℕ → Result (List ℕ) TableRefused
-hest_table bytes = table_of (codes "HEST") 40 bytes
+hest_table bytes = table_of (codes "HEST") HEST_FIXED_LENGTH bytes
 
 -- the sources of a table
 abbrev pub sources_of : List ℕ → Result Sources TableRefused
-sources_of table = sources_in (count_of table) [] (drop 40 table)
+sources_of table = sources_in (source_count table) [] (drop HEST_FIXED_LENGTH table)
 
 -- the sources of the table at the front of bytes, or the first reason that they can't be read
 unfoldable pub hest_of : List ℕ → Result Sources TableRefused

@@ -1,51 +1,55 @@
 -- What the walks along a HEST and along a block's data come to: spans of bytes laid end to end.
 use Rattle.std.specs.Prelude.{◌≡◌, ◌≤◌, ◌<◌, ◌⊎◌, ℕ, nat_eq, List, ◌++◌, length, map, drop, Some, None, All, Contains}
 use Rattle.std.specs.List.{concat, IsDistinct}
+use Rattle.apei_sources.specs.declared.sources.TheConstants.{SOURCE_HEAD_LENGTH}
 use Rattle.apei_sources.specs.declared.sources.Layout.{Layout}
 use Rattle.apei_sources.specs.declared.refusals.TableRefused.{TableRefused}
 use Rattle.apei_sources.specs.declared.refusals.TableRefused.TheVariants.{SourceType, SourceOut, RepeatedId}
-use Rattle.apei_sources.specs.Sources.{kind_of, id_of, source_of, layout_of, size_of}
-use Rattle.apei_sources.specs.Hest.{Sources, count_of}
+use Rattle.apei_sources.specs.declared.entries.TheConstants.{ENTRY_HEADER_LENGTH}
+use Rattle.apei_sources.specs.declared.hest_table.TheConstants.{HEST_FIXED_LENGTH}
+use Rattle.apei_sources.specs.Sources.{source_type, source_id, source_of, layout_of, size_of}
+use Rattle.apei_sources.specs.Hest.{Sources, source_count}
 use Rattle.apei_sources.specs.Entries.{entry_length}
 
--- a span of bytes is a source: its type is listed, and it has as many bytes as that type and its banks say
+-- a span of bytes is a source: its type is listed, and it has as many bytes as that type and its
+-- banks say
 abbrev pub IsSource : List ℕ → Type 0
-IsSource span = (layout : Layout) × (layout_of (kind_of span) ≡ Some layout) × (length span ≡ size_of layout span)
+IsSource span = (layout : Layout) × (layout_of (source_type span) ≡ Some layout) × (length span ≡ size_of layout span)
 
 -- bytes are sources laid end to end, no two of one identifier, and a rest behind them
 pub record AreSources (bytes : List ℕ) (spans : List (List ℕ)) (rest : List ℕ) : Type 0 where
   pub laid : bytes ≡ concat spans ++ rest
   pub each : All IsSource spans
-  pub once : IsDistinct nat_eq (map id_of spans)
+  pub once : IsDistinct nat_eq (map source_id spans)
 
 -- a table holds sources: as many as it counts, laid end to end behind its fixed part
 pub record HoldsSources (table : List ℕ) (sources : Sources) : Type 0 where
   pub spans : List (List ℕ)
   pub rest : List ℕ
-  pub laid : AreSources (drop 40 table) spans rest
-  pub counted : length spans ≡ count_of table
-  pub told : sources ≡ map source_of spans
+  pub laid : AreSources (drop HEST_FIXED_LENGTH table) spans rest
+  pub counted : length spans ≡ source_count table
+  pub listed : sources ≡ map source_of spans
 
 -- behind sources of these identifiers no source begins the bytes, for this reason
 abbrev pub IsNoSource : List ℕ → List ℕ → TableRefused → Type 0
-IsNoSource ids bytes SourceType = (4 ≤ length bytes) × (layout_of (kind_of bytes) ≡ None)
-IsNoSource ids bytes SourceOut = (length bytes < 4)
-    ⊎ ((layout : Layout) × (layout_of (kind_of bytes) ≡ Some layout) × (length bytes < size_of layout bytes))
+IsNoSource ids bytes SourceType = (SOURCE_HEAD_LENGTH ≤ length bytes) × (layout_of (source_type bytes) ≡ None)
+IsNoSource ids bytes SourceOut = (length bytes < SOURCE_HEAD_LENGTH)
+    ⊎ ((layout : Layout) × (layout_of (source_type bytes) ≡ Some layout) × (length bytes < size_of layout bytes))
 IsNoSource ids bytes RepeatedId =
-    (span : List ℕ) × (rest : List ℕ) × (bytes ≡ span ++ rest) × IsSource span × Contains ids (id_of span)
+    (span : List ℕ) × (rest : List ℕ) × (bytes ≡ span ++ rest) × IsSource span × Contains ids (source_id span)
 IsNoSource ids bytes _ = ⊥
 
 -- a table breaks off behind the sources before, fewer than it counts, for this reason
 pub record BreaksOff (table : List ℕ) (why : TableRefused) : Type 0 where
   pub spans : List (List ℕ)
   pub rest : List ℕ
-  pub laid : AreSources (drop 40 table) spans rest
-  pub fewer : length spans < count_of table
-  pub refused : IsNoSource (map id_of spans) rest why
+  pub laid : AreSources (drop HEST_FIXED_LENGTH table) spans rest
+  pub fewer : length spans < source_count table
+  pub refused : IsNoSource (map source_id spans) rest why
 
 -- a span of bytes is an entry: it has as many bytes as its header and its data
 pub record IsEntry (span : List ℕ) : Type 0 where
-  pub header : 64 ≤ length span
+  pub header : ENTRY_HEADER_LENGTH ≤ length span
   pub whole : length span ≡ entry_length span
 
 -- bytes are entries laid end to end, and nothing else

@@ -1,15 +1,9 @@
--- Refusals: one reading after another, the numbers that the program prints, and what a reader that takes memory answers.
+-- Refusals: the numbers that the program prints, and what a reader that takes memory answers.
 use Rattle.std.specs.Prelude.{◌≡◌, ℕ, Option, Some, None, Result, Ok, Err}
 use Rattle.apei_sources.specs.declared.refusals.TableRefused.{TableRefused}
 use Rattle.apei_sources.specs.declared.refusals.TableRefused as Tables
 use Rattle.apei_sources.specs.declared.refusals.BlockRefused.{BlockRefused}
 use Rattle.apei_sources.specs.declared.refusals.BlockRefused as Blocks
-
--- what is read of what was read before; the first refusal is the answer
-infixl 10 ◌>>=◌
-abbrev pub ◌>>=◌ : {A B E : Type 0} → Result A E → (A → Result B E) → Result B E
-(Ok x) >>= f = f x
-(Err why) >>= f = Err why
 
 -- the number of a table's refusal; want of memory has none
 abbrev pub table_number : TableRefused → Option ℕ

@@ -1,7 +1,9 @@
--- One error source of a HEST: ACPI 6.5, section 18.3.2, "ACPI Error Source". The sizes are this project's profile.
+-- One error source of a HEST: ACPI 6.5, section 18.3.2, "ACPI Error Source". The
+-- sizes are those that Linux and ACPICA take too.
 use Rattle.std.specs.Prelude.{ℕ, ◌+◌, ◌*◌, nat_eq, nat_lt, List, [], ◌∷◌, length, slice_index, Option, Some, None, Result, Ok, Err, if◌then◌else◌}
 use Rattle.std.specs.Map.{lookup}
-use Rattle.cper_sections.specs.Numbers.{number_at}
+use Rattle.ras_base.specs.LittleEndian.{number_at}
+use Rattle.apei_sources.specs.declared.sources.TheConstants.{BANK_LENGTH, SOURCE_HEAD_LENGTH}
 use Rattle.apei_sources.specs.declared.sources.Layout.{Layout}
 use Rattle.apei_sources.specs.declared.refusals.TableRefused.{TableRefused}
 use Rattle.apei_sources.specs.declared.refusals.TableRefused.TheVariants.{SourceType, SourceOut}
@@ -38,25 +40,25 @@ abbrev pub layout_of : ℕ → Option Layout
 layout_of kind = lookup (nat_eq kind) layouts
 
 -- a source's type
-abbrev pub kind_of : List ℕ → ℕ
-kind_of source = number_at 0 2 source
+abbrev pub source_type : List ℕ → ℕ
+source_type source = number_at 0 2 source
 
 -- a source's identifier
-abbrev pub id_of : List ℕ → ℕ
-id_of source = number_at 2 2 source
+abbrev pub source_id : List ℕ → ℕ
+source_id source = number_at 2 2 source
 
 -- what is kept of a source: its identifier and its type
 abbrev pub source_of : List ℕ → ℕ × ℕ
-source_of source = (id_of source, kind_of source)
+source_of source = (source_id source, source_type source)
 
--- how many banks a source tells of
+-- how many banks a source has
 abbrev pub banks_of : Option ℕ → List ℕ → ℕ
 banks_of None source = 0
 banks_of (Some place) source = slice_index source place
 
--- how many bytes a source of a layout has: 28 for each bank behind the fixed ones
+-- how many bytes a source of a layout has: those of each bank after the fixed ones
 abbrev pub size_of : Layout → List ℕ → ℕ
-size_of layout source = layout.fixed + 28 * banks_of layout.banks_at source
+size_of layout source = layout.fixed + BANK_LENGTH * banks_of layout.banks_at source
 
 -- how many bytes the source of a layout takes at the front of bytes, where it lies inside them
 abbrev pub size_by : Option Layout → List ℕ → Result ℕ TableRefused
@@ -64,6 +66,6 @@ size_by None bytes = Err SourceType
 size_by (Some layout) bytes =
     if nat_lt (length bytes) (size_of layout bytes) then Err SourceOut else Ok (size_of layout bytes)
 
--- how many bytes the source at the front takes; its type and its identifier have 4
+-- how many bytes the source at the front takes; its type and its identifier come first
 unfoldable pub size_at : List ℕ → Result ℕ TableRefused
-size_at bytes = if nat_lt (length bytes) 4 then Err SourceOut else size_by (layout_of (kind_of bytes)) bytes
+size_at bytes = if nat_lt (length bytes) SOURCE_HEAD_LENGTH then Err SourceOut else size_by (layout_of (source_type bytes)) bytes

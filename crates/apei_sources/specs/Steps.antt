@@ -1,4 +1,4 @@
--- What functions that aren't public answer. It only carries proofs.
+-- Only for proofs: what functions that aren't public answer.
 use Rattle.std.specs.Prelude.{◌≡◌, Result, Ok, Err}
 use Rattle.apei_sources.specs.declared.refusals.TableRefused.{TableRefused}
 use Rattle.apei_sources.specs.declared.refusals.TableRefused.TheVariants.{NoMemory}

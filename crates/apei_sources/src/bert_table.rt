@@ -5,10 +5,10 @@ ghost use Rattle.apei_sources.specs.Bert.{bert_of};
 
 use crate::TableRefused;
 use crate::tables::table_at;
-use cper_sections::{u32_at, u64_at};
+use ras_base::little_endian::{u32_at, u64_at};
 
-// The bytes of a BERT.
-const FIXED_LENGTH: usize = 48;
+/// The bytes of a BERT.
+pub const BERT_FIXED_LENGTH: usize = 48;
 
 /// Where the errors of the boot before lie in memory.
 #[derive(Clone, Copy, Debug, PartialEq, Eq)]
@@ -19,17 +19,17 @@ pub struct Bert {
     pub address: u64,
 }
 
-/// Reads the BERT at the front of bytes. (ACPI 6.5, section 18.3.1, "Boot Error Source".) Bytes behind its length are
-/// ignored.
+/// Reads the BERT at the front of bytes. (ACPI 6.5, section 18.3.1, "Boot Error Source".) Bytes
+/// behind its length are ignored.
 ///
-/// It is refused with the first that applies of: `Short` below 48 bytes, `Signature` where it doesn't begin with `BERT`,
-/// `Length` where its length is below 48 or above the number of bytes, and `Sum` where its bytes don't sum to 0 modulo
-/// 256. The region's own length is not judged.
+/// It is refused with the first that applies of: `Short` below 48 bytes, `Signature` where it
+/// doesn't begin with `BERT`, `Length` where its length is below 48 or above the number of bytes,
+/// and `Sum` where its bytes don't sum to 0 modulo 256. The region's own length is not judged.
 #[tactic(auto, unfolding(crate::specs::Bert::bert_of))]
 pub fn read_bert(bytes: &[u8]) -> Result<Bert, TableRefused>
     ensures { result ≡ bert_of bytes.now }
 {
-    let table = table_at(bytes, b"BERT", FIXED_LENGTH)?;
+    let table = table_at(bytes, b"BERT", BERT_FIXED_LENGTH)?;
     Ok(Bert {
         length: u32_at(table, 36),
         address: u64_at(table, 40),

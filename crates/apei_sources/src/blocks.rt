@@ -6,15 +6,16 @@ ghost use Rattle.apei_sources.specs.Entries.{entry_guid, entry_severity, entry_b
 ghost use Rattle.apei_sources.specs.Blocks.{entry_at, block_with, block_of};
 
 use crate::BlockRefused;
-use crate::entries::{count_entries, descriptor, is_some_refused, nth_entry};
-use cper_sections::{Descriptor, u32_at};
+use crate::entries::{count_entries, entry_section, is_some_refused, nth_entry};
+use cper_sections::Descriptor;
+use ras_base::little_endian::u32_at;
 use std::marker::Model;
 
-// The bytes of a block before its data.
-const HEADER_LENGTH: usize = 20;
+/// The bytes of a block before its data.
+pub const BLOCK_HEADER_LENGTH: usize = 20;
 
-/// A status block that reads, over the bytes that hold it: it copies nothing. A contract sees its status and the bytes of
-/// each entry.
+/// A status block that reads, over the bytes that hold it: it copies nothing. A contract sees its
+/// status and the bytes of each entry.
 #[derive(Drop)]
 pub struct Block<'a> {
     status: u32,
@@ -33,18 +34,19 @@ impl<'a> Model for Block<'a> {
     ghost invariant = { λ a. IsBlock a.count a.bytes.now };
 }
 
-/// Reads the status block at the front of bytes. (ACPI 6.5, section 18.3.2.7.1, "Generic Error Data".) Of a block of
-/// status 0 nothing else is read: it has no entries. The entries fill the data of any other block. Their count in the
-/// status is not compared, raw data is not read, and bytes behind the data are ignored.
+/// Reads the status block at the front of bytes. (ACPI 6.5, section 18.3.2.7.1, "Generic Error
+/// Data".) Of a block of status 0 nothing else is read: it has no entries. The entries fill the
+/// data of any other block. Their count in the status is not compared, raw data is not read, and
+/// bytes behind the data are ignored.
 ///
-/// It is refused with the first that applies of: `Short` below 20 bytes, or below 20 and the data's length where the
-/// status isn't 0; `EntryOut` where the header or the data of some entry passes the end of the data; `Section` where
-/// `read_section` refuses some entry's data.
+/// It is refused with the first that applies of: `Short` below 20 bytes, or below 20 and the data's
+/// length where the status isn't 0; `EntryOut` where the header or the data of some entry passes
+/// the end of the data; `Section` where `read_section` refuses some entry's data.
 #[tactic(auto, unfolding(crate::specs::Blocks::block_of, crate::specs::Cut::cut, crate::specs::Cut::AreInside))]
 pub fn read_block(bytes: &[u8]) -> Result<Block<'_>, BlockRefused>
     ensures { result ≡ block_of bytes.now }
 {
-    if bytes.len() < HEADER_LENGTH {
+    if bytes.len() < BLOCK_HEADER_LENGTH {
         return Err(BlockRefused::Short);
     }
     let status = u32_at(bytes, 0);
@@ -55,11 +57,11 @@ pub fn read_block(bytes: &[u8]) -> Result<Block<'_>, BlockRefused>
             bytes: &bytes[..0],
         });
     }
-    let end = HEADER_LENGTH + u32_at(bytes, 12) as usize;
+    let end = BLOCK_HEADER_LENGTH + u32_at(bytes, 12) as usize;
     if bytes.len() < end {
         return Err(BlockRefused::Short);
     }
-    block_with(status, &bytes[HEADER_LENGTH..end])
+    block_with(status, &bytes[BLOCK_HEADER_LENGTH..end])
 }
 
 // The block of a status and its data.
@@ -94,8 +96,8 @@ impl<'a> Block<'a> {
         self.count
     }
 
-    /// An entry by its number, from 0, found by walking from the first. (ACPI 6.5, section 18.3.2.7.1, "Generic Error Data
-    /// Entry".)
+    /// An entry by its number, from 0, found by walking from the first. (ACPI 6.5, section
+    /// 18.3.2.7.1, "Generic Error Data Entry".)
     pub fn entry(&self, i: usize) -> Descriptor<'a>
         requires { i < length self.now.entries }
         ensures severity { result.severity ≡ entry_severity (entry_at self.now i) }
@@ -103,6 +105,6 @@ impl<'a> Block<'a> {
         ensures bytes { result.bytes.now ≡ entry_bytes (entry_at self.now i) }
         ensures section { section_of result.guid result.bytes.now ≡ Ok result.section }
     {
-        descriptor(nth_entry(self.bytes, self.count, i))
+        entry_section(nth_entry(self.bytes, self.count, i)).read()
     }
 }

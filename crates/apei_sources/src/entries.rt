@@ -1,41 +1,41 @@
 //! The entries of a status block's data.
 
-ghost use Rattle.std.specs.Prelude.{◌≡◌, ◌≤◌, ◌<◌, [], length, get_or, false, IfSome, IsTrue, Ok};
+ghost use Rattle.std.specs.Prelude.{◌≡◌, ◌≤◌, ◌<◌, [], length, get_or, IfSome, IsTrue};
 ghost use Rattle.std.specs.Option.{option_map};
 ghost use Rattle.std.specs.List.{list_any};
-ghost use Rattle.cper_sections.specs.Sections.{section_of};
 ghost use Rattle.apei_sources.specs.Entries.{header_length, entry_length, first_of, rest_of, entry_guid, entry_severity, entry_bytes, has_entry, is_refused, entries_of};
 ghost use Rattle.apei_sources.specs.Laid.{IsEntry};
 ghost use Rattle.apei_sources.specs.Cut.{cut, AreInside};
 
-use cper_sections::{Descriptor, guid_at, read_section, u16_at, u32_at};
-use uuid::Uuid;
+use cper_sections::RawSection;
+use ras_base::little_endian::{u16_at, u32_at};
 
-// The bytes of an entry's header, without and with its timestamp.
-const HEADER_LENGTH: usize = 64;
+/// The bytes of an entry's header without its timestamp.
+pub const ENTRY_HEADER_LENGTH: usize = 64;
 
-const LONG_HEADER_LENGTH: usize = 72;
+/// The bytes of an entry's header with its timestamp.
+pub const LONG_ENTRY_HEADER_LENGTH: usize = 72;
 
-// The first major revision whose header has a timestamp.
-const TIMESTAMP_REVISION: u16 = 3;
+/// The first major revision whose header has a timestamp.
+pub const TIMESTAMP_REVISION: u16 = 3;
 
 // The bytes of the header of the entry at the front.
 fn header_length(bytes: &[u8]) -> usize
-    requires { 64 ≤ length bytes.now }
+    requires { ENTRY_HEADER_LENGTH ≤ length bytes.now }
     ensures value { result ≡ header_length bytes.now }
-    ensures small { result ≤ 72 }
+    ensures small { result ≤ LONG_ENTRY_HEADER_LENGTH }
 {
     let major_revision = u16_at(bytes, 20) >> 8;
     if major_revision < TIMESTAMP_REVISION {
-        HEADER_LENGTH
+        ENTRY_HEADER_LENGTH
     } else {
-        LONG_HEADER_LENGTH
+        LONG_ENTRY_HEADER_LENGTH
     }
 }
 
 // The bytes of the entry at the front, its header and its data.
 fn entry_length(bytes: &[u8]) -> usize
-    requires { 64 ≤ length bytes.now }
+    requires { ENTRY_HEADER_LENGTH ≤ length bytes.now }
     ensures { result ≡ entry_length bytes.now }
 {
     header_length(bytes) + u32_at(bytes, 24) as usize
@@ -45,7 +45,7 @@ fn entry_length(bytes: &[u8]) -> usize
 fn has_entry(bytes: &[u8]) -> bool
     ensures { result ≡ has_entry bytes.now }
 {
-    HEADER_LENGTH <= bytes.len() && entry_length(bytes) <= bytes.len()
+    ENTRY_HEADER_LENGTH <= bytes.len() && entry_length(bytes) <= bytes.len()
 }
 
 // The entry at the front, header and data.
@@ -111,53 +111,21 @@ pub(crate) fn nth_entry(bytes: &[u8], count: usize, i: usize) -> &[u8]
     first_entry(left)
 }
 
-// The type of an entry's section.
-fn entry_guid(entry: &[u8]) -> Uuid
-    requires { 64 ≤ length entry.now }
-    ensures { result ≡ entry_guid entry.now }
-{
-    let mut guid = [0u8; 16];
-    guid.copy_from_slice(&entry[..16]);
-    guid_at(&guid)
-}
-
-// An entry's section, as it stands.
-fn entry_bytes(entry: &[u8]) -> &[u8]
-    requires { IsEntry entry.now }
-    ensures { result.now ≡ entry_bytes entry.now }
-{
-    &entry[header_length(entry)..]
-}
-
 // Whether an entry's section can't be read.
-#[tactic(auto, unfolding(crate::specs::Entries::is_refused))]
+#[tactic(auto, using(crate::proofs::CutLemmas::not_is_ok), unfolding(crate::specs::Entries::is_refused))]
 fn is_refused(entry: &[u8]) -> bool
     requires { IsEntry entry.now }
     ensures { result ≡ is_refused entry.now }
 {
-    read_section(entry_guid(entry), entry_bytes(entry)).is_err()
+    !entry_section(entry).is_readable()
 }
 
-// An entry's section with what its header says of it.
-#[tactic(auto, unfolding(crate::specs::Entries::is_refused))]
-pub(crate) fn descriptor(entry: &[u8]) -> Descriptor<'_>
-    requires whole { IsEntry entry.now }
-    requires readable { is_refused entry.now ≡ false }
+// An entry's section, with what its header says of it.
+pub(crate) fn entry_section(entry: &[u8]) -> RawSection<'_>
+    requires { IsEntry entry.now }
     ensures severity { result.severity ≡ entry_severity entry.now }
     ensures guid { result.guid ≡ entry_guid entry.now }
     ensures bytes { result.bytes.now ≡ entry_bytes entry.now }
-    ensures section { section_of result.guid result.bytes.now ≡ Ok result.section }
 {
-    let guid = entry_guid(entry);
-    let bytes = entry_bytes(entry);
-    let section = match read_section(guid, bytes) {
-        Ok(section) => section,
-        Err(_) => unreachable!(),
-    };
-    Descriptor {
-        severity: u32_at(entry, 16),
-        guid,
-        bytes,
-        section,
-    }
+    RawSection::new(entry, u32_at(entry, 16), &entry[header_length(entry)..])
 }

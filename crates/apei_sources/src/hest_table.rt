@@ -7,21 +7,21 @@ ghost use Rattle.apei_sources.specs.declared.refusals.TableRefused.{TableRefused
 ghost use Rattle.apei_sources.specs.Refusals.{Answers};
 ghost use Rattle.apei_sources.specs.Steps.{Gives};
 ghost use Rattle.apei_sources.specs.Sources.{source_of};
-ghost use Rattle.apei_sources.specs.Hest.{type_of, followed, sources_in, hest_table, hest_of};
+ghost use Rattle.apei_sources.specs.Hest.{type_with_id, followed, sources_in, hest_table, hest_of};
 
 use crate::TableRefused;
-use crate::sources::size_at;
+use crate::sources::{SOURCE_HEAD_LENGTH, size_at};
 use crate::tables::table_at;
-use cper_sections::{u16_at, u32_at};
 use indexmap::IndexMap;
+use ras_base::little_endian::{u16_at, u32_at};
 use std::alloc::Global;
 use std::marker::Model;
 
-// The bytes of a HEST before its sources.
-const FIXED_LENGTH: usize = 40;
+/// The bytes of a HEST before its sources.
+pub const HEST_FIXED_LENGTH: usize = 40;
 
-/// The error sources of a machine, as firmware lists them. A contract sees their identifiers and types, in the order of
-/// the table. No two sources have one identifier.
+/// The error sources of a machine, as firmware lists them. A contract sees their identifiers and
+/// types, in the order of the table. No two sources have one identifier.
 #[derive(Drop)]
 pub struct Hest {
     sources: IndexMap<u16, u16>,
@@ -40,21 +40,22 @@ impl Model for Hest {
     ghost invariant = { λ a. IsDistinct nat_eq (keys_of a.sources.entries) };
 }
 
-/// Reads the HEST at the front of bytes. (ACPI 6.5, section 18.3.2, "ACPI Error Source".) Bytes behind its length are
-/// ignored.
+/// Reads the HEST at the front of bytes. (ACPI 6.5, section 18.3.2, "ACPI Error Source".) Bytes
+/// behind its length are ignored.
 ///
-/// It is refused with the first that applies of: `Short` below 40 bytes, `Signature` where it doesn't begin with `HEST`,
-/// `Length` where its length is below 40 or above the number of bytes, `Sum` where its bytes don't sum to 0 modulo 256,
-/// and then of what is tried at each source in turn: `SourceType` for a type that isn't known, `SourceOut` where the
-/// source passes the table's length, `RepeatedId` where a source before it has its identifier. A source of which fewer
-/// than 4 bytes are there is `SourceOut`. `NoMemory` comes for want of memory alone, and never where the table is refused
-/// before its sources.
+/// It is refused with the first that applies of: `Short` below 40 bytes, `Signature` where it
+/// doesn't begin with `HEST`, `Length` where its length is below 40 or above the number of bytes,
+/// `Sum` where its bytes don't sum to 0 modulo 256, and then of what is tried at each source in
+/// turn: `SourceType` for a type that isn't known, `SourceOut` where the source passes the table's
+/// length, `RepeatedId` where a source before it has its identifier. A source of which fewer than 4
+/// bytes are there is `SourceOut`. `NoMemory` comes for want of memory alone, and never where the
+/// table is refused before its sources.
 pub fn read_hest(alloc: Global, bytes: &[u8]) -> Result<Hest, TableRefused>
     ensures answer { Answers result (hest_of bytes.now) }
     ensures front { (why : TableRefused) → hest_table bytes.now ≡ Err why → result ≡ Err why }
 {
-    let table = table_at(bytes, b"HEST", FIXED_LENGTH)?;
-    let sources = sources_at(alloc, u32_at(table, 36), &table[FIXED_LENGTH..])?;
+    let table = table_at(bytes, b"HEST", HEST_FIXED_LENGTH)?;
+    let sources = sources_at(alloc, u32_at(table, 36), &table[HEST_FIXED_LENGTH..])?;
     Ok(Hest { sources })
 }
 
@@ -75,7 +76,7 @@ fn sources_at(alloc: Global, count: u32, bytes: &[u8]) -> Result<IndexMap<u16, u
 
 // Adds the source at the front of bytes behind the others, where none of them has its identifier.
 fn add_source(sources: &mut IndexMap<u16, u16>, bytes: &[u8]) -> Result<(), TableRefused>
-    requires head { 4 ≤ length bytes.now }
+    requires head { SOURCE_HEAD_LENGTH ≤ length bytes.now }
     requires once { IsDistinct nat_eq (keys_of sources.old.entries) }
     ensures answer { Gives (λ _. sources.new.entries) result (followed sources.old.entries (source_of bytes.now)) }
     ensures once { IsDistinct nat_eq (keys_of sources.new.entries) }
@@ -92,7 +93,7 @@ fn add_source(sources: &mut IndexMap<u16, u16>, bytes: &[u8]) -> Result<(), Tabl
 impl Hest {
     /// The type of the one source of an identifier, or None exactly where no source has it.
     pub fn source(&self, id: u16) -> Option<u16>
-        ensures answer { result ≡ type_of id self.now }
+        ensures answer { result ≡ type_with_id id self.now }
         ensures one { (kind : ℕ) → (result ≡ Some kind) ↔ Contains self.now (id, kind) }
         ensures none { IsNone result ↔ (Contains (keys_of self.now) id → ⊥) }
     {

@@ -1,6 +1,6 @@
-//! Where firmware tells of errors: the hardware error source table (HEST), the boot error record table (BERT), and
-//! generic error status blocks, over the bytes that hold them. It follows ACPI 6.5, section 18.3, "Error Source
-//! Discovery".
+//! Where firmware tells of errors: the hardware error source table (HEST), the boot error record
+//! table (BERT), and generic error status blocks, over the bytes that hold them. It follows ACPI
+//! 6.5, section 18.3, "Error Source Discovery".
 #![tactic(auto)]
 
 mod bert_table;

@@ -4,21 +4,21 @@ ghost use Rattle.std.specs.Prelude.{◌≡◌, ◌≤◌, ◌<◌, length, IfOk,
 ghost use Rattle.apei_sources.specs.Sources.{plain, with_banks, layout_of, banks_of, size_at};
 
 use crate::TableRefused;
-use cper_sections::u16_at;
+use ras_base::little_endian::u16_at;
 
-// How many bytes a source of a type has besides its banks, and where among them the count of banks stands, a byte, if the
-// type has banks.
+// How many bytes a source of a type has besides its banks, and where among them the count of banks
+// stands, a byte, if the type has banks.
 #[derive(Clone, Copy)]
 pub(crate) struct Layout {
     fixed: usize,
     banks_at: Option<usize>,
 }
 
-// The bytes of each bank.
-const BANK_LENGTH: usize = 28;
+/// The bytes of each bank.
+pub const BANK_LENGTH: usize = 28;
 
-// The bytes of a source's type and identifier.
-const HEAD_LENGTH: usize = 4;
+/// The bytes of a source's type and identifier.
+pub const SOURCE_HEAD_LENGTH: usize = 4;
 
 impl Layout {
     fn plain(fixed: usize) -> Layout
@@ -64,9 +64,9 @@ fn layout_of(kind: u16) -> Option<Layout>
 pub(crate) fn size_at(bytes: &[u8]) -> Result<usize, TableRefused>
     ensures answer { result ≡ size_at bytes.now }
     ensures inside { IfOk result (λ size. size ≤ length bytes.now) }
-    ensures head { IfOk result (λ size. 4 ≤ length bytes.now) }
+    ensures head { IfOk result (λ size. SOURCE_HEAD_LENGTH ≤ length bytes.now) }
 {
-    if bytes.len() < HEAD_LENGTH {
+    if bytes.len() < SOURCE_HEAD_LENGTH {
         return Err(TableRefused::SourceOut);
     }
     let Some(layout) = layout_of(u16_at(bytes, 0)) else {
@@ -82,7 +82,7 @@ pub(crate) fn size_at(bytes: &[u8]) -> Result<usize, TableRefused>
     Ok(size)
 }
 
-// How many banks a source tells of.
+// How many banks a source has.
 fn bank_count(layout: Layout, source: &[u8]) -> usize
     requires { IfSome layout.banks_at (λ place. place < length source.now) }
     ensures value { result ≡ banks_of layout.banks_at source.now }

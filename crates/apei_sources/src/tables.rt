@@ -5,7 +5,7 @@ ghost use Rattle.apei_sources.specs.Steps.{Reads};
 ghost use Rattle.apei_sources.specs.Tables.{has_sum, table_of};
 
 use crate::TableRefused;
-use cper_sections::u32_at;
+use ras_base::little_endian::u32_at;
 
 // The table of a signature at the front of bytes, whose fixed part has so many.
 #[tactic(auto, unfolding(crate::specs::Tables::table_of))]

@@ -1,5 +1,5 @@
-//! The sample tables and block, each shorter length of them, sources of each type at their sizes, and blocks of two
-//! entries.
+//! The sample tables and block, each shorter length of them, sources of each type at their sizes,
+//! and blocks of two entries.
 ghost use Rattle.std.specs.Prelude.{◌≤◌, ◌+◌, length};
 
 use crate::{Bert, BlockRefused, TableRefused, read_bert, read_block, read_hest};
@@ -406,7 +406,8 @@ fn two_entries(rt: HostRuntime) {
 
 #[test]
 fn block_refusals(rt: HostRuntime) {
-    // A memory section of 72 bytes can't be read, and an entry that passes the end is told before it.
+    // A memory section of 72 bytes can't be read, and an entry that passes the end is told before
+    // it.
     let mut bytes = [0u8; BLOCK_LENGTH];
     put(&mut bytes, 0, &[1]);
     put_entry(&mut bytes, 20, &MEMORY, [0, 0, 0, 72]);

@@ -1,10 +1,10 @@
 -- What is read in the front of bytes is what is read in all of them.
-use Rattle.std.proofs.Common.{◌≡◌, ℕ, ◌+◌, ◌-◌, ◌≤◌, ◌∙◌, List, length, take, drop, refl, sym, ap, subst, arith}
-use Rattle.std.proofs.lemmas.List.{take-append-drop, drop-take, length-take, length-drop, take-append-le}
-use Rattle.byteorder.specs.Endian.{little_number}
-use Rattle.byteorder.specs.Numbers.{little_from-append}
-use Rattle.cper_sections.specs.Numbers.{number_at}
-use Rattle.cper_records.specs.Header.{length_of, has_signatures}
+use Rattle.std.proofs.Common.{◌≡◌, ℕ, ◌+◌, ◌-◌, ◌≤◌, ◌∙◌, List, ◌++◌, length, take, drop, refl, sym, ap, subst, arith, nat_lt, true, false}
+use Rattle.std.proofs.lemmas.List.{take-append-drop, drop-take, length-take, length-drop, take-append-le, length-append, take_at}
+use Rattle.ras_base.specs.LittleEndianLemmas.{number_at-take, number_at-append}
+use Rattle.cper_records.specs.Header.{record_length, has_signatures, has_length}
+use Rattle.cper_records.specs.Laid.{HasHeader}
+use Rattle.cper_records.specs.Records.{record_of, sections_of}
 
 -- the front of a front
 take_front : {X : Type 0} (k n : ℕ) (xs : List X) → k ≤ n → n ≤ length xs → take k (take n xs) ≡ take k xs
@@ -20,24 +20,9 @@ part_of_front {X} place k n xs short inside =
     ap (λ ys. take k ys) (subst P whole (drop-take place (n - place) xs))
     ∙ take_front k (n - place) (drop place xs) (omega arith) (omega (arith, length-drop place xs))
 
--- a number is that of its own bytes
-number_of_part : (width : ℕ) (xs : List ℕ) → width ≤ length xs → little_number width (take width xs) ≡ little_number width xs
-number_of_part width xs inside =
-    sym (little_from-append width (take width xs) (drop width xs) (omega (arith, length-take width xs)))
-    ∙ ap (λ ys. little_number width ys) (take-append-drop width xs)
-
--- a number in a front
-pub number_at_front : (place width n : ℕ) (bytes : List ℕ) → place + width ≤ n → n ≤ length bytes
-    → number_at place width (take n bytes) ≡ number_at place width bytes
-unfolding number_at
-number_at_front place width n bytes short inside =
-    sym (number_of_part width (drop place (take n bytes)) (omega (arith, length-drop place (take n bytes), length-take n bytes)))
-    ∙ ap (λ ys. little_number width ys) (part_of_front place width n bytes short inside)
-    ∙ number_of_part width (drop place bytes) (omega (arith, length-drop place bytes))
-
 -- the record's length in its own bytes
-pub own_length : (bytes : List ℕ) (n : ℕ) → 128 ≤ n → n ≤ length bytes → length_of (take n bytes) ≡ length_of bytes
-own_length bytes n header inside = number_at_front 20 4 n bytes (omega arith) inside
+pub own_length : (bytes : List ℕ) (n : ℕ) → 128 ≤ n → n ≤ length bytes → record_length (take n bytes) ≡ record_length bytes
+own_length bytes n header inside = number_at-take n 20 4 bytes (omega arith)
 
 -- the signatures in the record's own bytes
 pub own_signatures : (bytes : List ℕ) (n : ℕ) → 128 ≤ n → n ≤ length bytes → has_signatures (take n bytes) ≡ has_signatures bytes
@@ -47,3 +32,30 @@ own_signatures bytes n header inside =
 -- the record's own bytes in themselves
 pub own_bytes : (bytes : List ℕ) (n : ℕ) → n ≤ length bytes → take n (take n bytes) ≡ take n bytes
 own_bytes bytes n inside = take_front n n bytes (omega arith) inside
+
+-- as many bytes as a header says have that header
+pub own_header : (bytes : List ℕ) (n : ℕ) → n ≡ record_length bytes → 128 ≤ n → n ≤ length bytes → has_signatures bytes ≡ true
+    → HasHeader (take n bytes)
+own_header bytes n is header inside signed =
+    let len : length (take n bytes) ≡ n = omega (arith, length-take n bytes) in
+    record {
+      header = omega (arith, len);
+      signed = own_signatures bytes n header inside ∙ signed;
+      whole = own_length bytes n header inside ∙ sym is ∙ sym len;
+    }
+
+-- and bytes that begin with such are read as those
+pub read_own : (own rest : List ℕ) → HasHeader own → record_of (own ++ rest) ≡ sections_of own
+unfolding record_of
+read_own own rest front =
+    let bytes : List ℕ = own ++ rest in
+    let n = length own in
+    let inside : n ≤ length bytes = omega (arith, length-append own rest) in
+    let header : 128 ≤ n = front.header in
+    let long : nat_lt (length bytes) 128 ≡ false = grind arith in
+    let told : record_length bytes ≡ n = number_at-append 20 4 own rest (omega arith) ∙ front.whole in
+    let cut : take n bytes ≡ own = take_at own rest n refl in
+    let signed : has_signatures bytes ≡ true =
+    sym (own_signatures bytes n header inside) ∙ ap (λ (xs : List ℕ). has_signatures xs) cut ∙ front.signed in
+    let fits : has_length bytes ≡ true = grind (arith, told) in
+    rw (long, signed, fits, told, cut) refl

@@ -1,23 +1,24 @@
--- The record header of UEFI, appendix N, "Record Header": 128 bytes.
+-- The record header of UEFI, appendix N, "Record Header".
 use Rattle.std.specs.Prelude.{ℕ, Bool, ◌&&◌, nat_eq, nat_le, List, [], ◌∷◌, length, drop, codes}
 use Rattle.std.specs.List.{starts_with}
-use Rattle.cper_sections.specs.Numbers.{number_at}
+use Rattle.ras_base.specs.LittleEndian.{number_at}
+use Rattle.cper_records.specs.declared.records.TheConstants.{HEADER_LENGTH}
 
 -- the count of sections
-abbrev pub count_of : List ℕ → ℕ
-count_of bytes = number_at 10 2 bytes
+abbrev pub section_count : List ℕ → ℕ
+section_count bytes = number_at 10 2 bytes
 
 -- the severity of the record
-abbrev pub severity_of : List ℕ → ℕ
-severity_of bytes = number_at 12 4 bytes
+abbrev pub record_severity : List ℕ → ℕ
+record_severity bytes = number_at 12 4 bytes
 
 -- the length of the record, header and sections
-abbrev pub length_of : List ℕ → ℕ
-length_of bytes = number_at 20 4 bytes
+abbrev pub record_length : List ℕ → ℕ
+record_length bytes = number_at 20 4 bytes
 
 -- the record's identifier
-abbrev pub id_of : List ℕ → ℕ
-id_of bytes = number_at 96 8 bytes
+abbrev pub record_id : List ℕ → ℕ
+record_id bytes = number_at 96 8 bytes
 
 -- whether the two signatures stand at their places
 abbrev pub has_signatures : List ℕ → Bool
@@ -26,4 +27,4 @@ has_signatures bytes =
 
 -- whether the record's length takes in the header, and lies inside the bytes
 abbrev pub has_length : List ℕ → Bool
-has_length bytes = nat_le 128 (length_of bytes) && nat_le (length_of bytes) (length bytes)
+has_length bytes = nat_le HEADER_LENGTH (record_length bytes) && nat_le (record_length bytes) (length bytes)

@@ -1,3 +1,4 @@
 pub mod Header
 pub mod Descriptors
 pub mod Records
+pub mod Laid

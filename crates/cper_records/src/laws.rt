@@ -1,12 +1,26 @@
 //! What is said of records for every list of bytes.
 
-ghost use Rattle.std.specs.Prelude.{◌≡◌, ◌≤◌, ℕ, List, length, take};
-ghost use Rattle.cper_records.specs.Header.{length_of};
+ghost use Rattle.std.specs.Prelude.{◌≡◌, ◌≤◌, ◌↔◌, ℕ, List, length, take, Ok, Err};
+ghost use Rattle.ras_base.specs.Prefix.{IsPrefixOf};
+ghost use Rattle.cper_records.specs.declared.records.TheConstants.{HEADER_LENGTH};
+ghost use Rattle.cper_records.specs.declared.refusals.RecordRefused.{RecordRefused};
+ghost use Rattle.cper_records.specs.Header.{record_length};
+ghost use Rattle.cper_records.specs.Laid.{IsRecord, IsNoRecord};
 ghost use Rattle.cper_records.specs.Records.{record_of};
 
-/// The answer on a record whose length lies inside the bytes depends on as many bytes as that length
-/// says: bytes after them change nothing.
+/// A record reads exactly where it is signed, its length, its descriptors and its sections lie
+/// inside the bytes, and each section reads; it is those of the first bytes that its length says.
+/// Each refusal comes exactly where it is the first that applies.
+pub fn records_are_laid_out()
+    ensures read { (bytes own : List ℕ)
+        → (record_of bytes ≡ Ok own) ↔ (IsPrefixOf own bytes × IsRecord own) }
+    ensures refused { (bytes : List ℕ) (why : RecordRefused)
+        → (record_of bytes ≡ Err why) ↔ IsNoRecord bytes why }
+{}
+
+/// The answer on a record whose length lies inside the bytes depends on as many bytes as that
+/// length says: bytes after them change nothing.
 pub fn only_own_bytes()
-    ensures { (bytes : List ℕ) → 128 ≤ length_of bytes → length_of bytes ≤ length bytes
-        → record_of (take (length_of bytes) bytes) ≡ record_of bytes }
+    ensures { (bytes : List ℕ) → HEADER_LENGTH ≤ record_length bytes → record_length bytes ≤ length bytes
+        → record_of (take (record_length bytes) bytes) ≡ record_of bytes }
 {}

@@ -7,7 +7,7 @@ mod records;
 mod refusals;
 mod walk;
 
-pub use laws::only_own_bytes;
+pub use laws::{only_own_bytes, records_are_laid_out};
 pub use records::{Record, read_record};
 pub use refusals::RecordRefused;
 

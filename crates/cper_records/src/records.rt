@@ -1,18 +1,20 @@
 //! Records, as views of the bytes that hold them.
 
-ghost use Rattle.std.specs.Prelude.{◌≡◌, ◌≤◌, ◌<◌, ◌+◌, ℕ, length, false, IfOk, Ok};
+ghost use Rattle.std.specs.Prelude.{◌≡◌, ◌≤◌, ◌<◌, length, IfOk, Ok};
 ghost use Rattle.cper_sections.specs.Sections.{section_of};
-ghost use Rattle.cper_records.specs.Header.{id_of, severity_of, length_of, count_of, has_signatures};
-ghost use Rattle.cper_records.specs.Descriptors.{offset_of, section_length, section_guid, section_severity, section_bytes};
+ghost use Rattle.cper_records.specs.Header.{record_id, record_severity, record_length, section_count, has_signatures};
+ghost use Rattle.cper_records.specs.Descriptors.{section_guid, section_severity, section_bytes};
+ghost use Rattle.cper_records.specs.Laid.{HasHeader, HasSections};
 ghost use Rattle.cper_records.specs.Records.{record_of, sections_of};
 
 use crate::RecordRefused;
-use crate::walk::{descriptor, descriptor_at, is_some_out, is_some_refused};
-use cper_sections::{Descriptor, u16_at, u32_at, u64_at};
+use crate::walk::{descriptor_at, is_some_out, is_some_refused, section_at};
+use cper_sections::Descriptor;
+use ras_base::little_endian::{u16_at, u32_at, u64_at};
 use std::marker::Model;
 
-/// A record that reads, over the bytes that hold it: it copies nothing. A contract sees the record's
-/// own bytes, as many as its length says.
+/// A record that reads, over the bytes that hold it: it copies nothing. A contract sees the
+/// record's own bytes, as many as its length says.
 #[derive(Drop)]
 pub struct Record<'a> {
     bytes: &'a [u8],
@@ -20,7 +22,7 @@ pub struct Record<'a> {
 
 impl<'a> Model for Record<'a> {
     ghost use Rattle.std.specs.Prelude.{ℕ, List};
-    ghost use Rattle.cper_records.specs.Records.{IsRecord};
+    ghost use Rattle.cper_records.specs.Laid.{IsRecord};
 
     ghost Value = { List ℕ };
 
@@ -29,24 +31,23 @@ impl<'a> Model for Record<'a> {
     ghost invariant = { λ a. IsRecord a.bytes.now };
 }
 
-// The bytes of a header.
-pub(crate) const HEADER_LENGTH: usize = 128;
+/// The bytes of a record's header.
+pub const HEADER_LENGTH: usize = 128;
 
 /// Reads the record at the front of bytes. (UEFI, appendix N, "Record Header".)
 ///
 /// It is refused with the first that applies of: `Short` below 128 bytes, `Signature` without the
 /// two signatures, `Length` where the record's length is below 128 or above the number of bytes,
-/// `DescriptorOut` where the descriptors pass that length, `SectionOut` where some section does, and
-/// `Section` where `read_section` refuses some section.
-#[tactic(auto, using(crate::proofs::FrontLemmas::own_length), unfolding(crate::specs::Records::record_of))]
+/// `DescriptorOut` where the descriptors pass that length, `SectionOut` where some section does,
+/// and `Section` where `read_section` refuses some section.
+#[tactic(auto, unfolding(crate::specs::Records::record_of))]
 pub fn read_record(bytes: &[u8]) -> Result<Record<'_>, RecordRefused>
     ensures answer { result ≡ record_of bytes.now }
 
     // The record and its sections lie inside the bytes.
-    ensures whole { IfOk result (λ own. length_of own ≡ length own) }
+    ensures whole { IfOk result (λ own. record_length own ≡ length own) }
     ensures inside { IfOk result (λ own. length own ≤ length bytes.now) }
-    ensures sections { IfOk result (λ own. (i : ℕ) → i < count_of own
-        → offset_of own i + section_length own i ≤ length own) }
+    ensures sections { IfOk result HasSections }
 {
     if bytes.len() < HEADER_LENGTH {
         return Err(RecordRefused::Short);
@@ -72,12 +73,10 @@ fn has_signatures(bytes: &[u8]) -> bool
 // The record of bytes that are as many as its length says.
 #[tactic(auto, using(crate::proofs::BelowLemmas::inside_each, crate::proofs::BelowLemmas::some_below_each), unfolding(crate::specs::Records::sections_of))]
 fn sections_of(bytes: &[u8]) -> Result<Record<'_>, RecordRefused>
-    requires header { 128 ≤ length bytes.now }
-    requires whole { length_of bytes.now ≡ length bytes.now }
+    requires { HasHeader bytes.now }
     ensures answer { result ≡ sections_of bytes.now }
     ensures own { IfOk result (λ own. own ≡ bytes.now) }
-    ensures sections { IfOk result (λ own. (i : ℕ) → i < count_of own
-        → offset_of own i + section_length own i ≤ length own) }
+    ensures sections { IfOk result HasSections }
 {
     let count = u16_at(bytes, 10);
     if bytes.len() < descriptor_at(count) {
@@ -95,21 +94,21 @@ fn sections_of(bytes: &[u8]) -> Result<Record<'_>, RecordRefused>
 impl<'a> Record<'a> {
     /// The record's identifier.
     pub fn id(&self) -> u64
-        ensures { result ≡ id_of self.now }
+        ensures { result ≡ record_id self.now }
     {
         u64_at(self.bytes, 96)
     }
 
     /// The severity of the record: 0 recoverable, 1 fatal, 2 corrected, 3 informational.
     pub fn severity(&self) -> u32
-        ensures { result ≡ severity_of self.now }
+        ensures { result ≡ record_severity self.now }
     {
         u32_at(self.bytes, 12)
     }
 
     /// The record's length in bytes, header and sections.
     pub fn length(&self) -> u32
-        ensures field { result ≡ length_of self.now }
+        ensures field { result ≡ record_length self.now }
         ensures whole { result ≡ length self.now }
     {
         u32_at(self.bytes, 20)
@@ -117,19 +116,19 @@ impl<'a> Record<'a> {
 
     /// The count of sections.
     pub fn count(&self) -> u16
-        ensures { result ≡ count_of self.now }
+        ensures { result ≡ section_count self.now }
     {
         u16_at(self.bytes, 10)
     }
 
     /// A section by its number, from 0. (UEFI, appendix N, "Section Descriptor".)
     pub fn section(&self, i: u16) -> Descriptor<'a>
-        requires { i < count_of self.now }
+        requires { i < section_count self.now }
         ensures severity { result.severity ≡ section_severity self.now i }
         ensures guid { result.guid ≡ section_guid self.now i }
         ensures bytes { result.bytes.now ≡ section_bytes self.now i }
         ensures section { section_of result.guid result.bytes.now ≡ Ok result.section }
     {
-        descriptor(self.bytes, i)
+        section_at(self.bytes, i).read()
     }
 }

@@ -118,8 +118,8 @@ fn refusals(rt: HostRuntime) {
         let refused = read_record(&longer).err();
         assert!(rt; refused == wanted, "{byte:x} at {place}");
     }
-    // A section that passes the end is told before one that can't be read, and by the whole sum of its
-    // offset and length.
+    // A section that passes the end is told before one that can't be read, and by the whole sum of
+    // its offset and length.
     let mut longer = [0u8; 400];
     put(&mut longer, 0, &two_sections());
     longer[132] = 0x48;

@@ -1,9 +1,9 @@
 -- The contexts that fit, step by step.
-use Rattle.std.proofs.Common.{◌≡◌, ℕ, zero, suc, ◌+◌, ◌-◌, ◌<◌, ◌≤◌, ◌∙◌, List, [], ◌∷◌, length, drop, true, false, refl, ap, sym, arith, slice_get, sum_by}
+use Rattle.std.proofs.Common.{◌≡◌, ℕ, zero, suc, ◌+◌, ◌-◌, ◌<◌, ◌≤◌, ◌∙◌, List, [], ◌∷◌, length, take, drop, Bool, true, false, Some, subst, refl, ap, sym, arith, slice_get, sum_by}
 use Rattle.std.proofs.lemmas.List.{drop_all, drop-drop, length-take, length-drop}
 use Rattle.std.proofs.lemmas.List.Sums.{sum_by-cons}
-use Rattle.cper_sections.specs.X64.{contexts_in, contexts_at, contexts_of, x64_validation, stated_contexts, has_context, context_of, context_length, ContextParts, bytes_taken}
-use Rattle.cper_sections.specs.Numbers.{number_at}
+use Rattle.cper_sections.specs.X64.{contexts_in, contexts_at, contexts_of, x64_validation, stated_contexts, has_context, context_of, context_length, ContextParts, bytes_taken, context_bytes}
+use Rattle.ras_base.specs.LittleEndian.{number_at}
 
 -- one that fits is before the others
 contexts_in_more : (stated more : ℕ) (bytes : List ℕ) → stated ≡ suc more → has_context bytes ≡ true
@@ -104,3 +104,46 @@ contexts_ended (suc stated) bytes fewer =
       | false ↦ λ is. ap (λ (contexts : List ContextParts). has_context (drop (sum_by bytes_taken contexts) bytes)) (contexts_in_end (suc stated) bytes is) ∙ is
     ] in
     cases (has_context bytes) refl
+
+-- each context is the one at the front of what those before it leave
+abbrev pub IsInPlace : List ContextParts → List ℕ → ℕ → Type 0
+IsInPlace contexts bytes i =
+    slice_get contexts i ≡ Some (context_of (drop (sum_by bytes_taken (take i contexts)) bytes))
+
+in_place_behind : (bytes : List ℕ) (behind : List ContextParts) → has_context bytes ≡ true
+    → ((i : ℕ) → i < length behind → IsInPlace behind (drop (context_length bytes) bytes) i)
+    → (i : ℕ) → i < suc (length behind) → IsInPlace (context_of bytes ∷ behind) bytes i
+in_place_behind bytes behind fits others zero below = refl
+in_place_behind bytes behind fits others (suc i) below =
+    let before : ℕ = sum_by bytes_taken (take i behind) in
+    let sum : sum_by bytes_taken (context_of bytes ∷ take i behind) ≡ context_length bytes + before =
+    sum_by-cons bytes_taken (context_of bytes) (take i behind) ∙ ap (λ first. first + before) (taken bytes fits) in
+    others i (omega arith)
+    ∙ ap (λ left. Some (context_of left)) (drop-drop before (context_length bytes) bytes ∙ ap (λ n. drop n bytes) (sym sum))
+
+contexts_in_place : (stated : ℕ) (bytes : List ℕ) (i : ℕ) → i < length (contexts_in stated bytes)
+    → IsInPlace (contexts_in stated bytes) bytes i
+contexts_in_place zero bytes i below = absurd (omega (arith, most_contexts zero bytes))
+contexts_in_place (suc stated) bytes i below = by (has_context bytes) refl (contexts_in_place stated rest)
+  where
+    rest : List ℕ
+    rest = drop (context_length bytes) bytes
+
+    by : (fits : Bool) → has_context bytes ≡ fits
+        → ((i : ℕ) → i < length (contexts_in stated rest) → IsInPlace (contexts_in stated rest) rest i)
+        → IsInPlace (contexts_in (suc stated) bytes) bytes i
+    by true fits others =
+        let more : contexts_in (suc stated) bytes ≡ context_of bytes ∷ contexts_in stated rest =
+        contexts_in_more (suc stated) stated bytes refl fits in
+        let P : List ContextParts → Type 0 = λ contexts. IsInPlace contexts bytes i in
+        subst P (sym more) (in_place_behind bytes (contexts_in stated rest) fits others i
+        (omega (arith, below, ap (λ (contexts : List ContextParts). length contexts) more)))
+    by false fits others =
+        absurd (omega (arith, below, ap (λ (contexts : List ContextParts). length contexts) (contexts_in_end (suc stated) bytes fits)))
+
+-- so it is in a section
+pub context_in_place : (bytes : List ℕ) (i : ℕ) → i < length (contexts_of bytes)
+    → slice_get (contexts_of bytes) i ≡ Some (context_of (context_bytes bytes i))
+context_in_place bytes i below =
+    contexts_in_place (stated_contexts (x64_validation bytes)) (drop (contexts_at bytes) bytes) i below
+    ∙ ap (λ left. Some (context_of left)) (drop-drop (sum_by bytes_taken (take i (contexts_of bytes))) (contexts_at bytes) bytes)

@@ -1,8 +1,13 @@
--- The section types of UEFI, appendix N, "Section Descriptor".
-use Rattle.std.specs.Prelude.{ℕ, List, [], ◌∷◌, if◌then◌else◌}
+-- GUIDs, and the section types of UEFI, appendix N, "Section Descriptor".
+use Rattle.std.specs.Prelude.{ℕ, List, [], ◌∷◌, take, if◌then◌else◌}
 use Rattle.std.specs.Str.{bytes_eq}
+use Rattle.uuid.specs.Parts.{swap_fields}
 use Rattle.cper_sections.specs.declared.guids.SectionType.{SectionType}
 use Rattle.cper_sections.specs.declared.guids.SectionType.TheVariants.{Memory, Processor, X64, Unknown}
+
+-- the GUID at the front of bytes, whose first three fields stand there with the lowest byte first
+abbrev pub guid_of : List ℕ → List ℕ
+guid_of bytes = swap_fields (take 16 bytes)
 
 -- platform memory: a5bc1114-6f64-4ede-b863-3e83ed7c83b1
 unfoldable pub memory_guid : List ℕ
@@ -20,8 +25,8 @@ x64_guid =
     0xdc ∷ 0x3e ∷ 0xa0 ∷ 0xb0 ∷ 0xa1 ∷ 0x44 ∷ 0x47 ∷ 0x97 ∷ 0xb9 ∷ 0x5b ∷ 0x53 ∷ 0xfa ∷ 0x24 ∷ 0x2b ∷ 0x6e ∷ 0x1d ∷ []
 
 -- the kind of section that a GUID stands for
-unfoldable pub type_of : List ℕ → SectionType
-type_of guid =
+unfoldable pub section_type_of : List ℕ → SectionType
+section_type_of guid =
     if bytes_eq guid memory_guid then Memory
     else (if bytes_eq guid processor_guid then Processor
     else (if bytes_eq guid x64_guid then X64 else Unknown))

@@ -1,4 +1,4 @@
-pub mod Numbers
+pub mod Fields
 pub mod Guids
 pub mod Memory
 pub mod Processor

@@ -1,6 +1,6 @@
 -- The processor generic section of UEFI, appendix N, "Generic Processor Error Section".
 use Rattle.std.specs.Prelude.{ℕ, List, slice_index}
-use Rattle.cper_sections.specs.Numbers.{number_at}
+use Rattle.ras_base.specs.LittleEndian.{number_at}
 use Rattle.cper_sections.specs.declared.processor.ProcSection.{ProcSection}
 
 -- a processor section by its table, whatever the validation bits say

@@ -1,7 +1,11 @@
--- The IA32/X64 section of UEFI, appendix N, "IA32/X64 Processor Error Section". That the contexts end
--- at the first that doesn't fit is this project's own.
-use Rattle.std.specs.Prelude.{ℕ, zero, suc, ◌+◌, ◌*◌, ◌/◌, ◌%◌, ◌^◌, nat_le, Bool, List, [], ◌∷◌, length, take, drop, if◌then◌else◌}
-use Rattle.cper_sections.specs.Numbers.{number_at, told}
+-- The IA32/X64 section of UEFI, appendix N, "IA32/X64 Processor Error Section", and its contexts,
+-- "IA32/X64 Processor Context Information Structure". That the contexts end at the first that
+-- doesn't fit is this project's own.
+use Rattle.std.specs.Prelude.{ℕ, zero, suc, ◌+◌, ◌*◌, nat_le, Bool, List, [], ◌∷◌, length, take, drop, sum_by, if◌then◌else◌}
+use Rattle.ras_base.specs.Bits.{bits}
+use Rattle.ras_base.specs.LittleEndian.{number_at}
+use Rattle.cper_sections.specs.Fields.{if_valid}
+use Rattle.cper_sections.specs.declared.x64.TheConstants.{FIXED_LENGTH, STRUCTURE_LENGTH, CONTEXT_HEADER_LENGTH}
 use Rattle.cper_sections.specs.declared.x64.X64Section.{X64Section}
 use Rattle.cper_sections.specs.declared.x64.Context.{Context}
 
@@ -11,15 +15,15 @@ x64_validation bytes = number_at 0 8 bytes
 
 -- bits 7:2, the count of error structures
 abbrev pub structures_of : ℕ → ℕ
-structures_of validation = validation / 2 ^ 2 % 2 ^ 6
+structures_of validation = bits 2 6 validation
 
 -- bits 13:8, the count of contexts that is stated
 abbrev pub stated_contexts : ℕ → ℕ
-stated_contexts validation = validation / 2 ^ 8 % 2 ^ 6
+stated_contexts validation = bits 8 6 validation
 
--- where the contexts begin: after 64 bytes, and after structures of 64 bytes each
+-- where the contexts begin: after the fixed fields and after the structures
 abbrev pub contexts_at : List ℕ → ℕ
-contexts_at bytes = 64 + 64 * structures_of (x64_validation bytes)
+contexts_at bytes = FIXED_LENGTH + STRUCTURE_LENGTH * structures_of (x64_validation bytes)
 
 -- a context without where it lies in memory
 pub record ContextParts : Type 0 where
@@ -32,13 +36,13 @@ pub record ContextParts : Type 0 where
 abbrev pub parts_of : Context → ContextParts
 parts_of context = record { kind = context.kind; msr = context.msr; mapped = context.mapped; array = context.array.now }
 
--- how many bytes such a context takes, its header of 16 and its array
+-- how many bytes such a context takes, its header and its array
 abbrev pub bytes_taken : ContextParts → ℕ
-bytes_taken context = 16 + length context.array
+bytes_taken context = CONTEXT_HEADER_LENGTH + length context.array
 
--- the bytes of the context at the front: a header of 16 bytes and an array, whose size stands at 2
+-- the bytes of the context at the front: a header and an array, whose size stands at 2
 abbrev pub context_length : List ℕ → ℕ
-context_length bytes = 16 + number_at 2 2 bytes
+context_length bytes = CONTEXT_HEADER_LENGTH + number_at 2 2 bytes
 
 -- whether the context at the front fits
 abbrev pub has_context : List ℕ → Bool
@@ -50,10 +54,11 @@ context_of bytes = record {
   kind = number_at 0 2 bytes;
   msr = number_at 4 4 bytes;
   mapped = number_at 8 8 bytes;
-  array = take (number_at 2 2 bytes) (drop 16 bytes);
+  array = take (number_at 2 2 bytes) (drop CONTEXT_HEADER_LENGTH bytes);
 }
 
--- the contexts that fit, of so many that are stated one after the other: the first that doesn't fit ends them
+-- the contexts that fit, of so many that are stated one after the other: the first that doesn't fit
+-- ends them
 unfoldable pub contexts_in : ℕ → List ℕ → List ContextParts
 contexts_in zero bytes = []
 contexts_in (suc stated) bytes =
@@ -65,10 +70,14 @@ contexts_in (suc stated) bytes =
 abbrev pub contexts_of : List ℕ → List ContextParts
 contexts_of bytes = contexts_in (stated_contexts (x64_validation bytes)) (drop (contexts_at bytes) bytes)
 
+-- the bytes from the context at a place on: it begins where those before it end
+abbrev pub context_bytes : List ℕ → ℕ → List ℕ
+context_bytes bytes i = drop (contexts_at bytes + sum_by bytes_taken (take i (contexts_of bytes))) bytes
+
 -- an IA32/X64 section by its table
 unfoldable pub x64_of : List ℕ → X64Section
 x64_of bytes = record {
-  apic = told 0 (x64_validation bytes) (number_at 8 8 bytes);
+  apic = if_valid 0 (x64_validation bytes) (number_at 8 8 bytes);
   structures = structures_of (x64_validation bytes);
   contexts = length (contexts_of bytes);
 }

@@ -1,26 +1,38 @@
 //! The types of sections, which are GUIDs.
 
-ghost use Rattle.std.specs.Prelude.{◌≡◌, drop};
-ghost use Rattle.byteorder.specs.Endian.{big_number, little_number};
+ghost use Rattle.std.specs.Prelude.{◌≡◌, ◌≤◌, length, drop};
+ghost use Rattle.byteorder.specs.Endian.{big_number};
 ghost use Rattle.uuid.specs.Parts.{swap_fields};
-ghost use Rattle.cper_sections.specs.Guids.{type_of, memory_guid, processor_guid, x64_guid};
 ghost use Rattle.std.specs.Str.{bytes_eq};
+ghost use Rattle.ras_base.specs.LittleEndian.{number_at};
+ghost use Rattle.cper_sections.specs.Guids.{guid_of, section_type_of, memory_guid, processor_guid, x64_guid};
 
 use uuid::Uuid;
 
 /// The GUID whose bytes these are. Its first three fields, of four, two and two bytes, are written
 /// with the lowest byte first, and the rest as it stands. (UEFI, appendix A, "GUID and Time
 /// Formats".)
+#[tactic(auto, unfolding(ras_base::specs::LittleEndian::number_at))]
 pub fn guid_at(bytes: &[u8; 16]) -> Uuid
     ensures guid { result ≡ swap_fields bytes.now }
 
     // Each of the first three fields is the number of its bytes read from the low one on.
-    ensures first { big_number 4 result ≡ little_number 4 bytes.now }
-    ensures second { big_number 2 (drop 4 result) ≡ little_number 2 (drop 4 bytes.now) }
-    ensures third { big_number 2 (drop 6 result) ≡ little_number 2 (drop 6 bytes.now) }
+    ensures first { big_number 4 result ≡ number_at 0 4 bytes.now }
+    ensures second { big_number 2 (drop 4 result) ≡ number_at 4 2 bytes.now }
+    ensures third { big_number 2 (drop 6 result) ≡ number_at 6 2 bytes.now }
     ensures rest { drop 8 result ≡ drop 8 bytes.now }
 {
     Uuid::from_bytes_le(*bytes)
+}
+
+// The GUID at the front of bytes.
+pub(crate) fn guid_in_front(bytes: &[u8]) -> Uuid
+    requires { 16 ≤ length bytes.now }
+    ensures { result ≡ guid_of bytes.now }
+{
+    let mut front = [0u8; 16];
+    front.copy_from_slice(&bytes[..16]);
+    guid_at(&front)
 }
 
 /// The kinds of sections that are read.
@@ -37,9 +49,9 @@ pub enum SectionType {
 }
 
 /// The kind of section that a GUID stands for. (UEFI, appendix N, "Section Descriptor".)
-#[tactic(auto, unfolding(crate::specs::Guids::type_of))]
-pub fn type_of(guid: Uuid) -> SectionType
-    ensures { result ≡ type_of guid }
+#[tactic(auto, unfolding(crate::specs::Guids::section_type_of))]
+pub fn section_type_of(guid: Uuid) -> SectionType
+    ensures { result ≡ section_type_of guid }
 {
     if is_memory(guid) {
         SectionType::Memory

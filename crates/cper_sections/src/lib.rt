@@ -5,17 +5,15 @@
 mod guids;
 mod laws;
 mod memory;
-mod numbers;
 mod processor;
 mod sections;
 mod x64;
 
-pub use guids::{SectionType, guid_at, type_of};
+pub use guids::{SectionType, guid_at, section_type_of};
 pub use laws::contexts_are_the_first_that_fit;
 pub use memory::MemSection;
-pub use numbers::{u16_at, u32_at, u64_at};
 pub use processor::ProcSection;
-pub use sections::{Descriptor, Section, SectionRefused, read_section};
+pub use sections::{Descriptor, RawSection, Section, SectionRefused, read_section};
 pub use x64::{Context, X64Section, context_at};
 
 #[cfg(test)]

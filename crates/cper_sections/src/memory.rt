@@ -3,9 +3,11 @@
 ghost use Rattle.std.specs.Prelude.{◌≡◌, ◌≤◌, length};
 ghost use Rattle.cper_sections.specs.Memory.{memory_of, rank_of};
 
-use crate::numbers::{is_set, u16_at, u64_at};
+use ras_base::is_set;
+use ras_base::little_endian::{u16_at, u64_at};
 
-/// What a platform memory section tells. Each field is there exactly where its validation bit is set.
+/// What a platform memory section says. Each field is there exactly where its validation bit is
+/// set.
 #[derive(Clone, Copy, Debug, PartialEq, Eq)]
 pub struct MemSection {
     /// The physical address of the error.
@@ -28,37 +30,38 @@ pub struct MemSection {
     pub kind: Option<u8>,
 }
 
-// The bytes of the old form, and of the one that tells the rank.
-pub(crate) const OLD_LENGTH: usize = 73;
+/// The bytes of a memory section of the old form.
+pub const OLD_LENGTH: usize = 73;
 
-const RANK_LENGTH: usize = 80;
+/// The bytes of a memory section that has the rank.
+pub const RANK_LENGTH: usize = 80;
 
 // Reads a memory section.
 #[tactic(auto, unfolding(crate::specs::Memory::memory_of))]
 pub(crate) fn memory_at(bytes: &[u8]) -> MemSection
-    requires { 73 ≤ length bytes.now }
+    requires { OLD_LENGTH ≤ length bytes.now }
     ensures { result ≡ memory_of bytes.now }
 {
     let validation = u64_at(bytes, 0);
     MemSection {
-        physical: is_set(validation, 1).then_some(u64_at(bytes, 16)),
-        mask: is_set(validation, 2).then_some(u64_at(bytes, 24)),
-        node: is_set(validation, 3).then_some(u16_at(bytes, 32)),
-        card: is_set(validation, 4).then_some(u16_at(bytes, 34)),
-        module: is_set(validation, 5).then_some(u16_at(bytes, 36)),
-        bank: is_set(validation, 6).then_some(u16_at(bytes, 38)),
-        row: is_set(validation, 8).then_some(u16_at(bytes, 42)),
+        physical: is_set(1, validation).then_some(u64_at(bytes, 16)),
+        mask: is_set(2, validation).then_some(u64_at(bytes, 24)),
+        node: is_set(3, validation).then_some(u16_at(bytes, 32)),
+        card: is_set(4, validation).then_some(u16_at(bytes, 34)),
+        module: is_set(5, validation).then_some(u16_at(bytes, 36)),
+        bank: is_set(6, validation).then_some(u16_at(bytes, 38)),
+        row: is_set(8, validation).then_some(u16_at(bytes, 42)),
         rank: rank_at(bytes, validation),
-        kind: is_set(validation, 14).then_some(bytes[72]),
+        kind: is_set(14, validation).then_some(bytes[72]),
     }
 }
 
-// The rank, where it is told and the section is long enough for it.
+// The rank, where it is valid and the section is long enough for it.
 fn rank_at(bytes: &[u8], validation: u64) -> Option<u16>
     ensures { result ≡ rank_of validation bytes.now }
 {
     if bytes.len() < RANK_LENGTH {
         return None;
     }
-    is_set(validation, 15).then_some(u16_at(bytes, 74))
+    is_set(15, validation).then_some(u16_at(bytes, 74))
 }

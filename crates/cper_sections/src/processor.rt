@@ -3,7 +3,7 @@
 ghost use Rattle.std.specs.Prelude.{◌≡◌, ◌≤◌, length};
 ghost use Rattle.cper_sections.specs.Processor.{processor_of};
 
-use crate::numbers::u64_at;
+use ras_base::little_endian::u64_at;
 
 /// What a processor generic section holds, whatever its validation bits say.
 #[derive(Clone, Copy, Debug, PartialEq, Eq)]
@@ -34,13 +34,13 @@ pub struct ProcSection {
     pub ip: u64,
 }
 
-// The bytes of a processor generic section.
-pub(crate) const LENGTH: usize = 192;
+/// The bytes of a processor generic section.
+pub const LENGTH: usize = 192;
 
 // Reads a processor generic section.
 #[tactic(auto, unfolding(crate::specs::Processor::processor_of))]
 pub(crate) fn processor_at(bytes: &[u8]) -> ProcSection
-    requires { 192 ≤ length bytes.now }
+    requires { LENGTH ≤ length bytes.now }
     ensures { result ≡ processor_of bytes.now }
 {
     ProcSection {

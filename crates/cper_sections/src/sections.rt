@@ -1,15 +1,17 @@
 //! A section of any type.
 
-ghost use Rattle.std.specs.Prelude.{◌≡◌};
+ghost use Rattle.std.specs.Prelude.{◌≡◌, ◌≤◌, length, is_ok, IsOk, Ok};
+ghost use Rattle.cper_sections.specs.Guids.{guid_of};
 ghost use Rattle.cper_sections.specs.Sections.{section_of};
 
-use crate::guids::{SectionType, type_of};
+use crate::guids::{SectionType, guid_in_front, section_type_of};
 use crate::memory::{MemSection, OLD_LENGTH, memory_at};
 use crate::processor::{LENGTH, ProcSection, processor_at};
 use crate::x64::{FIXED_LENGTH, X64Section, contexts_start, x64_at};
+use thiserror::Error;
 use uuid::Uuid;
 
-/// What a section tells, by its type.
+/// What a section says, by its type.
 #[derive(Clone, Copy, Debug, PartialEq, Eq)]
 pub enum Section {
     /// A platform memory section.
@@ -23,12 +25,14 @@ pub enum Section {
 }
 
 /// Why a section can't be read.
-#[derive(Clone, Copy, Debug, PartialEq, Eq)]
+#[derive(Clone, Copy, Debug, PartialEq, Eq, Error)]
 pub enum SectionRefused {
     /// The section has fewer bytes than its type's fixed fields: 73 of a memory section, 192 of a
     /// processor section, 64 of an IA32/X64 section.
+    #[error("the section has fewer bytes than the fixed fields of its type")]
     Short,
     /// The error structures of an IA32/X64 section, 64 bytes each, don't lie inside it.
+    #[error("the error structures of the section pass its end")]
     TooManyStructures,
 }
 
@@ -41,20 +45,21 @@ pub struct Descriptor<'a> {
     pub guid: Uuid,
     /// The section's bytes.
     pub bytes: &'a [u8],
-    /// What the section tells.
+    /// What the section says.
     pub section: Section,
 }
 
-/// Reads a section of a type. (UEFI, appendix N, "Error Section".) A memory section may be longer
+/// Reads a section of a type. (UEFI, appendix N, "Section Descriptor" and
+/// the bodies of the sections.) A memory section may be longer
 /// than its 80 bytes, and the old form with 73 to 79 bytes is read without the rank.
 ///
-/// `Short` comes where the section has fewer bytes than its type's fixed fields, `TooManyStructures`
-/// where the structures of an IA32/X64 section pass its end.
+/// `Short` comes where the section has fewer bytes than its type's fixed fields,
+/// `TooManyStructures` where the structures of an IA32/X64 section pass its end.
 #[tactic(auto, unfolding(crate::specs::Sections::section_of))]
 pub fn read_section(guid: Uuid, bytes: &[u8]) -> Result<Section, SectionRefused>
     ensures { result ≡ section_of guid bytes.now }
 {
-    match type_of(guid) {
+    match section_type_of(guid) {
         SectionType::Memory => {
             if bytes.len() < OLD_LENGTH {
                 return Err(SectionRefused::Short);
@@ -77,5 +82,56 @@ pub fn read_section(guid: Uuid, bytes: &[u8]) -> Result<Section, SectionRefused>
             Ok(Section::X64(x64_at(bytes)))
         }
         SectionType::Unknown => Ok(Section::Unknown(guid)),
+    }
+}
+
+/// A section that its descriptor says where to find, whether it can be read or not.
+#[derive(Clone, Copy, Debug, PartialEq, Eq)]
+pub struct RawSection<'a> {
+    /// The section's severity, as in its descriptor.
+    pub severity: u32,
+    /// The section's type.
+    pub guid: Uuid,
+    /// The section's bytes.
+    pub bytes: &'a [u8],
+}
+
+impl<'a> RawSection<'a> {
+    /// The section of these bytes, whose type is the GUID at the front of `guid`. (UEFI, appendix
+    /// N, "Section Descriptor".)
+    pub fn new(guid: &[u8], severity: u32, bytes: &'a [u8]) -> RawSection<'a>
+        requires { 16 ≤ length guid.now }
+        ensures guid { result.guid ≡ guid_of guid.now }
+        ensures severity { result.severity ≡ severity }
+        ensures bytes { result.bytes.now ≡ bytes.now }
+    {
+        RawSection {
+            severity,
+            guid: guid_in_front(guid),
+            bytes,
+        }
+    }
+
+    /// Whether the section can be read.
+    pub fn is_readable(&self) -> bool
+        ensures { result ≡ is_ok (section_of self.now.guid self.now.bytes.now) }
+    {
+        read_section(self.guid, self.bytes).is_ok()
+    }
+
+    /// Reads a section that can be read.
+    pub fn read(&self) -> Descriptor<'a>
+        requires { IsOk (section_of self.now.guid self.now.bytes.now) }
+        ensures severity { result.severity ≡ self.now.severity }
+        ensures guid { result.guid ≡ self.now.guid }
+        ensures bytes { result.bytes.now ≡ self.now.bytes.now }
+        ensures section { section_of self.now.guid self.now.bytes.now ≡ Ok result.section }
+    {
+        Descriptor {
+            severity: self.severity,
+            guid: self.guid,
+            bytes: self.bytes,
+            section: read_section(self.guid, self.bytes).unwrap(),
+        }
     }
 }

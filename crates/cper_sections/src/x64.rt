@@ -4,9 +4,10 @@ ghost use Rattle.std.specs.Prelude.{◌≡◌, ◌≤◌, ◌<◌, ◌+◌, ◌*
 ghost use Rattle.std.specs.Option.{option_map};
 ghost use Rattle.cper_sections.specs.X64.{x64_of, x64_validation, structures_of, stated_contexts, contexts_at, contexts_of, contexts_in, has_context, context_of, context_length, parts_of};
 
-use crate::numbers::{is_set, u16_at, u32_at, u64_at};
+use ras_base::little_endian::{u16_at, u32_at, u64_at};
+use ras_base::{bits, is_set};
 
-/// What an IA32/X64 section tells.
+/// What an IA32/X64 section says.
 #[derive(Clone, Copy, Debug, PartialEq, Eq)]
 pub struct X64Section {
     /// The local APIC's identifier, where its validation bit is set.
@@ -30,16 +31,18 @@ pub struct Context<'a> {
     pub array: &'a [u8],
 }
 
-// The bytes before the error structures, of each structure, and of a context before its array.
-pub(crate) const FIXED_LENGTH: usize = 64;
+/// The bytes of an IA32/X64 section before its error structures.
+pub const FIXED_LENGTH: usize = 64;
 
-const STRUCTURE_LENGTH: usize = 64;
+/// The bytes of an error structure.
+pub const STRUCTURE_LENGTH: usize = 64;
 
-const CONTEXT_LENGTH: usize = 16;
+/// The bytes of a context before its array.
+pub const CONTEXT_HEADER_LENGTH: usize = 16;
 
 // The bytes before the contexts.
 pub(crate) fn contexts_start(bytes: &[u8]) -> usize
-    requires { 64 ≤ length bytes.now }
+    requires { FIXED_LENGTH ≤ length bytes.now }
     ensures place { result ≡ contexts_at bytes.now }
     ensures small { result ≤ 64 + 64 * 63 }
 {
@@ -51,7 +54,7 @@ fn structure_count(validation: u64) -> u8
     ensures value { result ≡ structures_of validation }
     ensures small { result < 64 }
 {
-    (validation >> 2 & 0x3f) as u8
+    bits(2, 6, validation) as u8
 }
 
 // The count of contexts that is stated, by the validation bits.
@@ -59,19 +62,19 @@ fn stated_count(validation: u64) -> u8
     ensures value { result ≡ stated_contexts validation }
     ensures small { result < 64 }
 {
-    (validation >> 8 & 0x3f) as u8
+    bits(8, 6, validation) as u8
 }
 
 // Reads an IA32/X64 section whose structures lie inside it.
 #[tactic(auto, unfolding(crate::specs::X64::x64_of))]
 pub(crate) fn x64_at(bytes: &[u8]) -> X64Section
-    requires fixed { 64 ≤ length bytes.now }
+    requires fixed { FIXED_LENGTH ≤ length bytes.now }
     requires structures { contexts_at bytes.now ≤ length bytes.now }
     ensures { result ≡ x64_of bytes.now }
 {
     let validation = u64_at(bytes, 0);
     X64Section {
-        apic: is_set(validation, 0).then_some(u64_at(bytes, 8)),
+        apic: is_set(0, validation).then_some(u64_at(bytes, 8)),
         structures: structure_count(validation),
         contexts: count_contexts(stated_count(validation), &bytes[contexts_start(bytes)..]),
     }
@@ -99,10 +102,10 @@ fn first_context(bytes: &[u8]) -> Option<(Context<'_>, &[u8])>
         (λ found. (has_context bytes.now ≡ true) × (parts_of found.0 ≡ context_of bytes.now)
         × (found.1.now ≡ drop (context_length bytes.now) bytes.now)) }
 {
-    if bytes.len() < CONTEXT_LENGTH {
+    if bytes.len() < CONTEXT_HEADER_LENGTH {
         return None;
     }
-    let length = CONTEXT_LENGTH + u16_at(bytes, 2) as usize;
+    let length = CONTEXT_HEADER_LENGTH + u16_at(bytes, 2) as usize;
     if bytes.len() < length {
         return None;
     }
@@ -110,14 +113,15 @@ fn first_context(bytes: &[u8]) -> Option<(Context<'_>, &[u8])>
         kind: u16_at(bytes, 0),
         msr: u32_at(bytes, 4),
         mapped: u64_at(bytes, 8),
-        array: &bytes[CONTEXT_LENGTH..length],
+        array: &bytes[CONTEXT_HEADER_LENGTH..length],
     };
     Some((context, &bytes[length..]))
 }
 
 /// The context at a place, from 0, of the bytes of an IA32/X64 section, or None past the contexts
 /// that fit: those are the first ones up to the stated count, and the first that doesn't fit ends
-/// them. (UEFI, appendix N, "IA32/X64 Processor Context Information".)
+/// them. (UEFI, appendix N, "IA32/X64 Processor Context Information
+/// Structure".)
 #[tactic(auto, using(crate::proofs::ContextLemmas::first_get, crate::proofs::ContextLemmas::most_contexts, crate::proofs::ContextLemmas::contexts_in_end, crate::proofs::ContextLemmas::contexts_of_short))]
 pub fn context_at(bytes: &[u8], i: u8) -> Option<Context<'_>>
     ensures context { option_map parts_of result ≡ slice_get (contexts_of bytes.now) i }

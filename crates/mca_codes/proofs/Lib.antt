@@ -1,3 +1,3 @@
-pub mod Patterns
+pub mod PatternLemmas
 pub mod WordLemmas
 pub mod MarkLemmas

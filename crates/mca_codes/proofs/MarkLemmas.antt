@@ -2,11 +2,12 @@
 use Rattle.std.proofs.Common.{ℕ, ◌≡◌, ◌<◌, ◌^◌, ◌+◌, ◌*◌, ◌==◌, ◌&&◌, ◌||◌, Some, Bool, true, false, List, ◌∷◌, refl, arith, cond}
 use Rattle.std.specs.List.{find}
 use Rattle.std.specs.Option.{option_map_or}
-use Rattle.mca_codes.specs.Codes.{Row, plain, numbers, pattern, fits, read_by, reading, field, code_of_rows, code_rows, generic_cache_of, tlb_of, memory_of, cache_of, bus_of}
+use Rattle.ras_base.specs.Bits.{bits}
+use Rattle.mca_codes.specs.Codes.{Row, plain, numbers, pattern, fits, read_by, reading, code_of_rows, code_rows, generic_cache_of, tlb_of, memory_of, cache_of, bus_of}
 use Rattle.mca_codes.specs.Marks.{mark_of_kind, mark_of_number, unfiltered, is_srao_code, is_srar_code}
 use Rattle.mca_codes.specs.declared.codes.Code.TheVariants.{Other, InternalUnclassified}
 use Rattle.mca_codes.specs.declared.marks.Mark.TheVariants.{Neither}
-use Rattle.mca_codes.proofs.Patterns.{generic_cache_bits, tlb_bits, memory_bits, cache_bits, bus_bits, unfiltered_bits}
+use Rattle.mca_codes.proofs.PatternLemmas.{generic_cache_bits, tlb_bits, memory_bits, cache_bits, bus_bits, unfiltered_bits}
 
 -- by these rows, the code has the mark that it has by its number
 record Agrees (code : ℕ) (rows : List Row) : Type 0 where
@@ -44,14 +45,14 @@ srar_test : (u r t l : ℕ) → u ≡ 256 + 16 * r + 4 * t + l → r < 16 → t 
 srar_test u r t l e r_small t_small l_small = grind arith
 
 -- a cache code without its filter is the sum of its fields
-cache_sum : (code : ℕ) → code < 2 ^ 16 → fits code (pattern 0xef00 0x0100 cache_of) ≡ true → unfiltered code ≡ 256 + 16 * field code 4 4 + 4 * field code 2 2 + field code 0 2
+cache_sum : (code : ℕ) → code < 2 ^ 16 → fits code (pattern 0xef00 0x0100 cache_of) ≡ true → unfiltered code ≡ 256 + 16 * bits 4 4 code + 4 * bits 2 2 code + bits 0 2 code
 cache_sum code small fit = grind (arith, cache_bits code small, unfiltered_bits code small)
 
 cache_mark : (code : ℕ) → code < 2 ^ 16 → fits code (pattern 0xef00 0x0100 cache_of) ≡ true → mark_of_kind (cache_of code) ≡ mark_of_number code
 cache_mark code small fit =
     rw (
-      srao_test (unfiltered code) (field code 4 4) (field code 2 2) (field code 0 2) (cache_sum code small fit) (omega arith) (omega arith) (omega arith),
-      srar_test (unfiltered code) (field code 4 4) (field code 2 2) (field code 0 2) (cache_sum code small fit) (omega arith) (omega arith) (omega arith),
+      srao_test (unfiltered code) (bits 4 4 code) (bits 2 2 code) (bits 0 2 code) (cache_sum code small fit) (omega arith) (omega arith) (omega arith),
+      srar_test (unfiltered code) (bits 4 4 code) (bits 2 2 code) (bits 0 2 code) (cache_sum code small fit) (omega arith) (omega arith) (omega arith),
     ) refl
 
 other_mark : (code : ℕ) → code < 2 ^ 16 → fits code (pattern 0xef80 0x0080 memory_of) ≡ false → fits code (pattern 0xef00 0x0100 cache_of) ≡ false → Neither ≡ mark_of_number code

@@ -1,19 +1,17 @@
 -- The MCA error code, bits 15:0 of IA32_MCi_STATUS, as a table of rows: the Intel SDM, volume 3,
--- chapter "Machine-Check Architecture", sections "Simple Error Codes" and "Compound Error Codes". That a code of no row is Other, and that 0E0Bh is read before the bus and interconnect
--- form, is this project's own.
-use Rattle.std.specs.Prelude.{ℕ, ◌<◌, ◌/◌, ◌%◌, ◌^◌, ◌==◌, ◌&&◌, nat_le, Bool, false, List, [], ◌∷◌, ◌++◌, ⊤, bit_and, count_by}
+-- chapter "Machine-Check Architecture", sections "Simple Error Codes" and "Compound Error Codes".
+-- That a code of no row is Other, and that 0E0Bh is read before the bus and interconnect form, is
+-- this project's own.
+use Rattle.std.specs.Prelude.{ℕ, ◌<◌, ◌==◌, ◌&&◌, nat_le, Bool, false, List, [], ◌∷◌, ◌++◌, ⊤, bit_and, count_by}
 use Rattle.std.specs.List.{find}
 use Rattle.std.specs.Option.{option_map_or}
+use Rattle.ras_base.specs.Bits.{bits}
 use Rattle.mca_codes.specs.declared.codes.Code.{Code}
 use Rattle.mca_codes.specs.declared.codes.Code.TheVariants.{NoError, Unclassified, MicrocodeRom, External, Frc, InternalParity, InternalTimer, InternalUnclassified, GenericIo, Other, GenericCache, Tlb, Memory, Cache, Bus}
 
--- the number that stands in so many bits of a code from bit low on
-abbrev pub field : ℕ → ℕ → ℕ → ℕ
-field code low width = code / 2 ^ low % 2 ^ width
-
 -- F, bit 12 of a compound code: correction report filtering is on
 abbrev pub is_filtered : ℕ → Bool
-is_filtered code = field code 12 1 == 1
+is_filtered code = bits 12 1 code == 1
 
 -- a row: the codes that fit it, and how such a code reads
 pub data Row : Type 0 where
@@ -38,23 +36,23 @@ read_by code (pattern mask value read) = read code
 
 -- 000F 0000 0000 11LL: generic cache hierarchy errors
 abbrev pub generic_cache_of : ℕ → Code
-generic_cache_of code = GenericCache (field code 0 2) (is_filtered code)
+generic_cache_of code = GenericCache (bits 0 2 code) (is_filtered code)
 
 -- 000F 0000 0001 TTLL: TLB errors
 abbrev pub tlb_of : ℕ → Code
-tlb_of code = Tlb (field code 2 2) (field code 0 2) (is_filtered code)
+tlb_of code = Tlb (bits 2 2 code) (bits 0 2 code) (is_filtered code)
 
 -- 000F 0000 1MMM CCCC: memory controller errors
 abbrev pub memory_of : ℕ → Code
-memory_of code = Memory (field code 4 3) (field code 0 4) (is_filtered code)
+memory_of code = Memory (bits 4 3 code) (bits 0 4 code) (is_filtered code)
 
 -- 000F 0001 RRRR TTLL: cache hierarchy errors
 abbrev pub cache_of : ℕ → Code
-cache_of code = Cache (field code 4 4) (field code 2 2) (field code 0 2) (is_filtered code)
+cache_of code = Cache (bits 4 4 code) (bits 2 2 code) (bits 0 2 code) (is_filtered code)
 
 -- 000F 1PPT RRRR IILL: bus and interconnect errors
 abbrev pub bus_of : ℕ → Code
-bus_of code = Bus (field code 9 2) (field code 8 1) (field code 4 4) (field code 2 2) (field code 0 2) (is_filtered code)
+bus_of code = Bus (bits 9 2 code) (bits 8 1 code) (bits 4 4 code) (bits 2 2 code) (bits 0 2 code) (is_filtered code)
 
 -- the simple error codes; 0E0Bh, generic input and output, stands among them
 abbrev pub simple_rows : List Row

@@ -1,7 +1,7 @@
 -- Which codes the manual gives to recoverable errors: the Intel SDM, volume 3, chapter
 -- "Machine-Check Architecture", section "Architecturally Defined UCR Errors".
 use Rattle.std.specs.Prelude.{ℕ, Bool, ◌&&◌, ◌||◌, ◌==◌, nat_le, ◌-◌, ◌*◌, ◌^◌, if◌then◌else◌}
-use Rattle.mca_codes.specs.Codes.{field}
+use Rattle.ras_base.specs.Bits.{bits}
 use Rattle.mca_codes.specs.declared.codes.Code.{Code}
 use Rattle.mca_codes.specs.declared.codes.Code.TheVariants.{Memory, Cache}
 use Rattle.mca_codes.specs.declared.marks.Mark.{Mark}
@@ -9,7 +9,7 @@ use Rattle.mca_codes.specs.declared.marks.Mark as Marked
 
 -- a code with bit 12, the filter, cleared
 abbrev pub unfiltered : ℕ → ℕ
-unfiltered code = code - field code 12 1 * 2 ^ 12
+unfiltered code = code - bits 12 1 code * 2 ^ 12
 
 -- the codes of errors whose recovery is optional: memory scrubbing, and an explicit writeback
 abbrev pub is_srao_code : ℕ → Bool
@@ -20,18 +20,18 @@ abbrev pub is_srar_code : ℕ → Bool
 is_srar_code code = code == 0x0134 || code == 0x0150
 
 -- the mark of a code whose filter is cleared
-abbrev pub mark_listed : ℕ → Mark
-mark_listed code =
+abbrev pub unfiltered_mark : ℕ → Mark
+unfiltered_mark code =
     if is_srao_code code then Marked.TheVariants.Srao
     else (if is_srar_code code then Marked.TheVariants.Srar else Marked.TheVariants.Neither)
 
 -- the mark of a code, whatever its filter is
 abbrev pub mark_of_number : ℕ → Mark
-mark_of_number code = mark_listed (unfiltered code)
+mark_of_number code = unfiltered_mark (unfiltered code)
 
 -- the mark of a code by what it says: memory scrubbing (MMM 4) and an eviction (RRRR 7) of any type
--- from level 2 are Srao; a data read (RRRR 3, TT 1) and an instruction fetch (RRRR 5, TT 0) at level
--- 0 are Srar
+-- from level 2 are Srao; a data read (RRRR 3, TT 1) and an instruction fetch (RRRR 5, TT 0) at
+-- level 0 are Srar
 abbrev pub mark_of_kind : Code → Mark
 mark_of_kind (Memory mmm channel filter) =
     if mmm == 4 then Marked.TheVariants.Srao else Marked.TheVariants.Neither

@@ -1,7 +1,10 @@
 //! What an MCA error code says.
 
 ghost use Rattle.std.specs.Prelude.{◌≡◌, ◌≢◌, ◌↔◌, ◌≤◌, ◌<◌, ◌^◌, count_by};
-ghost use Rattle.mca_codes.specs.Codes.{field, is_filtered, code_of_rows, rows_fitted, reading, fits, compound_rows, HasFieldsInRange, filter_of};
+ghost use Rattle.ras_base.specs.Bits.{bits};
+ghost use Rattle.mca_codes.specs.Codes.{is_filtered, code_of_rows, rows_fitted, reading, fits, compound_rows, HasFieldsInRange, filter_of};
+
+use ras_base::bits;
 
 /// An MCA error code, bits 15:0 of IA32_MCi_STATUS, by its kind. The raw fields of a compound code
 /// are named as in the manual, and `filter` is its bit 12.
@@ -64,7 +67,7 @@ pub enum Code {
 
 /// What an MCA error code says. (Intel SDM, volume 3, "Simple Error Codes" and "Compound Error
 /// Codes".)
-#[tactic(auto, using(crate::proofs::Patterns::pattern_bits))]
+#[tactic(auto, using(crate::proofs::PatternLemmas::pattern_bits))]
 pub fn code_of(code: u16) -> Code
     ensures rows { result ≡ code_of_rows code }
 
@@ -93,7 +96,7 @@ pub fn code_of(code: u16) -> Code
 }
 
 // A code that is no simple one, by the pattern of its bits. Bit 12, the filter, belongs to none.
-#[tactic(auto, using(crate::proofs::Patterns::pattern_bits))]
+#[tactic(auto, using(crate::proofs::PatternLemmas::pattern_bits))]
 fn compound_code(code: u16) -> Code
     ensures rows { result ≡ reading compound_rows code }
     ensures one_row { count_by (fits code) compound_rows ≤ 1 }
@@ -135,10 +138,10 @@ fn compound_code(code: u16) -> Code
 fn field(code: u16, low: u32, width: u32) -> u8
     requires place { low < 16 }
     requires width { width ≤ 4 }
-    ensures field { result ≡ field code low width }
+    ensures field { result ≡ bits low width code }
     ensures small { result < 2 ^ width }
 {
-    (code >> low & ((1 << width) - 1)) as u8
+    bits(low, width, code as u64) as u8
 }
 
 // F, bit 12 of a compound code.

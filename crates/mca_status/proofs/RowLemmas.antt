@@ -3,7 +3,8 @@ use Rattle.std.proofs.Common.{ℕ, ◌≡◌, Bool, true, false, Option, List, [
 use Rattle.std.specs.List.{find, list_any}
 use Rattle.std.specs.Option.{option_and_then}
 use Rattle.std.specs.Bool.{IsFalse}
-use Rattle.mca_status.specs.Registers.{AgreeApartFrom, is_bit_set, recovers_in_software}
+use Rattle.mca_status.specs.Registers.{AgreeApartFrom, recovers_in_software}
+use Rattle.ras_base.specs.Bits.{is_set}
 use Rattle.mca_status.specs.Classes.{Row, row, meets, class_in, class_rows, ClassIgnores}
 use Rattle.mca_status.specs.declared.registers.Cap.{Cap}
 use Rattle.mca_status.specs.declared.registers.Status.{Status}
@@ -30,17 +31,17 @@ class_by-same : (v v' u u' p p' r s e a s' e' a' : Bool) → v ≡ v' → u ≡ 
 class_by-same v v' u u' p p' r s e a s' e' a' hv hu hp hr = rw (hv, hu, hp, hr) (class_by-no_recovery v' u' p' s e a s' e' a')
 
 -- a bit outside the places is the same in both registers
-same_bit : (places : List ℕ) (a b : ℕ) → AgreeApartFrom places a b → (i : ℕ) → list_any (λ place. place == i) places ≡ false → is_bit_set b i ≡ is_bit_set a i
+same_bit : (places : List ℕ) (a b : ℕ) → AgreeApartFrom places a b → (i : ℕ) → list_any (λ place. place == i) places ≡ false → is_set i b ≡ is_set i a
 same_bit places a b agree i outside = ap (λ bit. bit == 1) (sym (agree i outside))
 
 -- OVER never changes the class
 pub class_of_rows-overflow : (cap : Cap) (status : Status) → ClassIgnores (62 ∷ []) cap status
 class_of_rows-overflow cap status other agree =
-    let same : (i : ℕ) → list_any (λ place. place == i) (62 ∷ []) ≡ false → is_bit_set other i ≡ is_bit_set status.0 i = same_bit (62 ∷ []) _ _ agree in
+    let same : (i : ℕ) → list_any (λ place. place == i) (62 ∷ []) ≡ false → is_set i other ≡ is_set i status.0 = same_bit (62 ∷ []) _ _ agree in
     simp (same 63 refl, same 61 refl, same 57 refl, same 56 refl, same 60 refl, same 55 refl) refl
 
 -- S and AR say nothing without software error recovery
 pub class_of_rows-no_recovery : (cap : Cap) (status : Status) → IsFalse (recovers_in_software cap) → ClassIgnores (55 ∷ 56 ∷ []) cap status
 class_of_rows-no_recovery cap status none other agree =
-    let same : (i : ℕ) → list_any (λ place. place == i) (55 ∷ 56 ∷ []) ≡ false → is_bit_set other i ≡ is_bit_set status.0 i = same_bit (55 ∷ 56 ∷ []) _ _ agree in
-    class_by-same (is_bit_set other 63) _ (is_bit_set other 61) _ (is_bit_set other 57) _ _ _ _ _ _ _ _ (same 63 refl) (same 61 refl) (same 57 refl) none
+    let same : (i : ℕ) → list_any (λ place. place == i) (55 ∷ 56 ∷ []) ≡ false → is_set i other ≡ is_set i status.0 = same_bit (55 ∷ 56 ∷ []) _ _ agree in
+    class_by-same (is_set 63 other) _ (is_set 61 other) _ (is_set 57 other) _ _ _ _ _ _ _ _ (same 63 refl) (same 61 refl) (same 57 refl) none

@@ -1,6 +1,6 @@
 -- The address that a bank's report names, and its page: the Intel SDM, volume 3, chapter
--- "Machine-Check Architecture", sections "IA32_MCi_ADDR MSRs" and "IA32_MCi_MISC MSRs". The rule for
--- which addresses are used is this project's own.
+-- "Machine-Check Architecture", sections "IA32_MCi_ADDR MSRs" and "IA32_MCi_MISC MSRs". The rule
+-- for which addresses are used is this project's own.
 use Rattle.std.specs.Prelude.{ℕ, Bool, ◌&&◌, ◌==◌, nat_le, Option, Some, None, ◌*◌, ◌/◌, ◌^◌, if◌then◌else◌}
 use Rattle.std.specs.Option.{option_map}
 use Rattle.mca_status.specs.Registers.{recovers_in_software, address_valid, misc_valid, address_mode, least_bit}

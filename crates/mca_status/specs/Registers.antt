@@ -1,22 +1,14 @@
 -- The fields of the machine-check registers that decoding reads, by the bit positions of the
 -- Intel SDM, volume 3, chapter "Machine-Check Architecture": IA32_MCG_CAP, IA32_MCG_STATUS,
--- IA32_MCi_STATUS and IA32_MCi_MISC. A register is a number, and bit i of it is its quotient by
--- 2 ^ i, modulo 2.
-use Rattle.std.specs.Prelude.{ℕ, ◌≡◌, ◌/◌, ◌%◌, ◌^◌, ◌==◌, Bool, false, List}
+-- IA32_MCi_STATUS and IA32_MCi_MISC. A register is a number.
+use Rattle.std.specs.Prelude.{ℕ, ◌≡◌, ◌==◌, Bool, false, List}
 use Rattle.std.specs.List.{list_any}
 use Rattle.std.specs.Int.{bit_at}
+use Rattle.ras_base.specs.Bits.{is_set, bits}
 use Rattle.mca_status.specs.declared.registers.Cap.{Cap}
 use Rattle.mca_status.specs.declared.registers.Status.{Status}
 use Rattle.mca_status.specs.declared.registers.GlobalStatus.{GlobalStatus}
 use Rattle.mca_status.specs.declared.registers.Misc.{Misc}
-
--- whether bit i of a register is 1
-abbrev pub is_bit_set : ℕ → ℕ → Bool
-is_bit_set register i = bit_at register i == 1
-
--- the number that stands in so many bits from bit low on
-abbrev pub field : ℕ → ℕ → ℕ → ℕ
-field register low width = register / 2 ^ low % 2 ^ width
 
 -- the two registers have the same bits, but for those of the places listed
 abbrev pub AgreeApartFrom : List ℕ → ℕ → ℕ → Type 0
@@ -24,80 +16,80 @@ AgreeApartFrom places a b = (i : ℕ) → list_any (λ place. place == i) places
 
 -- IA32_MCG_CAP: MCG_CMCI_P, banks count corrected errors
 abbrev pub counts_corrected : Cap → Bool
-counts_corrected cap = is_bit_set cap.0 10
+counts_corrected cap = is_set 10 cap.0
 
 -- IA32_MCG_CAP: MCG_TES_P, banks tell a threshold status
 abbrev pub tells_threshold : Cap → Bool
-tells_threshold cap = is_bit_set cap.0 11
+tells_threshold cap = is_set 11 cap.0
 
 -- IA32_MCG_CAP: MCG_SER_P, the processor reports errors that software can recover from
 abbrev pub recovers_in_software : Cap → Bool
-recovers_in_software cap = is_bit_set cap.0 24
+recovers_in_software cap = is_set 24 cap.0
 
 -- IA32_MCG_STATUS: RIPV, the interrupted program can be restarted
 abbrev pub restart_valid : GlobalStatus → Bool
-restart_valid status = is_bit_set status.0 0
+restart_valid status = is_set 0 status.0
 
 -- IA32_MCG_STATUS: EIPV, the instruction pointer belongs to the error
 abbrev pub error_pointer_valid : GlobalStatus → Bool
-error_pointer_valid status = is_bit_set status.0 1
+error_pointer_valid status = is_set 1 status.0
 
 -- IA32_MCG_STATUS: MCIP, a machine check is in progress
 abbrev pub in_progress : GlobalStatus → Bool
-in_progress status = is_bit_set status.0 2
+in_progress status = is_set 2 status.0
 
 -- IA32_MCi_STATUS: the MCA error code
 abbrev pub error_code : Status → ℕ
-error_code status = field status.0 0 16
+error_code status = bits 0 16 status.0
 
 -- IA32_MCi_STATUS: the corrected error count
 abbrev pub corrected_count : Status → ℕ
-corrected_count status = field status.0 38 15
+corrected_count status = bits 38 15 status.0
 
 -- IA32_MCi_STATUS: the threshold status
 abbrev pub threshold_status : Status → ℕ
-threshold_status status = field status.0 53 2
+threshold_status status = bits 53 2 status.0
 
 -- IA32_MCi_STATUS: AR, software has to act before the program goes on
 abbrev pub action_required : Status → Bool
-action_required status = is_bit_set status.0 55
+action_required status = is_set 55 status.0
 
 -- IA32_MCi_STATUS: S, the error was signaled by a machine-check exception
 abbrev pub signaled : Status → Bool
-signaled status = is_bit_set status.0 56
+signaled status = is_set 56 status.0
 
 -- IA32_MCi_STATUS: PCC, the processor's context is corrupt
 abbrev pub context_corrupt : Status → Bool
-context_corrupt status = is_bit_set status.0 57
+context_corrupt status = is_set 57 status.0
 
 -- IA32_MCi_STATUS: ADDRV, IA32_MCi_ADDR holds an address
 abbrev pub address_valid : Status → Bool
-address_valid status = is_bit_set status.0 58
+address_valid status = is_set 58 status.0
 
 -- IA32_MCi_STATUS: MISCV, IA32_MCi_MISC holds more of the error
 abbrev pub misc_valid : Status → Bool
-misc_valid status = is_bit_set status.0 59
+misc_valid status = is_set 59 status.0
 
 -- IA32_MCi_STATUS: EN, the error was enabled in IA32_MCi_CTL
 abbrev pub enabled : Status → Bool
-enabled status = is_bit_set status.0 60
+enabled status = is_set 60 status.0
 
 -- IA32_MCi_STATUS: UC, the hardware did not correct the error
 abbrev pub uncorrected : Status → Bool
-uncorrected status = is_bit_set status.0 61
+uncorrected status = is_set 61 status.0
 
 -- IA32_MCi_STATUS: OVER, an earlier error of the bank was lost
 abbrev pub overflow : Status → Bool
-overflow status = is_bit_set status.0 62
+overflow status = is_set 62 status.0
 
 -- IA32_MCi_STATUS: VAL, the bank holds an error
 abbrev pub valid : Status → Bool
-valid status = is_bit_set status.0 63
+valid status = is_set 63 status.0
 
 -- IA32_MCi_MISC, where MCG_SER_P is 1: the lowest bit of the address that is valid
 abbrev pub least_bit : Misc → ℕ
-least_bit misc = field misc.0 0 6
+least_bit misc = bits 0 6 misc.0
 
 -- IA32_MCi_MISC, where MCG_SER_P is 1: the address mode, 2 being a physical address
 abbrev pub address_mode : Misc → ℕ
-address_mode misc = field misc.0 6 3
+address_mode misc = bits 6 3 misc.0

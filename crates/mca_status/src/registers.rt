@@ -1,7 +1,8 @@
 //! The registers, each a number as read, and their single bits.
 
 ghost use Rattle.std.specs.Prelude.{◌≡◌, ◌<◌, ◌^◌};
-ghost use Rattle.mca_status.specs.Registers.{is_bit_set};
+
+use ras_base::{bits, is_set};
 
 /// IA32_MCi_STATUS of a bank, as read.
 #[derive(Clone, Copy, Debug, PartialEq, Eq)]
@@ -19,14 +20,6 @@ pub struct Misc(pub u64);
 #[derive(Clone, Copy, Debug, PartialEq, Eq)]
 pub struct GlobalStatus(pub u64);
 
-// Whether the bit at a place of a register is 1.
-fn is_set(register: u64, place: u32) -> bool
-    requires { place < 64 }
-    ensures { result ≡ is_bit_set register place }
-{
-    register >> place & 1 == 1
-}
-
 impl Cap {
     ghost use Rattle.mca_status.specs.Registers.{counts_corrected, tells_threshold, recovers_in_software};
 
@@ -34,21 +27,21 @@ impl Cap {
     pub fn counts_corrected(self) -> bool
         ensures { result ≡ counts_corrected self }
     {
-        is_set(self.0, 10)
+        is_set(10, self.0)
     }
 
     /// MCG_TES_P: the banks tell a threshold status.
     pub fn tells_threshold(self) -> bool
         ensures { result ≡ tells_threshold self }
     {
-        is_set(self.0, 11)
+        is_set(11, self.0)
     }
 
     /// MCG_SER_P: the processor has software error recovery.
     pub fn recovers_in_software(self) -> bool
         ensures { result ≡ recovers_in_software self }
     {
-        is_set(self.0, 24)
+        is_set(24, self.0)
     }
 }
 
@@ -59,21 +52,21 @@ impl GlobalStatus {
     pub fn is_restart_valid(self) -> bool
         ensures { result ≡ restart_valid self }
     {
-        is_set(self.0, 0)
+        is_set(0, self.0)
     }
 
     /// EIPV: the instruction pointer belongs to the error.
     pub fn is_error_pointer_valid(self) -> bool
         ensures { result ≡ error_pointer_valid self }
     {
-        is_set(self.0, 1)
+        is_set(1, self.0)
     }
 
     /// MCIP: a machine check is in progress.
     pub fn is_in_progress(self) -> bool
         ensures { result ≡ in_progress self }
     {
-        is_set(self.0, 2)
+        is_set(2, self.0)
     }
 }
 
@@ -84,70 +77,70 @@ impl Status {
     pub fn is_valid(self) -> bool
         ensures { result ≡ valid self }
     {
-        is_set(self.0, 63)
+        is_set(63, self.0)
     }
 
     /// OVER: an earlier error of the bank was lost.
     pub fn overflow(self) -> bool
         ensures { result ≡ overflow self }
     {
-        is_set(self.0, 62)
+        is_set(62, self.0)
     }
 
     /// UC: the hardware did not correct the error.
     pub fn is_uncorrected(self) -> bool
         ensures { result ≡ uncorrected self }
     {
-        is_set(self.0, 61)
+        is_set(61, self.0)
     }
 
     /// EN: the error was enabled in IA32_MCi_CTL.
     pub fn is_enabled(self) -> bool
         ensures { result ≡ enabled self }
     {
-        is_set(self.0, 60)
+        is_set(60, self.0)
     }
 
     /// MISCV: IA32_MCi_MISC holds more of the error.
     pub fn is_misc_valid(self) -> bool
         ensures { result ≡ misc_valid self }
     {
-        is_set(self.0, 59)
+        is_set(59, self.0)
     }
 
     /// ADDRV: IA32_MCi_ADDR holds an address.
     pub fn is_address_valid(self) -> bool
         ensures { result ≡ address_valid self }
     {
-        is_set(self.0, 58)
+        is_set(58, self.0)
     }
 
     /// PCC: the processor's context is corrupt.
     pub fn is_context_corrupt(self) -> bool
         ensures { result ≡ context_corrupt self }
     {
-        is_set(self.0, 57)
+        is_set(57, self.0)
     }
 
     /// S, where MCG_SER_P is 1: the error was signaled by a machine-check exception.
     pub fn is_signaled(self) -> bool
         ensures { result ≡ signaled self }
     {
-        is_set(self.0, 56)
+        is_set(56, self.0)
     }
 
     /// AR, where MCG_SER_P is 1: software has to act before the program goes on.
     pub fn is_action_required(self) -> bool
         ensures { result ≡ action_required self }
     {
-        is_set(self.0, 55)
+        is_set(55, self.0)
     }
 
     /// The MCA error code.
     pub fn error_code(self) -> u16
         ensures code { result ≡ error_code self }
     {
-        (self.0 & 0xffff) as u16
+        bits(0, 16, self.0) as u16
     }
 
     /// The corrected error count, as the field stands.
@@ -155,7 +148,7 @@ impl Status {
         ensures count { result ≡ corrected_count self }
         ensures within_field { result < 2 ^ 15 }
     {
-        (self.0 >> 38 & 0x7fff) as u16
+        bits(38, 15, self.0) as u16
     }
 
     /// The threshold status, as the field stands.
@@ -163,7 +156,7 @@ impl Status {
         ensures value { result ≡ threshold_status self }
         ensures within_field { result < 4 }
     {
-        (self.0 >> 53 & 3) as u8
+        bits(53, 2, self.0) as u8
     }
 }
 
@@ -175,7 +168,7 @@ impl Misc {
         ensures bit { result ≡ least_bit self }
         ensures within_field { result < 64 }
     {
-        (self.0 & 0x3f) as u32
+        bits(0, 6, self.0) as u32
     }
 
     /// The address mode, where MCG_SER_P is 1: 0 is a segment offset, 1 a linear address, 2 a
@@ -184,6 +177,6 @@ impl Misc {
         ensures mode { result ≡ address_mode self }
         ensures within_field { result < 8 }
     {
-        (self.0 >> 6 & 7) as u8
+        bits(6, 3, self.0) as u8
     }
 }

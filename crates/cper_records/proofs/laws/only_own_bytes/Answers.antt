@@ -1,12 +1,12 @@
 -- Each test on the record's own bytes gives what it gives on all of them.
 use Rattle.std.proofs.Common.{◌≡◌, ◌≤◌, ℕ, List, length, take, refl, sym, arith, nat_lt, true, false}
 use Rattle.std.proofs.lemmas.List.{length-take}
-use Rattle.cper_records.specs.Header.{length_of, has_length}
+use Rattle.cper_records.specs.Header.{record_length, has_length}
 use Rattle.cper_records.specs.Records.{record_of}
 use Rattle.cper_records.proofs.FrontLemmas.{own_length, own_signatures, own_bytes}
 use Rattle.cper_records.proofs.laws.only_own_bytes.Goals as goal
 
-own : (bytes : List ℕ) (n : ℕ) → n ≡ length_of bytes → 128 ≤ n → n ≤ length bytes → record_of (take n bytes) ≡ record_of bytes
+own : (bytes : List ℕ) (n : ℕ) → n ≡ record_length bytes → 128 ≤ n → n ≤ length bytes → record_of (take n bytes) ≡ record_of bytes
 unfolding record_of
 own bytes n is header inside =
     let long : nat_lt (length bytes) 128 ≡ false = grind arith in
@@ -16,4 +16,4 @@ own bytes n is header inside =
     rw (long, own_long, own_signatures bytes n header inside, fits, own_fits, own_length bytes n header inside, sym is, own_bytes bytes n inside) refl
 
 pub returns : goal.returns
-returns c = λ bytes header inside. own bytes (length_of bytes) refl header inside
+returns c = λ bytes header inside. own bytes (record_length bytes) refl header inside

@@ -1,6 +1,6 @@
 -- A code from 0401h to 07FFh fits its own row alone.
 use Rattle.std.proofs.Common.{arith}
-use Rattle.mca_codes.proofs.Patterns.{internal_one_row}
+use Rattle.mca_codes.proofs.PatternLemmas.{internal_one_row}
 use Rattle.mca_codes.proofs.codes.code_of.Goals as goal
 
 pub returns-in-1025-to-2047-clause-one_row : goal.returns-in-1025-to-2047-clause-one_row

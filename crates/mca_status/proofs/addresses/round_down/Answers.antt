@@ -1,6 +1,6 @@
 -- The mask rounds down, and what rounding keeps.
 use Rattle.std.proofs.Common.{◌-◌, arith}
-use Rattle.mca_status.proofs.Rounding.{masked, rounded-near, rounded-whole, rounded-page}
+use Rattle.mca_status.proofs.RoundingLemmas.{masked, rounded-near, rounded-whole, rounded-page}
 use Rattle.mca_status.proofs.addresses.round_down.Goals as goal
 
 pub returns-clause-rounded : goal.returns-clause-rounded

@@ -1,0 +1,51 @@
+-- What a record is, and why bytes begin with none.
+use Rattle.std.specs.Prelude.{◌≡◌, ◌≤◌, ◌<◌, ◌⊎◌, ℕ, List, length, IsTrue, IsOk, IsErr}
+use Rattle.std.specs.Bool.{IsFalse}
+use Rattle.ras_base.specs.Prefix.{IsPrefixOf}
+use Rattle.cper_records.specs.Header.{section_count, record_length, has_signatures}
+use Rattle.cper_records.specs.Descriptors.{descriptor_at, section_end, section_at}
+use Rattle.cper_records.specs.declared.records.TheConstants.{HEADER_LENGTH}
+use Rattle.cper_records.specs.declared.refusals.RecordRefused.{RecordRefused}
+use Rattle.cper_records.specs.declared.refusals.RecordRefused.TheVariants.{Short, Signature, Length, DescriptorOut, SectionOut, Section}
+
+-- bytes are signed, and as many as their header says
+pub record HasHeader (own : List ℕ) : Type 0 where
+  pub header : HEADER_LENGTH ≤ length own
+  pub signed : IsTrue (has_signatures own)
+  pub whole : record_length own ≡ length own
+
+-- their descriptors lie inside them
+abbrev pub HasDescriptors : List ℕ → Type 0
+HasDescriptors own = descriptor_at (section_count own) ≤ length own
+
+-- and so do their sections
+abbrev pub HasSections : List ℕ → Type 0
+HasSections own = (i : ℕ) → i < section_count own → section_end own i ≤ length own
+
+-- bytes are one record, no more
+pub record IsRecord (own : List ℕ) : Type 0 where
+  pub front : HasHeader own
+  pub descriptors : HasDescriptors own
+  pub inside : HasSections own
+  pub readable : (i : ℕ) → i < section_count own → IsOk (section_at own i)
+
+-- so many of the first bytes have a header, and this holds of them
+abbrev pub Begins : List ℕ → (List ℕ → Type 0) → Type 0
+Begins bytes Holds = (own : List ℕ) × (IsPrefixOf own bytes × HasHeader own × Holds own)
+
+-- one of the sections is such a one
+abbrev pub HasSection : List ℕ → (ℕ → Type 0) → Type 0
+HasSection own Holds = (i : ℕ) × ((i < section_count own) × Holds i)
+
+-- why bytes begin with no record, each reason where none before it applies
+abbrev pub IsNoRecord : List ℕ → RecordRefused → Type 0
+IsNoRecord bytes Short = length bytes < HEADER_LENGTH
+IsNoRecord bytes Signature = (HEADER_LENGTH ≤ length bytes) × IsFalse (has_signatures bytes)
+IsNoRecord bytes Length =
+    (HEADER_LENGTH ≤ length bytes) × IsTrue (has_signatures bytes)
+    × ((record_length bytes < HEADER_LENGTH) ⊎ (length bytes < record_length bytes))
+IsNoRecord bytes DescriptorOut = Begins bytes (λ own. length own < descriptor_at (section_count own))
+IsNoRecord bytes SectionOut =
+    Begins bytes (λ own. HasDescriptors own × HasSection own (λ i. length own < section_end own i))
+IsNoRecord bytes Section =
+    Begins bytes (λ own. HasDescriptors own × HasSections own × HasSection own (λ i. IsErr (section_at own i)))
