@@ -7,15 +7,15 @@ use Rattle.board_core.specs.Told.{Told, Relates, MayList, Steps, called}
 use Rattle.ras_daemon.specs.declared.exit.Exit.{Exit}
 use Rattle.ras_daemon.specs.declared.exit.Exit.TheVariants.{DiskFault, Damaged}
 use Rattle.ras_daemon.specs.declared.word.Command.TheVariants.{Run}
-use Rattle.ras_daemon.specs.Progress.{Takes, TakesCall, asks_size, call_course, ends, start_course}
+use Rattle.ras_daemon.specs.Progress.{Follows, FollowsCall, asks_size, call_course, ends, start_course}
 use Rattle.ras_daemon.specs.Ended.{OverTold}
 use Rattle.ras_daemon.specs.Status.{script_refusal, start_refusal}
-use Rattle.ras_daemon.specs.Text.{stop_line}
+use Rattle.ras_daemon.specs.StopLine.{stop_line}
 use Rattle.ras_daemon.proofs.StepLemmas.{call_behind, call_taken, cut_first, map_one}
 
 -- a run of `run`, over what is told
 abbrev pub IsRun : Exit → Option Told → Option Told → Option (List ℕ) → Type 0
-IsRun exit old new left = OverTold (λ script t. TakesCall (call_course (Some Run) script t.file0) exit old new) left old
+IsRun exit old new left = OverTold (λ script t. FollowsCall (call_course (Some Run) script t.file0) exit old new) left old
 
 pub size_failed : (left : Option (List ℕ)) (old new : Option Told) → Relates (MayList (Size Zero)) old new → IsRun DiskFault old new left
 size_failed None old new failed = tt
@@ -23,7 +23,7 @@ size_failed (Some script) None new failed = tt
 size_failed (Some script) (Some t) new failed = cut_first asks_size (start_course (start_refusal (Some Run) script t.file0) script).steps tt failed
 
 pub damaged : (left : Option (List ℕ)) (old mid new : Option Told) (size : ℕ) (exit : Exit) → Steps (called (Size Zero)) old mid → IfSome old (λ t. size ≡ length t.file0) → 0 < size
-    → Takes (ends (stop_line (Damaged 0 0)) (Damaged 0 0)) exit mid new → IsRun exit old new left
+    → Follows (ends (stop_line (Damaged 0 0)) (Damaged 0 0)) exit mid new → IsRun exit old new left
 damaged None old mid new size exit went is some taken = tt
 damaged (Some script) None mid new size exit went is some taken = tt
 damaged (Some script) (Some t) mid new size exit went is some taken =
@@ -31,10 +31,10 @@ damaged (Some script) (Some t) mid new size exit went is some taken =
     rw long (call_behind (Some t) mid new (asks_size ∷ []) (ends (stop_line (Damaged 0 0)) (Damaged 0 0)) exit (went ∙ sym (map_one asks_size (Some t))) (call_taken mid new (ends (stop_line (Damaged 0 0)) (Damaged 0 0)) exit taken))
 
 pub undamaged : (left : Option (List ℕ)) (old mid new : Option Told) (size : ℕ) (exit : Exit) → Steps (called (Size Zero)) old mid → IfSome old (λ t. size ≡ length t.file0) → size ≤ 0
-    → OverTold (λ script t. TakesCall (start_course (script_refusal script) script) exit mid new) left mid → IsRun exit old new left
+    → OverTold (λ script t. FollowsCall (start_course (script_refusal script) script) exit mid new) left mid → IsRun exit old new left
 undamaged None old mid new size exit went is none taken = tt
 undamaged (Some script) None mid new size exit went is none taken = tt
 undamaged (Some script) (Some t) mid new size exit went is none taken =
     let empty : nat_lt 0 (length t.file0) ≡ false = grind (arith, nat_tests, is) in
-    let runs : OverTold (λ text t. TakesCall (start_course (script_refusal text) text) exit mid new) (Some script) (Some (called (Size Zero) t)) = subst (λ m. OverTold (λ text t. TakesCall (start_course (script_refusal text) text) exit mid new) (Some script) m) went taken in
+    let runs : OverTold (λ text t. FollowsCall (start_course (script_refusal text) text) exit mid new) (Some script) (Some (called (Size Zero) t)) = subst (λ m. OverTold (λ text t. FollowsCall (start_course (script_refusal text) text) exit mid new) (Some script) m) went taken in
     rw empty (call_behind (Some t) mid new (asks_size ∷ []) (start_course (script_refusal script) script) exit (went ∙ sym (map_one asks_size (Some t))) runs)

@@ -16,9 +16,9 @@ use Rattle.ras_daemon.specs.declared.event.Prepared.{Prepared}
 use Rattle.ras_daemon.specs.declared.exit.Exit.{Exit}
 use Rattle.ras_daemon.specs.declared.exit.Exit.TheVariants.{Done, Usage, BadLine, SourceFault, DiskFault, PrintFault, Damaged, Full, NoMemory, TooLong}
 use Rattle.ras_daemon.specs.Event.{IsPrepared, PrepareExit, ReserveExit}
-use Rattle.ras_daemon.specs.PlainFile.{stored}
+use Rattle.ras_daemon.specs.PlainFile.{file_bytes}
 use Rattle.ras_daemon.specs.Status.{is_past}
-use Rattle.ras_daemon.specs.Text.{log_lines, repeat_line, done_line}
+use Rattle.ras_texts.specs.Text.{log_lines, repeat_line, done_line}
 use Rattle.ras_daemon.proofs.FileLemmas.{fresh-old, stored-new, stored-old, valid-one}
 
 pub room-within : (a : State) → IsWithin a → is_past a ≡ false
@@ -51,7 +51,7 @@ module _ (before : List Entry) (entry : Entry) (state : State) (is : state ≡ a
   pub prepared_repeat : (number : ℕ) (detail : List ℕ) (event : Prepared) → event.fresh ≡ None → is_fresh_in state entry ≡ false → is_fresh_behind before entry ≡ false
       → event.text.items ≡ repeat_line entry → event.done.items ≡ done_line number → IsPrepared before number detail (entry ∷ []) event
   prepared_repeat number detail event none held repeated texts ends = record {
-    appends = rw (none, repeated) refl;
+    file_calls = rw (none, repeated) refl;
     ends_at = rw none (ap length (sym (stored-old before entry repeated)));
     texts = rw repeated (texts ∙ sym (append-nil (repeat_line entry)));
     orders = rw (none, repeated) refl;
@@ -65,8 +65,8 @@ module _ (before : List Entry) (entry : Entry) (state : State) (is : state ≡ a
       → new.bytes.items ≡ entry_bytes entry → is_fresh_behind before entry ≡ true
       → event.text.items ≡ log_lines detail entry → event.done.items ≡ done_line number → IsValidEntry entry → IsPrepared before number detail (entry ∷ []) event
   prepared_fresh number detail event new some same bytes behind texts ends valid = record {
-    appends = rw (some, behind, bytes) refl;
-    ends_at = rw (some, bytes) (sym (length-append (stored before) (entry_bytes entry)) ∙ ap length (sym (stored-new before entry behind)));
+    file_calls = rw (some, behind, bytes) refl;
+    ends_at = rw (some, bytes) (sym (length-append (file_bytes before) (entry_bytes entry)) ∙ ap length (sym (stored-new before entry behind)));
     texts = rw behind (texts ∙ sym (append-nil (log_lines detail entry)));
     orders = rw (some, same) (orders_at-account_of before entry ∙ sym (append-nil (orders_behind before entry)));
     ends = ends;
@@ -79,8 +79,8 @@ module _ (before : List Entry) (entry : Entry) (state : State) (is : state ≡ a
 pub prepared_none : (before : List Entry) (number : ℕ) (detail : List ℕ) (event : Prepared) → event.fresh ≡ None → event.text.items ≡ [] → event.done.items ≡ done_line number
     → is_past (account_of before) ≡ false → IsPrepared before number detail [] event
 prepared_none before number detail event none texts ends room = record {
-  appends = rw none refl;
-  ends_at = rw none (ap (λ es. length (stored es)) (sym (append-nil before)));
+  file_calls = rw none refl;
+  ends_at = rw none (ap (λ es. length (file_bytes es)) (sym (append-nil before)));
   texts = texts;
   orders = rw none refl;
   ends = ends;

@@ -15,8 +15,9 @@ use Rattle.ras_facts.specs.declared.entry.Entry.TheVariants.{Fact as Report, Lim
 use Rattle.ras_account.specs.Fresh.{fresh, is_fresh_behind}
 use Rattle.ras_facts.specs.Entries.{IsValidEntry, items_in}
 use Rattle.ras_account.proofs.FreshLemmas.{fresh-snoc}
-use Rattle.ras_daemon.specs.Event.{AreValid, IsFit, longest_entry}
-use Rattle.ras_daemon.specs.PlainFile.{stored}
+use Rattle.ras_daemon.specs.Event.{AreValid, IsFit}
+use Rattle.ras_daemon.specs.Event.{longest_entry}
+use Rattle.ras_daemon.specs.PlainFile.{file_bytes}
 
 -- an entry more, which is fresh or not
 pub fresh-new : (before : List Entry) (entry : Entry) → is_fresh_behind before entry ≡ true → fresh (before ++ entry ∷ []) ≡ fresh before ++ entry ∷ []
@@ -31,10 +32,10 @@ entries-snoc (e ∷ entries) entry =
     ap (λ bytes. entry_bytes e ++ bytes) (entries-snoc entries entry)
     ∙ sym (append_assoc (entry_bytes e) (entries_bytes entries) (entry_bytes entry))
 
-pub stored-new : (before : List Entry) (entry : Entry) → is_fresh_behind before entry ≡ true → stored (before ++ entry ∷ []) ≡ stored before ++ entry_bytes entry
+pub stored-new : (before : List Entry) (entry : Entry) → is_fresh_behind before entry ≡ true → file_bytes (before ++ entry ∷ []) ≡ file_bytes before ++ entry_bytes entry
 stored-new before entry new = ap entries_bytes (fresh-new before entry new) ∙ entries-snoc (fresh before) entry
 
-pub stored-old : (before : List Entry) (entry : Entry) → is_fresh_behind before entry ≡ false → stored (before ++ entry ∷ []) ≡ stored before
+pub stored-old : (before : List Entry) (entry : Entry) → is_fresh_behind before entry ≡ false → file_bytes (before ++ entry ∷ []) ≡ file_bytes before
 stored-old before entry old = ap entries_bytes (fresh-old before entry old)
 
 -- the fresh ones of valid entries are valid

@@ -19,41 +19,41 @@ use Rattle.ras_daemon.specs.declared.ledger.Ledger.{Ledger}
 use Rattle.ras_daemon.specs.declared.ledger.OpenRefused.{OpenRefused}
 use Rattle.ras_daemon.specs.declared.ledger.OpenRefused.TheVariants.{Disk, Damaged, Full, NoMemory}
 use Rattle.ras_daemon.specs.Event.{AreValid, IsKept, IsRoomRefusal, OpenCause, Reopens}
-use Rattle.ras_daemon.specs.PlainFile.{stored, stored_end}
-use Rattle.ras_daemon.specs.Progress.{Cut, IsDisk, Paused, after_all, asks_size, reads_file, reopen_steps}
+use Rattle.ras_daemon.specs.PlainFile.{file_bytes, file_end}
+use Rattle.ras_daemon.specs.Progress.{Cut, IsDisk, Paused, told_after_all, asks_size, reads_file, reopen_steps}
 use Rattle.ras_daemon.proofs.EventLemmas.{within-room}
 use Rattle.ras_daemon.proofs.StepLemmas.{cut_behind, cut_first, map_append, map_one}
 
-pub size_failed : (reported : List Entry) (old new : Option Told) → Relates (MayList (Size Zero)) old new → Cut IsDisk (reopen_steps (stored_end reported)) old new
-size_failed reported old new failed = cut_first asks_size (reads_file (stored_end reported) ∷ []) tt failed
+pub size_failed : (reported : List Entry) (old new : Option Told) → Relates (MayList (Size Zero)) old new → Cut IsDisk (reopen_steps (file_end reported)) old new
+size_failed reported old new failed = cut_first asks_size (reads_file (file_end reported) ∷ []) tt failed
 
 -- the file's size was asked for
 module _ (reported : List Entry) (old mid : Option Told) (size : ℕ) (went : Steps (called (Size Zero)) old mid) where
-  asked : mid ≡ option_map (after_all (asks_size ∷ [])) old
+  asked : mid ≡ option_map (told_after_all (asks_size ∷ [])) old
   asked = went ∙ sym (map_one asks_size old)
 
-  pub no_memory : mid ≡ option_map (after_all (asks_size ∷ [])) old → Paused (reopen_steps (stored_end reported)) old mid
-  no_memory is = record { done = asks_size ∷ []; rest = reads_file (stored_end reported) ∷ []; splits = refl; leaves = is }
+  pub no_memory : mid ≡ option_map (told_after_all (asks_size ∷ [])) old → Paused (reopen_steps (file_end reported)) old mid
+  no_memory is = record { done = asks_size ∷ []; rest = reads_file (file_end reported) ∷ []; splits = refl; leaves = is }
 
-  pub out_of_memory : Paused (reopen_steps (stored_end reported)) old mid
+  pub out_of_memory : Paused (reopen_steps (file_end reported)) old mid
   out_of_memory = no_memory asked
 
   -- it is the size of what is stored
-  size-is : IsKept reported old → IfSome old (λ t. size ≡ length t.file0) → size ≡ stored_end reported
+  size-is : IsKept reported old → IfSome old (λ t. size ≡ length t.file0) → size ≡ file_end reported
   size-is kept is = by old kept.file is
     where
-      by : (o : Option Told) → IsSomeAnd o (λ t. t.file0 ≡ stored reported) → IfSome o (λ t. size ≡ length t.file0) → size ≡ stored_end reported
+      by : (o : Option Told) → IsSomeAnd o (λ t. t.file0 ≡ file_bytes reported) → IfSome o (λ t. size ≡ length t.file0) → size ≡ file_end reported
       by None file long = absurd file
       by (Some t) file long = long ∙ ap length file
 
   pub read_failed : (new : Option Told) (room : ℕ) → IsKept reported old → IfSome old (λ t. size ≡ length t.file0) → room ≡ size → Relates (MayList (ReadAt Zero 0 room)) mid new
-      → Cut IsDisk (reopen_steps (stored_end reported)) old new
+      → Cut IsDisk (reopen_steps (file_end reported)) old new
   read_failed new room kept is same failed =
-      let at : Relates (MayList (ReadAt Zero 0 (stored_end reported))) mid new = subst (λ n. Relates (MayList (ReadAt Zero 0 n)) mid new) (same ∙ size-is kept is) failed in
-      cut_behind (asks_size ∷ []) (reads_file (stored_end reported) ∷ []) asked (cut_first (reads_file (stored_end reported)) [] tt at)
+      let at : Relates (MayList (ReadAt Zero 0 (file_end reported))) mid new = subst (λ n. Relates (MayList (ReadAt Zero 0 n)) mid new) (same ∙ size-is kept is) failed in
+      cut_behind (asks_size ∷ []) (reads_file (file_end reported) ∷ []) asked (cut_first (reads_file (file_end reported)) [] tt at)
 
 -- what is stored are the fresh entries
-stored-entries : (reported : List Entry) → AreValid (fresh reported) → AreEntriesOf (fresh reported) (stored reported)
+stored-entries : (reported : List Entry) → AreValid (fresh reported) → AreEntriesOf (fresh reported) (file_bytes reported)
 stored-entries reported valid = record { valid = All-from_recursion IsValidEntry (fresh reported) valid; spelled = refl }
 
 -- what a whole read of a file gives
@@ -74,15 +74,15 @@ pub record IsRead (bytes : List ℕ) (result : Result Ledger OpenRefused) : Type
   pub undamaged : IfErr result (λ refused. (entries : List Entry) → AreEntriesOf entries bytes → IsRoomRefusal refused)
   pub disk : result ≢ Err Disk
 
-module _ (reported : List Entry) (old new : Option Told) (bytes : List ℕ) (kept : IsKept reported old) (same : bytes ≡ stored reported)
-    (went : new ≡ option_map (after_all (reopen_steps (stored_end reported))) old) where
+module _ (reported : List Entry) (old new : Option Told) (bytes : List ℕ) (kept : IsKept reported old) (same : bytes ≡ file_bytes reported)
+    (went : new ≡ option_map (told_after_all (reopen_steps (file_end reported))) old) where
   are : AreEntriesOf (fresh reported) bytes
   are = rw same (stored-entries reported kept.valid)
 
-  told : IsSomeAnd new (λ t. t.file0 ≡ stored reported)
+  told : IsSomeAnd new (λ t. t.file0 ≡ file_bytes reported)
   told = by old kept.file went
     where
-      by : (o : Option Told) → IsSomeAnd o (λ t. t.file0 ≡ stored reported) → new ≡ option_map (after_all (reopen_steps (stored_end reported))) o → IsSomeAnd new (λ t. t.file0 ≡ stored reported)
+      by : (o : Option Told) → IsSomeAnd o (λ t. t.file0 ≡ file_bytes reported) → new ≡ option_map (told_after_all (reopen_steps (file_end reported))) o → IsSomeAnd new (λ t. t.file0 ≡ file_bytes reported)
       by None file is = absurd file
       by (Some t) file is = rw is file
 
@@ -104,28 +104,28 @@ module _ (reported : List Entry) (old new : Option Told) (bytes : List ℕ) (kep
   reopened (Err Disk) read = absurd (read.disk refl)
   reopened (Err (Damaged file place)) read = read.undamaged (fresh reported) are
   reopened (Err Full) read = read.full refl (fresh reported) are held
-  reopened (Err NoMemory) read = record { done = reopen_steps (stored_end reported); rest = []; splits = refl; leaves = went }
+  reopened (Err NoMemory) read = record { done = reopen_steps (file_end reported); rest = []; splits = refl; leaves = went }
 
 -- the whole of a file was read
 module _ (reported : List Entry) (old mid new : Option Told) (size count : ℕ) (room : ℕ) (buffer bytes : List ℕ) (kept : IsKept reported old) (asks : Steps (called (Size Zero)) old mid)
     (long : IfSome old (λ t. size ≡ length t.file0)) (fits : room ≡ size) (filled : length buffer ≡ room) (got : IfSome mid (λ t. Reads 0 count buffer t.file0))
     (reads : Steps (called (ReadAt Zero 0 room)) mid new) (are : bytes ≡ take count buffer) where
-  bytes-stored : bytes ≡ stored reported
+  bytes-stored : bytes ≡ file_bytes reported
   bytes-stored = are ∙ by old kept.file long asks
     where
       at : (m : Option Told) (t : Told) → m ≡ Some (called (Size Zero) t) → IfSome m (λ t. Reads 0 count buffer t.file0) → Reads 0 count buffer t.file0
       at m t is h = rw is at h
 
-      by : (o : Option Told) → IsSomeAnd o (λ t. t.file0 ≡ stored reported) → IfSome o (λ t. size ≡ length t.file0) → Steps (called (Size Zero)) o mid → take count buffer ≡ stored reported
+      by : (o : Option Told) → IsSomeAnd o (λ t. t.file0 ≡ file_bytes reported) → IfSome o (λ t. size ≡ length t.file0) → Steps (called (Size Zero)) o mid → take count buffer ≡ file_bytes reported
       by None file is went = absurd file
       by (Some t) file is went = whole-read count buffer t.file0 (filled ∙ fits ∙ is) (at mid t went got) ∙ file
 
-  calls-made : new ≡ option_map (after_all (reopen_steps (stored_end reported))) old
+  calls-made : new ≡ option_map (told_after_all (reopen_steps (file_end reported))) old
   calls-made =
-      let asked : mid ≡ option_map (after_all (asks_size ∷ [])) old = asks ∙ sym (map_one asks_size old) in
-      let is : Steps (called (ReadAt Zero 0 (stored_end reported))) mid new = subst (λ n. Steps (called (ReadAt Zero 0 n)) mid new) (fits ∙ size-is reported old mid size asks kept long) reads in
-      is ∙ sym (map_one (reads_file (stored_end reported)) mid) ∙ ap (option_map (after_all (reads_file (stored_end reported) ∷ []))) asked
-      ∙ sym (map_append (asks_size ∷ []) (reads_file (stored_end reported) ∷ []) old)
+      let asked : mid ≡ option_map (told_after_all (asks_size ∷ [])) old = asks ∙ sym (map_one asks_size old) in
+      let is : Steps (called (ReadAt Zero 0 (file_end reported))) mid new = subst (λ n. Steps (called (ReadAt Zero 0 n)) mid new) (fits ∙ size-is reported old mid size asks kept long) reads in
+      is ∙ sym (map_one (reads_file (file_end reported)) mid) ∙ ap (option_map (told_after_all (reads_file (file_end reported) ∷ []))) asked
+      ∙ sym (map_append (asks_size ∷ []) (reads_file (file_end reported) ∷ []) old)
 
   pub file_read : (result : Result Ledger OpenRefused) → IsRead bytes result → Reopens reported result old new
   file_read result read = reopened reported old new bytes kept bytes-stored calls-made result read

@@ -1,4 +1,5 @@
--- Why a call ends with a fault: its count of faults rose. Where a count didn't rise, it is as it was.
+-- Why a call ends with a fault: its count of faults rose. Where a count didn't rise, it is as it
+-- was.
 use Rattle.std.specs.Prelude.{◌≡◌, ℕ, Result, MatchResult}
 use Rattle.board_core.specs.Cause.{Rose}
 use Rattle.ras_daemon.specs.declared.exit.Exit.{Exit}

@@ -8,29 +8,32 @@ use Rattle.ras_daemon.specs.declared.exit.Exit.{Exit}
 use Rattle.ras_daemon.specs.declared.exit.Exit.TheVariants.{SourceFault, DiskFault, PrintFault, NoMemory}
 use Rattle.dimm_topology.specs.Refusals.{refusal_of}
 use Rattle.ras_base.specs.Places.{places}
-use Rattle.ras_daemon.specs.Reports.{Event, Read, adds, event_in, reads_of, rows_of}
-use Rattle.ras_daemon.specs.Status.{Place, longest_script}
+use Rattle.ras_daemon.specs.Reports.{Event, Read, adds_row, event_in, reads_of, rows_told}
+use Rattle.ras_daemon.specs.Status.{Place}
+use Rattle.ras_daemon.specs.declared.script.TheConstants.{LONGEST_SCRIPT}
 
 -- a count of faults didn't rise
 abbrev pub IsQuiet : ℕ → ℕ → Type 0
 IsQuiet before now = ¬ Rose before now
 
--- what an event asks for can be done, as far as its own line tells: a row is one that the rows before it take
-abbrev pub Passes : List Read → Event → Type 0
-Passes before (adds row) = refusal_of (rows_of before) row ≡ None
-Passes before event = ⊤
+-- what an event asks for can be done, as far as its own line tells: a row is one that the rows
+-- before it take
+abbrev pub CanBeDone : List Read → Event → Type 0
+CanBeDone before (adds_row row) = refusal_of (rows_told before) row ≡ None
+CanBeDone before event = ⊤
 
 -- a line can be read, and what it asks for can be done
 abbrev pub IsAccepted : Place → Type 0
-IsAccepted (before, (number, Ok line)) = Passes before (event_in (rows_of before) line)
+IsAccepted (before, (number, Ok line)) = CanBeDone before (event_in (rows_told before) line)
 IsAccepted (before, (number, Err refused)) = ⊥
 
 -- nothing stands in the way of a script: it isn't too long, and each of its lines is accepted
-pub record IsReadable (script : List ℕ) : Type 0 where
-  pub short : length script ≤ longest_script
+pub record IsAcceptedScript (script : List ℕ) : Type 0 where
+  pub short : length script ≤ LONGEST_SCRIPT
   pub lines : AllByRecursion IsAccepted (places (reads_of script))
 
--- P holds where the call came to its end or to a refusal. A fault or want of memory cuts a call short.
+-- P holds where the call came to its end or to a refusal. A fault or want of memory cuts a call
+-- short.
 abbrev pub OnAnswer : Exit → Type 0 → Type 0
 OnAnswer SourceFault P = ⊤
 OnAnswer DiskFault P = ⊤

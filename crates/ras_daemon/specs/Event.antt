@@ -1,9 +1,7 @@
--- An event that has all its memory. This file only carries proofs.
-use Rattle.std.specs.Prelude.{◌≡◌, ℕ, ◌+◌, ◌*◌, ◌≤◌, true, false, List, [], ◌∷◌, ◌++◌, length, Option, None, Some, IfSome, IsSomeAnd, Result, Ok, Err, ⊤}
-use Rattle.std.specs.Global.{Vec}
-use Rattle.std.specs.List.{AllByRecursion, flat_map}
+-- Only for proofs: an event that has all its memory.
+use Rattle.std.specs.Prelude.{◌≡◌, ℕ, ◌+◌, ◌≤◌, true, false, List, [], ◌∷◌, ◌++◌, length, Option, None, Some, IfSome, IsSomeAnd, Result, Ok, Err, ⊤}
+use Rattle.std.specs.List.{AllByRecursion}
 use Rattle.std.specs.Option.{option_map}
-use Rattle.std.specs.Vec.{vec_capacity, vec_len}
 use Rattle.board_core.specs.Cause.{Rose}
 use Rattle.board_core.specs.Told.{Told}
 use Rattle.dimm_topology.specs.declared.topology.TopologyRefused.{TopologyRefused}
@@ -26,38 +24,35 @@ use Rattle.ras_daemon.specs.declared.run.Run.{Run}
 use Rattle.ras_daemon.specs.declared.exit.Exit.{Exit}
 use Rattle.ras_daemon.specs.declared.exit.Exit.TheVariants.{BadLine, Full, NoMemory}
 use Rattle.ras_daemon.specs.declared.exit.Reason.TheVariants.{Topology as TopologyReason}
-use Rattle.ras_daemon.specs.PlainFile.{stored, stored_end}
-use Rattle.ras_daemon.specs.Progress.{Step, writes, syncs, prints, text_steps, entries_steps, reopen_steps, say_steps, after_all, behind, IsDisk, Cut, Paused, Course, Takes, line_course, count_steps, read_steps}
-use Rattle.ras_daemon.specs.Reports.{Read, reports, rows_of}
+use Rattle.ras_daemon.specs.PlainFile.{file_bytes, file_end}
+use Rattle.ras_daemon.specs.Progress.{Step, appends, prints_text, text_steps, entries_steps, reopen_steps, say_steps, told_after_all, behind, IsDisk, Cut, Paused, Course, Follows, line_course, count_steps, read_steps}
+use Rattle.ras_daemon.specs.Reports.{Read, reports, rows_told}
 use Rattle.ras_daemon.specs.Status.{is_past, room_refusal, refusal_at}
-use Rattle.ras_daemon.specs.Text.{entries_text, done_line, held_text, order_line, orders_of}
+use Rattle.ras_daemon.specs.EventText.{entries_text, event_orders}
+use Rattle.ras_texts.specs.Text.{done_line}
+use Rattle.ras_texts.specs.Orders.{standing_lines, order_lines}
+use Rattle.ras_texts.specs.OrderRoom.{HasRoomFor}
 
 -- how many bytes the entry of an event has at most: a bank's with a label of 32 bytes and a page
 abbrev pub longest_entry : ℕ
 longest_entry = 76
 
--- how many bytes the line of an order has
-abbrev pub order_length : ℕ
-order_length = 33
-
 -- the calls that append a fresh entry at a place
 abbrev pub fresh_steps : ℕ → Option FreshEntry → List Step
 fresh_steps place None = []
-fresh_steps place (Some fresh) = writes place fresh.bytes.items ∷ syncs ∷ []
+fresh_steps place (Some fresh) = appends place fresh.bytes.items ∷ []
 
--- the orders that a fresh entry gives in an account, and their lines
+-- the orders that a fresh entry gives in an account
 abbrev pub orders_given : Option FreshEntry → State → List Order
 orders_given None state = []
 orders_given (Some fresh) state = orders_at state fresh.entry
 
-abbrev pub order_lines : List Order → List ℕ
-order_lines orders = flat_map order_line orders
-
--- the calls of an event that is prepared, whose entry is appended at a place and counted in an account
+-- the calls of an event that is prepared, whose entry is appended at a place and counted in an
+-- account
 abbrev pub prepared_steps : ℕ → State → Prepared → List Step
 prepared_steps place state event =
     fresh_steps place event.fresh
-    ++ (text_steps (event.text.items ++ order_lines (orders_given event.fresh state)) ++ prints event.done.items ∷ [])
+    ++ (text_steps (event.text.items ++ order_lines (orders_given event.fresh state)) ++ prints_text event.done.items ∷ [])
 
 -- where the file ends once a fresh entry stands in it
 abbrev pub end_after : Option FreshEntry → ℕ → ℕ
@@ -86,18 +81,20 @@ pub record IsFit (entry : Entry) : Type 0 where
 abbrev pub AreFit : List Entry → Type 0
 AreFit entries = AllByRecursion IsFit entries
 
--- the event's calls and its account are those of these entries, behind those that were reported before
+-- the event's calls and its account are those of these entries, behind those that were reported
+-- before
 pub record IsPrepared (before : List Entry) (number : ℕ) (detail : List ℕ) (entries : List Entry) (event : Prepared) : Type 0 where
-  pub appends : fresh_steps (stored_end before) event.fresh ≡ entries_steps before entries
-  pub ends_at : end_after event.fresh (stored_end before) ≡ stored_end (before ++ entries)
+  pub file_calls : fresh_steps (file_end before) event.fresh ≡ entries_steps before entries
+  pub ends_at : end_after event.fresh (file_end before) ≡ file_end (before ++ entries)
   pub texts : event.text.items ≡ entries_text before detail entries
-  pub orders : orders_given event.fresh (account_of before) ≡ orders_of before entries
+  pub orders : orders_given event.fresh (account_of before) ≡ event_orders before entries
   pub ends : event.done.items ≡ done_line number
   pub account : state_after event.fresh (account_of before) ≡ account_of (before ++ entries)
   pub room : is_past (account_of (before ++ entries)) ≡ false
   pub valid : AreValid (fresh before) → AreValid (fresh (before ++ entries))
 
--- The account can take the fresh entry with no memory, and its bytes are few. There is room for its orders.
+-- The account can take the fresh entry with no memory, and its bytes are few. There is room for its
+-- orders.
 pub record CanTake (account : View) (fresh : FreshEntry) : Type 0 where
   pub waits : WaitsFirst (added_by account.state (fresh.entry ∷ [])) account.waiting
   pub within : IsWithin (continued account.state fresh.entry)
@@ -106,10 +103,6 @@ pub record CanTake (account : View) (fresh : FreshEntry) : Type 0 where
   pub short : length fresh.bytes.items ≤ longest_entry
   pub none : fresh.orders.orders ≡ []
   pub room : length (items_in fresh.entry) ≤ fresh.orders.room
-
--- the text has room for the lines of so many orders
-abbrev pub HasRoomFor : ℕ → Vec ℕ → Type 0
-HasRoomFor orders text = vec_len text + order_length * orders ≤ vec_capacity text
 
 -- an event that is prepared can be done with no memory
 pub record CanDo (account : View) (event : Prepared) : Type 0 where
@@ -129,49 +122,52 @@ ReserveExit state entries NoMemory = ⊤
 ReserveExit state entries exit = ⊥
 
 -- the file ends there, where the board tells it
-abbrev pub Fits : Option Told → ℕ → Type 0
-Fits told end = IfSome told (λ t. length t.file0 ≡ end)
+abbrev pub FileEndsAt : Option Told → ℕ → Type 0
+FileEndsAt told end = IfSome told (λ t. length t.file0 ≡ end)
 
 -- These were reported: the account is theirs, and the board tells that the file holds it.
-pub record Keeps (reported : List Entry) (ledger : Ledger) (told : Option Told) : Type 0 where
+pub record IsLedgerOf (reported : List Entry) (ledger : Ledger) (told : Option Told) : Type 0 where
   pub account : ledger.account.state ≡ account_of reported
-  pub end : ledger.end ≡ stored_end reported
+  pub end : ledger.end ≡ file_end reported
   pub room : is_past (account_of reported) ≡ false
   pub valid : AreValid (fresh reported)
-  pub file : IsSomeAnd told (λ t. t.file0 ≡ stored reported)
+  pub file : IsSomeAnd told (λ t. t.file0 ≡ file_bytes reported)
 
--- What a run has at hand behind these lines: the rows that they told, and the account of what they reported.
-pub record Stands (before : List Read) (run : Run) (told : Option Told) : Type 0 where
-  pub rows : run.topology ≡ rows_of before
-  pub keeps : Keeps (reports before) run.ledger told
+-- What a run has at hand behind these lines: the rows that they told, and the account of what they
+-- reported.
+pub record IsRunAfter (before : List Read) (run : Run) (told : Option Told) : Type 0 where
+  pub rows : run.topology ≡ rows_told before
+  pub keeps : IsLedgerOf (reports before) run.ledger told
 
 -- A line was taken at its place, or the run ends there, whatever would have followed.
 abbrev pub TakesLine : {T : Type 0} → List Read → Read → Result T Exit → Option Told → Option Told → Run → Type 0
 TakesLine before read (Ok done) old new run =
-    (refusal_at (before, read) ≡ None) × (new ≡ option_map (after_all (read_steps before read)) old) × Stands (before ++ read ∷ []) run new
-TakesLine before read (Err exit) old new run = (rest : Course) → Takes (line_course (refusal_at (before, read)) (read_steps before read) rest) exit old new
+    (refusal_at (before, read) ≡ None) × (new ≡ option_map (told_after_all (read_steps before read)) old) × IsRunAfter (before ++ read ∷ []) run new
+TakesLine before read (Err exit) old new run = (rest : Course) → Follows (line_course (refusal_at (before, read)) (read_steps before read) rest) exit old new
 
 -- The same of entries that an event makes.
 abbrev pub TakesEntries : {T : Type 0} → List Entry → ℕ → List ℕ → List Entry → Result T Exit → Option Told → Option Told → Ledger → Type 0
 TakesEntries before number detail entries (Ok done) old new ledger =
-    (room_refusal before entries ≡ None) × (new ≡ option_map (after_all (count_steps before number detail entries)) old) × Keeps (before ++ entries) ledger new
+    (room_refusal before entries ≡ None) × (new ≡ option_map (told_after_all (count_steps before number detail entries)) old) × IsLedgerOf (before ++ entries) ledger new
 TakesEntries before number detail entries (Err exit) old new ledger =
-    (rest : Course) → Takes (line_course (room_refusal before entries) (count_steps before number detail entries) rest) exit old new
+    (rest : Course) → Follows (line_course (room_refusal before entries) (count_steps before number detail entries) rest) exit old new
 
--- What was reported stands in the file, as the board tells, and can be read from it and counted again.
+-- What was reported stands in the file, as the board tells, and can be read from it and counted
+-- again.
 pub record IsKept (reported : List Entry) (told : Option Told) : Type 0 where
   pub room : is_past (account_of reported) ≡ false
   pub valid : AreValid (fresh reported)
-  pub file : IsSomeAnd told (λ t. t.file0 ≡ stored reported)
+  pub file : IsSomeAnd told (λ t. t.file0 ≡ file_bytes reported)
 
 -- The account was made again from a file that holds it, or as far as a fault or want of memory let.
 abbrev pub Reopens : List Entry → Result Ledger OpenRefused → Option Told → Option Told → Type 0
-Reopens reported (Ok ledger) old new = (new ≡ option_map (after_all (reopen_steps (stored_end reported))) old) × Keeps reported ledger new
-Reopens reported (Err Disk) old new = Cut IsDisk (reopen_steps (stored_end reported)) old new
-Reopens reported (Err OutOfMemory) old new = Paused (reopen_steps (stored_end reported)) old new
+Reopens reported (Ok ledger) old new = (new ≡ option_map (told_after_all (reopen_steps (file_end reported))) old) × IsLedgerOf reported ledger new
+Reopens reported (Err Disk) old new = Cut IsDisk (reopen_steps (file_end reported)) old new
+Reopens reported (Err OutOfMemory) old new = Paused (reopen_steps (file_end reported)) old new
 Reopens reported (Err refused) old new = ⊥
 
--- Where making the account again failed at the disk the count of faults rose, and else it is as it was.
+-- Where making the account again failed at the disk the count of faults rose, and else it is as it
+-- was.
 abbrev pub OpenCause : Result Ledger OpenRefused → ℕ → ℕ → Type 0
 OpenCause (Err Disk) before now = Rose before now
 OpenCause result before now = now ≡ before
@@ -184,14 +180,15 @@ IsRoomRefusal refused = ⊥
 
 -- A row of the machine was taken at its place, or refused for this, whatever would have followed.
 abbrev pub TakesRow : {T : Type 0} → ℕ → Option TopologyRefused → Result T Exit → Option Told → Option Told → Type 0
-TakesRow number refusal (Ok done) old new = (refusal ≡ None) × (new ≡ option_map (after_all (prints (done_line number) ∷ [])) old)
+TakesRow number refusal (Ok done) old new = (refusal ≡ None) × (new ≡ option_map (told_after_all (prints_text (done_line number) ∷ [])) old)
 TakesRow number refusal (Err exit) old new =
-    (rest : Course) → Takes (line_course (option_map (λ refused. BadLine number (TopologyReason refused)) refusal) (prints (done_line number) ∷ []) rest) exit old new
+    (rest : Course) → Follows (line_course (option_map (λ refused. BadLine number (TopologyReason refused)) refusal) (prints_text (done_line number) ∷ []) rest) exit old new
 
--- The account was made again at its place, and its pages told, or the run ends there, whatever would have followed.
+-- The account was made again at its place, and its pages told, or the run ends there, whatever
+-- would have followed.
 abbrev pub restart_steps : List Entry → ℕ → List Step
-restart_steps before number = reopen_steps (stored_end before) ++ say_steps (held_text (account_of before)) number
+restart_steps before number = reopen_steps (file_end before) ++ say_steps (standing_lines (account_of before)) number
 
 abbrev pub Reopened : {T : Type 0} → List Entry → ℕ → Result T Exit → Option Told → Option Told → Ledger → Type 0
-Reopened before number (Ok done) old new ledger = (new ≡ option_map (after_all (restart_steps before number)) old) × Keeps before ledger new
-Reopened before number (Err exit) old new ledger = (rest : Course) → Takes (behind (restart_steps before number) rest) exit old new
+Reopened before number (Ok done) old new ledger = (new ≡ option_map (told_after_all (restart_steps before number)) old) × IsLedgerOf before ledger new
+Reopened before number (Err exit) old new ledger = (rest : Course) → Follows (behind (restart_steps before number) rest) exit old new

@@ -5,19 +5,23 @@ use Rattle.ras_base.specs.Places.{places}
 use Rattle.ras_account.specs.Account.{account_of}
 use Rattle.ras_daemon.specs.declared.exit.Exit.{Exit}
 use Rattle.ras_daemon.specs.Command.{command_of}
-use Rattle.ras_daemon.specs.Reports.{Event, Read, nothing, reopens, adds, counts, event_in, reads_of, reports, rows_of}
-use Rattle.ras_daemon.specs.Status.{Place, unrefused, refusal_among, start_refusal}
-use Rattle.ras_daemon.specs.Text.{event_text, held_text, done_line, end_line, stop_line}
+use Rattle.ras_daemon.specs.Reports.{Event, Read, asks_nothing, reopens_account, adds_row, counts_entries, event_in, reads_of, reports, rows_told}
+use Rattle.ras_daemon.specs.Status.{Place, places_before_refusal, refusal_among, start_refusal}
+use Rattle.ras_daemon.specs.EventText.{event_text}
+use Rattle.ras_texts.specs.Orders.{standing_lines}
+use Rattle.ras_texts.specs.Text.{done_line, end_line}
+use Rattle.ras_daemon.specs.StopLine.{stop_line}
 
--- What an event has printed at its place: its text, and its done line. A restart tells which pages are ordered out of use.
+-- What an event has printed at its place: its text, and its done line. A restart tells which pages
+-- are ordered out of use.
 abbrev pub event_output : List Read → ℕ → Event → List ℕ
-event_output before number nothing = []
-event_output before number reopens = held_text (account_of (reports before)) ++ done_line number
-event_output before number (adds row) = done_line number
-event_output before number (counts detail entries) = event_text (reports before) detail entries ++ done_line number
+event_output before number asks_nothing = []
+event_output before number reopens_account = standing_lines (account_of (reports before)) ++ done_line number
+event_output before number (adds_row row) = done_line number
+event_output before number (counts_entries detail entries) = event_text (reports before) detail entries ++ done_line number
 
 abbrev pub output_at : Place → List ℕ
-output_at (before, (number, Ok line)) = event_output before number (event_in (rows_of before) line)
+output_at (before, (number, Ok line)) = event_output before number (event_in (rows_told before) line)
 output_at (before, (number, Err refused)) = []
 
 -- the last line: the stop line of the first refusal, or the end line of all that was reported
@@ -27,7 +31,7 @@ last_line reads None = end_line (account_of (reports reads))
 
 -- what lines have printed up to the first refused one, and the last line
 abbrev pub lines_output : List Read → List ℕ
-lines_output reads = flat_map output_at (unrefused (places reads)) ++ last_line reads (refusal_among (places reads))
+lines_output reads = flat_map output_at (places_before_refusal (places reads)) ++ last_line reads (refusal_among (places reads))
 
 abbrev pub output_after : Option Exit → List ℕ → List ℕ
 output_after (Some exit) script = stop_line exit
@@ -39,4 +43,4 @@ output_of words script file = output_after (start_refusal (command_of words) scr
 
 -- what so many of the lines before the first refused one have printed
 abbrev pub output_upto : List Read → ℕ → List ℕ
-output_upto reads count = flat_map output_at (take count (unrefused (places reads)))
+output_upto reads count = flat_map output_at (take count (places_before_refusal (places reads)))

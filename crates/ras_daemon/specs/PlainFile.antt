@@ -5,9 +5,9 @@ use Rattle.ras_facts.specs.declared.entry.Entry.{Entry}
 use Rattle.ras_account.specs.Fresh.{fresh}
 
 -- what the file holds once these were reported: each fresh one
-abbrev pub stored : List Entry → List ℕ
-stored reported = entries_bytes (fresh reported)
+abbrev pub file_bytes : List Entry → List ℕ
+file_bytes reported = entries_bytes (fresh reported)
 
 -- where the next entry is to stand
-abbrev pub stored_end : List Entry → ℕ
-stored_end reported = length (stored reported)
+abbrev pub file_end : List Entry → ℕ
+file_end reported = length (file_bytes reported)

@@ -1,11 +1,11 @@
--- How far a run has come on its board. This file only carries proofs: what a run prints, keeps and answers is said by
--- Output, Stored and Status.
+-- Only for proofs: how far a run has come on its board. What a run prints, keeps and answers is
+-- said by Output, FileAndCalls and Status.
 use Rattle.std.specs.Prelude.{◌≡◌, ℕ, ◌==◌, List, [], ◌∷◌, ◌++◌, length, Option, None, Some, Result, Ok, Err, if◌then◌else◌}
 use Rattle.std.specs.List.{flat_map}
 use Rattle.std.specs.Option.{option_map}
-use Rattle.board_core.specs.declared.board.DiskCall.TheVariants.{Size, ReadAt, Sync}
+use Rattle.board_core.specs.declared.board.DiskCall.TheVariants.{Size, ReadAt}
 use Rattle.board_core.specs.declared.board.FileNo.TheVariants.{Zero}
-use Rattle.board_core.specs.Told.{Told, Relates, called, written, printed, MayList, FailsWrite, FailsPrint}
+use Rattle.board_core.specs.Told.{Told, Relates, called, written_through, printed, MayList, FailsThrough, FailsPrint}
 use Rattle.entry_format.specs.Spelling.{entry_bytes}
 use Rattle.ras_base.specs.Places.{places_behind}
 use Rattle.ras_facts.specs.declared.entry.Entry.{Entry}
@@ -15,52 +15,51 @@ use Rattle.ras_daemon.specs.declared.exit.Exit.{Exit}
 use Rattle.ras_daemon.specs.declared.exit.Exit.TheVariants.{Done, Usage, SourceFault, DiskFault, PrintFault, NoMemory}
 use Rattle.ras_daemon.specs.declared.word.Command.{Command}
 use Rattle.ras_daemon.specs.declared.word.Command.TheVariants.{Run}
-use Rattle.ras_daemon.specs.PlainFile.{stored_end}
-use Rattle.ras_daemon.specs.Reports.{Event, Read, nothing, reopens, adds, counts, event_in, reads_of, reports, rows_of}
+use Rattle.ras_daemon.specs.PlainFile.{file_end}
+use Rattle.ras_daemon.specs.Reports.{Event, Read, asks_nothing, reopens_account, adds_row, counts_entries, event_in, reads_of, reports, rows_told}
 use Rattle.ras_daemon.specs.Status.{refusal_at, start_refusal}
-use Rattle.ras_daemon.specs.Text.{event_text, held_text, done_line, end_line, stop_line}
+use Rattle.ras_daemon.specs.EventText.{event_text}
+use Rattle.ras_texts.specs.Orders.{standing_lines}
+use Rattle.ras_texts.specs.Text.{done_line, end_line}
+use Rattle.ras_daemon.specs.StopLine.{stop_line}
 
--- a call on a board, of its file 0 or of its output; a read asks for so many bytes from the file's first one on
+-- Calls on a board, of its file 0 or of its output. A read asks for so many bytes from the file's
+-- first one on. Bytes are appended by a write at a place, which is where the file ends, and a sync.
 pub data Step : Type 0 where
   asks_size : Step
   reads_file : ℕ → Step
-  writes : ℕ → List ℕ → Step
-  syncs : Step
-  prints : List ℕ → Step
+  appends : ℕ → List ℕ → Step
+  prints_text : List ℕ → Step
 
 -- what a call, and what calls in order, leave
-abbrev pub after : Step → Told → Told
-after asks_size told = called (Size Zero) told
-after (reads_file count) told = called (ReadAt Zero 0 count) told
-after (writes place bytes) told = written Zero place bytes told
-after syncs told = called (Sync Zero) told
-after (prints bytes) told = printed bytes told
+abbrev pub told_after : Step → Told → Told
+told_after asks_size told = called (Size Zero) told
+told_after (reads_file count) told = called (ReadAt Zero 0 count) told
+told_after (appends place bytes) told = written_through Zero place bytes told
+told_after (prints_text bytes) told = printed bytes told
 
-abbrev pub after_all : List Step → Told → Told
-after_all [] told = told
-after_all (step ∷ steps) told = after_all steps (after step told)
+abbrev pub told_after_all : List Step → Told → Told
+told_after_all [] told = told
+told_after_all (step ∷ steps) told = told_after_all steps (told_after step told)
 
 -- what a failed call may leave
 abbrev pub Fails : Step → Told → Told → Type 0
 Fails asks_size old new = MayList (Size Zero) old new
 Fails (reads_file count) old new = MayList (ReadAt Zero 0 count) old new
-Fails (writes place bytes) old new = FailsWrite Zero place (length bytes) old new
-Fails syncs old new = MayList (Sync Zero) old new
-Fails (prints bytes) old new = FailsPrint bytes old new
+Fails (appends place bytes) old new = FailsThrough Zero place bytes old new
+Fails (prints_text bytes) old new = FailsPrint bytes old new
 
 abbrev pub IsDisk : Step → Type 0
 IsDisk asks_size = Unit {0}
 IsDisk (reads_file count) = Unit {0}
-IsDisk (writes place bytes) = Unit {0}
-IsDisk syncs = Unit {0}
-IsDisk (prints bytes) = ⊥
+IsDisk (appends place bytes) = Unit {0}
+IsDisk (prints_text bytes) = ⊥
 
 abbrev pub IsPrint : Step → Type 0
 IsPrint asks_size = ⊥
 IsPrint (reads_file count) = ⊥
-IsPrint (writes place bytes) = ⊥
-IsPrint syncs = ⊥
-IsPrint (prints bytes) = Unit {0}
+IsPrint (appends place bytes) = ⊥
+IsPrint (prints_text bytes) = Unit {0}
 
 -- calls in order, of which one failed: those before it went well
 pub record Cut (Kind : Step → Type 0) (steps : List Step) (old new : Option Told) : Type 0 where
@@ -69,18 +68,18 @@ pub record Cut (Kind : Step → Type 0) (steps : List Step) (old new : Option To
   pub rest : List Step
   pub splits : done ++ step ∷ rest ≡ steps
   pub kind : Kind step
-  pub leaves : Relates (Fails step) (option_map (after_all done) old) new
+  pub leaves : Relates (Fails step) (option_map (told_after_all done) old) new
 
 -- calls in order, of which only the first ones were made
 pub record Paused (steps : List Step) (old new : Option Told) : Type 0 where
   pub done : List Step
   pub rest : List Step
   pub splits : done ++ rest ≡ steps
-  pub leaves : new ≡ option_map (after_all done) old
+  pub leaves : new ≡ option_map (told_after_all done) old
 
 -- the calls of a part of a run that goes on after them, or of which one failed
 abbrev pub Performs : List Step → Result (Unit {0}) Exit → Option Told → Option Told → Type 0
-Performs steps (Ok done) old new = new ≡ option_map (after_all steps) old
+Performs steps (Ok done) old new = new ≡ option_map (told_after_all steps) old
 Performs steps (Err DiskFault) old new = Cut IsDisk steps old new
 Performs steps (Err PrintFault) old new = Cut IsPrint steps old new
 Performs steps (Err exit) old new = ⊥
@@ -90,35 +89,36 @@ pub record Course : Type 0 where
   pub steps : List Step
   pub exit : Exit
 
--- A run that ended so has taken its course: to its end, or to the call that failed, or as far as memory allowed. It
--- doesn't read its source any more.
-abbrev pub Takes : Course → Exit → Option Told → Option Told → Type 0
-Takes course DiskFault old new = Cut IsDisk course.steps old new
-Takes course PrintFault old new = Cut IsPrint course.steps old new
-Takes course NoMemory old new = Paused course.steps old new
-Takes course SourceFault old new = ⊥
-Takes course exit old new = (course.exit ≡ exit) × (new ≡ option_map (after_all course.steps) old)
+-- A run that ended so has taken its course: to its end, or to the call that failed, or as far as
+-- memory allowed. It doesn't read its source any more.
+abbrev pub Follows : Course → Exit → Option Told → Option Told → Type 0
+Follows course DiskFault old new = Cut IsDisk course.steps old new
+Follows course PrintFault old new = Cut IsPrint course.steps old new
+Follows course NoMemory old new = Paused course.steps old new
+Follows course SourceFault old new = ⊥
+Follows course exit old new = (course.exit ≡ exit) × (new ≡ option_map (told_after_all course.steps) old)
 
 -- The same of a call that reads its source.
-abbrev pub TakesCall : Course → Exit → Option Told → Option Told → Type 0
-TakesCall course SourceFault old new = Paused course.steps old new
-TakesCall course exit old new = Takes course exit old new
+abbrev pub FollowsCall : Course → Exit → Option Told → Option Told → Type 0
+FollowsCall course SourceFault old new = Paused course.steps old new
+FollowsCall course exit old new = Follows course exit old new
 
--- the calls of an entry behind those that were reported before it: a fresh one is written and synced
+-- the calls of an entry behind those that were reported before it: a fresh one is written and
+-- synced
 abbrev pub entry_steps : List Entry → Entry → List Step
 entry_steps before entry =
-    if is_fresh_behind before entry then writes (stored_end before) (entry_bytes entry) ∷ syncs ∷ [] else []
+    if is_fresh_behind before entry then appends (file_end before) (entry_bytes entry) ∷ [] else []
 
 abbrev pub entries_steps : List Entry → List Entry → List Step
 entries_steps before entries = flat_map (λ p. entry_steps p.0 p.1) (places_behind before entries)
 
 -- a text is printed where there is one
 abbrev pub text_steps : List ℕ → List Step
-text_steps text = if length text == 0 then [] else prints text ∷ []
+text_steps text = if length text == 0 then [] else prints_text text ∷ []
 
 -- the calls by which a text is printed, and a done line behind it
 abbrev pub say_steps : List ℕ → ℕ → List Step
-say_steps text number = text_steps text ++ prints (done_line number) ∷ []
+say_steps text number = text_steps text ++ prints_text (done_line number) ∷ []
 
 -- the calls of an event that makes these entries
 abbrev pub count_steps : List Entry → ℕ → List ℕ → List Entry → List Step
@@ -131,18 +131,18 @@ reopen_steps size = asks_size ∷ reads_file size ∷ []
 
 -- the calls of an event
 abbrev pub event_steps : List Read → ℕ → Event → List Step
-event_steps before number nothing = []
-event_steps before number reopens = reopen_steps (stored_end (reports before)) ++ say_steps (held_text (account_of (reports before))) number
-event_steps before number (adds row) = prints (done_line number) ∷ []
-event_steps before number (counts detail entries) = count_steps (reports before) number detail entries
+event_steps before number asks_nothing = []
+event_steps before number reopens_account = reopen_steps (file_end (reports before)) ++ say_steps (standing_lines (account_of (reports before))) number
+event_steps before number (adds_row row) = prints_text (done_line number) ∷ []
+event_steps before number (counts_entries detail entries) = count_steps (reports before) number detail entries
 
 abbrev pub read_steps : List Read → Read → List Step
-read_steps before (number, Ok line) = event_steps before number (event_in (rows_of before) line)
+read_steps before (number, Ok line) = event_steps before number (event_in (rows_told before) line)
 read_steps before (number, Err refused) = []
 
 -- a course that prints a last line and ends
 abbrev pub ends : List ℕ → Exit → Course
-ends text exit = record { steps = prints text ∷ []; exit = exit }
+ends text exit = record { steps = prints_text text ∷ []; exit = exit }
 
 -- a course behind calls that come before it
 abbrev pub behind : List Step → Course → Course

@@ -9,12 +9,12 @@ use Rattle.ras_facts.specs.declared.bank.BankReport.{BankReport}
 use Rattle.ras_facts.specs.Facts.{bank_fact}
 use Rattle.ras_facts.specs.declared.entry.Entry.{Entry}
 use Rattle.ras_facts.specs.declared.entry.Entry.TheVariants.{Fact as Report, Limit as Settles}
-use Rattle.ras_daemon.specs.declared.line.Line.{Line}
-use Rattle.ras_daemon.specs.declared.line.Line.TheVariants.{Bank, Cpu, Module, Range, Limit, Restart}
-use Rattle.ras_daemon.specs.declared.line.LineRefused.{LineRefused}
-use Rattle.ras_daemon.specs.Detail.{bank_detail}
-use Rattle.ras_daemon.specs.Line.{line_of}
-use Rattle.ras_daemon.specs.Splitting.{lines_of}
+use Rattle.ras_script.specs.declared.line.Line.{Line}
+use Rattle.ras_script.specs.declared.line.Line.TheVariants.{Bank, Cpu, Module, Range, Limit, Restart}
+use Rattle.ras_script.specs.declared.line.LineRefused.{LineRefused}
+use Rattle.ras_texts.specs.Detail.{bank_detail}
+use Rattle.ras_script.specs.Line.{line_of}
+use Rattle.ras_script.specs.Splitting.{lines_of}
 
 -- a line's number, and what the line is or why it is refused
 abbrev pub Read : Type 0
@@ -40,18 +40,19 @@ row_by (number, Ok line) = row_in line
 row_by (number, Err refused) = None
 
 -- the rows that lines tell, in order
-abbrev pub rows_of : List Read → List Row
-rows_of reads = filter_map row_by reads
+abbrev pub rows_told : List Read → List Row
+rows_told reads = filter_map row_by reads
 
--- What an event asks for: nothing; to make the account again from its file; to take a row; to count entries, with what is
--- told beside them.
+-- What an event asks for: nothing; to make the account again from its file; to take a row; to count
+-- entries, with what is told beside them.
 pub data Event : Type 0 where
-  nothing : Event
-  reopens : Event
-  adds : Row → Event
-  counts : List ℕ → List Entry → Event
+  asks_nothing : Event
+  reopens_account : Event
+  adds_row : Row → Event
+  counts_entries : List ℕ → List Entry → Event
 
--- what a bank makes under the rows of a machine: the fact that its registers give, where its status register is valid
+-- what a bank makes under the rows of a machine: the fact that its registers give, where its status
+-- register is valid
 abbrev pub bank_entries : BankReport → List Row → List Entry
 bank_entries bank rows = map Report (option_to_list (bank_fact bank rows))
 
@@ -70,20 +71,21 @@ event_in rows (Bank boot seconds cpu bank tsc cap mcg status addr misc) =
       addr = addr;
       misc = misc;
     } in
-    counts (bank_detail report) (bank_entries report rows)
-event_in rows (Limit capacity period) = counts [] (Settles (record { capacity = capacity; period = period }) ∷ [])
-event_in rows Restart = reopens
-event_in rows line = option_map_or adds (row_in line) nothing
+    counts_entries (bank_detail report) (bank_entries report rows)
+event_in rows (Limit capacity period) =
+    counts_entries [] (Settles (record { capacity = capacity; period = period }) ∷ [])
+event_in rows Restart = reopens_account
+event_in rows line = option_map_or adds_row (row_in line) asks_nothing
 
 -- what an event reports
-abbrev pub reported_in : Event → List Entry
-reported_in (counts detail entries) = entries
-reported_in event = []
+abbrev pub entries_in : Event → List Entry
+entries_in (counts_entries detail entries) = entries
+entries_in event = []
 
-abbrev pub reported_at : List Read × Read → List Entry
-reported_at (before, (number, Ok line)) = reported_in (event_in (rows_of before) line)
-reported_at (before, (number, Err refused)) = []
+abbrev pub entries_at : List Read × Read → List Entry
+entries_at (before, (number, Ok line)) = entries_in (event_in (rows_told before) line)
+entries_at (before, (number, Err refused)) = []
 
 -- all that lines report, in order, each under the rows that the lines before it tell
 abbrev pub reports : List Read → List Entry
-reports reads = flat_map reported_at (places reads)
+reports reads = flat_map entries_at (places reads)

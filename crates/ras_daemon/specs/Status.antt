@@ -10,10 +10,11 @@ use Rattle.ras_account.specs.Account.{State, account_of, most_names, most_entrie
 use Rattle.ras_daemon.specs.declared.exit.Exit.{Exit}
 use Rattle.ras_daemon.specs.declared.exit.Exit.TheVariants.{Done, Usage, BadLine, Damaged, Full, TooLong}
 use Rattle.ras_daemon.specs.declared.exit.Reason.TheVariants.{Line as LineReason, Topology as TopologyReason}
+use Rattle.ras_daemon.specs.declared.script.TheConstants.{LONGEST_SCRIPT}
 use Rattle.ras_daemon.specs.declared.word.Command.{Command}
 use Rattle.ras_daemon.specs.declared.word.Command.TheVariants.{Run}
 use Rattle.ras_daemon.specs.Command.{command_of}
-use Rattle.ras_daemon.specs.Reports.{Event, Read, nothing, reopens, adds, counts, event_in, reads_of, reports, rows_of}
+use Rattle.ras_daemon.specs.Reports.{Event, Read, asks_nothing, reopens_account, adds_row, counts_entries, event_in, reads_of, reports, rows_told}
 
 -- a line with all the lines before it
 abbrev pub Place : Type 0
@@ -22,7 +23,8 @@ Place = List Read × Read
 -- whether an account is past its limits
 abbrev pub is_past : State → Bool
 is_past account =
-    nat_lt most_names (length account.names) || (nat_lt most_entries account.entries || nat_lt most_weight account.total)
+    nat_lt most_names (length account.names)
+    || (nat_lt most_entries account.entries || nat_lt most_weight account.total)
 
 -- entries are refused where there is no room in the account for them
 abbrev pub room_refusal : List Entry → List Entry → Option Exit
@@ -30,24 +32,26 @@ room_refusal before entries = if is_past (account_of (before ++ entries)) then S
 
 -- a row is refused where the rows before it can't take it
 abbrev pub row_refusal : ℕ → List Row → Row → Option Exit
-row_refusal number rows row = option_map (λ refused. BadLine number (TopologyReason refused)) (refusal_of rows row)
+row_refusal number rows row =
+    option_map (λ refused. BadLine number (TopologyReason refused)) (refusal_of rows row)
 
 -- why an event is refused at its place, if it is
 abbrev pub event_refusal : List Read → ℕ → Event → Option Exit
-event_refusal before number nothing = None
-event_refusal before number reopens = None
-event_refusal before number (adds row) = row_refusal number (rows_of before) row
-event_refusal before number (counts detail entries) = room_refusal (reports before) entries
+event_refusal before number asks_nothing = None
+event_refusal before number reopens_account = None
+event_refusal before number (adds_row row) = row_refusal number (rows_told before) row
+event_refusal before number (counts_entries detail entries) = room_refusal (reports before) entries
 
 -- why a line is refused at its place, if it is: it can't be read, or what it asks for can't be done
 abbrev pub refusal_at : Place → Option Exit
 refusal_at (before, (number, Err refused)) = Some (BadLine number (LineReason refused))
-refusal_at (before, (number, Ok line)) = event_refusal before number (event_in (rows_of before) line)
+refusal_at (before, (number, Ok line)) = event_refusal before number (event_in (rows_told before) line)
 
 -- the places that stand before the first refused one
-abbrev pub unrefused : List Place → List Place
-unrefused [] = []
-unrefused (place ∷ places) = if is_some (refusal_at place) then [] else place ∷ unrefused places
+abbrev pub places_before_refusal : List Place → List Place
+places_before_refusal [] = []
+places_before_refusal (place ∷ places) =
+    if is_some (refusal_at place) then [] else place ∷ places_before_refusal places
 
 -- the first of a list
 abbrev pub first_of : {X : Type 0} → List X → Option X
@@ -59,27 +63,24 @@ abbrev pub refusal_among : List Place → Option Exit
 refusal_among places = first_of (filter_map refusal_at places)
 
 -- the lines before the first refused one
-abbrev pub taken_of : List Read → List Read
-taken_of reads = map (λ (place : Place). place.1) (unrefused (places reads))
-
--- how many bytes a script has at most
-abbrev pub longest_script : ℕ
-longest_script = 40000
+abbrev pub lines_before_refusal : List Read → List Read
+lines_before_refusal reads =
+    map (λ (place : Place). place.1) (places_before_refusal (places reads))
 
 abbrev pub script_refusal : List ℕ → Option Exit
-script_refusal script = if nat_lt longest_script (length script) then Some TooLong else None
+script_refusal script = if nat_lt LONGEST_SCRIPT (length script) then Some TooLong else None
 
--- Why a call ends before its first line, if it does: the words are no form of a call, the file isn't empty, or the script
--- is too long.
+-- Why a call ends before its first line, if it does: the words are no form of a call, the file
+-- isn't empty, or the script is too long.
 abbrev pub start_refusal : Option Command → List ℕ → List ℕ → Option Exit
 start_refusal None script file = Some Usage
 start_refusal (Some Run) script file =
     if nat_lt 0 (length file) then Some (Damaged 0 0) else script_refusal script
 
 -- how lines end: with the first refusal among them, or with the script's end
-abbrev pub lines_status : List Read → Exit
-lines_status reads = unwrap_or (refusal_among (places reads)) Done
+abbrev pub lines_exit : List Read → Exit
+lines_exit reads = unwrap_or (refusal_among (places reads)) Done
 
 -- how a call with these words ends over a script and a file 0
-abbrev pub status_of : List (List ℕ) → List ℕ → List ℕ → Exit
-status_of words script file = unwrap_or (start_refusal (command_of words) script file) (lines_status (reads_of script))
+abbrev pub exit_of : List (List ℕ) → List ℕ → List ℕ → Exit
+exit_of words script file = unwrap_or (start_refusal (command_of words) script file) (lines_exit (reads_of script))

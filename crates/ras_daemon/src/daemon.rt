@@ -1,14 +1,15 @@
-// The top call.
+//! The top call.
+
 ghost use Rattle.std.specs.Prelude.{◌≡◌, ◌≢◌, ◌⊎◌, ◌++◌, ℕ, [], Some, None, IfSome, IfNone, IsSomeAnd};
 ghost use Rattle.ras_daemon.specs.Causes.{DiskCause, PrintCause, SourceCause};
 ghost use Rattle.ras_daemon.specs.Command.{command_of};
-ghost use Rattle.ras_daemon.specs.Ended.{IsQuiet, IsReadable, OnAnswer, OverBoth, OverTold, PrintsPart};
-ghost use Rattle.ras_daemon.specs.Event.{Fits};
+ghost use Rattle.ras_daemon.specs.Ended.{IsAcceptedScript, IsQuiet, OnAnswer, OverBoth, OverTold, PrintsPart};
+ghost use Rattle.ras_daemon.specs.Event.{FileEndsAt};
+ghost use Rattle.ras_daemon.specs.FileAndCalls.{calls_of, file_after};
 ghost use Rattle.ras_daemon.specs.Output.{output_of, output_upto};
-ghost use Rattle.ras_daemon.specs.Progress.{TakesCall, call_course, start_course};
+ghost use Rattle.ras_daemon.specs.Progress.{FollowsCall, call_course, start_course};
 ghost use Rattle.ras_daemon.specs.Reports.{reads_of};
-ghost use Rattle.ras_daemon.specs.Status.{script_refusal, status_of};
-ghost use Rattle.ras_daemon.specs.Stored.{calls_of, file_after};
+ghost use Rattle.ras_daemon.specs.Status.{exit_of, script_refusal};
 ghost use Rattle.ras_daemon.specs.declared.word.Command.TheVariants.{Run};
 
 use crate::run::{last_line, refuse, run_script};
@@ -17,43 +18,65 @@ use crate::{Command, Exit, RasWord, command_of};
 use board_core::{Board, Failed, FileNo, Source};
 use std::alloc::Global;
 
-/// Does what the words ask for, over a source that gives the script and a board that keeps the account.
+/// Does what the words ask for, over a source that gives the script and a board that keeps the
+/// account.
 pub fn rasd<S: Source, B: Board>(
     alloc: Global,
     words: &[RasWord],
     source: &mut S,
     board: &mut B,
 ) -> Exit
-    // Over a source and a board that tell, the exit and what was printed are the stated functions of the words, the
-    // script and file 0. A fault or want of memory cuts what is printed short.
-    ensures status { OverTold (λ script told. OnAnswer result (result ≡ status_of words.now script told.file0)) (S.left source.old) (B.told board.old) }
-    ensures output { OverTold (λ script told. OnAnswer result (IsSomeAnd (B.told board.new) (λ now. now.out ≡ told.out ++ output_of words.now script told.file0))) (S.left source.old) (B.told board.old) }
-    ensures begun { OverBoth (λ script told now. PrintsPart (output_of words.now script told.file0) told.out now.out) (S.left source.old) (B.told board.old) (B.told board.new) }
+    // Over a source and a board that tell, the exit and what was printed are the stated functions
+    // of the words, the script and file 0. A fault or want of memory cuts what is printed short.
+    ensures status { OverTold (λ script told. OnAnswer result
+        (result ≡ exit_of words.now script told.file0))
+        (S.left source.old) (B.told board.old) }
+    ensures output { OverTold (λ script told. OnAnswer result (IsSomeAnd (B.told board.new)
+        (λ now. now.out ≡ told.out ++ output_of words.now script told.file0)))
+        (S.left source.old) (B.told board.old) }
+    ensures begun { OverBoth (λ script told now.
+        PrintsPart (output_of words.now script told.file0) told.out now.out)
+        (S.left source.old) (B.told board.old) (B.told board.new) }
 
     // So are file 0 and the disk calls. File 1 stays.
-    ensures file { OverTold (λ script told. OnAnswer result (IsSomeAnd (B.told board.new) (λ now. now.file0 ≡ file_after words.now script told.file0))) (S.left source.old) (B.told board.old) }
-    ensures calls { OverTold (λ script told. OnAnswer result (IsSomeAnd (B.told board.new) (λ now. now.calls ≡ told.calls ++ calls_of words.now script told.file0))) (S.left source.old) (B.told board.old) }
-    ensures other { OverBoth (λ script told now. now.file1 ≡ told.file1) (S.left source.old) (B.told board.old) (B.told board.new) }
+    ensures file { OverTold (λ script told. OnAnswer result (IsSomeAnd (B.told board.new)
+        (λ now. now.file0 ≡ file_after words.now script told.file0)))
+        (S.left source.old) (B.told board.old) }
+    ensures calls { OverTold (λ script told. OnAnswer result (IsSomeAnd (B.told board.new)
+        (λ now. now.calls ≡ told.calls ++ calls_of words.now script told.file0)))
+        (S.left source.old) (B.told board.old) }
+    ensures other { OverBoth (λ script told now. now.file1 ≡ told.file1)
+        (S.left source.old) (B.told board.old) (B.told board.new) }
 
-    // No line of an event is printed before its entry is written and synced: where one of these fails, what is printed
-    // ends with a whole event.
-    ensures synced { result ≡ Exit.DiskFault → OverBoth (λ script told now. (count : ℕ) × (now.out ≡ told.out ++ output_upto (reads_of script) count)) (S.left source.old) (B.told board.old) (B.told board.new) }
+    // No line of an event is printed before its entry is written and synced: where one of these
+    // fails, what is printed ends with a whole event.
+    ensures synced { result ≡ Exit.DiskFault → OverBoth (λ script told now.
+        (count : ℕ) × (now.out ≡ told.out ++ output_upto (reads_of script) count))
+        (S.left source.old) (B.told board.old) (B.told board.new) }
 
-    // Over an empty file a readable script is taken to its end, unless a fault came, the account is full, or memory ran
-    // out.
-    ensures complete { command_of words.now ≡ Some Run → IsQuiet (S.faults source.old) (S.faults source.new) → IsQuiet (B.disk_faults board.old) (B.disk_faults board.new) → IsQuiet (B.print_faults board.old) (B.print_faults board.new)
-        → OverTold (λ script told. told.file0 ≡ [] → IsReadable script → result ≢ Exit.Full → (result ≡ Exit.Done) ⊎ (result ≡ Exit.NoMemory)) (S.left source.old) (B.told board.old) }
+    // Over an empty file an accepted script is taken to its end, unless a fault came, the account
+    // is full, or memory ran out.
+    ensures complete { command_of words.now ≡ Some Run
+        → IsQuiet (S.faults source.old) (S.faults source.new)
+        → IsQuiet (B.disk_faults board.old) (B.disk_faults board.new)
+        → IsQuiet (B.print_faults board.old) (B.print_faults board.new)
+        → OverTold (λ script told. told.file0 ≡ [] → IsAcceptedScript script → result ≢ Exit.Full
+        → (result ≡ Exit.Done) ⊎ (result ≡ Exit.NoMemory))
+        (S.left source.old) (B.told board.old) }
 
     // A run is done once its source is read to its end.
-    ensures ended { result ≡ Exit.Done → IfSome (S.left source.old) (λ script. S.left source.new ≡ Some []) }
+    ensures ended { result ≡ Exit.Done
+        → IfSome (S.left source.old) (λ script. S.left source.new ≡ Some []) }
 
     // Where a count of faults rose that fault is the exit, and else the count is as it was.
     ensures source { SourceCause result (S.faults source.old) (S.faults source.new) }
     ensures disk { DiskCause result (B.disk_faults board.old) (B.disk_faults board.new) }
     ensures print { PrintCause result (B.print_faults board.old) (B.print_faults board.new) }
 
-    // Words of no listed form take no memory and leave the source alone, and no other words are such.
-    ensures usage { IfNone (command_of words.now) ((result ≡ Exit.Usage) ⊎ (result ≡ Exit.PrintFault)) }
+    // Words of no listed form take no memory and leave the source alone, and no other words are
+    // such.
+    ensures usage { IfNone (command_of words.now)
+        ((result ≡ Exit.Usage) ⊎ (result ≡ Exit.PrintFault)) }
     ensures listed { IfSome (command_of words.now) (λ command. result ≡ Exit.Usage → ⊥) }
     ensures untouched { IfNone (command_of words.now) (source.new ≡ source.old) }
 {
@@ -67,12 +90,17 @@ fn call<S: Source, B: Board>(
     source: &mut S,
     board: &mut B,
 ) -> Exit
-    ensures takes { OverTold (λ script told. TakesCall (call_course (command_of words.now) script told.file0) result (B.told board.old) (B.told board.new)) (S.left source.old) (B.told board.old) }
-    ensures ended { result ≡ Exit.Done → IfSome (S.left source.old) (λ script. S.left source.new ≡ Some []) }
+    ensures takes { OverTold (λ script told. FollowsCall
+        (call_course (command_of words.now) script told.file0)
+        result (B.told board.old) (B.told board.new))
+        (S.left source.old) (B.told board.old) }
+    ensures ended { result ≡ Exit.Done
+        → IfSome (S.left source.old) (λ script. S.left source.new ≡ Some []) }
     ensures source { SourceCause result (S.faults source.old) (S.faults source.new) }
     ensures disk { DiskCause result (B.disk_faults board.old) (B.disk_faults board.new) }
     ensures print { PrintCause result (B.print_faults board.old) (B.print_faults board.new) }
-    ensures usage { IfNone (command_of words.now) ((result ≡ Exit.Usage) ⊎ (result ≡ Exit.PrintFault)) }
+    ensures usage { IfNone (command_of words.now)
+        ((result ≡ Exit.Usage) ⊎ (result ≡ Exit.PrintFault)) }
     ensures listed { IfSome (command_of words.now) (λ command. result ≡ Exit.Usage → ⊥) }
     ensures untouched { IfNone (command_of words.now) (source.new ≡ source.old) }
 {
@@ -84,9 +112,12 @@ fn call<S: Source, B: Board>(
 
 // Takes a script.
 fn run<S: Source, B: Board>(alloc: Global, source: &mut S, board: &mut B) -> Exit
-    ensures ended { result ≡ Exit.Done → IfSome (S.left source.old) (λ script. S.left source.new ≡ Some []) }
+    ensures ended { result ≡ Exit.Done
+        → IfSome (S.left source.old) (λ script. S.left source.new ≡ Some []) }
     ensures listed { result ≡ Exit.Usage → ⊥ }
-    ensures takes { OverTold (λ script told. TakesCall (call_course (Some Run) script told.file0) result (B.told board.old) (B.told board.new)) (S.left source.old) (B.told board.old) }
+    ensures takes { OverTold (λ script told. FollowsCall (call_course (Some Run) script told.file0)
+        result (B.told board.old) (B.told board.new))
+        (S.left source.old) (B.told board.old) }
     ensures source { SourceCause result (S.faults source.old) (S.faults source.new) }
     ensures disk { DiskCause result (B.disk_faults board.old) (B.disk_faults board.new) }
     ensures print { PrintCause result (B.print_faults board.old) (B.print_faults board.new) }
@@ -103,10 +134,14 @@ fn run<S: Source, B: Board>(alloc: Global, source: &mut S, board: &mut B) -> Exi
 
 // Takes a script over an empty file.
 fn run_source<S: Source, B: Board>(alloc: Global, source: &mut S, board: &mut B) -> Exit
-    requires empty { Fits (B.told board.old) 0 }
-    ensures ended { result ≡ Exit.Done → IfSome (S.left source.old) (λ script. S.left source.new ≡ Some []) }
+    requires empty { FileEndsAt (B.told board.old) 0 }
+    ensures ended { result ≡ Exit.Done
+        → IfSome (S.left source.old) (λ script. S.left source.new ≡ Some []) }
     ensures listed { result ≡ Exit.Usage → ⊥ }
-    ensures takes { OverTold (λ script told. TakesCall (start_course (script_refusal script) script) result (B.told board.old) (B.told board.new)) (S.left source.old) (B.told board.old) }
+    ensures takes { OverTold (λ script told. FollowsCall
+        (start_course (script_refusal script) script)
+        result (B.told board.old) (B.told board.new))
+        (S.left source.old) (B.told board.old) }
     ensures source { SourceCause result (S.faults source.old) (S.faults source.new) }
     ensures disk { DiskCause result (B.disk_faults board.old) (B.disk_faults board.new) }
     ensures print { PrintCause result (B.print_faults board.old) (B.print_faults board.new) }

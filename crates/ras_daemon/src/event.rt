@@ -1,4 +1,5 @@
-// An event that counts an entry: first all that takes memory, and then all that touches the board.
+//! An event that counts an entry: first all that takes memory, and then all that touches the board.
+
 ghost use Rattle.std.specs.Prelude.{◌≡◌, ◌≤◌, ◌<◌, ◌+◌, ◌++◌, ◌^◌, ℕ, List, [], ◌∷◌, length, IfSome, IfOk, IfErr, OnOk, IsOkUnless};
 ghost use Rattle.std.specs.Option.{option_to_list};
 ghost use Rattle.ras_facts.specs.declared.entry.Entry.{Entry};
@@ -6,24 +7,28 @@ ghost use Rattle.ras_account.specs.Account.{account_of};
 ghost use Rattle.ras_account.specs.Continued.{continued, continued_all, IsWithin};
 ghost use Rattle.ras_account.specs.Orders.{orders_at};
 ghost use Rattle.ras_account.specs.View.{added_by};
+ghost use Rattle.ras_texts.specs.OrderRoom.{HasRoomFor};
+ghost use Rattle.ras_texts.specs.Orders.{order_lines};
+ghost use Rattle.ras_texts.specs.Text.{done_line, log_lines};
 ghost use Rattle.ras_daemon.specs.Causes.{Causes, DiskCause, PrintCause};
-ghost use Rattle.ras_daemon.specs.Event.{AreFit, CanDo, CanTake, Fits, HasRoomFor, IsFit, IsPrepared, PrepareExit, ReserveExit, end_after, longest_entry, order_lines, prepared_steps, state_after};
-ghost use Rattle.ras_daemon.specs.Progress.{Performs, syncs, writes};
+ghost use Rattle.ras_daemon.specs.Event.{AreFit, CanDo, CanTake, FileEndsAt, IsFit, IsPrepared, PrepareExit, ReserveExit};
+ghost use Rattle.ras_daemon.specs.Event.{end_after, longest_entry, prepared_steps, state_after};
+ghost use Rattle.ras_daemon.specs.Progress.{Performs, appends};
 ghost use Rattle.ras_daemon.specs.Run.{IsRefusal};
-ghost use Rattle.ras_daemon.specs.Text.{done_line, log_lines};
 
 use crate::Exit;
 use crate::ledger::Ledger;
 use crate::step::{append, say_done};
-use crate::text::{ORDER_LENGTH, done_line, push_fresh, push_orders, repeat_line};
 use board_core::Board;
 use entry_format::entry_bytes;
-use ras_account::{Account, Entry, Orders, ReserveRefused};
+use ras_account::{Account, Orders, ReserveRefused};
 use ras_base::NoMemory;
+use ras_facts::Entry;
+use ras_texts::{ORDER_LENGTH, done_line, push_fresh, push_orders, repeat_line};
 use std::alloc::Global;
 
-/// An event that has all its memory: what it appends to the file, and what it prints. Its text has room for the lines of
-/// the orders that its entry may give.
+/// An event that has all its memory: what it appends to the file, and what it prints. Its text has
+/// room for the lines of the orders that its entry may give.
 #[derive(Drop)]
 pub struct Prepared {
     pub fresh: Option<FreshEntry>,
@@ -39,10 +44,12 @@ pub struct FreshEntry {
     pub orders: Orders,
 }
 
-/// Takes all the memory of an event that makes an entry or none: that of the entry in the account, its bytes and its texts,
-/// with what is told beside its items. The texts end with the number of the event's line. What the account counts stays.
+/// Takes all the memory of an event that makes an entry or none: that of the entry in the account,
+/// its bytes and its texts, with what is told beside its items. The texts end with the number of
+/// the event's line. What the account counts stays.
 ///
-/// `Full` comes exactly where the account has no room for the entry, and `NoMemory` where memory ran out.
+/// `Full` comes exactly where the account has no room for the entry, and `NoMemory` where memory
+/// ran out.
 pub fn prepare(
     alloc: Global,
     number: u64,
@@ -51,10 +58,13 @@ pub fn prepare(
     account: &mut Account,
 ) -> Result<Prepared, Exit>
     requires { AreFit (option_to_list made) }
-    ensures prepared { IfOk result (λ event. (before : List Entry) → account.old.state ≡ account_of before → IsPrepared before number detail.now (option_to_list made) event) }
+    ensures prepared { IfOk result (λ event. (before : List Entry)
+        → account.old.state ≡ account_of before
+        → IsPrepared before number detail.now (option_to_list made) event) }
     ensures can_do { IfOk result (CanDo account.new) }
     ensures state { account.new.state ≡ account.old.state }
-    ensures exits { IfErr result (λ exit. (before : List Entry) → account.old.state ≡ account_of before → PrepareExit before (option_to_list made) exit) }
+    ensures exits { IfErr result (λ exit. (before : List Entry)
+        → account.old.state ≡ account_of before → PrepareExit before (option_to_list made) exit) }
     ensures refused { IfErr result IsRefusal }
 {
     let done = done_line(alloc, number)?;
@@ -95,7 +105,9 @@ fn prepare_entry(
     requires fit { IsFit entry }
     requires waits { account.now.waiting ≡ added_by account.now.state (entry ∷ []) }
     requires within { IsWithin (continued account.now.state entry) }
-    ensures prepared { IfOk result (λ event. (before : List Entry) (number : ℕ) → account.now.state ≡ account_of before → done.items ≡ done_line number → IsPrepared before number detail.now (entry ∷ []) event) }
+    ensures prepared { IfOk result (λ event. (before : List Entry) (number : ℕ)
+        → account.now.state ≡ account_of before → done.items ≡ done_line number
+        → IsPrepared before number detail.now (entry ∷ []) event) }
     ensures can_do { IfOk result (CanDo account.now) }
     ensures exits { IsOkUnless result Exit.NoMemory }
 {
@@ -139,19 +151,20 @@ fn fresh_text(
     Ok(text)
 }
 
-/// Does an event: appends its entry to the file, counts it, and prints its text, the lines of its orders behind it, and its
-/// done line. It takes no memory.
+/// Does an event: appends its entry to the file, counts it, and prints its text, the lines of its
+/// orders behind it, and its done line. It takes no memory.
 ///
 /// `DiskFault` and `PrintFault` come only where such a call failed.
 pub fn commit<B: Board>(event: Prepared, ledger: &mut Ledger, board: &mut B) -> Result<(), Exit>
     requires can_do { CanDo ledger.old.account event }
     requires small { ledger.old.end + longest_entry < 2 ^ 64 }
-    requires fits { Fits (B.told board.old) ledger.old.end }
+    requires fits { FileEndsAt (B.told board.old) ledger.old.end }
     ensures performs { Performs (prepared_steps ledger.old.end ledger.old.account.state event) result (B.told board.old) (B.told board.new) }
-    ensures account { OnOk result (ledger.new.account.state ≡ state_after event.fresh ledger.old.account.state) }
+    ensures account { OnOk result (ledger.new.account.state
+        ≡ state_after event.fresh ledger.old.account.state) }
     ensures end { OnOk result (ledger.new.end ≡ end_after event.fresh ledger.old.end) }
     ensures grows { OnOk result (ledger.new.end ≤ ledger.old.end + longest_entry) }
-    ensures fits { OnOk result (Fits (B.told board.new) ledger.new.end) }
+    ensures fits { OnOk result (FileEndsAt (B.told board.new) ledger.new.end) }
     ensures disk { Causes DiskCause result (B.disk_faults board.old) (B.disk_faults board.new) }
     ensures print { Causes PrintCause result (B.print_faults board.old) (B.print_faults board.new) }
 {
@@ -163,9 +176,7 @@ pub fn commit<B: Board>(event: Prepared, ledger: &mut Ledger, board: &mut B) -> 
     let Some(fresh) = fresh else {
         return say_done(&text, &done, board);
     };
-    if let Err(exit) = count(fresh, &mut text, ledger, board) {
-        return Err(exit);
-    }
+    count(fresh, &mut text, ledger, board)?;
     say_done(&text, &done, board)
 }
 
@@ -179,18 +190,19 @@ fn count<B: Board>(
     requires can_take { CanTake ledger.old.account fresh }
     requires room { HasRoomFor fresh.orders.room text.old }
     requires small { ledger.old.end + longest_entry < 2 ^ 64 }
-    requires fits { Fits (B.told board.old) ledger.old.end }
-    ensures performs { Performs (writes ledger.old.end fresh.bytes.items ∷ syncs ∷ []) result (B.told board.old) (B.told board.new) }
-    ensures text { OnOk result (text.new.items ≡ text.old.items ++ order_lines (orders_at ledger.old.account.state fresh.entry)) }
-    ensures account { OnOk result (ledger.new.account.state ≡ continued ledger.old.account.state fresh.entry) }
+    requires fits { FileEndsAt (B.told board.old) ledger.old.end }
+    ensures performs { Performs (appends ledger.old.end fresh.bytes.items ∷ []) result
+        (B.told board.old) (B.told board.new) }
+    ensures text { OnOk result (text.new.items ≡ text.old.items
+        ++ order_lines (orders_at ledger.old.account.state fresh.entry)) }
+    ensures account { OnOk result (ledger.new.account.state
+        ≡ continued ledger.old.account.state fresh.entry) }
     ensures end { OnOk result (ledger.new.end ≡ ledger.old.end + length fresh.bytes.items) }
-    ensures fits { OnOk result (Fits (B.told board.new) ledger.new.end) }
+    ensures fits { OnOk result (FileEndsAt (B.told board.new) ledger.new.end) }
     ensures disk { Causes DiskCause result (B.disk_faults board.old) (B.disk_faults board.new) }
     ensures print { Causes PrintCause result (B.print_faults board.old) (B.print_faults board.new) }
 {
-    if let Err(exit) = append(board, ledger.end, &fresh.bytes) {
-        return Err(exit);
-    }
+    append(board, ledger.end, &fresh.bytes)?;
     let FreshEntry {
         entry,
         bytes,

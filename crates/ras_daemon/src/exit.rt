@@ -1,9 +1,10 @@
-// How a call of the daemon ends.
+//! How a call of the daemon ends.
+
 ghost use Rattle.std.specs.Prelude.{◌≡◌};
 
-use crate::LineRefused;
 use dimm_topology::TopologyRefused;
 use ras_base::NoMemory;
+use ras_script::LineRefused;
 
 /// Why a line is refused: by its reader.
 #[derive(Clone, Copy, Debug, PartialEq, Eq)]

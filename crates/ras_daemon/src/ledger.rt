@@ -1,16 +1,18 @@
-// The account, and the file that keeps it.
+//! The account, and the file that keeps it.
+
 ghost use Rattle.std.specs.Prelude.{◌≡◌, ◌≢◌, ◌<◌, ◌^◌, ℕ, List, [], length, Err, IfErr, IfOk};
 ghost use Rattle.entry_format.specs.File.{AreEntriesOf, BreaksOffAt};
 ghost use Rattle.ras_facts.specs.declared.entry.Entry.{Entry};
 ghost use Rattle.ras_account.specs.Account.{account_of};
 ghost use Rattle.ras_account.specs.Continued.{IsWithin};
-ghost use Rattle.ras_daemon.specs.Event.{Fits, IsKept, IsRoomRefusal, OpenCause, Reopens};
+ghost use Rattle.ras_daemon.specs.Event.{FileEndsAt, IsKept, IsRoomRefusal, OpenCause, Reopens};
 
 use board_core::{Board, Failed, FileNo};
 use entry_format::{EntriesRefused, read_entries};
 use ras_account::{Account, ReserveRefused};
 use ras_base::NoMemory;
 use std::alloc::Global;
+use thiserror::Error;
 
 /// The account, and where the file that keeps its entries ends, in bytes.
 #[derive(Drop)]
@@ -33,15 +35,20 @@ impl Ledger {
 }
 
 /// Why the account can't be made again from its file.
-#[derive(Clone, Copy, Debug, PartialEq, Eq)]
+#[derive(Clone, Copy, Debug, Error, PartialEq, Eq)]
 pub enum OpenRefused {
     /// A disk call failed.
+    #[error("a disk call failed")]
     Disk,
-    /// The file isn't a list of entries: which file, and the place of the first byte that is of none.
+    /// The file isn't a list of entries: which file, and the place of the first byte that is of
+    /// none.
+    #[error("file {file} is damaged from byte {place} on")]
     Damaged { file: u8, place: u64 },
     /// The account of the entries is past its limits.
+    #[error("the account of the entries is past its limits")]
     Full,
     /// Memory ran out.
+    #[error("memory ran out")]
     NoMemory,
 }
 
@@ -57,8 +64,9 @@ impl From<NoMemory> for OpenRefused {
 
 /// Makes the account again from the entries in the file, and from nothing else.
 pub fn reopen<B: Board>(alloc: Global, board: &mut B) -> Result<Ledger, OpenRefused>
-    ensures reopens { (reported : List Entry) → IsKept reported (B.told board.old) → Reopens reported result (B.told board.old) (B.told board.new) }
-    ensures fits { IfOk result (λ ledger. Fits (B.told board.new) ledger.end) }
+    ensures reopens { (reported : List Entry) → IsKept reported (B.told board.old)
+        → Reopens reported result (B.told board.old) (B.told board.new) }
+    ensures fits { IfOk result (λ ledger. FileEndsAt (B.told board.new) ledger.end) }
     ensures small { IfOk result (λ ledger. ledger.end < 2 ^ 63) }
     ensures disk { OpenCause result (B.disk_faults board.old) (B.disk_faults board.new) }
     ensures print { B.print_faults board.new ≡ B.print_faults board.old }
@@ -84,12 +92,16 @@ fn buffer(alloc: Global, size: u64) -> Result<Vec<u8>, NoMemory>
 
 // The ledger of a file of these bytes.
 fn ledger_of(alloc: Global, bytes: &[u8]) -> Result<Ledger, OpenRefused>
-    ensures entries { (entries : List Entry) → AreEntriesOf entries bytes.now → IfOk result (λ ledger. ledger.account.state ≡ account_of entries) }
+    ensures entries { (entries : List Entry) → AreEntriesOf entries bytes.now
+        → IfOk result (λ ledger. ledger.account.state ≡ account_of entries) }
     ensures end { IfOk result (λ ledger. ledger.end ≡ length bytes.now) }
     ensures small { length bytes.now < 2 ^ 63 }
-    ensures damaged { (file place : ℕ) → result ≡ Err (OpenRefused.Damaged file place) → (file ≡ 0) × BreaksOffAt bytes.now place }
-    ensures full { result ≡ Err OpenRefused.Full → (entries : List Entry) → AreEntriesOf entries bytes.now → IsWithin (account_of entries) → ⊥ }
-    ensures undamaged { IfErr result (λ refused. (entries : List Entry) → AreEntriesOf entries bytes.now → IsRoomRefusal refused) }
+    ensures damaged { (file place : ℕ) → result ≡ Err (OpenRefused.Damaged file place)
+        → (file ≡ 0) × BreaksOffAt bytes.now place }
+    ensures full { result ≡ Err OpenRefused.Full → (entries : List Entry)
+        → AreEntriesOf entries bytes.now → IsWithin (account_of entries) → ⊥ }
+    ensures undamaged { IfErr result (λ refused. (entries : List Entry)
+        → AreEntriesOf entries bytes.now → IsRoomRefusal refused) }
     ensures disk { result ≢ Err OpenRefused.Disk }
 {
     let entries = match read_entries(alloc, bytes) {

@@ -1,44 +1,52 @@
-// The run over a script.
+//! The run over a script.
+
 ghost use Rattle.std.specs.Prelude.{◌≡◌, ◌≤◌, ◌+◌, ◌<◌, ◌^◌, ◌⊎◌, ◌++◌, ℕ, [], ◌∷◌, List, length, max, Ok, IfErr, IfOk, IfSome, OnOk, Option};
 ghost use Rattle.std.specs.Option.{option_to_list};
 ghost use Rattle.dimm_topology.specs.Refusals.{Answers};
 ghost use Rattle.dimm_topology.specs.declared.topology.TopologyRefused.{TopologyRefused};
 ghost use Rattle.ras_facts.specs.declared.entry.Entry.{Entry};
+ghost use Rattle.ras_script.specs.Line.{line_of};
+ghost use Rattle.ras_texts.specs.Detail.{bank_detail};
+ghost use Rattle.ras_texts.specs.Orders.{standing_lines};
+ghost use Rattle.ras_texts.specs.Text.{done_line, end_line};
 ghost use Rattle.ras_daemon.specs.Causes.{Causes, DiskCause, PrintCause};
-ghost use Rattle.ras_daemon.specs.Detail.{bank_detail};
-ghost use Rattle.ras_daemon.specs.Event.{AreFit, Fits, Keeps, Reopened, Stands, TakesEntries, TakesLine, TakesRow, longest_entry};
-ghost use Rattle.ras_daemon.specs.Line.{line_of};
-ghost use Rattle.ras_daemon.specs.Progress.{Takes, ends, lines_course};
+ghost use Rattle.ras_daemon.specs.Event.{AreFit, FileEndsAt, IsLedgerOf, IsRunAfter, longest_entry};
+ghost use Rattle.ras_daemon.specs.Event.{Reopened, TakesEntries, TakesLine, TakesRow};
+ghost use Rattle.ras_daemon.specs.Progress.{Follows, ends, lines_course};
 ghost use Rattle.ras_daemon.specs.Reports.{Read, bank_entries, reads_of, reports};
-ghost use Rattle.ras_daemon.specs.Text.{done_line, end_line, held_text};
 ghost use Rattle.ras_daemon.specs.Run.{TakesLines, IsAnswer, IsRefusal, IsStop, Refuses, RefusesLine};
 
-use crate::detail::bank_detail;
 use crate::event::{commit, prepare};
 use crate::ledger::{Ledger, OpenRefused, reopen};
-use crate::splitting::first_line;
 use crate::step::say_done;
-use crate::{Exit, Line, LineRefused, Reason, read_line, text};
+use crate::stop::stop_line;
+use crate::{Exit, LONGEST_SCRIPT, Reason};
 use board_core::{Board, Failed};
 use dimm_topology::{Topology, TopologyRefused};
 use page_policy::Limit;
-use ras_account::{Account, Entry};
+use ras_account::Account;
 use ras_base::NoMemory;
-use ras_facts::{BankReport, fact_of_bank};
+use ras_facts::{BankReport, Entry, fact_of_bank};
+use ras_script::{Line, LineRefused, first_line, read_line};
+use ras_texts::{bank_detail, done_line, end_line, standing_lines};
 use std::alloc::Global;
 
-/// What a run has at hand: the rows of the machine that the lines so far told, and the account with its file.
+/// What a run has at hand: the rows of the machine that the lines so far told, and the account with
+/// its file.
 #[derive(Drop)]
 pub struct Run {
     pub topology: Topology,
     pub ledger: Ledger,
 }
 
-/// Takes a script's lines over an empty file, to the first refused one or to its end, and prints the last line.
+/// Takes a script's lines over an empty file, to the first refused one or to its end, and prints
+/// the last line.
 pub fn run_script<B: Board>(alloc: Global, script: &[u8], board: &mut B) -> Exit
-    requires short { length script.now ≤ 40000 }
-    requires empty { Fits (B.told board.old) 0 }
-    ensures takes { IfSome (B.told board.old) (λ told. Takes (lines_course [] (reads_of script.now)) result (B.told board.old) (B.told board.new)) }
+    requires short { length script.now ≤ LONGEST_SCRIPT }
+    requires empty { FileEndsAt (B.told board.old) 0 }
+    ensures takes { IfSome (B.told board.old)
+        (λ told. Follows (lines_course [] (reads_of script.now)) result (B.told board.old)
+        (B.told board.new)) }
     ensures listed { result ≡ Exit.Usage → ⊥ }
     ensures source { result ≡ Exit.SourceFault → ⊥ }
     ensures disk { DiskCause result (B.disk_faults board.old) (B.disk_faults board.new) }
@@ -56,13 +64,14 @@ pub fn run_script<B: Board>(alloc: Global, script: &[u8], board: &mut B) -> Exit
 
 // Ends a run whose lines were all taken.
 fn end_run<B: Board>(alloc: Global, account: &Account, board: &mut B) -> Exit
-    ensures takes { Takes (ends (end_line account.now.state) Exit.Done) result (B.told board.old) (B.told board.new) }
+    ensures takes { Follows (ends (end_line account.now.state) Exit.Done) result
+        (B.told board.old) (B.told board.new) }
     ensures listed { result ≡ Exit.Usage → ⊥ }
     ensures source { result ≡ Exit.SourceFault → ⊥ }
     ensures disk { DiskCause result (B.disk_faults board.old) (B.disk_faults board.new) }
     ensures print { PrintCause result (B.print_faults board.old) (B.print_faults board.new) }
 {
-    match text::end_line(alloc, account.entries(), account.names_len()) {
+    match end_line(alloc, account) {
         Ok(line) => last_line(&line, Exit::Done, board),
         Err(_) => Exit::NoMemory,
     }
@@ -75,10 +84,12 @@ fn take_lines<B: Board>(
     run: &mut Run,
     board: &mut B,
 ) -> Result<(), Exit>
-    requires short { length script.now ≤ 40000 }
-    requires empty { Fits (B.told board.old) 0 }
+    requires short { length script.now ≤ LONGEST_SCRIPT }
+    requires empty { FileEndsAt (B.told board.old) 0 }
     requires end { run.old.ledger.end ≡ 0 }
-    ensures takes { Stands [] run.old (B.told board.old) → TakesLines (reads_of script.now) result (B.told board.old) (B.told board.new) run.new.ledger.account.state }
+    ensures takes { IsRunAfter [] run.old (B.told board.old)
+        → TakesLines (reads_of script.now) result (B.told board.old)
+        (B.told board.new) run.new.ledger.account.state }
     ensures stops { IfErr result IsStop }
     ensures disk { Causes DiskCause result (B.disk_faults board.old) (B.disk_faults board.new) }
     ensures print { Causes PrintCause result (B.print_faults board.old) (B.print_faults board.new) }
@@ -88,9 +99,7 @@ fn take_lines<B: Board>(
     while !rest.is_empty() {
         let (line, after) = first_line(rest);
         number += 1;
-        if let Err(exit) = take_line(alloc, number, line, run, board) {
-            return Err(exit);
-        }
+        take_line(alloc, number, line, run, board)?;
         rest = after;
     }
     Ok(())
@@ -105,10 +114,12 @@ fn take_line<B: Board>(
     board: &mut B,
 ) -> Result<(), Exit>
     requires small { run.old.ledger.end + longest_entry < 2 ^ 64 }
-    requires fits { Fits (B.told board.old) run.old.ledger.end }
-    ensures takes { (before : List Read) → Stands before run.old (B.told board.old) → TakesLine before (number, line_of bytes.now) result (B.told board.old) (B.told board.new) run.new }
+    requires fits { FileEndsAt (B.told board.old) run.old.ledger.end }
+    ensures takes { (before : List Read) → IsRunAfter before run.old (B.told board.old)
+        → TakesLine before (number, line_of bytes.now) result (B.told board.old)
+        (B.told board.new) run.new }
     ensures grows { OnOk result (run.new.ledger.end ≤ max run.old.ledger.end (2 ^ 63) + longest_entry) }
-    ensures fits { OnOk result (Fits (B.told board.new) run.new.ledger.end) }
+    ensures fits { OnOk result (FileEndsAt (B.told board.new) run.new.ledger.end) }
     ensures stops { IfErr result IsStop }
     ensures disk { Causes DiskCause result (B.disk_faults board.old) (B.disk_faults board.new) }
     ensures print { Causes PrintCause result (B.print_faults board.old) (B.print_faults board.new) }
@@ -178,9 +189,11 @@ fn take_row<B: Board>(
     added: Result<(), TopologyRefused>,
     board: &mut B,
 ) -> Result<(), Exit>
-    ensures takes { (refusal : Option TopologyRefused) → Answers added refusal → TakesRow number refusal result (B.told board.old) (B.told board.new) }
+    ensures takes { (refusal : Option TopologyRefused) → Answers added refusal
+        → TakesRow number refusal result (B.told board.old) (B.told board.new) }
     ensures taken { OnOk result (added ≡ Ok tt) }
-    ensures fits { (end : ℕ) → Fits (B.told board.old) end → OnOk result (Fits (B.told board.new) end) }
+    ensures fits { (end : ℕ) → FileEndsAt (B.told board.old) end
+        → OnOk result (FileEndsAt (B.told board.new) end) }
     ensures stops { IfErr result IsStop }
     ensures disk { Causes DiskCause result (B.disk_faults board.old) (B.disk_faults board.new) }
     ensures print { Causes PrintCause result (B.print_faults board.old) (B.print_faults board.new) }
@@ -196,7 +209,7 @@ fn take_row<B: Board>(
             return Err(refuse(alloc, exit, board));
         }
     }
-    match text::done_line(alloc, number) {
+    match done_line(alloc, number) {
         Ok(done) => say_done(b"", &done, board),
         Err(_) => Err(Exit::NoMemory),
     }
@@ -211,11 +224,14 @@ fn take_bank<B: Board>(
     board: &mut B,
 ) -> Result<(), Exit>
     requires small { run.old.ledger.end + longest_entry < 2 ^ 64 }
-    requires fits { Fits (B.told board.old) run.old.ledger.end }
-    ensures takes { (before : List Entry) → Keeps before run.old.ledger (B.told board.old) → TakesEntries before number (bank_detail bank.now) (bank_entries bank.now run.old.topology) result (B.told board.old) (B.told board.new) run.new.ledger }
+    requires fits { FileEndsAt (B.told board.old) run.old.ledger.end }
+    ensures takes { (before : List Entry) → IsLedgerOf before run.old.ledger (B.told board.old)
+        → TakesEntries before number (bank_detail bank.now)
+        (bank_entries bank.now run.old.topology) result (B.told board.old)
+        (B.told board.new) run.new.ledger }
     ensures rows { run.new.topology ≡ run.old.topology }
     ensures grows { OnOk result (run.new.ledger.end ≤ run.old.ledger.end + longest_entry) }
-    ensures fits { OnOk result (Fits (B.told board.new) run.new.ledger.end) }
+    ensures fits { OnOk result (FileEndsAt (B.told board.new) run.new.ledger.end) }
     ensures stops { IfErr result IsStop }
     ensures disk { Causes DiskCause result (B.disk_faults board.old) (B.disk_faults board.new) }
     ensures print { Causes PrintCause result (B.print_faults board.old) (B.print_faults board.new) }
@@ -233,7 +249,8 @@ fn told_by(
     topology: &Topology,
 ) -> Result<(Vec<u8>, Option<Entry>), NoMemory>
     ensures detail { IfOk result (λ told. told.0.items ≡ bank_detail bank.now) }
-    ensures made { IfOk result (λ told. option_to_list told.1 ≡ bank_entries bank.now topology.now) }
+    ensures made { IfOk result (λ told. option_to_list told.1
+        ≡ bank_entries bank.now topology.now) }
     ensures fit { IfOk result (λ told. AreFit (option_to_list told.1)) }
 {
     let detail = bank_detail(alloc, bank)?;
@@ -254,10 +271,12 @@ fn take_entry<B: Board>(
 ) -> Result<(), Exit>
     requires fit { AreFit (option_to_list made) }
     requires small { ledger.old.end + longest_entry < 2 ^ 64 }
-    requires fits { Fits (B.told board.old) ledger.old.end }
-    ensures takes { (before : List Entry) → Keeps before ledger.old (B.told board.old) → TakesEntries before number detail.now (option_to_list made) result (B.told board.old) (B.told board.new) ledger.new }
+    requires fits { FileEndsAt (B.told board.old) ledger.old.end }
+    ensures takes { (before : List Entry) → IsLedgerOf before ledger.old (B.told board.old)
+        → TakesEntries before number detail.now (option_to_list made) result
+        (B.told board.old) (B.told board.new) ledger.new }
     ensures grows { OnOk result (ledger.new.end ≤ ledger.old.end + longest_entry) }
-    ensures fits { OnOk result (Fits (B.told board.new) ledger.new.end) }
+    ensures fits { OnOk result (FileEndsAt (B.told board.new) ledger.new.end) }
     ensures stops { IfErr result IsStop }
     ensures disk { Causes DiskCause result (B.disk_faults board.old) (B.disk_faults board.new) }
     ensures print { Causes PrintCause result (B.print_faults board.old) (B.print_faults board.new) }
@@ -268,16 +287,18 @@ fn take_entry<B: Board>(
     }
 }
 
-// Makes the account again from the file, by the line of this number, and tells which pages are ordered out of use.
+// Makes the account again from the file, by the line of this number, and tells which pages are
+// ordered out of use.
 fn take_restart<B: Board>(
     alloc: Global,
     number: u64,
     ledger: &mut Ledger,
     board: &mut B,
 ) -> Result<(), Exit>
-    ensures takes { (before : List Entry) → Keeps before ledger.old (B.told board.old) → Reopened before number result (B.told board.old) (B.told board.new) ledger.new }
+    ensures takes { (before : List Entry) → IsLedgerOf before ledger.old (B.told board.old)
+        → Reopened before number result (B.told board.old) (B.told board.new) ledger.new }
     ensures small { OnOk result (ledger.new.end < 2 ^ 63) }
-    ensures fits { OnOk result (Fits (B.told board.new) ledger.new.end) }
+    ensures fits { OnOk result (FileEndsAt (B.told board.new) ledger.new.end) }
     ensures stops { IfErr result IsStop }
     ensures disk { Causes DiskCause result (B.disk_faults board.old) (B.disk_faults board.new) }
     ensures print { Causes PrintCause result (B.print_faults board.old) (B.print_faults board.new) }
@@ -303,11 +324,11 @@ fn restart_texts(
     number: u64,
     ledger: &Ledger,
 ) -> Result<(Vec<u8>, Vec<u8>), NoMemory>
-    ensures text { IfOk result (λ texts. texts.0.items ≡ held_text ledger.now.account.state) }
+    ensures text { IfOk result (λ texts. texts.0.items ≡ standing_lines ledger.now.account.state) }
     ensures done { IfOk result (λ texts. texts.1.items ≡ done_line number) }
 {
-    let text = text::held_text(alloc, &ledger.account)?;
-    let done = text::done_line(alloc, number)?;
+    let text = standing_lines(alloc, &ledger.account)?;
+    let done = done_line(alloc, number)?;
     Ok((text, done))
 }
 
@@ -342,7 +363,7 @@ pub fn refuse<B: Board>(alloc: Global, exit: Exit, board: &mut B) -> Exit
     if exit == Exit::NoMemory {
         return exit;
     }
-    match text::stop_line(alloc, exit) {
+    match stop_line(alloc, exit) {
         Ok(line) => last_line(&line, exit, board),
         Err(_) => Exit::NoMemory,
     }
@@ -351,7 +372,7 @@ pub fn refuse<B: Board>(alloc: Global, exit: Exit, board: &mut B) -> Exit
 /// Prints the last line of a run, which ends so.
 pub fn last_line<B: Board>(line: &[u8], exit: Exit, board: &mut B) -> Exit
     requires { IsAnswer exit }
-    ensures takes { Takes (ends line.now exit) result (B.told board.old) (B.told board.new) }
+    ensures takes { Follows (ends line.now exit) result (B.told board.old) (B.told board.new) }
     ensures answers { (result ≡ exit) ⊎ (result ≡ Exit.PrintFault) }
     ensures disk { DiskCause result (B.disk_faults board.old) (B.disk_faults board.new) }
     ensures print { PrintCause result (B.print_faults board.old) (B.print_faults board.new) }

@@ -1,6 +1,6 @@
-// The script, read whole before its first line.
+//! The script, read whole before its first line.
+
 ghost use Rattle.std.specs.Prelude.{◌≡◌, ◌+◌, ◌<◌, ◌≤◌, [], Some, length, take, IfOk, IfErr, IfSome};
-ghost use Rattle.ras_daemon.specs.Status.{longest_script};
 ghost use Rattle.ras_daemon.specs.ScriptRead.{IsRead, IsReadExit, Continues};
 ghost use Rattle.ras_daemon.specs.Causes.{Causes, SourceCause};
 
@@ -14,12 +14,16 @@ pub const LONGEST_SCRIPT: usize = 40_000;
 // How many bytes a read asks for.
 const PIECE: usize = 4096;
 
-/// The script's bytes, or the first ones of a script that is too long: more than `LONGEST_SCRIPT` of them.
+/// The script's bytes, or the first ones of a script that is too long: more than `LONGEST_SCRIPT`
+/// of them.
+///
+/// # Errors
 ///
 /// `SourceFault` comes only where a read failed, and `NoMemory` where memory ran out.
 pub fn read_script<S: Source>(alloc: Global, source: &mut S) -> Result<Vec<u8>, Exit>
-    ensures read { IfOk result (λ script. IfSome (S.left source.old) (λ left. IsRead script.items left (S.left source.new))) }
-    ensures ahead { IfOk result (λ script. length script.items ≤ longest_script + 4096) }
+    ensures read { IfOk result (λ script. IfSome (S.left source.old)
+        (λ left. IsRead script.items left (S.left source.new))) }
+    ensures ahead { IfOk result (λ script. length script.items ≤ LONGEST_SCRIPT + PIECE) }
     ensures causes { Causes SourceCause result (S.faults source.old) (S.faults source.new) }
     ensures exits { IfErr result IsReadExit }
 {
@@ -38,10 +42,12 @@ pub fn read_script<S: Source>(alloc: Global, source: &mut S) -> Result<Vec<u8>, 
     Ok(script)
 }
 
-// Reads a piece of the script behind what was read before, and says how many bytes it has. 0 means the end.
+// Reads a piece of the script behind what was read before, and says how many bytes it has. 0 means
+// the end.
 fn read_piece<S: Source>(script: &mut Vec<u8>, source: &mut S) -> Result<usize, Exit>
-    ensures within { IfOk result (λ count. count ≤ 4096) }
-    ensures read { IfOk result (λ count. Continues count script.old.items script.new.items (S.left source.old) (S.left source.new)) }
+    ensures within { IfOk result (λ count. count ≤ PIECE) }
+    ensures read { IfOk result (λ count. Continues count script.old.items script.new.items
+        (S.left source.old) (S.left source.new)) }
     ensures causes { Causes SourceCause result (S.faults source.old) (S.faults source.new) }
     ensures exits { IfErr result IsReadExit }
 {

@@ -1,4 +1,5 @@
-// The words of a call.
+//! The words of a call.
+
 ghost use Rattle.std.specs.Prelude.{◌≡◌, IfOk};
 ghost use Rattle.ras_daemon.specs.Command.{command_of};
 

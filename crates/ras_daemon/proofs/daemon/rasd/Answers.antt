@@ -1,5 +1,5 @@
-use Rattle.ras_daemon.proofs.CompleteLaws.{completes}
-use Rattle.ras_daemon.proofs.EndLaws.{status-taken, out-taken, part-taken, file-taken, calls-taken, file1-taken, disk-taken}
+use Rattle.ras_daemon.proofs.CompleteLemmas.{completes}
+use Rattle.ras_daemon.proofs.EndLemmas.{status-taken, out-taken, part-taken, file-taken, calls-taken, file1-taken, disk-taken}
 use Rattle.ras_daemon.proofs.daemon.rasd.Goals as goal
 
 pub returns-clause-status : goal.returns-clause-status

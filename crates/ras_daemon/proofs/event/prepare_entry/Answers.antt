@@ -1,6 +1,6 @@
 use Rattle.std.proofs.Common.{refl, sym, subst, arith}
 use Rattle.ras_account.proofs.AgainLemmas.{waits_alone}
-use Rattle.ras_daemon.specs.Event.{HasRoomFor}
+use Rattle.ras_texts.specs.OrderRoom.{HasRoomFor}
 use Rattle.ras_daemon.proofs.EventLemmas.{prepared_repeat, prepared_fresh}
 use Rattle.ras_daemon.proofs.FileLemmas.{short_entry}
 use Rattle.ras_daemon.proofs.event.prepare_entry.Goals as goal

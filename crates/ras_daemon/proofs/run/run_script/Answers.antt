@@ -1,6 +1,6 @@
 use Rattle.std.proofs.Common.{refl}
 use Rattle.ras_daemon.specs.Reports.{reads_of}
-use Rattle.ras_daemon.specs.Text.{end_line}
+use Rattle.ras_texts.specs.Text.{end_line}
 use Rattle.ras_daemon.proofs.RunLemmas.{run_ends, started}
 use Rattle.ras_daemon.proofs.run.run_script.Goals as goal
 

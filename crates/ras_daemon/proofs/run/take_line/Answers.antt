@@ -2,10 +2,10 @@ use Rattle.std.proofs.Common.{refl, sym, ◌∙◌, [], ◌∷◌}
 use Rattle.dimm_topology.specs.declared.row.Row.TheVariants.{Cpu as CpuRow, Module as ModuleRow, Range as RangeRow}
 use Rattle.ras_facts.specs.declared.bank.BankReport.{BankReport}
 use Rattle.ras_facts.specs.declared.entry.Entry.TheVariants.{Limit as Settles}
-use Rattle.ras_daemon.specs.declared.line.Line.TheVariants.{Bank, Cpu, Module, Limit, Range}
-use Rattle.ras_daemon.specs.Line.{InRange}
-use Rattle.ras_daemon.specs.Detail.{bank_detail}
-use Rattle.ras_daemon.specs.Reports.{bank_entries, reports, rows_of}
+use Rattle.ras_script.specs.declared.line.Line.TheVariants.{Bank, Cpu, Module, Limit, Range}
+use Rattle.ras_script.specs.LineLaws.{IsInRange}
+use Rattle.ras_texts.specs.Detail.{bank_detail}
+use Rattle.ras_daemon.specs.Reports.{bank_entries, reports, rows_told}
 use Rattle.ras_daemon.proofs.RunLemmas.{counts_taken, line_refused, restart_taken, row_line, stands_same}
 use Rattle.ras_daemon.proofs.StepLemmas.{map_none}
 use Rattle.ras_daemon.proofs.run.take_line.Goals as goal
@@ -16,11 +16,11 @@ returns-in-Err-clause-takes g c = λ before stands.
 
 pub add_range-added-requires : goal.add_range-added-requires
 add_range-added-requires g c =
-    let range : InRange (Range c.in-Range.label c.in-Range.first c.in-Range.last) = rw c.in-Range.is at c.in-Ok.ensures.range in range.1
+    let range : IsInRange (Range c.in-Range.label c.in-Range.first c.in-Range.last) = rw c.in-Range.is at c.in-Ok.ensures.range in range.1
 
 pub take_entry-requires-clause-fit : goal.take_entry-requires-clause-fit
 take_entry-requires-clause-fit g c =
-    let range : InRange (Limit c.in-Limit.capacity c.in-Limit.period) = rw c.in-Limit.is at c.in-Ok.ensures.range in
+    let range : IsInRange (Limit c.in-Limit.capacity c.in-Limit.period) = rw c.in-Limit.is at c.in-Ok.ensures.range in
     (record { valid = range; one = tt }, tt)
 
 pub returns-in-Empty-clause-takes : goal.returns-in-Empty-clause-takes
@@ -80,5 +80,5 @@ returns-in-Bank-clause-takes g c = λ before stands.
     } in
     rw (c.in-Ok.ensures.read, c.in-Bank.is)
     (counts_taken before c.args.number (Bank c.in-Bank.boot c.in-Bank.seconds c.in-Bank.cpu c.in-Bank.bank c.in-Bank.tsc c.in-Bank.cap c.in-Bank.mcg c.in-Bank.status c.in-Bank.addr c.in-Bank.misc)
-    (bank_detail report) (bank_entries report (rows_of before)) _ _ c.take_bank.new.run c.take_bank.result refl refl (c.take_bank.ensures.rows ∙ stands.rows)
+    (bank_detail report) (bank_entries report (rows_told before)) _ _ c.take_bank.new.run c.take_bank.result refl refl (c.take_bank.ensures.rows ∙ stands.rows)
     (rw (← stands.rows) (c.take_bank.ensures.takes (reports before) stands.keeps)))

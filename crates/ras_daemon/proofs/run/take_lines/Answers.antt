@@ -1,5 +1,6 @@
 use Rattle.std.proofs.Common.{◌+◌, ◌∙◌, refl, arith}
-use Rattle.ras_daemon.specs.Line.{line_of}
+use Rattle.std.proofs.lemmas.Result.{err_from_is_err_and}
+use Rattle.ras_script.specs.Line.{line_of}
 use Rattle.ras_daemon.specs.Reports.{reads_from, reads_of}
 use Rattle.ras_daemon.proofs.RunLemmas.{took_none, took_line, took_stop, reads-first}
 use Rattle.ras_daemon.proofs.run.take_lines.Goals as goal
@@ -14,12 +15,14 @@ loop-rest-init g c = record {
   print = refl;
 }
 
-pub returns-in-Err-clause-takes : goal.returns-in-Err-clause-takes
-returns-in-Err-clause-takes g c = λ stands.
-    took_stop (reads_of c.args.script.now) (reads_from (c.loop-rest.number + 1 + 1) c.first_line.result.1.now) (reads_from (c.loop-rest.number + 1) c.loop-rest.rest.now)
-    (c.loop-rest.number + 1, line_of c.first_line.result.0.now) _ _ _ _ c.take_line.new.run c.in-Err.exit (c.loop-rest.invariant.took stands)
+pub returns-in_err-take_line-clause-takes : goal.returns-in_err-take_line-clause-takes
+returns-in_err-take_line-clause-takes g c = λ stands.
+    let p = err_from_is_err_and c.from_residual.result c.from_residual.ensures.1 in
+    rw (p.1, p.2)
+    (took_stop (reads_of c.args.script.now) (reads_from (c.loop-rest.number + 1 + 1) c.first_line.result.1.now) (reads_from (c.loop-rest.number + 1) c.loop-rest.rest.now)
+    (c.loop-rest.number + 1, line_of c.first_line.result.0.now) _ _ _ _ c.take_line.new.run c.in_err-take_line.field-0.0 (c.loop-rest.invariant.took stands)
     (reads-first (c.loop-rest.number + 1) c.loop-rest.rest.now c.first_line.result.0.now c.first_line.result.1.now c.first_line.ensures.lines)
-    c.in-Err.ensures.takes
+    c.in_err-take_line.ensures.takes)
 
 pub loop-rest-preserved : goal.loop-rest-preserved
 loop-rest-preserved g c = record {
@@ -27,10 +30,10 @@ loop-rest-preserved g c = record {
       took_line (reads_of c.args.script.now) (reads_from (c.loop-rest.number + 1 + 1) c.first_line.result.1.now) (reads_from (c.loop-rest.number + 1) c.loop-rest.rest.now)
       (c.loop-rest.number + 1, line_of c.first_line.result.0.now) _ _ _ _ c.take_line.new.run (c.loop-rest.invariant.took stands)
       (reads-first (c.loop-rest.number + 1) c.loop-rest.rest.now c.first_line.result.0.now c.first_line.result.1.now c.first_line.ensures.lines)
-      c.in_default.ensures.takes;
+      c.in_ok-take_line.ensures.takes;
   short = (let shorter = c.first_line.ensures.shorter in omega arith);
-  small = (let grows = c.in_default.ensures.grows in let small = c.loop-rest.invariant.small in omega arith);
-  fits = c.in_default.ensures.fits;
-  disk = c.in_default.ensures.disk ∙ c.loop-rest.invariant.disk;
-  print = c.in_default.ensures.print ∙ c.loop-rest.invariant.print;
+  small = (let grows = c.in_ok-take_line.ensures.grows in let small = c.loop-rest.invariant.small in omega arith);
+  fits = c.in_ok-take_line.ensures.fits;
+  disk = c.in_ok-take_line.ensures.disk ∙ c.loop-rest.invariant.disk;
+  print = c.in_ok-take_line.ensures.print ∙ c.loop-rest.invariant.print;
 }

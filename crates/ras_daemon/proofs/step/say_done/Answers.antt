@@ -1,7 +1,15 @@
 use Rattle.std.proofs.Common.{[], ◌∷◌}
-use Rattle.ras_daemon.specs.Progress.{prints, text_steps}
-use Rattle.ras_daemon.proofs.StepLemmas.{performs_first}
+use Rattle.std.proofs.lemmas.Result.{err_from_is_err_and}
+use Rattle.ras_daemon.specs.Progress.{prints_text, text_steps}
+use Rattle.ras_daemon.proofs.StepLemmas.{performs_first, performs_then}
 use Rattle.ras_daemon.proofs.step.say_done.Goals as goal
 
-pub returns-in-Err-clause-performs : goal.returns-in-Err-clause-performs
-returns-in-Err-clause-performs g c = performs_first _ _ (text_steps c.args.text.now) (prints c.args.done.now ∷ []) c.in-Err.exit c.in-Err.ensures.performs
+pub returns-in_err-say-clause-performs : goal.returns-in_err-say-clause-performs
+returns-in_err-say-clause-performs g c =
+    let p = err_from_is_err_and c.from_residual.result c.from_residual.ensures.1 in
+    rw (p.1, p.2)
+    (performs_first _ _ (text_steps c.args.text.now) (prints_text c.args.done.now ∷ []) c.in_err-say.field-0.0 c.in_err-say.ensures.performs)
+
+pub returns-clause-performs : goal.returns-clause-performs
+returns-clause-performs g c =
+    performs_then _ _ _ (text_steps c.args.text.now) (prints_text c.args.done.now ∷ []) c.print.result c.in_ok-say.ensures.performs c.print.ensures.performs

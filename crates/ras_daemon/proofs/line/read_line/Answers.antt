@@ -1,5 +1,0 @@
-use Rattle.ras_daemon.proofs.LineLaws.{read_within}
-use Rattle.ras_daemon.proofs.line.read_line.Goals as goal
-
-pub returns-clause-range : goal.returns-clause-range
-returns-clause-range c = read_within c.args.bytes.now c.line_of_words.result (rw (← c.in_ok-words.ensures, ← c.deref.ensures.value) c.line_of_words.ensures)

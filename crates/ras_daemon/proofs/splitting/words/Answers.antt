@@ -1,9 +1,0 @@
-use Rattle.std.proofs.Common.{rules, ℕ, Ok}
-use Rattle.std.proofs.lemmas.Iterator.Consumers.{map_from_collect, YieldsList-at, YieldsList-from_filter}
-use Rattle.std.proofs.lemmas.Iterator.Splits.{YieldsList-from_slice_split}
-use borrow.Author.Tests.{tests}
-use Rattle.ras_daemon.proofs.splitting.words.Goals as goal
-
-pub returns : goal.returns
-returns c =
-    map_from_collect {E = ℕ} (Ok c.in_ok-words.words) c.in_ok-words.ensures.ran (YieldsList-from_filter _ _ (YieldsList-at c.filter.ensures.source (YieldsList-from_slice_split _ _ c.args.line.now c.split.ensures.rest c.split.ensures.done c.split.ensures.closure (λ x b q k. search (rules, tests)))) c.filter.ensures.closure (λ x b q k. search (rules, tests)))

@@ -1,0 +1,5 @@
+pub mod Number
+pub mod Splitting
+pub mod Line
+pub mod SplittingLaws
+pub mod LineLaws

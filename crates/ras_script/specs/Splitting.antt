@@ -1,0 +1,18 @@
+-- How a script is split into lines, and a line into words.
+use Rattle.std.specs.Prelude.{ℕ, ◌==◌, List, [], ◌∷◌, length, nat_lt, filter, if◌then◌else◌}
+use Rattle.std.specs.List.{slice_split}
+
+-- the parts of a text round a byte, without a last part that is empty
+abbrev pub without_empty_last : List (List ℕ) → List (List ℕ)
+without_empty_last [] = []
+without_empty_last (part ∷ []) = if length part == 0 then [] else part ∷ []
+without_empty_last (part ∷ next ∷ parts) = part ∷ without_empty_last (next ∷ parts)
+
+-- A script is split at line feeds; bytes after the last line feed are a line where there are any.
+abbrev pub lines_of : List ℕ → List (List ℕ)
+lines_of script = without_empty_last (slice_split (λ b. b == 10) script)
+
+-- Words are separated by one or more spaces, and spaces may stand before the first and after the
+-- last.
+abbrev pub words_of : List ℕ → List (List ℕ)
+words_of line = filter (λ word. nat_lt 0 (length word)) (slice_split (λ b. b == 32) line)

@@ -1,0 +1,21 @@
+-- What the laws of lines and words speak of.
+use Rattle.std.specs.Prelude.{◌≡◌, ℕ, ◌==◌, List, [], ◌∷◌, ◌++◌, ◌<◌, length, if◌then◌else◌}
+use Rattle.std.specs.List.{flat_map, AllByRecursion}
+
+-- a byte doesn't stand in a text
+abbrev pub Lacks : ℕ → List ℕ → Type 0
+Lacks byte text = AllByRecursion (λ b. ¬ (b ≡ byte)) text
+
+-- a word stands between spaces: it isn't empty, and holds none
+abbrev pub IsWord : List ℕ → Type 0
+IsWord word = (0 < length word) × Lacks 32 word
+
+-- lines as a script: a line feed ends each
+abbrev pub script_of : List (List ℕ) → List ℕ
+script_of lines = flat_map (λ line. line ++ 10 ∷ []) lines
+
+-- a script that isn't empty with a line feed at its end: it gets one where its last byte is another
+abbrev pub with_last_line_feed : List ℕ → List ℕ
+with_last_line_feed [] = []
+with_last_line_feed (b ∷ []) = if b == 10 then b ∷ [] else b ∷ 10 ∷ []
+with_last_line_feed (b ∷ c ∷ bs) = b ∷ with_last_line_feed (c ∷ bs)

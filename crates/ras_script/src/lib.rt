@@ -1,0 +1,15 @@
+//! The lines of a script: where each ends, its words, and what it says.
+#![tactic(auto)]
+
+mod line;
+mod number;
+mod splitting;
+
+pub use line::{
+    LAST_CHANNEL, LONGEST_PERIOD, Line, LineRefused, MOST_CAPACITY, numbers_are_in_range,
+    read_line, refused_lines_have_words, written_lines_are_read,
+};
+pub use number::{
+    DECIMAL_DIGITS, HEXADECIMAL_DIGITS, decimal, hexadecimal, written_numbers_are_read,
+};
+pub use splitting::{first_line, lines_are_the_script, spaces_separate_words, words};

@@ -1,0 +1,101 @@
+//! Numbers as the words of a script write them.
+
+ghost use Rattle.std.specs.Prelude.{◌≡◌, ℕ, ◌^◌, ◌<◌, ◌≤◌, Bool, IfSome};
+ghost use Rattle.std.specs.Fmt.{decimal, digits};
+ghost use Rattle.ras_script.specs.Number.{number_of, decimal_of, hexadecimal_of};
+
+/// The most digits that a decimal word may have.
+pub const DECIMAL_DIGITS: usize = 20;
+
+/// The most digits that a hexadecimal word may have.
+pub const HEXADECIMAL_DIGITS: usize = 16;
+
+/// The value of a decimal word of 1 to 20 digits, where it is at most `most`.
+pub fn decimal(word: &[u8], most: u64) -> Option<u64>
+    ensures value { result ≡ decimal_of most word.now }
+    ensures within { IfSome result (λ n. n ≤ most) }
+{
+    number(word, 10, DECIMAL_DIGITS, most)
+}
+
+/// The value of a hexadecimal word of 1 to 16 digits of either case.
+pub fn hexadecimal(word: &[u8]) -> Option<u64>
+    ensures { result ≡ hexadecimal_of word.now }
+{
+    number(word, 16, HEXADECIMAL_DIGITS, u64::MAX)
+}
+
+/// What `{}` writes of a number is a decimal word of it, and what `{:x}` and `{:X}` write are
+/// hexadecimal words of it. The function does nothing: its clauses are what it is for.
+pub fn written_numbers_are_read()
+    ensures in_decimal { (most n : ℕ) → n ≤ most → most < 2 ^ 64
+        → decimal_of most (decimal n) ≡ Some n }
+    ensures in_hexadecimal { (upper : Bool) (n : ℕ) → n < 2 ^ 64
+        → hexadecimal_of (digits 16 upper n) ≡ Some n }
+{}
+
+// The value of a word of 1 to `longest` digits, where it is at most `most`.
+fn number(word: &[u8], radix: u32, longest: usize, most: u64) -> Option<u64>
+    requires some_radix { 2 ≤ radix }
+    requires small_radix { radix ≤ 16 }
+    requires short { longest ≤ 30 }
+    ensures value { result ≡ number_of radix longest most word.now }
+    ensures within { IfSome result (λ n. n ≤ most) }
+{
+    if word.is_empty() || word.len() > longest {
+        return None;
+    }
+    let mut value = 0u128;
+    for byte in word {
+        let digit = char::from(*byte).to_digit(radix)?;
+        value = value * u128::from(radix) + u128::from(digit);
+    }
+    if value <= u128::from(most) {
+        Some(value as u64)
+    } else {
+        None
+    }
+}
+
+#[cfg(test)]
+mod tests {
+    use super::*;
+
+    #[test]
+    fn reads_decimal_words(rt: HostRuntime) {
+        let cases: [(&[u8], u64, Option<u64>); 12] = [
+            (b"0", u64::MAX, Some(0)),
+            (b"1700000000", u64::MAX, Some(1_700_000_000)),
+            (b"18446744073709551615", u64::MAX, Some(u64::MAX)),
+            (b"18446744073709551616", u64::MAX, None),
+            (b"99999999999999999999", u64::MAX, None),
+            (b"00000000000000000007", 7, Some(7)),
+            (b"000000000000000000007", u64::MAX, None),
+            (b"255", 255, Some(255)),
+            (b"256", 255, None),
+            (b"+1", u64::MAX, None),
+            (b"1a", u64::MAX, None),
+            (b"", u64::MAX, None),
+        ];
+        for (word, most, want) in cases {
+            assert_eq!(rt; decimal(word, most), want);
+        }
+    }
+
+    #[test]
+    fn reads_hexadecimal_words(rt: HostRuntime) {
+        let cases: [(&[u8], Option<u64>); 8] = [
+            (b"0", Some(0)),
+            (b"1000c14", Some(0x0100_0c14)),
+            (b"ffffffffffffffff", Some(u64::MAX)),
+            (b"FFFFffffFFFFffff", Some(u64::MAX)),
+            (b"00000000000000001", None),
+            (b"0x10", None),
+            (b"fg", None),
+            (b"", None),
+        ];
+        for (word, want) in cases {
+            assert_eq!(rt; hexadecimal(word), want);
+        }
+    }
+}

@@ -1,0 +1,117 @@
+//! The lines of a script, and the words of a line.
+
+ghost use Rattle.std.specs.Prelude.{◌≡◌, ℕ, ◌+◌, ◌<◌, ◌≤◌, List, [], ◌∷◌, ◌++◌, length, map, IfOk};
+ghost use Rattle.std.specs.List.{AllByRecursion, join_with_byte};
+ghost use Rattle.ras_script.specs.Splitting.{lines_of, words_of};
+ghost use Rattle.ras_script.specs.SplittingLaws.{Lacks, IsWord, script_of, with_last_line_feed};
+
+use ras_base::NoMemory;
+use std::alloc::Global;
+
+/// The first line of a script that isn't empty, without its line feed, and what follows that line.
+pub fn first_line(script: &[u8]) -> (&[u8], &[u8])
+    requires { 0 < length script.now }
+    ensures lines { lines_of script.now ≡ result.0.now ∷ lines_of result.1.now }
+    ensures shorter { length result.1.now < length script.now }
+    ensures within { length result.0.now + length result.1.now ≤ length script.now }
+{
+    match script.iter().position(|byte| *byte == b'\n') {
+        Some(end) => (&script[..end], &script[end + 1..]),
+        None => (script, &script[script.len()..]),
+    }
+}
+
+/// The words of a line, which spaces separate.
+///
+/// # Errors
+///
+/// `NoMemory` comes for want of memory alone.
+pub fn words(alloc: Global, line: &[u8]) -> Result<Vec<&[u8]>, NoMemory>
+    ensures { IfOk result (λ words. map (λ word. word.now) words.items ≡ words_of line.now) }
+{
+    let words = line
+        .split(|byte| *byte == b' ')
+        .filter(|word| !word.is_empty())
+        .collect(alloc)?;
+    Ok(words)
+}
+
+/// The lines of a script, each with a line feed at its end, are the script, which gets one where
+/// its last byte is no line feed. No line holds a line feed, an empty script has no lines, and each
+/// line costs at least a byte. The function does nothing: its clauses are what it is for.
+pub fn lines_are_the_script()
+    ensures none { lines_of [] ≡ [] }
+    ensures whole { (script : List ℕ) → script_of (lines_of script) ≡ with_last_line_feed script }
+    ensures few { (script : List ℕ) → length (lines_of script) ≤ length script }
+    ensures unbroken { (script : List ℕ) → AllByRecursion (Lacks 10) (lines_of script) }
+{}
+
+/// A text without a space is one word, unless it is empty, and a space separates: the words of two
+/// texts with a space between them are those of the one and then those of the other. No word is
+/// empty or holds a space, and words joined by single spaces are read as these words. The function
+/// does nothing: its clauses are what it is for.
+pub fn spaces_separate_words()
+    ensures none { words_of [] ≡ [] }
+    ensures single { (word : List ℕ) → IsWord word → words_of word ≡ word ∷ [] }
+    ensures separated { (left right : List ℕ)
+        → words_of (left ++ 32 ∷ right) ≡ words_of left ++ words_of right }
+    ensures apart { (line : List ℕ) → AllByRecursion IsWord (words_of line) }
+    ensures joined { (words : List (List ℕ)) → AllByRecursion IsWord words
+        → words_of (join_with_byte 32 words) ≡ words }
+{}
+
+#[cfg(test)]
+mod tests {
+    use super::*;
+    use std::test::Fail;
+
+    #[test]
+    fn splits_scripts(rt: HostRuntime) {
+        let cases: [(&[u8], &[&[u8]]); 6] = [
+            (b"", &[]),
+            (b"\n", &[b""]),
+            (b"\n\n", &[b"", b""]),
+            (b"restart", &[b"restart"]),
+            (b"restart\n", &[b"restart"]),
+            (
+                b"poll 1\n\n# a\nrestart",
+                &[b"poll 1", b"", b"# a", b"restart"],
+            ),
+        ];
+        for (script, lines) in cases {
+            let mut rest = script;
+            for line in lines {
+                assert!(rt; !rest.is_empty());
+                let (first, after) = first_line(rest);
+                assert_eq!(rt; first, *line);
+                rest = after;
+            }
+            assert!(rt; rest.is_empty());
+        }
+    }
+
+    // The words of a line, each with a comma after it.
+    fn words_with_commas(alloc: Global, line: &[u8]) -> Result<Vec<u8>, NoMemory> {
+        let mut text = Vec::new(alloc);
+        for word in &words(alloc, line)? {
+            text.extend_from_slice(word)?;
+            text.push(b',')?;
+        }
+        Ok(text)
+    }
+
+    #[test]
+    fn splits_lines(rt: HostRuntime) -> Result<(), Fail> {
+        let cases: [(&[u8], &[u8]); 5] = [
+            (b"", b""),
+            (b"   ", b""),
+            (b"poll 1", b"poll,1,"),
+            (b"  cpu   0 1  ", b"cpu,0,1,"),
+            (b"poll\t1", b"poll\t1,"),
+        ];
+        for (line, want) in cases {
+            assert_eq!(rt; words_with_commas(rt.alloc(), line)?.as_slice(), want);
+        }
+        Ok(())
+    }
+}

@@ -1,0 +1,4 @@
+pub mod Detail
+pub mod Text
+pub mod Orders
+pub mod OrderRoom

@@ -1,0 +1,90 @@
+-- The lines that are printed of entries, of events and of runs, each with its line feed.
+use Rattle.std.specs.Prelude.{ℕ, ◌==◌, List, [], ◌∷◌, ◌++◌, codes, decimal, drop, length, Option, None, Some, if◌then◌else◌}
+use Rattle.std.specs.Int.{to_be_bytes, w64}
+use Rattle.std.specs.List.{flat_map}
+use Rattle.hex.specs.Hex.{encode_lower}
+use Rattle.mca_status.specs.declared.classes.ItemClass.{ItemClass}
+use Rattle.mca_status.specs.declared.classes.ItemClass.TheVariants.{Ce, Ucna, Srao, Srar, Uc, Odd, Corrected, Recoverable, Fatal, Informational}
+use Rattle.page_policy.specs.declared.buckets.Limit.{Limit}
+use Rattle.ras_facts.specs.declared.fact.Fact.{Fact}
+use Rattle.ras_facts.specs.declared.items.Item.{Item}
+use Rattle.ras_facts.specs.declared.name.Name.{Name}
+use Rattle.ras_facts.specs.declared.name.Name.TheVariants.{Bank, Record, Block, Boot}
+use Rattle.ras_facts.specs.declared.entry.Entry.{Entry}
+use Rattle.ras_facts.specs.declared.entry.Entry.TheVariants.{Fact as Report, Limit as Settles}
+use Rattle.ras_account.specs.Account.{State}
+
+-- a text as a line: a line feed ends it
+abbrev pub line_with : List ℕ → List ℕ
+line_with text = text ++ 10 ∷ []
+
+abbrev pub name_text : Name → List ℕ
+name_text (Bank boot cpu bank tsc) =
+    codes "bank=" ++ decimal boot ++ codes "/" ++ decimal cpu
+    ++ codes "/" ++ decimal bank ++ codes "/" ++ decimal tsc
+name_text (Record id) = codes "record=" ++ encode_lower (to_be_bytes w64 id)
+name_text (Block boot source number) =
+    codes "block=" ++ decimal boot ++ codes "/" ++ decimal source ++ codes "/" ++ decimal number
+name_text (Boot boot) = codes "bert=" ++ decimal boot
+
+abbrev pub class_text : ItemClass → List ℕ
+class_text Ce = codes "CE"
+class_text Ucna = codes "UCNA"
+class_text Srao = codes "SRAO"
+class_text Srar = codes "SRAR"
+class_text Uc = codes "UC"
+class_text Odd = codes "ODD"
+class_text Corrected = codes "corrected"
+class_text Recoverable = codes "recoverable"
+class_text Fatal = codes "fatal"
+class_text Informational = codes "informational"
+
+-- A page is printed as the address of its first byte in 16 hexadecimal digits: the page's number in
+-- 13, and after it the three zeros of its 4,096 bytes.
+abbrev pub address_text : ℕ → List ℕ
+address_text page = drop 3 (encode_lower (to_be_bytes w64 page)) ++ codes "000"
+
+abbrev pub page_text : Option ℕ → List ℕ
+page_text None = codes "-"
+page_text (Some page) = address_text page
+
+-- a module's label, where one is known
+abbrev pub label_text : List ℕ → List ℕ
+label_text label = if length label == 0 then codes "-" else label
+
+-- the name, the time, the class and the weight of an item
+unfoldable pub item_head : Fact → Item → List ℕ
+item_head fact item =
+    codes "log " ++ name_text fact.name ++ codes " t=" ++ decimal fact.seconds
+    ++ codes " class=" ++ class_text item.class ++ codes " weight=" ++ decimal item.weight
+
+-- the line of an item of a fresh fact, with the detail that is told of it
+unfoldable pub item_line : Fact → List ℕ → Item → List ℕ
+item_line fact detail item = line_with (
+    item_head fact item ++ codes " label=" ++ label_text item.label
+    ++ codes " page=" ++ page_text item.page ++ codes " " ++ detail)
+
+-- the line of a fresh limit
+abbrev pub limit_line : Limit → List ℕ
+limit_line limit = line_with (
+    codes "limit capacity=" ++ decimal limit.capacity ++ codes " period=" ++ decimal limit.period)
+
+-- the lines of a fresh entry: of a fact one for each item, of a limit one
+abbrev pub log_lines : List ℕ → Entry → List ℕ
+log_lines detail (Report fact) = flat_map (item_line fact detail) fact.items
+log_lines detail (Settles limit) = limit_line limit
+
+-- the line of a fact that isn't fresh; a limit that isn't has none
+abbrev pub repeat_line : Entry → List ℕ
+repeat_line (Report fact) = line_with (codes "repeat " ++ name_text fact.name)
+repeat_line (Settles limit) = []
+
+-- the line that an event ends with, by the number of its line
+abbrev pub done_line : ℕ → List ℕ
+done_line number = line_with (codes "done " ++ decimal number)
+
+-- the line that a whole run ends with: the numbers of entries and of names in the account
+abbrev pub end_line : State → List ℕ
+end_line account = line_with (
+    codes "end entries=" ++ decimal account.entries
+    ++ codes " names=" ++ decimal (length account.names))

@@ -1,0 +1,39 @@
+//! The line that an event ends with, and the one that a whole run ends with.
+
+ghost use Rattle.std.specs.Prelude.{◌≡◌, IfOk};
+ghost use Rattle.ras_texts.specs.Text.{done_line, end_line};
+
+use crate::pieces::push_number;
+use ras_account::Account;
+use ras_base::NoMemory;
+use std::alloc::Global;
+
+/// The line that an event ends with, by the number of its line.
+///
+/// # Errors
+///
+/// `NoMemory` comes for want of memory alone.
+pub fn done_line(alloc: Global, number: u64) -> Result<Vec<u8>, NoMemory>
+    ensures { IfOk result (λ text. text.items ≡ done_line number) }
+{
+    let mut text = Vec::from_slice(alloc, b"done ")?;
+    push_number(&mut text, number)?;
+    text.extend_from_slice(b"\n")?;
+    Ok(text)
+}
+
+/// The line that a whole run ends with: the numbers of entries and of names in the account.
+///
+/// # Errors
+///
+/// `NoMemory` comes for want of memory alone.
+pub fn end_line(alloc: Global, account: &Account) -> Result<Vec<u8>, NoMemory>
+    ensures { IfOk result (λ text. text.items ≡ end_line account.now.state) }
+{
+    let mut text = Vec::from_slice(alloc, b"end entries=")?;
+    push_number(&mut text, account.entries())?;
+    text.extend_from_slice(b" names=")?;
+    push_number(&mut text, account.names_len() as u64)?;
+    text.extend_from_slice(b"\n")?;
+    Ok(text)
+}

@@ -1,0 +1,15 @@
+//! The lines that the daemon prints: of fresh and repeated entries, of orders, and at the end of an
+//! event and of a run.
+#![tactic(auto)]
+
+mod detail;
+mod ends;
+mod log;
+mod order;
+mod pieces;
+
+pub use detail::bank_detail;
+pub use ends::{done_line, end_line};
+pub use log::{push_fresh, repeat_line};
+pub use order::{ORDER_LENGTH, push_orders, standing_lines};
+pub use pieces::push_number;

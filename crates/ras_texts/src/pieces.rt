@@ -1,0 +1,133 @@
+//! The pieces of which lines are made: numbers, names, classes, pages and labels.
+
+ghost use Rattle.std.specs.Prelude.{◌≡◌, ◌++◌, decimal, drop, OnOk};
+ghost use Rattle.std.specs.Int.{to_be_bytes, w64};
+ghost use Rattle.hex.specs.Hex.{encode_lower};
+ghost use Rattle.ras_texts.specs.Text.{class_text, label_text, name_text, page_text};
+
+use dimm_topology::Label;
+use itoa::Buffer;
+use mca_status::ItemClass;
+use ras_base::NoMemory;
+use ras_facts::Name;
+
+/// Adds a number in decimal.
+///
+/// # Errors
+///
+/// `NoMemory` comes for want of memory alone.
+pub fn push_number(text: &mut Vec<u8>, number: u64) -> Result<(), NoMemory>
+    ensures { OnOk result (text.new.items ≡ text.old.items ++ decimal number) }
+{
+    let mut buffer = Buffer::new();
+    text.extend_from_slice(buffer.format(number).as_bytes())?;
+    Ok(())
+}
+
+/// Adds the name of a report.
+pub fn push_name(text: &mut Vec<u8>, name: &Name) -> Result<(), NoMemory>
+    ensures { OnOk result (text.new.items ≡ text.old.items ++ name_text name.now) }
+{
+    match name {
+        Name::Bank {
+            boot,
+            cpu,
+            bank,
+            tsc,
+        } => {
+            text.extend_from_slice(b"bank=")?;
+            push_number(text, *boot)?;
+            text.extend_from_slice(b"/")?;
+            push_number(text, u64::from(*cpu))?;
+            text.extend_from_slice(b"/")?;
+            push_number(text, u64::from(*bank))?;
+            text.extend_from_slice(b"/")?;
+            push_number(text, *tsc)
+        }
+        Name::Record { id } => {
+            text.extend_from_slice(b"record=")?;
+            text.extend_from_slice(&hexadecimal_digits(*id))?;
+            Ok(())
+        }
+        Name::Block {
+            boot,
+            source,
+            number,
+        } => {
+            text.extend_from_slice(b"block=")?;
+            push_number(text, *boot)?;
+            text.extend_from_slice(b"/")?;
+            push_number(text, u64::from(*source))?;
+            text.extend_from_slice(b"/")?;
+            push_number(text, *number)
+        }
+        Name::Boot { boot } => {
+            text.extend_from_slice(b"bert=")?;
+            push_number(text, *boot)
+        }
+    }
+}
+
+/// The text of a class.
+pub fn class_word(class: ItemClass) -> &'static [u8]
+    ensures { result.now ≡ class_text class }
+{
+    match class {
+        ItemClass::Ce => b"CE",
+        ItemClass::Ucna => b"UCNA",
+        ItemClass::Srao => b"SRAO",
+        ItemClass::Srar => b"SRAR",
+        ItemClass::Uc => b"UC",
+        ItemClass::Odd => b"ODD",
+        ItemClass::Corrected => b"corrected",
+        ItemClass::Recoverable => b"recoverable",
+        ItemClass::Fatal => b"fatal",
+        ItemClass::Informational => b"informational",
+    }
+}
+
+/// The number of a page in 13 hexadecimal digits. With three zeros after it, it is the address of
+/// the page's first byte.
+pub fn page_digits(page: u64) -> [u8; 13]
+    ensures { result ≡ drop 3 (encode_lower (to_be_bytes w64 page)) }
+{
+    let mut digits = [0u8; 13];
+    digits.copy_from_slice(&hexadecimal_digits(page)[3..]);
+    digits
+}
+
+// A number in 16 hexadecimal digits.
+fn hexadecimal_digits(number: u64) -> [u8; 16]
+    ensures { result ≡ encode_lower (to_be_bytes w64 number) }
+{
+    let mut digits = [0u8; 16];
+    let _ = hex::encode_to_slice(number.to_be_bytes(), &mut digits);
+    digits
+}
+
+/// Adds a page as the address of its first byte, or `-` for none.
+pub fn push_page(text: &mut Vec<u8>, page: Option<u64>) -> Result<(), NoMemory>
+    ensures { OnOk result (text.new.items ≡ text.old.items ++ page_text page) }
+{
+    match page {
+        None => text.extend_from_slice(b"-")?,
+        Some(page) => {
+            text.extend_from_slice(&page_digits(page))?;
+            text.extend_from_slice(b"000")?;
+        }
+    }
+    Ok(())
+}
+
+/// Adds the label of a module, or `-` for none.
+pub fn push_label(text: &mut Vec<u8>, label: &Label) -> Result<(), NoMemory>
+    ensures { OnOk result (text.new.items ≡ text.old.items ++ label_text label.now) }
+{
+    let bytes = label.bytes();
+    if bytes.is_empty() {
+        text.extend_from_slice(b"-")?;
+    } else {
+        text.extend_from_slice(bytes)?;
+    }
+    Ok(())
+}
