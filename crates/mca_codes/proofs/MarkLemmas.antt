@@ -3,39 +3,39 @@ use Rattle.std.proofs.Common.{ℕ, ◌≡◌, ◌<◌, ◌^◌, ◌+◌, ◌*◌
 use Rattle.std.specs.List.{find}
 use Rattle.std.specs.Option.{option_map_or}
 use Rattle.ras_base.specs.Bits.{bits}
-use Rattle.mca_codes.specs.Codes.{Row, plain, numbers, pattern, fits, read_by, reading, code_of_rows, code_rows, generic_cache_of, tlb_of, memory_of, cache_of, bus_of}
-use Rattle.mca_codes.specs.Marks.{mark_of_kind, mark_of_number, unfiltered, is_srao_code, is_srar_code}
+use Rattle.mca_codes.specs.Codes.{CodeRow, plain, numbers, pattern, fits_code, read_by, reading, code_of_rows, code_rows, generic_cache_of, tlb_of, memory_of, cache_of, bus_of}
+use Rattle.mca_codes.specs.Marks.{mark_of_kind, mark_of_number, unfiltered_code, is_srao_code, is_srar_code}
 use Rattle.mca_codes.specs.declared.codes.Code.TheVariants.{Other, InternalUnclassified}
 use Rattle.mca_codes.specs.declared.marks.Mark.TheVariants.{Neither}
 use Rattle.mca_codes.proofs.PatternLemmas.{generic_cache_bits, tlb_bits, memory_bits, cache_bits, bus_bits, unfiltered_bits}
 
 -- by these rows, the code has the mark that it has by its number
-record Agrees (code : ℕ) (rows : List Row) : Type 0 where
+record Agrees (code : ℕ) (rows : List CodeRow) : Type 0 where
   marks : mark_of_kind (reading rows code) ≡ mark_of_number code
 
 -- the first row gives the mark where it fits, and the other rows where it doesn't
-step : (code : ℕ) (row : Row) (rows : List Row) → (fits code row ≡ true → mark_of_kind (read_by code row) ≡ mark_of_number code) → (fits code row ≡ false → Agrees code rows) → Agrees code (row ∷ rows)
+step : (code : ℕ) (row : CodeRow) (rows : List CodeRow) → (fits_code code row ≡ true → mark_of_kind (read_by code row) ≡ mark_of_number code) → (fits_code code row ≡ false → Agrees code rows) → Agrees code (row ∷ rows)
 step code row rows here there =
-    let at : (b : Bool) → fits code row ≡ b → mark_of_kind (option_map_or (read_by code) (cond b (Some row) (find (fits code) rows)) Other) ≡ mark_of_number code =
-    λ b e. elim b as (λ v. fits code row ≡ v → mark_of_kind (option_map_or (read_by code) (cond v (Some row) (find (fits code) rows)) Other) ≡ mark_of_number code) [ true ↦ here | false ↦ λ e'. (there e').marks ] e in
-    record { marks = at (fits code row) refl }
+    let at : (b : Bool) → fits_code code row ≡ b → mark_of_kind (option_map_or (read_by code) (cond b (Some row) (find (fits_code code) rows)) Other) ≡ mark_of_number code =
+    λ b e. elim b as (λ v. fits_code code row ≡ v → mark_of_kind (option_map_or (read_by code) (cond v (Some row) (find (fits_code code) rows)) Other) ≡ mark_of_number code) [ true ↦ here | false ↦ λ e'. (there e').marks ] e in
+    record { marks = at (fits_code code row) refl }
 
-plain_mark : (code number : ℕ) → fits code (plain number Other) ≡ true → mark_of_number number ≡ Neither → Neither ≡ mark_of_number code
+plain_mark : (code number : ℕ) → fits_code code (plain number Other) ≡ true → mark_of_number number ≡ Neither → Neither ≡ mark_of_number code
 plain_mark code number fit same = grind arith
 
-numbers_mark : (code : ℕ) → fits code (numbers 0x0401 0x07ff InternalUnclassified) ≡ true → Neither ≡ mark_of_number code
+numbers_mark : (code : ℕ) → fits_code code (numbers 0x0401 0x07ff InternalUnclassified) ≡ true → Neither ≡ mark_of_number code
 numbers_mark code fit = grind arith
 
-generic_cache_mark : (code : ℕ) → code < 2 ^ 16 → fits code (pattern 0xeffc 0x000c generic_cache_of) ≡ true → Neither ≡ mark_of_number code
+generic_cache_mark : (code : ℕ) → code < 2 ^ 16 → fits_code code (pattern 0xeffc 0x000c generic_cache_of) ≡ true → Neither ≡ mark_of_number code
 generic_cache_mark code small fit = grind (arith, generic_cache_bits code small, unfiltered_bits code small)
 
-tlb_mark : (code : ℕ) → code < 2 ^ 16 → fits code (pattern 0xeff0 0x0010 tlb_of) ≡ true → Neither ≡ mark_of_number code
+tlb_mark : (code : ℕ) → code < 2 ^ 16 → fits_code code (pattern 0xeff0 0x0010 tlb_of) ≡ true → Neither ≡ mark_of_number code
 tlb_mark code small fit = grind (arith, tlb_bits code small, unfiltered_bits code small)
 
-bus_mark : (code : ℕ) → code < 2 ^ 16 → fits code (pattern 0xe800 0x0800 bus_of) ≡ true → Neither ≡ mark_of_number code
+bus_mark : (code : ℕ) → code < 2 ^ 16 → fits_code code (pattern 0xe800 0x0800 bus_of) ≡ true → Neither ≡ mark_of_number code
 bus_mark code small fit = grind (arith, bus_bits code small, unfiltered_bits code small)
 
-memory_mark : (code : ℕ) → code < 2 ^ 16 → fits code (pattern 0xef80 0x0080 memory_of) ≡ true → mark_of_kind (memory_of code) ≡ mark_of_number code
+memory_mark : (code : ℕ) → code < 2 ^ 16 → fits_code code (pattern 0xef80 0x0080 memory_of) ≡ true → mark_of_kind (memory_of code) ≡ mark_of_number code
 memory_mark code small fit = grind (arith, memory_bits code small, unfiltered_bits code small)
 
 srao_test : (u r t l : ℕ) → u ≡ 256 + 16 * r + 4 * t + l → r < 16 → t < 4 → l < 4 → (r == 7 && t == 2 && l == 2) ≡ is_srao_code u
@@ -45,17 +45,17 @@ srar_test : (u r t l : ℕ) → u ≡ 256 + 16 * r + 4 * t + l → r < 16 → t 
 srar_test u r t l e r_small t_small l_small = grind arith
 
 -- a cache code without its filter is the sum of its fields
-cache_sum : (code : ℕ) → code < 2 ^ 16 → fits code (pattern 0xef00 0x0100 cache_of) ≡ true → unfiltered code ≡ 256 + 16 * bits 4 4 code + 4 * bits 2 2 code + bits 0 2 code
+cache_sum : (code : ℕ) → code < 2 ^ 16 → fits_code code (pattern 0xef00 0x0100 cache_of) ≡ true → unfiltered_code code ≡ 256 + 16 * bits 4 4 code + 4 * bits 2 2 code + bits 0 2 code
 cache_sum code small fit = grind (arith, cache_bits code small, unfiltered_bits code small)
 
-cache_mark : (code : ℕ) → code < 2 ^ 16 → fits code (pattern 0xef00 0x0100 cache_of) ≡ true → mark_of_kind (cache_of code) ≡ mark_of_number code
+cache_mark : (code : ℕ) → code < 2 ^ 16 → fits_code code (pattern 0xef00 0x0100 cache_of) ≡ true → mark_of_kind (cache_of code) ≡ mark_of_number code
 cache_mark code small fit =
     rw (
-      srao_test (unfiltered code) (bits 4 4 code) (bits 2 2 code) (bits 0 2 code) (cache_sum code small fit) (omega arith) (omega arith) (omega arith),
-      srar_test (unfiltered code) (bits 4 4 code) (bits 2 2 code) (bits 0 2 code) (cache_sum code small fit) (omega arith) (omega arith) (omega arith),
+      srao_test (unfiltered_code code) (bits 4 4 code) (bits 2 2 code) (bits 0 2 code) (cache_sum code small fit) (omega arith) (omega arith) (omega arith),
+      srar_test (unfiltered_code code) (bits 4 4 code) (bits 2 2 code) (bits 0 2 code) (cache_sum code small fit) (omega arith) (omega arith) (omega arith),
     ) refl
 
-other_mark : (code : ℕ) → code < 2 ^ 16 → fits code (pattern 0xef80 0x0080 memory_of) ≡ false → fits code (pattern 0xef00 0x0100 cache_of) ≡ false → Neither ≡ mark_of_number code
+other_mark : (code : ℕ) → code < 2 ^ 16 → fits_code code (pattern 0xef80 0x0080 memory_of) ≡ false → fits_code code (pattern 0xef00 0x0100 cache_of) ≡ false → Neither ≡ mark_of_number code
 other_mark code small no_memory no_cache = grind (arith, memory_bits code small, cache_bits code small, unfiltered_bits code small)
 
 agrees : (code : ℕ) → code < 2 ^ 16 → Agrees code code_rows

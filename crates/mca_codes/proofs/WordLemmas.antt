@@ -6,12 +6,12 @@ use Rattle.std.proofs.lemmas.List.Sums.{AllPass-from_list_all}
 use Rattle.std.proofs.lemmas.Bool.{cases_lt}
 use Rattle.std.proofs.lemmas.Fmt.{decimal_digit, decimal_step}
 use Rattle.mca_codes.specs.Codes.{HasFieldsInRange}
-use Rattle.mca_codes.specs.Texts.{Bytes, text_of, word_at, with_colons, compound_text, channel_word, filter_ending, is_word_byte, IsWord, level_words, transaction_words, request_words, participation_words, timeout_words, target_words, memory_words}
+use Rattle.mca_codes.specs.Texts.{code_text_of, word_at, with_colons, compound_text, channel_word, filter_ending, is_word_byte, IsWord, level_words, transaction_words, request_words, participation_words, timeout_words, target_words, memory_words}
 use Rattle.mca_codes.specs.declared.codes.Code.{Code}
 use Rattle.mca_codes.specs.declared.codes.Code.TheVariants.{NoError, Unclassified, MicrocodeRom, External, Frc, InternalParity, InternalTimer, InternalUnclassified, GenericIo, Other, GenericCache, Tlb, Memory, Cache, Bus}
 
 -- each byte of a text can stand in a word
-abbrev pub passes : Bytes → Bool
+abbrev pub passes : List ℕ → Bool
 passes bytes = list_all is_word_byte bytes
 
 both : (a b : Bool) → a ≡ true → b ≡ true → (a && b) ≡ true
@@ -26,15 +26,15 @@ second_of true b h = h
 second_of false b h = cc
 
 -- where all words of a table pass, so does the one at any value
-word_at_passes : (words : List Bytes) (value : ℕ) → list_all passes words ≡ true → passes (word_at words value) ≡ true
+word_at_passes : (words : List (List ℕ)) (value : ℕ) → list_all passes words ≡ true → passes (word_at words value) ≡ true
 word_at_passes [] value all = refl
 word_at_passes (word ∷ words) zero all = first_of (passes word) _ all
 word_at_passes (word ∷ words) (suc value) all = word_at_passes words value (second_of (passes word) _ all)
 
-passes-append : (xs ys : Bytes) → passes xs ≡ true → passes ys ≡ true → passes (xs ++ ys) ≡ true
+passes-append : (xs ys : List ℕ) → passes xs ≡ true → passes ys ≡ true → passes (xs ++ ys) ≡ true
 passes-append xs ys p q = list_all-append is_word_byte xs ys ∙ both _ _ p q
 
-with_colons_passes : (words : List Bytes) → list_all passes words ≡ true → passes (with_colons words) ≡ true
+with_colons_passes : (words : List (List ℕ)) → list_all passes words ≡ true → passes (with_colons words) ≡ true
 with_colons_passes [] all = refl
 with_colons_passes (word ∷ words) all = passes-append word (with_colons words) (first_of (passes word) _ all) (with_colons_passes words (second_of (passes word) _ all))
 
@@ -42,7 +42,7 @@ ending_passes : (filter : Bool) → passes (filter_ending filter) ≡ true
 ending_passes true = refl
 ending_passes false = refl
 
-compound_passes : (kind : Bytes) (words : List Bytes) (filter : Bool) → passes kind ≡ true → list_all passes words ≡ true → passes (compound_text kind words filter) ≡ true
+compound_passes : (kind : List ℕ) (words : List (List ℕ)) (filter : Bool) → passes kind ≡ true → list_all passes words ≡ true → passes (compound_text kind words filter) ≡ true
 compound_passes kind words filter p all =
     passes-append (kind ++ with_colons words) (filter_ending filter)
     (passes-append kind (with_colons words) p (with_colons_passes words all))
@@ -66,25 +66,25 @@ channel_passes : (channel : ℕ) → channel < 16 → passes (channel_word chann
 channel_passes channel small = elim (channel == 15) as (λ b. passes (if b then codes "-" else decimal channel) ≡ true) [ true ↦ refl | false ↦ decimal_passes channel small ]
 
 -- a text that isn't empty and passes is a word
-word_of : (bytes : Bytes) → bytes ≢ [] → passes bytes ≡ true → IsWord bytes
+word_of : (bytes : List ℕ) → bytes ≢ [] → passes bytes ≡ true → IsWord bytes
 word_of bytes some p = (some, AllPass-from_list_all is_word_byte bytes p)
 
 -- the text of a compound code is a word where its kind and its fields are
-compound_word : (kind : Bytes) (words : List Bytes) (filter : Bool) → kind ≢ [] → passes kind ≡ true → list_all passes words ≡ true → IsWord (compound_text kind words filter)
+compound_word : (kind : List ℕ) (words : List (List ℕ)) (filter : Bool) → kind ≢ [] → passes kind ≡ true → list_all passes words ≡ true → IsWord (compound_text kind words filter)
 compound_word [] words filter some p all = absurd (some refl)
 compound_word (first ∷ rest) words filter some p all = word_of (compound_text (first ∷ rest) words filter) (λ e. cc) (compound_passes (first ∷ rest) words filter p all)
 
-pub text_of_word : (code : Code) → HasFieldsInRange code → IsWord (text_of code)
-text_of_word NoError _ = word_of (text_of NoError) (λ e. cc) refl
-text_of_word Unclassified _ = word_of (text_of Unclassified) (λ e. cc) refl
-text_of_word MicrocodeRom _ = word_of (text_of MicrocodeRom) (λ e. cc) refl
-text_of_word External _ = word_of (text_of External) (λ e. cc) refl
-text_of_word Frc _ = word_of (text_of Frc) (λ e. cc) refl
-text_of_word InternalParity _ = word_of (text_of InternalParity) (λ e. cc) refl
-text_of_word InternalTimer _ = word_of (text_of InternalTimer) (λ e. cc) refl
-text_of_word InternalUnclassified _ = word_of (text_of InternalUnclassified) (λ e. cc) refl
-text_of_word GenericIo _ = word_of (text_of GenericIo) (λ e. cc) refl
-text_of_word Other _ = word_of (text_of Other) (λ e. cc) refl
+pub text_of_word : (code : Code) → HasFieldsInRange code → IsWord (code_text_of code)
+text_of_word NoError _ = word_of (code_text_of NoError) (λ e. cc) refl
+text_of_word Unclassified _ = word_of (code_text_of Unclassified) (λ e. cc) refl
+text_of_word MicrocodeRom _ = word_of (code_text_of MicrocodeRom) (λ e. cc) refl
+text_of_word External _ = word_of (code_text_of External) (λ e. cc) refl
+text_of_word Frc _ = word_of (code_text_of Frc) (λ e. cc) refl
+text_of_word InternalParity _ = word_of (code_text_of InternalParity) (λ e. cc) refl
+text_of_word InternalTimer _ = word_of (code_text_of InternalTimer) (λ e. cc) refl
+text_of_word InternalUnclassified _ = word_of (code_text_of InternalUnclassified) (λ e. cc) refl
+text_of_word GenericIo _ = word_of (code_text_of GenericIo) (λ e. cc) refl
+text_of_word Other _ = word_of (code_text_of Other) (λ e. cc) refl
 text_of_word (GenericCache ll filter) _ =
     compound_word (codes "gencache") (word_at level_words ll ∷ []) filter (λ e. cc) refl
     (both _ _ (word_at_passes level_words ll refl) refl)

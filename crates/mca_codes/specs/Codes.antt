@@ -14,22 +14,22 @@ abbrev pub is_filtered : ℕ → Bool
 is_filtered code = bits 12 1 code == 1
 
 -- a row: the codes that fit it, and how such a code reads
-pub data Row : Type 0 where
+pub data CodeRow : Type 0 where
   -- one number
-  plain : ℕ → Code → Row
+  plain : ℕ → Code → CodeRow
   -- the numbers from low to high
-  numbers : (low high : ℕ) → Code → Row
+  numbers : (low high : ℕ) → Code → CodeRow
   -- a pattern with letters: the mask has the bits that no letter takes, the value what stands there
-  pattern : (mask value : ℕ) → (ℕ → Code) → Row
+  pattern : (mask value : ℕ) → (ℕ → Code) → CodeRow
 
 -- whether a code fits a row
-abbrev pub fits : ℕ → Row → Bool
-fits code (plain number kind) = code == number
-fits code (numbers low high kind) = nat_le low code && nat_le code high
-fits code (pattern mask value read) = bit_and code mask == value
+abbrev pub fits_code : ℕ → CodeRow → Bool
+fits_code code (plain number kind) = code == number
+fits_code code (numbers low high kind) = nat_le low code && nat_le code high
+fits_code code (pattern mask value read) = bit_and code mask == value
 
 -- a code as a row reads it
-abbrev pub read_by : ℕ → Row → Code
+abbrev pub read_by : ℕ → CodeRow → Code
 read_by code (plain number kind) = kind
 read_by code (numbers low high kind) = kind
 read_by code (pattern mask value read) = read code
@@ -55,7 +55,7 @@ abbrev pub bus_of : ℕ → Code
 bus_of code = Bus (bits 9 2 code) (bits 8 1 code) (bits 4 4 code) (bits 2 2 code) (bits 0 2 code) (is_filtered code)
 
 -- the simple error codes; 0E0Bh, generic input and output, stands among them
-abbrev pub simple_rows : List Row
+abbrev pub simple_rows : List CodeRow
 simple_rows =
     plain 0x0000 NoError
     ∷ plain 0x0001 Unclassified
@@ -69,7 +69,7 @@ simple_rows =
     ∷ []
 
 -- the compound error codes
-abbrev pub compound_rows : List Row
+abbrev pub compound_rows : List CodeRow
 compound_rows =
     pattern 0xeffc 0x000c generic_cache_of
     ∷ pattern 0xeff0 0x0010 tlb_of
@@ -79,12 +79,12 @@ compound_rows =
     ∷ []
 
 -- the table; 0E0Bh stands before the bus form, whose pattern it fits too
-abbrev pub code_rows : List Row
+abbrev pub code_rows : List CodeRow
 code_rows = simple_rows ++ compound_rows
 
 -- a code by the first of the rows that it fits, or Other where it fits none
-abbrev pub reading : List Row → ℕ → Code
-reading rows code = option_map_or (read_by code) (find (fits code) rows) Other
+abbrev pub reading : List CodeRow → ℕ → Code
+reading rows code = option_map_or (read_by code) (find (fits_code code) rows) Other
 
 -- what a code says
 abbrev pub code_of_rows : ℕ → Code
@@ -92,7 +92,7 @@ code_of_rows code = reading code_rows code
 
 -- how many rows a code fits
 abbrev pub rows_fitted : ℕ → ℕ
-rows_fitted code = count_by (fits code) code_rows
+rows_fitted code = count_by (fits_code code) code_rows
 
 -- raw fields that their subfields can hold: what a text is defined for
 abbrev pub HasFieldsInRange : Code → Type 0

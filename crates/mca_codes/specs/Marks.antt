@@ -8,8 +8,8 @@ use Rattle.mca_codes.specs.declared.marks.Mark.{Mark}
 use Rattle.mca_codes.specs.declared.marks.Mark as Marked
 
 -- a code with bit 12, the filter, cleared
-abbrev pub unfiltered : ℕ → ℕ
-unfiltered code = code - bits 12 1 code * 2 ^ 12
+abbrev pub unfiltered_code : ℕ → ℕ
+unfiltered_code code = code - bits 12 1 code * 2 ^ 12
 
 -- the codes of errors whose recovery is optional: memory scrubbing, and an explicit writeback
 abbrev pub is_srao_code : ℕ → Bool
@@ -27,7 +27,7 @@ unfiltered_mark code =
 
 -- the mark of a code, whatever its filter is
 abbrev pub mark_of_number : ℕ → Mark
-mark_of_number code = unfiltered_mark (unfiltered code)
+mark_of_number code = unfiltered_mark (unfiltered_code code)
 
 -- the mark of a code by what it says: memory scrubbing (MMM 4) and an eviction (RRRR 7) of any type
 -- from level 2 are Srao; a data read (RRRR 3, TT 1) and an instruction fetch (RRRR 5, TT 0) at

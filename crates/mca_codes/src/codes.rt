@@ -2,7 +2,7 @@
 
 ghost use Rattle.std.specs.Prelude.{◌≡◌, ◌≢◌, ◌↔◌, ◌≤◌, ◌<◌, ◌^◌, count_by};
 ghost use Rattle.ras_base.specs.Bits.{bits};
-ghost use Rattle.mca_codes.specs.Codes.{is_filtered, code_of_rows, rows_fitted, reading, fits, compound_rows, HasFieldsInRange, filter_of};
+ghost use Rattle.mca_codes.specs.Codes.{is_filtered, code_of_rows, rows_fitted, reading, fits_code, compound_rows, HasFieldsInRange, filter_of};
 
 use ras_base::bits;
 
@@ -99,8 +99,8 @@ pub fn code_of(code: u16) -> Code
 #[tactic(auto, using(crate::proofs::PatternLemmas::pattern_bits))]
 fn compound_code(code: u16) -> Code
     ensures rows { result ≡ reading compound_rows code }
-    ensures one_row { count_by (fits code) compound_rows ≤ 1 }
-    ensures other { (result ≡ Code.Other) ↔ (count_by (fits code) compound_rows ≡ 0) }
+    ensures one_row { count_by (fits_code code) compound_rows ≤ 1 }
+    ensures other { (result ≡ Code.Other) ↔ (count_by (fits_code code) compound_rows ≡ 0) }
     ensures in_range { HasFieldsInRange result }
     ensures filter { result ≢ Code.Other → filter_of result ≡ is_filtered code }
 {

@@ -2,7 +2,7 @@
 
 ghost use Rattle.std.specs.Prelude.{◌≡◌, IfOk, string_bytes, map};
 ghost use Rattle.mca_codes.specs.Codes.{HasFieldsInRange};
-ghost use Rattle.mca_codes.specs.Texts.{text_of, compound_text, IsWord};
+ghost use Rattle.mca_codes.specs.Texts.{code_text_of, compound_text, IsWord};
 
 use crate::codes::Code;
 use crate::words;
@@ -46,7 +46,7 @@ impl Text {
 #[tactic(auto, using(crate::proofs::WordLemmas::text_of_word))]
 pub fn code_text(alloc: Global, code: Code) -> Result<Text, NoMemory>
     requires { HasFieldsInRange code }
-    ensures text { IfOk result (λ text. text ≡ text_of code) }
+    ensures text { IfOk result (λ text. text ≡ code_text_of code) }
 
     // A text is one word of a printed line.
     ensures word { IfOk result IsWord }
@@ -58,7 +58,7 @@ pub fn code_text(alloc: Global, code: Code) -> Result<Text, NoMemory>
 // The text of an error code, as a string.
 fn code_string(alloc: Global, code: Code) -> Result<String, AllocError>
     requires { HasFieldsInRange code }
-    ensures { IfOk result (λ text. string_bytes text ≡ text_of code) }
+    ensures { IfOk result (λ text. string_bytes text ≡ code_text_of code) }
 {
     match code {
         Code::NoError => String::from_str(alloc, "none"),
@@ -103,7 +103,7 @@ fn code_string(alloc: Global, code: Code) -> Result<String, AllocError>
 
 // The text of a memory controller code, whose channel 15 is one that isn't told.
 fn memory_text(alloc: Global, mmm: u8, channel: u8, filter: bool) -> Result<String, AllocError>
-    ensures { IfOk result (λ text. string_bytes text ≡ text_of (Code.Memory mmm channel filter)) }
+    ensures { IfOk result (λ text. string_bytes text ≡ code_text_of (Code.Memory mmm channel filter)) }
 {
     let memory = words::memory(mmm);
     if channel == 15 {
@@ -116,7 +116,7 @@ fn memory_text(alloc: Global, mmm: u8, channel: u8, filter: bool) -> Result<Stri
 // The text of a cache hierarchy code.
 fn cache_text(alloc: Global, rrrr: u8, tt: u8, ll: u8, filter: bool) -> Result<String, AllocError>
     requires { HasFieldsInRange (Code.Cache rrrr tt ll filter) }
-    ensures { IfOk result (λ text. string_bytes text ≡ text_of (Code.Cache rrrr tt ll filter)) }
+    ensures { IfOk result (λ text. string_bytes text ≡ code_text_of (Code.Cache rrrr tt ll filter)) }
 {
     let words = [
         words::transaction(tt),
@@ -137,7 +137,7 @@ fn bus_text(
     filter: bool,
 ) -> Result<String, AllocError>
     requires { HasFieldsInRange (Code.Bus pp t rrrr ii ll filter) }
-    ensures { IfOk result (λ text. string_bytes text ≡ text_of (Code.Bus pp t rrrr ii ll filter)) }
+    ensures { IfOk result (λ text. string_bytes text ≡ code_text_of (Code.Bus pp t rrrr ii ll filter)) }
 {
     let words = [
         words::level(ll),

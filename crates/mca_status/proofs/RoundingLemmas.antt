@@ -7,7 +7,7 @@ use Rattle.mca_status.specs.Address.{rounded_address}
 
 -- the mask clears the bits below
 pub masked : (address least : ℕ) → address < 2 ^ 64 → least ≤ 64 → bit_and address ((2 ^ 64 - 1) * 2 ^ least % 2 ^ 64) ≡ rounded_address address least
-masked address least fits within = ap (λ mask. bit_and address mask) (ones_shl 64 least within) ∙ and_high_mask 64 least within address fits
+masked address least fits_class within = ap (λ mask. bit_and address mask) (ones_shl 64 least within) ∙ and_high_mask 64 least within address fits_class
 
 pub rounded-near : (address least : ℕ) → address < rounded_address address least + 2 ^ least
 rounded-near address least = omega (arith, shr_split address least, mod_below address (2 ^ least) (pow_pos least))

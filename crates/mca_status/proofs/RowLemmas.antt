@@ -5,13 +5,13 @@ use Rattle.std.specs.Option.{option_and_then}
 use Rattle.std.specs.Bool.{IsFalse}
 use Rattle.mca_status.specs.Registers.{AgreeApartFrom, recovers_in_software}
 use Rattle.ras_base.specs.Bits.{is_set}
-use Rattle.mca_status.specs.Classes.{Row, row, meets, class_in, class_rows, ClassIgnores}
+use Rattle.mca_status.specs.Classes.{ClassRow, row, meets, class_in, class_rows, ClassIgnores}
 use Rattle.mca_status.specs.declared.registers.Cap.{Cap}
 use Rattle.mca_status.specs.declared.registers.Status.{Status}
 use Rattle.mca_status.specs.declared.classes.Class.{Class}
 
 -- whether a row fits seven bits
-abbrev pub fits_bits : Bool → Bool → Bool → Bool → Bool → Bool → Bool → Row → Bool
+abbrev pub fits_bits : Bool → Bool → Bool → Bool → Bool → Bool → Bool → ClassRow → Bool
 fits_bits v u p r s e a (row val uc pcc ser s' en ar class) =
     meets val v && meets uc u && meets pcc p && meets ser r && meets s' s && meets en e && meets ar a
 

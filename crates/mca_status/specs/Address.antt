@@ -25,9 +25,9 @@ usable_address_of cap status address misc =
     if has_usable_address cap status misc then Some (rounded_address address (least_bit misc)) else None
 
 -- the number of the page of 4,096 bytes that an address lies in
-abbrev pub page_of : ℕ → ℕ
-page_of address = address / 4096
+abbrev pub page_of_address : ℕ → ℕ
+page_of_address address = address / 4096
 
 -- the usable page, if there is one
 abbrev pub usable_page_of : Cap → Status → ℕ → Misc → Option ℕ
-usable_page_of cap status address misc = option_map page_of (usable_address_of cap status address misc)
+usable_page_of cap status address misc = option_map page_of_address (usable_address_of cap status address misc)

@@ -26,11 +26,11 @@ meets is0 bit = not bit
 meets is1 bit = bit
 
 -- a row: what it asks of VAL, UC, PCC, MCG_SER_P, S, EN and AR, and the class it gives
-pub data Row : Type 0 where
-  row : Asked → Asked → Asked → Asked → Asked → Asked → Asked → Option Class → Row
+pub data ClassRow : Type 0 where
+  row : Asked → Asked → Asked → Asked → Asked → Asked → Asked → Option Class → ClassRow
 
 -- the table; the first row that fits gives the class
-abbrev pub class_rows : List Row
+abbrev pub class_rows : List ClassRow
 class_rows =
     --  VAL UC  PCC SER S   EN  AR
     row is0 any any any any any any None
@@ -45,19 +45,19 @@ class_rows =
     ∷ []
 
 -- whether a row fits the registers
-abbrev pub fits : Cap → Status → Row → Bool
-fits cap status (row val uc pcc ser s en ar class) =
+abbrev pub fits_class : Cap → Status → ClassRow → Bool
+fits_class cap status (row val uc pcc ser s en ar class) =
     meets val (valid status) && meets uc (uncorrected status) && meets pcc (context_corrupt status)
     && meets ser (recovers_in_software cap) && meets s (signaled status) && meets en (enabled status)
     && meets ar (action_required status)
 
 -- the class that a row gives
-abbrev pub class_in : Row → Option Class
+abbrev pub class_in : ClassRow → Option Class
 class_in (row val uc pcc ser s en ar class) = class
 
 -- the class of the registers: that of the first row that fits
 abbrev pub class_of_rows : Cap → Status → Option Class
-class_of_rows cap status = option_and_then class_in (find (fits cap status) class_rows)
+class_of_rows cap status = option_and_then class_in (find (fits_class cap status) class_rows)
 
 -- the class stays the same whatever a status has at these places
 abbrev pub ClassIgnores : List ℕ → Cap → Status → Type 0

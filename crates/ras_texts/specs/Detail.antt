@@ -4,7 +4,7 @@ use Rattle.mca_codes.specs.declared.marks.Mark.{Mark}
 use Rattle.mca_codes.specs.declared.marks.Mark.TheVariants as marks
 use Rattle.mca_codes.specs.Codes.{code_of_rows}
 use Rattle.mca_codes.specs.Marks.{mark_of_number}
-use Rattle.mca_codes.specs.Texts.{text_of as code_text}
+use Rattle.mca_codes.specs.Texts.{code_text_of as code_text}
 use Rattle.mca_status.specs.declared.registers.Cap.{Cap}
 use Rattle.mca_status.specs.declared.registers.GlobalStatus.{GlobalStatus}
 use Rattle.mca_status.specs.declared.registers.Status.{Status}
