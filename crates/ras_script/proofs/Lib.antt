@@ -4,3 +4,6 @@ pub mod LineAndWordLemmas
 pub mod LineRangeLemmas
 pub mod WrittenNumberLemmas
 pub mod LineTextLemmas
+pub mod WindowLemmas
+pub mod LinesLemmas
+pub mod ReaderLemmas

@@ -8,7 +8,7 @@ use Rattle.ras_script.specs.Splitting.{lines_of, words_of, without_empty_last}
 use Rattle.ras_script.specs.SplittingLaws.{Lacks, IsWord, script_of, with_last_line_feed}
 use Rattle.ras_script.proofs.SplittingLemmas.{part_first, last_line}
 
-some_part : {X : Type 0} (p : X → Bool) (xs : List X) → 0 < length (slice_split p xs)
+pub some_part : {X : Type 0} (p : X → Bool) (xs : List X) → 0 < length (slice_split p xs)
 some_part p xs = omega (arith, length-slice_split p xs)
 
 -- a byte in front of the first line
@@ -28,7 +28,7 @@ lines_cons : (b : ℕ) (script : List ℕ) (t : Bool) → (b == 10) ≡ t → li
 lines_cons b script true h = rw h (part_first [] (slice_split (λ c. c == 10) script) (some_part (λ c. c == 10) script))
 lines_cons b script false h = rw h refl
 
-some_line : (b : ℕ) (script : List ℕ) (t : Bool) → (b == 10) ≡ t → 0 < length (lines_of (b ∷ script))
+pub some_line : (b : ℕ) (script : List ℕ) (t : Bool) → (b == 10) ≡ t → 0 < length (lines_of (b ∷ script))
 some_line b script true h = omega (arith, ap length (lines_cons b script true h))
 some_line b script false h = omega (arith, ap length (lines_cons b script false h), front_some b (slice_split (λ c. c == 10) script))
 
@@ -109,14 +109,14 @@ split_step : (b byte : ℕ) (left right : List ℕ) (t : Bool) → (b == byte) �
 split_step b byte left right true h rest = rw h (ap (λ parts. [] ∷ parts) rest)
 split_step b byte left right false h rest = rw h (ap (onto_first b) rest ∙ onto_append b (slice_split (λ c. c == byte) left) (slice_split (λ c. c == byte) right) (some_part (λ c. c == byte) left))
 
-split_between : (byte : ℕ) (left right : List ℕ) → slice_split (λ b. b == byte) (left ++ byte ∷ right) ≡ slice_split (λ b. b == byte) left ++ slice_split (λ b. b == byte) right
+pub split_between : (byte : ℕ) (left right : List ℕ) → slice_split (λ b. b == byte) (left ++ byte ∷ right) ≡ slice_split (λ b. b == byte) left ++ slice_split (λ b. b == byte) right
 split_between byte [] right = let same : (byte == byte) ≡ true = grind (arith, nat_tests) in rw same refl
 split_between byte (b ∷ left) right = split_step b byte left right (b == byte) refl (split_between byte left right)
 
 pub words_separated : (left right : List ℕ) → words_of (left ++ 32 ∷ right) ≡ words_of left ++ words_of right
 words_separated left right = ap (filter (λ word. nat_lt 0 (length word))) (split_between 32 left right) ∙ filter-append (λ word. nat_lt 0 (length word)) (slice_split (λ b. b == 32) left) (slice_split (λ b. b == 32) right)
 
-split_lacking : (byte : ℕ) (text : List ℕ) → Lacks byte text → slice_split (λ b. b == byte) text ≡ text ∷ []
+pub split_lacking : (byte : ℕ) (text : List ℕ) → Lacks byte text → slice_split (λ b. b == byte) text ≡ text ∷ []
 split_lacking byte [] h = refl
 split_lacking byte (b ∷ text) h =
     let other : (b == byte) ≡ false = grind (arith, nat_tests, h.0) in

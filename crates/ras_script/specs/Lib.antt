@@ -3,3 +3,7 @@ pub mod Splitting
 pub mod Line
 pub mod SplittingLaws
 pub mod LineLaws
+pub mod Lines
+pub mod Reader
+pub mod ReaderSteps
+pub mod Window

@@ -3,7 +3,9 @@
 
 mod line;
 mod number;
+mod reader;
 mod splitting;
+mod window;
 
 pub use line::{
     LAST_CHANNEL, LONGEST_PERIOD, Line, LineRefused, MOST_CAPACITY, numbers_are_in_range,
@@ -12,4 +14,5 @@ pub use line::{
 pub use number::{
     DECIMAL_DIGITS, HEXADECIMAL_DIGITS, decimal, hexadecimal, written_numbers_are_read,
 };
+pub use reader::{LONGEST_LINE, LONGEST_SCRIPT, LineReader, NextRefused};
 pub use splitting::{first_line, lines_are_the_script, spaces_separate_words, words};

@@ -1,0 +1,65 @@
+-- What a reader of lines holds of its source's bytes, and what it gives.
+use Rattle.std.specs.Prelude.{◌≡◌, ℕ, ◌+◌, ◌-◌, ◌≤◌, ◌⊎◌, Bool, true, false, List, [], ◌∷◌, ◌++◌, length, Option, None, Some, Result, Ok, Err, IfSome, IsSomeAnd}
+use Rattle.board_core.specs.Cause.{Rose}
+use Rattle.ras_script.specs.declared.reader.TheConstants.{LONGEST_SCRIPT, LONGEST_LINE}
+use Rattle.ras_script.specs.declared.reader.NextRefused.{NextRefused}
+use Rattle.ras_script.specs.declared.reader.NextRefused.TheVariants.{Source, LineTooLong, TooLong}
+use Rattle.ras_script.specs.SplittingLaws.{Lacks}
+use Rattle.ras_script.specs.Lines.{Lines, lines_within, with_line, no_line, script_ended, line_too_long, script_too_long}
+
+-- the line that a reader gave last, the bytes that it took and hasn't given, and how many it took
+pub record Reader : Type 0 where
+  pub line : List ℕ
+  pub held : List ℕ
+  pub taken : ℕ
+
+-- a line has no line feed, and no more bytes than a line may have
+abbrev pub IsLine : List ℕ → Type 0
+IsLine line = Lacks 10 line × (length line ≤ LONGEST_LINE)
+
+-- how many bytes it has given: its lines, with their line feeds
+abbrev pub given_count : Reader → ℕ
+given_count reader = reader.taken - length reader.held
+
+-- the lines that are to come, where the source has these bytes left
+abbrev pub lines_to_come : Reader → List ℕ → Lines
+lines_to_come reader left = lines_within (LONGEST_SCRIPT - given_count reader) (reader.held ++ left)
+
+-- What a call gives of the lines to come. A source that fails takes none of them away.
+abbrev pub GivesNext : Result Bool NextRefused → Lines → Reader → List ℕ → Type 0
+GivesNext (Ok true) lines reader left = lines ≡ with_line reader.line (lines_to_come reader left)
+GivesNext (Ok false) lines reader left = lines ≡ no_line script_ended
+GivesNext (Err LineTooLong) lines reader left = lines ≡ no_line line_too_long
+GivesNext (Err TooLong) lines reader left = lines ≡ no_line script_too_long
+GivesNext (Err Source) lines reader left = lines ≡ lines_to_come reader left
+
+-- These bytes were taken from a source, the next ones where it tells.
+abbrev pub AreTaken : List ℕ → Option (List ℕ) → Option (List ℕ) → Type 0
+AreTaken bytes None now = now ≡ None
+AreTaken bytes (Some left) now = IsSomeAnd now (λ rest. left ≡ bytes ++ rest)
+
+-- A reader gave these bytes, of those that it held and those that it took besides. The rest of both
+-- it holds.
+pub record Moves (given : List ℕ) (old new : Reader) (before now : Option (List ℕ)) : Type 0 where
+  pub bytes : List ℕ
+  pub taken : AreTaken bytes before now
+  pub kept : old.held ++ bytes ≡ given ++ new.held
+  pub count : new.taken ≡ old.taken + length bytes
+
+-- A reader and its source have nothing left, where the source tells.
+abbrev pub IsAtEnd : Reader → Option (List ℕ) → Type 0
+IsAtEnd reader left = (reader.held ≡ []) × IfSome left (λ rest. rest ≡ [])
+
+-- What a call gave: a line with its line feed, or the last line, after which nothing is left; else
+-- nothing.
+abbrev pub MovesLine : Result Bool NextRefused → Reader → Reader → Option (List ℕ) → Option (List ℕ) → Type 0
+MovesLine (Ok true) old new before now =
+    Moves (new.line ++ 10 ∷ []) old new before now
+    ⊎ (Moves new.line old new before now × IsAtEnd new now)
+MovesLine (Ok false) old new before now = Moves [] old new before now × IsAtEnd new now
+MovesLine (Err refused) old new before now = Moves [] old new before now
+
+-- A reading fails only where the source's count of faults rose, and else leaves it.
+abbrev pub HasSourceCause : {T : Type 0} → Result T NextRefused → ℕ → ℕ → Type 0
+HasSourceCause (Err Source) before now = (before ≤ now) × Rose before now
+HasSourceCause result before now = now ≡ before

@@ -1,0 +1,218 @@
+//! The lines of a script, from a source that gives its bytes in pieces.
+
+ghost use Rattle.std.specs.Prelude.{◌≡◌, ◌+◌, ◌<◌, ◌≤◌, ◌↔◌, true, [], length, take, drop, IfOk, IfErr, IfSome, OnErr, OnOk, Ok, Err, IsTrue, MatchOption, Contains};
+ghost use Rattle.board_core.specs.Cause.{HasCause};
+ghost use Rattle.ras_script.specs.Reader.{GivesNext, MovesLine, Moves, HasSourceCause, IsLine, lines_to_come, given_count};
+ghost use Rattle.ras_script.specs.ReaderSteps.{FeedAt, Finds, IsHeld};
+ghost use Rattle.ras_script.specs.SplittingLaws.{Lacks};
+ghost use Rattle.ras_script.specs.declared.reader.NextRefused.TheVariants as RefusedFor;
+
+use crate::window::Window;
+use board_core::{Failed, Source};
+use ras_base::NoMemory;
+use std::alloc::Global;
+use std::marker::Model;
+use thiserror::Error;
+
+/// The most bytes that a script may have.
+pub const LONGEST_SCRIPT: usize = 67_108_864;
+
+/// The most bytes that a line may have, without its line feed.
+pub const LONGEST_LINE: usize = 40_000;
+
+/// Why a script has no next line.
+#[derive(Clone, Copy, Debug, Error, PartialEq, Eq)]
+pub enum NextRefused {
+    /// The source failed.
+    #[error("the source failed")]
+    Source,
+    /// The line has more than `LONGEST_LINE` bytes.
+    #[error("the line has more than 40,000 bytes")]
+    LineTooLong,
+    /// The script has more than `LONGEST_SCRIPT` bytes, and the first too many is one of the
+    /// line's.
+    #[error("the script has more than 67,108,864 bytes")]
+    TooLong,
+}
+
+impl From<Failed> for NextRefused {
+    ghost from_gives = { λ _ e. e ≡ RefusedFor.Source };
+
+    fn from(_: Failed) -> Self {
+        NextRefused::Source
+    }
+}
+
+/// A reader of the lines of a script, which holds at most a line and a byte of the bytes that it
+/// took of its source.
+#[derive(Drop)]
+pub struct LineReader {
+    window: Window,
+    taken: usize,
+}
+
+impl Model for LineReader {
+    ghost use Rattle.std.specs.Prelude.{ℕ, ◌+◌, ◌≤◌, length};
+    ghost use Rattle.ras_script.specs.Reader.{Reader};
+
+    ghost Value = { Reader };
+
+    ghost use Rattle.ras_script.specs.Window.{line_in, held_in};
+    ghost use Rattle.ras_script.specs.declared.reader.TheConstants.{LONGEST_SCRIPT};
+
+    ghost view = { λ r. record { line = line_in r.window; held = held_in r.window; taken = r.taken } };
+
+    ghost invariant = { λ r. (length (held_in r.window) ≤ r.taken)
+        × (r.taken ≤ LONGEST_SCRIPT + 1)
+        × (r.taken ≤ LONGEST_SCRIPT + length (held_in r.window)) };
+}
+
+impl LineReader {
+    /// A reader that has taken no byte. It takes all its memory here: a line and a byte.
+    ///
+    /// # Errors
+    ///
+    /// `NoMemory` comes for want of memory alone.
+    pub fn new(alloc: Global) -> Result<LineReader, NoMemory>
+        ensures { IfOk result (λ reader. reader ≡ record { line = []; held = []; taken = 0 }) }
+    {
+        let window = Window::new(alloc)?;
+        Ok(LineReader { window, taken: 0 })
+    }
+
+    /// The line that `advance` gave last, without its line feed.
+    pub fn line(&self) -> &[u8]
+        ensures { result.now ≡ self.now.line }
+    {
+        self.window.line()
+    }
+
+    /// Goes to the next line, which `line` then gives, and answers whether there was one. It reads
+    /// only while it holds no line feed, and takes no memory.
+    ///
+    /// # Errors
+    ///
+    /// `Source` where the source failed: no byte is lost. `LineTooLong` where the next line has
+    /// more than `LONGEST_LINE` bytes, and `TooLong` where one of its bytes, or its line feed, is
+    /// past `LONGEST_SCRIPT`, of which no more than one is read. Both stay what they are.
+    pub fn advance<S: Source>(&mut self, source: &mut S) -> Result<bool, NextRefused>
+        ensures lines { IfSome (S.left source.old) (λ before. IfSome (S.left source.new) (λ now.
+            GivesNext result (lines_to_come self.old before) self.new now)) }
+        ensures moves { MovesLine result self.old self.new (S.left source.old) (S.left source.new) }
+        ensures line { result ≡ Ok true → IsLine self.new.line }
+        ensures ahead { length self.new.held ≤ LONGEST_LINE + 1 }
+        ensures few { self.new.taken ≤ LONGEST_SCRIPT + 1 }
+        ensures held_first { Contains self.old.held 10 → source.new ≡ source.old }
+        ensures cause { HasSourceCause result (S.faults source.old) (S.faults source.new) }
+        ensures fault { result ≡ Err NextRefused.Source → Lacks 10 self.new.held }
+    {
+        match self.find_line(source)? {
+            Some(size) => self.give_line(size),
+            None => Ok(self.give_rest()),
+        }
+    }
+
+    // Reads until a line feed is held, and tells its place. There is none at the script's end.
+    fn find_line<S: Source>(&mut self, source: &mut S) -> Result<Option<usize>, NextRefused>
+        ensures finds { Finds result self.new (S.left source.new) }
+        ensures moves { Moves [] self.old self.new (S.left source.old) (S.left source.new) }
+        ensures holds { IsHeld self.new }
+        ensures held_first { Contains self.old.held 10 → source.new ≡ source.old }
+        ensures cause { HasSourceCause result (S.faults source.old) (S.faults source.new) }
+    {
+        let mut from = 0;
+        loop {
+            if let Some(place) = self.first_line_feed(from) {
+                return Ok(Some(place));
+            }
+            from = self.held_len();
+            if from > LONGEST_LINE {
+                return Err(NextRefused::LineTooLong);
+            }
+            if self.taken_len() > LONGEST_SCRIPT {
+                return Err(NextRefused::TooLong);
+            }
+            if self.read_more(source)? == 0 {
+                return Ok(None);
+            }
+        }
+    }
+
+    // How many bytes were taken of the source.
+    fn taken_len(&self) -> usize
+        ensures { result ≡ self.now.taken }
+    {
+        self.taken
+    }
+
+    // How many bytes are held.
+    fn held_len(&self) -> usize
+        ensures value { result ≡ length self.now.held }
+        ensures holds { IsHeld self.now }
+    {
+        self.window.held_len()
+    }
+
+    // The place of the first line feed among the bytes held, of which the first ones hold none.
+    fn first_line_feed(&self, from: usize) -> Option<usize>
+        requires inside { from ≤ length self.now.held }
+        requires before { Lacks 10 (take from self.now.held) }
+        ensures finds { MatchOption result (Lacks 10 self.now.held)
+            (λ place. FeedAt place self.now.held) }
+        ensures holds { IsHeld self.now }
+    {
+        self.window.first_line_feed(from)
+    }
+
+    // Reads after the bytes held, of which there are fewer than the buffer has room for.
+    fn read_more<S: Source>(&mut self, source: &mut S) -> Result<usize, Failed>
+        requires room { length self.old.held ≤ LONGEST_LINE }
+        requires few { self.old.taken ≤ LONGEST_SCRIPT }
+        ensures moves { Moves [] self.old self.new (S.left source.old) (S.left source.new) }
+        ensures count { IfOk result (λ n. self.new.taken ≡ self.old.taken + n) }
+        ensures end { IfOk result (λ n. n ≡ 0 → IfSome (S.left source.old) (λ left. left ≡ [])) }
+        ensures failed { OnErr result (self.new.taken ≡ self.old.taken) }
+        ensures holds { IsHeld self.new }
+        ensures cause { HasCause (S.faults source.old) (S.faults source.new) result }
+    {
+        self.window.move_to_front();
+        let room = LONGEST_LINE + 1 - self.window.held_len();
+        let most = room.min(LONGEST_SCRIPT + 1 - self.taken);
+        let count = self.window.read_from(source, most)?;
+        self.taken += count;
+        Ok(count)
+    }
+
+    // Gives the bytes held before a line feed, unless this stands past the script's most bytes.
+    fn give_line(&mut self, size: usize) -> Result<bool, NextRefused>
+        requires { FeedAt size self.old.held }
+        ensures some { IfOk result (λ more. more ≡ true) }
+        ensures line { OnOk result (self.new.line ≡ take size self.old.held) }
+        ensures held { OnOk result (self.new.held ≡ drop (size + 1) self.old.held) }
+        ensures taken { self.new.taken ≡ self.old.taken }
+        ensures within { OnOk result (given_count self.old + size < LONGEST_SCRIPT) }
+        ensures past { OnErr result (LONGEST_SCRIPT ≤ given_count self.old + size) }
+        ensures refused { IfErr result (λ refused. refused ≡ RefusedFor.TooLong) }
+        ensures kept { OnErr result (self.new.held ≡ self.old.held) }
+    {
+        let given = self.taken - self.window.held_len();
+        if given + size >= LONGEST_SCRIPT {
+            return Err(NextRefused::TooLong);
+        }
+        self.window.give(size, 1);
+        Ok(true)
+    }
+
+    // Gives all bytes held as the last line, if there are any.
+    fn give_rest(&mut self) -> bool
+        requires { self.old.taken ≤ LONGEST_SCRIPT }
+        ensures some { IsTrue result ↔ (0 < length self.old.held) }
+        ensures line { self.new.line ≡ self.old.held }
+        ensures held { self.new.held ≡ [] }
+        ensures taken { self.new.taken ≡ self.old.taken }
+    {
+        let held = self.window.held_len();
+        self.window.give(held, 0);
+        held > 0
+    }
+}
