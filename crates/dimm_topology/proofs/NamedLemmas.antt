@@ -6,12 +6,12 @@ use Rattle.std.specs.Cmp.Lexicographic.{nat_list_eq_equiv}
 use Rattle.std.specs.List.{list_all}
 use Rattle.std.specs.Option.{option_and_then, option_or, option_copied}
 use denote.Ref.{Bor}
-use Rattle.mca_codes.specs.declared.codes.Code.{Code}
 use Rattle.dimm_topology.specs.Labels.{Bytes}
+use Rattle.dimm_topology.specs.declared.row.Location.{Location}
 use Rattle.dimm_topology.specs.declared.row.Row.{Row}
 use Rattle.dimm_topology.specs.declared.row.Row.TheVariants.{Cpu, Module, Range, Place}
 use Rattle.dimm_topology.specs.Rows.{labels_in, names_module, is_module_label, is_at, holds}
-use Rattle.dimm_topology.specs.Owners.{the_one, owner_by_rows, owner_of_address, owner_of_code, owner_of_channel, channel_of, socket_by_rows}
+use Rattle.dimm_topology.specs.Owners.{the_one, owner_by_rows, owner_of_address, owner_at}
 use Rattle.dimm_topology.specs.Topology.{IsTopology}
 
 -- the labels of rows that pass a test are those of module rows
@@ -36,9 +36,10 @@ fitting : (rows : List Row) (test : Row → Bool) → IsTopology rows → IfSome
 fitting rows test topology = one_passes (is_module_label rows) (labels_in (filter test rows)) (fits_named rows rows test (λ label held. held) topology.named)
 
 -- an owner is the label of a module row
-pub owner_named : (rows : List Row) (cpu bank : ℕ) (code : Code) (address : Option ℕ) → IsTopology rows
-    → IfSome (owner_by_rows rows cpu bank code address) (λ label. IsTrue (is_module_label rows label))
-owner_named rows cpu bank code address topology = either (option_and_then (owner_of_address rows) address) (owner_of_code rows cpu bank code) (over address) (at (channel_of code) (socket_by_rows rows cpu))
+pub owner_named : (rows : List Row) (address : Option ℕ) (location : Option Location) → IsTopology rows
+    → IfSome (owner_by_rows rows address location) (λ label. IsTrue (is_module_label rows label))
+owner_named rows address location topology =
+    either (option_and_then (owner_of_address rows) address) (option_and_then (owner_at rows) location) (over address) (at location)
   where
     P : Bytes → Type 0
     P label = IsTrue (is_module_label rows label)
@@ -51,10 +52,9 @@ owner_named rows cpu bank code address topology = either (option_and_then (owner
     over None = tt
     over (Some a) = fitting rows (holds a) topology
 
-    at : (channel socket : Option ℕ) → IfSome (option_and_then (λ c. option_and_then (λ s. owner_of_channel rows s bank c) socket) channel) P
-    at None socket = tt
-    at (Some c) None = tt
-    at (Some c) (Some s) = fitting rows (is_at s bank c) topology
+    at : (location : Option Location) → IfSome (option_and_then (owner_at rows) location) P
+    at None = tt
+    at (Some l) = fitting rows (is_at l) topology
 
 -- of what is behind a reference
 pub copied : (P : Bytes → Type 0) (result : Option (Bor Bytes)) (owner : Option Bytes) → option_copied result ≡ owner → IfSome owner P → IfSome result (λ label. P label.now)

@@ -6,10 +6,11 @@ use Rattle.std.specs.List.{list_any, list_all, find, slice_get}
 use Rattle.std.specs.Option.{option_and_then}
 use Rattle.std.specs.Cmp.Lexicographic.{nat_list_eq_equiv}
 use Rattle.dimm_topology.specs.Labels.{Bytes, same_label}
+use Rattle.dimm_topology.specs.declared.row.Location.{Location}
 use Rattle.dimm_topology.specs.declared.row.Row.{Row}
 use Rattle.dimm_topology.specs.declared.row.Row.TheVariants.{Cpu, Module, Range, Place}
-use Rattle.dimm_topology.specs.Rows.{label_in, labels_in, is_at, holds, overlap, is_module_of}
-use Rattle.dimm_topology.specs.Owners.{the_one, owner_of_address, owner_of_channel}
+use Rattle.dimm_topology.specs.Rows.{label_in, labels_in, is_at, names, holds, overlap}
+use Rattle.dimm_topology.specs.Owners.{the_one, owner_of_address, owner_at}
 use Rattle.dimm_topology.specs.Topology.{IsApart}
 
 -- the items as they are
@@ -56,36 +57,36 @@ pub address_owner : (address : ℕ) (rows : List Row) → IsApart rows → owner
 address_owner address rows apart =
     the_one_of_one (filter (holds address) rows) (one_over address rows apart) ∙ ap (option_and_then label_in) (sym (find_filter (holds address) rows))
 
--- of the module rows of a socket, bank and channel, the labels are the same as one where each row is of it
-same_at : (label : Bytes) (socket bank channel : ℕ) (rows : List Row)
-    → list_all (is_module_of label) (filter (is_at socket bank channel) rows) ≡ list_all (same_label label) (labels_in (filter (is_at socket bank channel) rows))
-same_at label socket bank channel [] = refl
-same_at label socket bank channel (Cpu cpu socket' ∷ rows) = same_at label socket bank channel rows
-same_at label socket bank channel (Range label' first last ∷ rows) = same_at label socket bank channel rows
-same_at label socket bank channel (Place label' node card module' ∷ rows) = same_at label socket bank channel rows
-same_at label socket bank channel (Module label' socket' bank' channel' ∷ rows) = grind (arith, common_steps, same_at label socket bank channel rows)
+-- of the rows of a location, the labels are the same as one where each row names it
+same_at : (label : Bytes) (location : Location) (rows : List Row)
+    → list_all (names label) (filter (is_at location) rows) ≡ list_all (same_label label) (labels_in (filter (is_at location) rows))
+same_at label location [] = refl
+same_at label location (Cpu cpu socket' ∷ rows) = same_at label location rows
+same_at label location (Range label' first last ∷ rows) = same_at label location rows
+same_at label location (Place label' node card module' ∷ rows) = grind (arith, common_steps, same_at label location rows)
+same_at label location (Module label' socket' bank' channel' ∷ rows) = grind (arith, common_steps, same_at label location rows)
 
--- the first label of the module rows of a socket, bank and channel
-pub first_at : (socket bank channel : ℕ) (rows : List Row)
-    → slice_get (labels_in (filter (is_at socket bank channel) rows)) 0 ≡ option_and_then label_in (find (is_at socket bank channel) rows)
-first_at socket bank channel [] = refl
-first_at socket bank channel (Cpu cpu socket' ∷ rows) = first_at socket bank channel rows
-first_at socket bank channel (Range label' first last ∷ rows) = first_at socket bank channel rows
-first_at socket bank channel (Place label' node card module' ∷ rows) = first_at socket bank channel rows
-first_at socket bank channel (Module label' socket' bank' channel' ∷ rows) = grind (arith, common_steps, first_at socket bank channel rows)
+-- the first label of the rows of a location
+pub first_at : (location : Location) (rows : List Row)
+    → slice_get (labels_in (filter (is_at location) rows)) 0 ≡ option_and_then label_in (find (is_at location) rows)
+first_at location [] = refl
+first_at location (Cpu cpu socket' ∷ rows) = first_at location rows
+first_at location (Range label' first last ∷ rows) = first_at location rows
+first_at location (Place label' node card module' ∷ rows) = grind (arith, common_steps, first_at location rows)
+first_at location (Module label' socket' bank' channel' ∷ rows) = grind (arith, common_steps, first_at location rows)
 
--- no owner where no module row fits
-pub none_at : (socket bank channel : ℕ) (rows : List Row) → slice_get (labels_in (filter (is_at socket bank channel) rows)) 0 ≡ None → owner_of_channel rows socket bank channel ≡ None
-none_at socket bank channel rows = by (labels_in (filter (is_at socket bank channel) rows))
+-- no owner where no row fits
+pub none_at : (location : Location) (rows : List Row) → slice_get (labels_in (filter (is_at location) rows)) 0 ≡ None → owner_at rows location ≡ None
+none_at location rows = by (labels_in (filter (is_at location) rows))
   where
     by : (labels : List Bytes) → slice_get labels 0 ≡ None → the_one labels ≡ None
     by [] e = refl
     by (label ∷ labels) e = cc
 
 -- the owner is the first label, where all rows that fit name it
-pub one_at : (label : Bytes) (socket bank channel : ℕ) (rows : List Row) → Some label ≡ slice_get (labels_in (filter (is_at socket bank channel) rows)) 0
-    → owner_of_channel rows socket bank channel ≡ (if list_all (is_module_of label) (filter (is_at socket bank channel) rows) then Some label else None)
-one_at label socket bank channel rows e = rw (same_at label socket bank channel rows) (by (labels_in (filter (is_at socket bank channel) rows)) e)
+pub one_at : (label : Bytes) (location : Location) (rows : List Row) → Some label ≡ slice_get (labels_in (filter (is_at location) rows)) 0
+    → owner_at rows location ≡ (if list_all (names label) (filter (is_at location) rows) then Some label else None)
+one_at label location rows e = rw (same_at label location rows) (by (labels_in (filter (is_at location) rows)) e)
   where
     by : (labels : List Bytes) → Some label ≡ slice_get labels 0 → the_one labels ≡ (if list_all (same_label label) labels then Some label else None)
     by [] e = cc

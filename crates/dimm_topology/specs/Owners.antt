@@ -1,11 +1,15 @@
--- Which module an error belongs to, by the rows of a topology.
+-- Which module an error belongs to, by the rows of a topology: one rule for errors in banks and for
+-- those that firmware reports.
 use Rattle.std.specs.Prelude.{ℕ, nat_eq, Option, Some, None, List, [], ◌∷◌, if◌then◌else◌, filter}
 use Rattle.std.specs.List.{list_all, filter_map, last_or}
-use Rattle.std.specs.Option.{option_and_then, option_or}
+use Rattle.std.specs.Option.{option_and_then, option_map, option_or}
 use Rattle.mca_codes.specs.declared.codes.Code.{Code}
 use Rattle.mca_codes.specs.declared.codes.Code.TheVariants.{Memory}
+use Rattle.cper_sections.specs.declared.memory.MemSection.{MemSection}
 use Rattle.dimm_topology.specs.Labels.{Bytes, same_label}
 use Rattle.dimm_topology.specs.Rows.{socket_of, labels_in, is_at, holds}
+use Rattle.dimm_topology.specs.declared.row.Location.{Location}
+use Rattle.dimm_topology.specs.declared.row.Location.TheVariants.{Channel, Numbers}
 use Rattle.dimm_topology.specs.declared.row.Row.{Row}
 
 -- the one label that a list names, maybe several times; none where it names none or different ones
@@ -21,25 +25,31 @@ ranges_over rows address = filter (holds address) rows
 abbrev pub owner_of_address : List Row → ℕ → Option Bytes
 owner_of_address rows address = the_one (labels_in (ranges_over rows address))
 
+-- the one label that the rows of a location name
+abbrev pub owner_at : List Row → Location → Option Bytes
+owner_at rows location = the_one (labels_in (filter (is_at location) rows))
+
+-- the owner of an error: that of its address, else that of its location
+abbrev pub owner_by_rows : List Row → Option ℕ → Option Location → Option Bytes
+owner_by_rows rows address location =
+    option_or (option_and_then (owner_of_address rows) address) (option_and_then (owner_at rows) location)
+
 -- the socket of a CPU: that of its last row
 abbrev pub socket_by_rows : List Row → ℕ → Option ℕ
 socket_by_rows rows cpu = last_or None (filter_map (socket_of cpu) rows)
 
--- the one label that the module rows of a socket, bank and channel name
-abbrev pub owner_of_channel : List Row → ℕ → ℕ → ℕ → Option Bytes
-owner_of_channel rows socket bank channel = the_one (labels_in (filter (is_at socket bank channel) rows))
-
--- the memory channel that a code tells: that of a memory controller error, where it isn't 15
+-- the memory channel that a code names: that of a memory controller error, where it isn't 15
 abbrev pub channel_of : Code → Option ℕ
 channel_of (Memory mmm channel filter) = if nat_eq channel 15 then None else Some channel
 channel_of _ = None
 
--- the owner of an error by the CPU that reports it, the bank, and the channel that its code tells
-abbrev pub owner_of_code : List Row → ℕ → ℕ → Code → Option Bytes
-owner_of_code rows cpu bank code =
-    option_and_then (λ channel. option_and_then (λ socket. owner_of_channel rows socket bank channel) (socket_by_rows rows cpu)) (channel_of code)
+-- the location of an error in a bank, by the CPU that reports it, the bank, and the error's code
+abbrev pub bank_location : List Row → ℕ → ℕ → Code → Option Location
+bank_location rows cpu bank code =
+    option_and_then (λ channel. option_map (λ socket. Channel socket bank channel) (socket_by_rows rows cpu)) (channel_of code)
 
--- the owner of an error in a bank: that of its address, else that of its code
-abbrev pub owner_by_rows : List Row → ℕ → ℕ → Code → Option ℕ → Option Bytes
-owner_by_rows rows cpu bank code address =
-    option_or (option_and_then (owner_of_address rows) address) (owner_of_code rows cpu bank code)
+-- the location that a memory section names: its node, card and module, where all three are there
+abbrev pub section_location : MemSection → Option Location
+section_location section =
+    option_and_then (λ node. option_and_then (λ card. option_map (λ module'. Numbers node card module') section.«module»)
+    section.card) section.node

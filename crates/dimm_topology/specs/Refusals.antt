@@ -2,19 +2,20 @@
 use Rattle.std.specs.Prelude.{ℕ, ◌≡◌, ◌≤◌, nat_le, not, IsTrue, Option, Some, None, Result, Ok, Err, List, length, if◌then◌else◌}
 use Rattle.std.specs.List.{list_any}
 use Rattle.dimm_topology.specs.declared.row.Row.{Row}
+use Rattle.dimm_topology.specs.declared.topology.TheConstants.{MOST_ROWS}
 use Rattle.dimm_topology.specs.declared.topology.TopologyRefused.{TopologyRefused}
 use Rattle.dimm_topology.specs.declared.topology.TopologyRefused.TheVariants.{Label, Overlap, Full, NoMemory}
 use Rattle.dimm_topology.specs.Rows.{names_module, holds, overlap}
-use Rattle.dimm_topology.specs.Topology.{most_rows}
 
 -- why a topology of these rows can't take another, if it can't: the first of these that applies
 abbrev pub refusal_of : List Row → Row → Option TopologyRefused
 refusal_of rows row =
     if not (names_module rows row) then Some Label
     else (if list_any (overlap row) rows then Some Overlap
-    else (if nat_le most_rows (length rows) then Some Full else None))
+    else (if nat_le MOST_ROWS (length rows) then Some Full else None))
 
--- a call answers this refusal where there is one; where there is none, it takes the row or finds no memory
+-- a call answers this refusal where there is one; where there is none, it takes the row or finds no
+-- memory
 abbrev pub Answers : Result (Unit {0}) TopologyRefused → Option TopologyRefused → Type 0
 Answers (Ok done) refusal = refusal ≡ None
 Answers (Err NoMemory) refusal = refusal ≡ None

@@ -1,7 +1,10 @@
 -- The rows of a topology, and what each tells.
 use Rattle.std.specs.Prelude.{ℕ, Bool, true, false, nat_eq, nat_le, ◌&&◌, Option, Some, None, List, if◌then◌else◌}
 use Rattle.std.specs.List.{list_any, filter_map}
+use Rattle.std.specs.Option.{option_map_or}
 use Rattle.dimm_topology.specs.Labels.{Bytes, same_label}
+use Rattle.dimm_topology.specs.declared.row.Location.{Location}
+use Rattle.dimm_topology.specs.declared.row.Location.TheVariants.{Channel, Numbers}
 use Rattle.dimm_topology.specs.declared.row.Row.{Row}
 use Rattle.dimm_topology.specs.declared.row.Row.TheVariants.{Cpu, Module, Range, Place}
 
@@ -21,11 +24,21 @@ label_in (Place label node card module') = Some label
 abbrev pub labels_in : List Row → List Bytes
 labels_in rows = filter_map label_in rows
 
--- whether a row is a module row of a socket, bank and channel
-abbrev pub is_at : ℕ → ℕ → ℕ → Row → Bool
-is_at socket bank channel (Module label socket' bank' channel') =
+-- whether a row says which module is at a location: module rows for memory channels, place rows for
+-- the places that firmware names
+abbrev pub is_at : Location → Row → Bool
+is_at location (Cpu cpu socket) = false
+is_at location (Range label first last) = false
+is_at (Channel socket bank channel) (Module label socket' bank' channel') =
     nat_eq socket socket' && nat_eq bank bank' && nat_eq channel channel'
-is_at socket bank channel _ = false
+is_at (Channel socket bank channel) (Place label node card module') = false
+is_at (Numbers node card module') (Module label socket bank channel) = false
+is_at (Numbers node card module') (Place label node' card' module'') =
+    nat_eq node node' && nat_eq card card' && nat_eq module' module''
+
+-- whether a row names this label
+abbrev pub names : Bytes → Row → Bool
+names label row = option_map_or (same_label label) (label_in row) false
 
 -- whether a row is a range that holds an address; both ends belong to a range
 abbrev pub holds : ℕ → Row → Bool

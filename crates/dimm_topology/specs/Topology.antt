@@ -1,14 +1,11 @@
 -- What holds of the rows of every topology.
-use Rattle.std.specs.Prelude.{ℕ, ◌≤◌, Bool, true, nat_le, IsTrue, ⊤, List, [], ◌∷◌, length}
+use Rattle.std.specs.Prelude.{◌≤◌, Bool, true, nat_le, IsTrue, ⊤, List, [], ◌∷◌, length}
 use Rattle.std.specs.Bool.{IsFalse}
 use Rattle.std.specs.List.{list_any, list_all}
 use Rattle.dimm_topology.specs.declared.row.Row.{Row}
 use Rattle.dimm_topology.specs.declared.row.Row.TheVariants.{Range}
+use Rattle.dimm_topology.specs.declared.topology.TheConstants.{MOST_ROWS}
 use Rattle.dimm_topology.specs.Rows.{names_module, overlap}
-
--- how many rows of all kinds a topology holds at most
-abbrev pub most_rows : ℕ
-most_rows = 4096
 
 -- whether a row that is a range has its first address not behind its last
 abbrev pub is_upright : Row → Bool
@@ -28,4 +25,4 @@ pub record IsTopology (rows : List Row) : Type 0 where
   pub upright : IsTrue (list_all is_upright rows)
   -- each range and each place names a label of a module row
   pub named : IsTrue (list_all (names_module rows) rows)
-  pub small : length rows ≤ most_rows
+  pub small : length rows ≤ MOST_ROWS

@@ -1,8 +1,8 @@
 //! Which memory module an error belongs to, by rows that tell how a machine is built.
 //!
-//! A topology is the list of its rows in the order in which they were added: the sockets of CPUs, the
-//! modules behind the memory channels, ranges of physical addresses, and the places that firmware
-//! names. The owner of an error is a function of that list, which `specs/` defines.
+//! A topology is the list of its rows in the order in which they were added: the sockets of CPUs,
+//! the modules behind the memory channels, ranges of physical addresses, and the places that
+//! firmware names. The owner of an error is a function of that list, which `specs/` defines.
 #![tactic(auto)]
 
 mod label;
@@ -10,6 +10,7 @@ mod row;
 mod topology;
 
 pub use label::{Label, LabelRefused};
+pub use row::{Location, Row};
 pub use topology::{MOST_ROWS, Topology, TopologyRefused};
 
 #[cfg(test)]

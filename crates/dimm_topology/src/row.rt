@@ -1,9 +1,19 @@
-// The rows of a topology.
+//! The rows of a topology.
+
 ghost use Rattle.std.specs.Prelude.{◌≡◌, Option};
 ghost use Rattle.std.specs.Option.{option_copied};
-ghost use Rattle.dimm_topology.specs.Rows.{socket_of, label_in, is_at, holds, is_module_of, overlap};
+ghost use Rattle.dimm_topology.specs.Rows.{socket_of, label_in, is_at, names, holds, is_module_of, overlap};
 
 use crate::Label;
+
+/// Where a report says that an error is, besides its address.
+#[derive(Clone, Copy, Debug, PartialEq, Eq)]
+pub enum Location {
+    /// A memory channel, of a machine-check bank in a socket.
+    Channel { socket: u8, bank: u8, channel: u8 },
+    /// The node, the card and the module number by which firmware reports errors.
+    Numbers { node: u16, card: u16, module: u16 },
+}
 
 /// What a topology holds, as contracts see it.
 #[derive(Debug, Drop)]
@@ -13,7 +23,8 @@ pub enum Row {
         cpu: u16,
         socket: u8,
     },
-    /// A module, and the socket, the machine-check bank and the memory channel by which it is reported.
+    /// A module, and the socket, the machine-check bank and the memory channel by which it is
+    /// reported.
     Module {
         label: Label,
         socket: u8,
@@ -58,18 +69,50 @@ impl Row {
         }
     }
 
-    // Whether this is a module row of this socket, bank and channel.
-    pub(crate) fn is_at(&self, socket: u8, bank: u8, channel: u8) -> bool
-        ensures { result ≡ is_at socket bank channel self.now }
+    // Whether this row says which module is at this location.
+    pub(crate) fn is_at(&self, location: Location) -> bool
+        ensures { result ≡ is_at location self.now }
+    {
+        match (self, location) {
+            (
+                Row::Module {
+                    label: _,
+                    socket,
+                    bank,
+                    channel,
+                },
+                Location::Channel {
+                    socket: s,
+                    bank: b,
+                    channel: c,
+                },
+            ) => (s, b, c) == (*socket, *bank, *channel),
+            (
+                Row::Place {
+                    label: _,
+                    node,
+                    card,
+                    module,
+                },
+                Location::Numbers {
+                    node: n,
+                    card: c,
+                    module: m,
+                },
+            ) => (n, c, m) == (*node, *card, *module),
+            _ => false,
+        }
+    }
+
+    // Whether this row names this label.
+    pub(crate) fn names(&self, label: &Label) -> bool
+        ensures { result ≡ names label.now self.now }
     {
         match self {
-            Row::Module {
-                label: _,
-                socket: s,
-                bank: b,
-                channel: c,
-            } => (*s, *b, *c) == (socket, bank, channel),
-            _ => false,
+            Row::Cpu { .. } => false,
+            Row::Module { label: held, .. }
+            | Row::Range { label: held, .. }
+            | Row::Place { label: held, .. } => label == held,
         }
     }
 

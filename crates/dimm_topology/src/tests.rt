@@ -1,6 +1,7 @@
 //! Labels, and the owners that small topologies tell.
 
 use crate::{Label, LabelRefused, MOST_ROWS, Topology, TopologyRefused};
+use cper_sections::MemSection;
 use mca_codes::code_of;
 use std::alloc::Global;
 
@@ -47,6 +48,31 @@ fn label(alloc: Global, bytes: &[u8]) -> Label {
 // The bytes of an owner, `-` for none.
 fn owner(topology: &Topology, cpu: u16, bank: u8, code: u16, address: Option<u64>) -> &[u8] {
     match topology.owner_of_bank(cpu, bank, code_of(code), address) {
+        Some(label) => label.bytes(),
+        None => b"-",
+    }
+}
+
+// The bytes of the owner of a section with these fields, `-` for none.
+fn section_owner(
+    topology: &Topology,
+    physical: Option<u64>,
+    node: Option<u16>,
+    card: Option<u16>,
+    module: Option<u16>,
+) -> &[u8] {
+    let section = MemSection {
+        physical,
+        mask: None,
+        node,
+        card,
+        module,
+        bank: None,
+        row: None,
+        rank: None,
+        kind: None,
+    };
+    match topology.owner_of_section(&section) {
         Some(label) => label.bytes(),
         None => b"-",
     }
@@ -176,4 +202,37 @@ fn rows_are_bounded(rt: HostRuntime) {
     );
     assert_eq!(rt; owner(&topology, 0, 7, READ, None), b"A".as_slice());
     assert_eq!(rt; owner(&topology, 0, 8, READ, None), b"-".as_slice());
+}
+
+#[test]
+fn ranges_before_places(rt: HostRuntime) {
+    let alloc = rt.alloc();
+    let mut topology = Topology::new(alloc);
+    for bytes in [b"A", b"B", b"C"] {
+        let row = topology.add_module(label(alloc, bytes.as_slice()), 0, 7, 0);
+        assert_eq!(rt; row, Ok(()));
+    }
+    assert_eq!(rt;
+        topology.add_range(label(alloc, b"A"), 0x1000, 0x1fff),
+        Ok(())
+    );
+    for (bytes, module) in [(b"B", 0), (b"B", 1), (b"C", 1)] {
+        let row = topology.add_place(label(alloc, bytes.as_slice()), 0, 2, module);
+        assert_eq!(rt; row, Ok(()));
+    }
+    for (physical, node, card, module, bytes) in [
+        (Some(0x1800), Some(0), Some(2), Some(0), b"A"),
+        (Some(0x2000), Some(0), Some(2), Some(0), b"B"),
+        (None, Some(0), Some(2), Some(0), b"B"),
+        (None, Some(0), Some(2), Some(1), b"-"),
+        (None, Some(0), Some(1), Some(0), b"-"),
+        (None, Some(0), Some(2), None, b"-"),
+        (None, None, Some(2), Some(0), b"-"),
+        (Some(0x2000), None, None, None, b"-"),
+    ] {
+        assert_eq!(rt;
+            section_owner(&topology, physical, node, card, module),
+            bytes.as_slice()
+        );
+    }
 }

@@ -1,26 +1,29 @@
-// The rows of a machine, and the owners that they tell.
+//! The rows of a machine, and the owners of errors by them.
+
 ghost use Rattle.std.specs.Prelude.{◌≡◌, ◌≤◌, ◌↔◌, ℕ, List, [], ◌∷◌, ◌++◌, length, Option, Some, IsTrue, IfSome, IsSome, OnOk, OnErr, filter, slice_get};
 ghost use Rattle.std.specs.List.{list_any, list_all, find};
 ghost use Rattle.std.specs.Option.{option_copied};
 ghost use Rattle.dimm_topology.specs.declared.row.Row.{Row};
-ghost use Rattle.dimm_topology.specs.Rows.{names_module, labels_in, overlap, is_at, holds, is_module_of, is_module_label};
+ghost use Rattle.dimm_topology.specs.Rows.{names_module, labels_in, overlap, is_at, names, holds, is_module_label};
 ghost use Rattle.dimm_topology.specs.Refusals.{refusal_of, Answers, SharesAddress};
-ghost use Rattle.dimm_topology.specs.Owners.{owner_by_rows, owner_of_address, owner_of_channel, owner_of_code, socket_by_rows, channel_of, ranges_over};
+ghost use Rattle.dimm_topology.specs.Owners.{owner_by_rows, owner_of_address, owner_at, socket_by_rows, channel_of, bank_location, section_location, ranges_over};
 ghost use Rattle.dimm_topology.specs.Topology.{is_upright, IsApart, IsTopology};
 
 use crate::Label;
-use crate::row::Row;
+use crate::row::{Location, Row};
+use cper_sections::MemSection;
 use mca_codes::Code;
 use std::alloc::Global;
 use std::marker::Model;
+use thiserror::Error;
 
 /// The most rows of all kinds that a topology holds.
 pub const MOST_ROWS: usize = 4_096;
 
 /// How a machine is built, by rows in the order in which they were added.
 ///
-/// Contracts see the list of the rows. No two ranges overlap, and each range and each place names a label that a module
-/// row has.
+/// Contracts see the list of the rows. No two ranges overlap, and each range and each place names a
+/// label that a module row has.
 #[derive(Debug, Drop)]
 pub struct Topology {
     rows: Vec<Row>,
@@ -39,15 +42,19 @@ impl Model for Topology {
 }
 
 /// Why a topology doesn't take a row. Where several apply, the first of them is answered.
-#[derive(Clone, Copy, Debug, PartialEq, Eq)]
+#[derive(Clone, Copy, Debug, PartialEq, Eq, Error)]
 pub enum TopologyRefused {
     /// A range or a place names a label that no module row has.
+    #[error("no memory module has the label")]
     Label,
     /// A range has an address in common with one that is held.
+    #[error("the range has an address in common with another")]
     Overlap,
     /// `MOST_ROWS` rows are held.
+    #[error("the topology has as many rows as it may hold")]
     Full,
     /// Memory ran out.
+    #[error("memory ran out")]
     NoMemory,
 }
 
@@ -78,11 +85,11 @@ impl Topology {
         self.add(Row::Cpu { cpu, socket })
     }
 
-    /// Says that the machine-check bank of this number, in this socket, reports errors of this module with this memory
-    /// channel. Several modules may share one channel.
+    /// Says that the machine-check bank of this number, in this socket, reports errors of this
+    /// module with this memory channel. Several modules may share one channel.
     ///
-    /// A module may be named by `Label::none()`, which is then a label like any other. `Full` comes exactly where
-    /// `MOST_ROWS` rows are held. The rows stay after a refusal.
+    /// A module may be named by `Label::none()`, which is then a label like any other. `Full` comes
+    /// exactly where `MOST_ROWS` rows are held. The rows stay after a refusal.
     pub fn add_module(
         &mut self,
         label: Label,
@@ -105,10 +112,12 @@ impl Topology {
         })
     }
 
-    /// Says that the physical addresses from `first` to `last`, both among them, are a module's own.
+    /// Says that the physical addresses from `first` to `last`, both among them, are a module's
+    /// own.
     ///
-    /// The first of these is answered: `Label` exactly where no module row has the label, `Overlap` exactly where a held
-    /// range has an address in common, `Full` exactly where `MOST_ROWS` rows are held. The rows stay after a refusal.
+    /// The first of these is answered: `Label` exactly where no module row has the label, `Overlap`
+    /// exactly where a held range has an address in common, `Full` exactly where `MOST_ROWS` rows
+    /// are held. The rows stay after a refusal.
     pub fn add_range(&mut self, label: Label, first: u64, last: u64) -> Result<(), TopologyRefused>
         requires { first ≤ last }
         ensures answer { Answers result (refusal_of self.old (Row.Range label first last)) }
@@ -126,8 +135,8 @@ impl Topology {
 
     /// Says by which node, card and module number firmware reports errors of a module.
     ///
-    /// The first of these is answered: `Label` exactly where no module row has the label, `Full` exactly where
-    /// `MOST_ROWS` rows are held. The rows stay after a refusal.
+    /// The first of these is answered: `Label` exactly where no module row has the label, `Full`
+    /// exactly where `MOST_ROWS` rows are held. The rows stay after a refusal.
     pub fn add_place(
         &mut self,
         label: Label,
@@ -150,9 +159,9 @@ impl Topology {
         })
     }
 
-    /// The module that an error in a machine-check bank belongs to: that of the range that holds the address, else the
-    /// one that the module rows name for the CPU's socket, the bank and the memory channel of the code. No module where
-    /// they name none or several different ones.
+    /// The module that an error in a machine-check bank belongs to: that of the range that holds
+    /// the address, else the one that the module rows name for the CPU's socket, the bank and the
+    /// memory channel of the code. No module where they name none or several different ones.
     pub fn owner_of_bank(
         &self,
         cpu: u16,
@@ -160,7 +169,7 @@ impl Topology {
         code: Code,
         address: Option<u64>,
     ) -> Option<&Label>
-        ensures owner { option_copied result ≡ owner_by_rows self.now cpu bank code address }
+        ensures owner { option_copied result ≡ owner_by_rows self.now address (bank_location self.now cpu bank code) }
 
         // Each address is in one range at most.
         ensures one_range { (held : ℕ) → length (ranges_over self.now held) ≤ 1 }
@@ -168,16 +177,43 @@ impl Topology {
         // An owner is the label of a module row.
         ensures named { IfSome result (λ label. IsTrue (is_module_label self.now label.now)) }
     {
+        self.owner(address, self.bank_location(cpu, bank, code))
+    }
+
+    /// The module that an error of a memory section belongs to: that of the range that holds the
+    /// physical address, else, where the section has a node, a card and a module, the one that
+    /// their place rows name. No module where they name none or several different ones. (UEFI,
+    /// appendix N, "Memory Error Section".)
+    pub fn owner_of_section(&self, section: &MemSection) -> Option<&Label>
+        ensures owner { option_copied result ≡ owner_by_rows self.now section.now.physical (section_location section.now) }
+
+        // An owner is the label of a module row.
+        ensures named { IfSome result (λ label. IsTrue (is_module_label self.now label.now)) }
+    {
+        self.owner(section.physical, location_of_section(section))
+    }
+
+    // The owner of an error: that of its address, else that of its location.
+    fn owner(&self, address: Option<u64>, location: Option<Location>) -> Option<&Label>
+        ensures owner { option_copied result ≡ owner_by_rows self.now address location }
+        ensures one_range { (held : ℕ) → length (ranges_over self.now held) ≤ 1 }
+        ensures named { IfSome result (λ label. IsTrue (is_module_label self.now label.now)) }
+    {
         // So that the clauses above can tell what holds of every topology.
         let _ = &self.rows;
         match address.and_then(|address| self.owner_of_address(address)) {
             Some(label) => Some(label),
-            None => self.owner_of_code(cpu, bank, code),
+            None => location.and_then(|location| self.owner_at(location)),
         }
     }
 
-    // Takes a row, where it can.
-    fn add(&mut self, row: Row) -> Result<(), TopologyRefused>
+    /// Takes a row of any kind, where it can. A range needs a first address that isn't above its
+    /// last.
+    ///
+    /// The first of these is answered: `Label` exactly where a range or a place names a label that no
+    /// module row has, `Overlap` exactly where a range has an address in common with a held one,
+    /// `Full` exactly where `MOST_ROWS` rows are held. The rows stay after a refusal.
+    pub fn add(&mut self, row: Row) -> Result<(), TopologyRefused>
         requires { IsTrue (is_upright row) }
         ensures answer { Answers result (refusal_of self.old row) }
         ensures ok { OnOk result (self.new ≡ self.old ++ row ∷ []) }
@@ -238,13 +274,17 @@ impl Topology {
         self.rows.iter().find(|row| row.holds(address))
     }
 
-    // The owner of an error by the CPU that reports it, the bank, and the channel that its code tells.
-    fn owner_of_code(&self, cpu: u16, bank: u8, code: Code) -> Option<&Label>
-        ensures { option_copied result ≡ owner_of_code self.now cpu bank code }
+    // The location of an error in a bank.
+    fn bank_location(&self, cpu: u16, bank: u8, code: Code) -> Option<Location>
+        ensures { result ≡ bank_location self.now cpu bank code }
     {
         let channel = channel_of(code)?;
         let socket = self.socket(cpu)?;
-        self.owner_of_channel(socket, bank, channel)
+        Some(Location::Channel {
+            socket,
+            bank,
+            channel,
+        })
     }
 
     // The socket of a CPU, by its last row.
@@ -254,42 +294,40 @@ impl Topology {
         self.rows.iter().filter_map(|row| row.socket_of(cpu)).last()
     }
 
-    // The one label that the module rows of a socket, bank and channel name.
-    fn owner_of_channel(&self, socket: u8, bank: u8, channel: u8) -> Option<&Label>
-        ensures { option_copied result ≡ owner_of_channel self.now socket bank channel }
+    // The one label that the rows of a location name.
+    fn owner_at(&self, location: Location) -> Option<&Label>
+        ensures { option_copied result ≡ owner_at self.now location }
     {
-        let owner = self.label_at(socket, bank, channel)?;
-        self.all_name(owner, socket, bank, channel).then_some(owner)
+        let owner = self.label_at(location)?;
+        self.all_name(owner, location).then_some(owner)
     }
 
-    // The label of the first module row of a socket, bank and channel.
-    fn label_at(&self, socket: u8, bank: u8, channel: u8) -> Option<&Label>
-        ensures { option_copied result ≡ slice_get (labels_in (filter (is_at socket bank channel) self.now)) 0 }
+    // The label of the first row of a location.
+    fn label_at(&self, location: Location) -> Option<&Label>
+        ensures { option_copied result ≡ slice_get (labels_in (filter (is_at location) self.now)) 0 }
     {
-        self.row_at(socket, bank, channel)?.label()
+        self.row_at(location)?.label()
     }
 
-    // The first module row of a socket, bank and channel.
-    fn row_at(&self, socket: u8, bank: u8, channel: u8) -> Option<&Row>
-        ensures { option_copied result ≡ find (is_at socket bank channel) self.now }
+    // The first row of a location.
+    fn row_at(&self, location: Location) -> Option<&Row>
+        ensures { option_copied result ≡ find (is_at location) self.now }
+    {
+        self.rows.iter().find(|row| row.is_at(location))
+    }
+
+    // Whether all rows of a location name this label.
+    fn all_name(&self, label: &Label, location: Location) -> bool
+        ensures { result ≡ list_all (names label.now) (filter (is_at location) self.now) }
     {
         self.rows
             .iter()
-            .find(|row| row.is_at(socket, bank, channel))
-    }
-
-    // Whether all module rows of a socket, bank and channel name this label.
-    fn all_name(&self, label: &Label, socket: u8, bank: u8, channel: u8) -> bool
-        ensures { result ≡ list_all (is_module_of label.now) (filter (is_at socket bank channel) self.now) }
-    {
-        self.rows
-            .iter()
-            .filter(|row| row.is_at(socket, bank, channel))
-            .all(|row| row.is_module_of(label))
+            .filter(|row| row.is_at(location))
+            .all(|row| row.names(label))
     }
 }
 
-// The memory channel that a code tells.
+// The memory channel that a code names.
 fn channel_of(code: Code) -> Option<u8>
     ensures { result ≡ channel_of code }
 {
@@ -297,4 +335,14 @@ fn channel_of(code: Code) -> Option<u8>
         Code::Memory { channel, .. } if channel != 15 => Some(channel),
         _ => None,
     }
+}
+
+// The location that a memory section names.
+fn location_of_section(section: &MemSection) -> Option<Location>
+    ensures { result ≡ section_location section.now }
+{
+    let node = section.node?;
+    let card = section.card?;
+    let module = section.module?;
+    Some(Location::Numbers { node, card, module })
 }

@@ -12,7 +12,7 @@ use Rattle.mca_status.specs.Weight.{weight_of}
 use Rattle.mca_codes.specs.Codes.{code_of_rows}
 use Rattle.dimm_topology.specs.declared.row.Row.{Row}
 use Rattle.dimm_topology.specs.Labels.{Bytes}
-use Rattle.dimm_topology.specs.Owners.{owner_by_rows}
+use Rattle.dimm_topology.specs.Owners.{owner_by_rows, bank_location}
 use Rattle.ras_facts.specs.declared.name.Name.{Name}
 use Rattle.ras_facts.specs.declared.name.Name.TheVariants.{Bank}
 use Rattle.ras_facts.specs.declared.items.Item.{Item}
@@ -38,7 +38,8 @@ bank_name bank = Bank bank.boot bank.cpu bank.bank bank.tsc
 abbrev pub bank_label : BankReport → List Row → Bytes
 bank_label bank rows =
     unwrap_or
-    (owner_by_rows rows bank.cpu bank.bank (code_of_rows (error_code (status_in bank))) (usable_address_of (cap_in bank) (status_in bank) bank.addr (misc_in bank)))
+    (owner_by_rows rows (usable_address_of (cap_in bank) (status_in bank) bank.addr (misc_in bank))
+    (bank_location rows bank.cpu bank.bank (code_of_rows (error_code (status_in bank)))))
     []
 
 -- the item of an error of this class

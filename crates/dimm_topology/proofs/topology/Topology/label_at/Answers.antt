@@ -6,10 +6,10 @@ use Rattle.dimm_topology.proofs.topology.Topology.label_at.Goals as goal
 
 pub returns-in_err-row_at : goal.returns-in_err-row_at
 returns-in_err-row_at c =
-    let first = first_at c.args.socket c.args.bank c.args.channel c.args.self.now in
+    let first = first_at c.args.location c.args.self.now in
     let found = ap (option_and_then label_in) c.in_err-row_at.ensures in
     cc
 
 pub returns : goal.returns
 returns c =
-    c.label.ensures ∙ ap (option_and_then label_in) c.in_ok-row_at.ensures ∙ sym (first_at c.args.socket c.args.bank c.args.channel c.args.self.now)
+    c.label.ensures ∙ ap (option_and_then label_in) c.in_ok-row_at.ensures ∙ sym (first_at c.args.location c.args.self.now)
