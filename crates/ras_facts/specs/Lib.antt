@@ -1,4 +1,5 @@
 pub mod Facts
+pub mod Reported
 pub mod Valid
 pub mod Entries
 pub mod Names

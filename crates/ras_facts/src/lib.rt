@@ -4,16 +4,23 @@
 #![tactic(auto)]
 
 mod bank;
+mod block;
 mod entry;
 mod fact;
 mod items;
+mod laws;
 mod name;
+mod record;
+mod section;
 
 pub use bank::{BankReport, fact_of_bank};
+pub use block::fact_of_block;
 pub use entry::Entry;
 pub use fact::Fact;
 pub use items::{Item, Items, MOST_ITEMS, MOST_WEIGHT, PAGES};
+pub use laws::labels_are_of_their_sections;
 pub use name::Name;
+pub use record::fact_of_record;
 
 #[cfg(test)]
 mod tests;

@@ -1,0 +1,43 @@
+//! The fact that a generic error status block gives.
+
+ghost use Rattle.std.specs.Prelude.{◌≡◌, ◌↔◌, ◌≤◌, ℕ, length, Ok, None, IfOk, IfSome};
+ghost use Rattle.ras_facts.specs.Reported.{block_fact};
+ghost use Rattle.ras_facts.specs.Valid.{IsValidName, IsValidFact};
+
+use crate::items::MOST_ITEMS;
+use crate::section::section_item;
+use crate::{Fact, Items, Name};
+use apei_sources::Block;
+use dimm_topology::Topology;
+use ras_base::NoMemory;
+use std::alloc::Global;
+
+/// The fact that a status block gives, read at this time and named so: an item for each entry in
+/// order, as `fact_of_record` gives one for each section. It is None exactly where the block status
+/// is 0, which takes no memory. (ACPI 6.5, section 18.3.2.7.1, "Generic Error Data".)
+pub fn fact_of_block(
+    alloc: Global,
+    name: Name,
+    seconds: u64,
+    block: &Block<'_>,
+    topology: &Topology,
+) -> Result<Option<Fact>, NoMemory>
+    ensures fact { IfOk result (λ fact. fact ≡ block_fact topology.now name seconds block.now) }
+    ensures none { (result ≡ Ok None) ↔ (block.now.status ≡ 0) }
+
+    // The entries of a block can be more than a valid fact has items.
+    ensures valid { length block.now.entries ≤ MOST_ITEMS → IfOk result (λ fact. IfSome fact IsValidFact) }
+{
+    if block.status() == 0 {
+        return Ok(None);
+    }
+    let mut items = Items::new(alloc);
+    for i in 0..block.count() {
+        items.push(section_item(alloc, &block.entry(i), topology)?)?;
+    }
+    Ok(Some(Fact {
+        name,
+        seconds,
+        items,
+    }))
+}
