@@ -78,6 +78,13 @@ def crates():
     return [line.split(":")[0].split()[0] for line in lines if line.strip() and line[0] != "#"]
 
 
+@functools.cache
+def libraries_of(crate):
+    """The libraries that a crate stands on, as crates.txt lists them."""
+    lines = (TOP / "crates.txt").read_text().splitlines()
+    return next(line.split(":")[1].split() for line in lines if line.split(":")[0] == crate)
+
+
 def files_of(crate, folder, ending):
     """The files of one folder of a crate, by their paths from the top."""
     return sorted(path_of(file) for file in (CRATES / crate / folder).rglob(f"*{ending}"))
