@@ -2,6 +2,7 @@
 use Rattle.std.proofs.Common.{◌≡◌, ℕ, ◌+◌, ◌<◌, ◌≤◌, ◌⊎◌, List, [], ◌∷◌, ◌++◌, length, take, drop, get_or, refl, ap, sym, ◌∙◌, inl, inr, arith, append-nil}
 use Rattle.std.proofs.lemmas.Bool.{cases_lt}
 use Rattle.std.proofs.lemmas.List.{length-take, map_more, map_push, flat_map_more, take_more, drop-append-le, drop_all}
+use Rattle.erst_store.specs.Store.{Stored}
 use Rattle.board_core.specs.declared.board.FileNo.{FileNo}
 use Rattle.board_core.specs.declared.board.FileNo.TheVariants.{Zero, One}
 use Rattle.board_core.specs.declared.history.Event.{Event}
@@ -9,15 +10,14 @@ use Rattle.board_core.specs.declared.history.MemFile.{MemFile}
 use Rattle.board_core.specs.declared.pick.Pick.{Pick}
 use Rattle.board_core.specs.declared.pick.Pick.TheVariants.{Old, New, Fill}
 use Rattle.board_core.specs.Clock.{LeftNow}
-use Rattle.board_core.specs.DiskLaws.{grown-least}
-use Rattle.board_core.specs.DiskModel.{Range, IsOutside, Disk, DiskFile, MayLeave, MayLeaveFile, after, after_all}
+use Rattle.board_core.specs.DiskLemmas.{greatest_length-least}
+use Rattle.board_core.specs.DiskModel.{Range, IsOutside, Disk, DiskFile, MayLeave, MayLeaveFile, rests, after, after_all}
 use Rattle.board_core.specs.FileHistory.{bytes_after, bytes_after_all, disk_after, disk_after_all, range_of, ranges_of, ArePartedAtSync}
 use Rattle.board_core.specs.History.{change_of, changes_of, first_bytes}
-use Rattle.board_core.specs.MemBoard.{Change, Past, put, settled, said, settled_file, settled_disk, changed, call_of, calls_of, clock_of, disk_of, here_of}
-use Rattle.board_core.specs.MemBoardLaws.{here_left}
-use Rattle.board_core.specs.MomentLaws.{now_counts}
+use Rattle.board_core.specs.MemBoard.{Held, new_held, Change, Past, wrote, synced, acted, printed, settled_file, settled_disk, after_change, call_of, calls_of, clock_of, disk_of, held_of}
+use Rattle.board_core.specs.ChangeLemmas.{here_left}
+use Rattle.board_core.specs.MomentLemmas.{now_counts}
 use Rattle.board_core.specs.Pick.{IsInside, IsFilled, IsPicked}
-use Rattle.board_core.specs.Stop.{Left}
 
 pub bytes_after_all-more : (number : FileNo) (changes : List Change) (change : Change) (bytes : List ℕ) → bytes_after_all number (changes ++ change ∷ []) bytes ≡ bytes_after number change (bytes_after_all number changes bytes)
 bytes_after_all-more number [] change bytes = refl
@@ -82,47 +82,49 @@ filled_on byte number events i event first so_far next within is before step =
 
 -- Events stay parted at the last sync.
 
-settled_disk_after : (number : FileNo) (bytes : List ℕ) (file : DiskFile) → disk_after number (settled number) bytes file ≡ settled_file bytes
+settled_disk_after : (number : FileNo) (bytes : List ℕ) (file : DiskFile) → disk_after number (synced number) bytes file ≡ settled_file bytes
 settled_disk_after Zero bytes file = refl
 settled_disk_after One bytes file = refl
 
-settled_bytes_after : (number : FileNo) (bytes : List ℕ) → bytes_after number (settled number) bytes ≡ bytes
+settled_bytes_after : (number : FileNo) (bytes : List ℕ) → bytes_after number (synced number) bytes ≡ bytes
 settled_bytes_after Zero bytes = refl
 settled_bytes_after One bytes = refl
 
-other_disk_after : (number : FileNo) (change : Change) (bytes synced : List ℕ) (written : List Range) → (change ≡ settled number → ⊥)
-    → disk_after number change bytes (record { synced = synced; written = written }) ≡ record { synced = synced; written = written ++ range_of number change }
-other_disk_after Zero (put Zero place new) bytes synced written other = refl
-other_disk_after Zero (put One place new) bytes synced written other = rw append-nil refl
-other_disk_after One (put Zero place new) bytes synced written other = rw append-nil refl
-other_disk_after One (put One place new) bytes synced written other = refl
-other_disk_after Zero (settled Zero) bytes synced written other = absurd (other refl)
-other_disk_after Zero (settled One) bytes synced written other = rw append-nil refl
-other_disk_after One (settled Zero) bytes synced written other = rw append-nil refl
-other_disk_after One (settled One) bytes synced written other = absurd (other refl)
-other_disk_after Zero (said piece) bytes synced written other = rw append-nil refl
-other_disk_after One (said piece) bytes synced written other = rw append-nil refl
+other_disk_after : (number : FileNo) (change : Change) (bytes kept : List ℕ) (written : List Range) → (change ≡ synced number → ⊥)
+    → disk_after number change bytes (record { synced = kept; written = written }) ≡ record { synced = kept; written = written ++ range_of number change }
+other_disk_after Zero (wrote Zero place new) bytes kept written other = refl
+other_disk_after Zero (wrote One place new) bytes kept written other = rw append-nil refl
+other_disk_after One (wrote Zero place new) bytes kept written other = rw append-nil refl
+other_disk_after One (wrote One place new) bytes kept written other = refl
+other_disk_after Zero (synced Zero) bytes kept written other = absurd (other refl)
+other_disk_after Zero (synced One) bytes kept written other = rw append-nil refl
+other_disk_after One (synced Zero) bytes kept written other = rw append-nil refl
+other_disk_after One (synced One) bytes kept written other = absurd (other refl)
+other_disk_after Zero (acted change) bytes kept written other = rw append-nil refl
+other_disk_after One (acted change) bytes kept written other = rw append-nil refl
+other_disk_after Zero (printed piece) bytes kept written other = rw append-nil refl
+other_disk_after One (printed piece) bytes kept written other = rw append-nil refl
 
 module _ (number : FileNo) (events : List Event) (i : ℕ) (event : Event) (within : i < length events) (is : event ≡ get_or events i event) where
   more : changes_of (take (i + 1) events) ≡ changes_of (take i events) ++ change_of event ∷ []
   more = changes_more events i event within is
 
-  pub parted_here : change_of event ≡ settled number
+  pub parted_here : change_of event ≡ synced number
       → ArePartedAtSync number (changes_of (take (i + 1) events)) (changes_of (drop (i + 1) (take (i + 1) events))) (changes_of (take (i + 1) events))
   parted_here syncs bytes =
       let cs : List Change = changes_of (take i events) in
       let none : drop (i + 1) (take (i + 1) events) ≡ [] = drop_all (i + 1) (take (i + 1) events) (omega (arith, length-take (i + 1) events)) in
-      let all : changes_of (take (i + 1) events) ≡ cs ++ settled number ∷ [] = more ∙ ap (λ c. cs ++ c ∷ []) syncs in
+      let all : changes_of (take (i + 1) events) ≡ cs ++ synced number ∷ [] = more ∙ ap (λ c. cs ++ c ∷ []) syncs in
       let left : disk_after_all number (changes_of (take (i + 1) events)) bytes (settled_file bytes) ≡ settled_file (bytes_after_all number cs bytes) =
       ap (λ xs. disk_after_all number xs bytes (settled_file bytes)) all
-      ∙ (disk_after_all-more number cs (settled number) bytes (settled_file bytes)
+      ∙ (disk_after_all-more number cs (synced number) bytes (settled_file bytes)
       ∙ settled_disk_after number (bytes_after_all number cs bytes) (disk_after_all number cs bytes (settled_file bytes))) in
       let right : bytes_after_all number (changes_of (take (i + 1) events)) bytes ≡ bytes_after_all number cs bytes =
-      ap (λ xs. bytes_after_all number xs bytes) all ∙ (bytes_after_all-more number cs (settled number) bytes ∙ settled_bytes_after number (bytes_after_all number cs bytes)) in
+      ap (λ xs. bytes_after_all number xs bytes) all ∙ (bytes_after_all-more number cs (synced number) bytes ∙ settled_bytes_after number (bytes_after_all number cs bytes)) in
       let behind : ranges_of number (changes_of (drop (i + 1) (take (i + 1) events))) ≡ [] = ap (λ es. ranges_of number (changes_of es)) none in
       rw (left, right, behind) refl
 
-  pub parted_on : (count : ℕ) → count ≤ i → (change_of event ≡ settled number → ⊥)
+  pub parted_on : (count : ℕ) → count ≤ i → (change_of event ≡ synced number → ⊥)
       → ArePartedAtSync number (changes_of (take count events)) (changes_of (drop count (take i events))) (changes_of (take i events))
       → ArePartedAtSync number (changes_of (take count events)) (changes_of (drop count (take (i + 1) events))) (changes_of (take (i + 1) events))
   parted_on count front other so_far bytes =
@@ -142,38 +144,40 @@ module _ (number : FileNo) (events : List Event) (i : ℕ) (event : Event) (with
 
 -- What became of one file is the part of it in what became of all.
 
-zero_of : (changes : List Change) (here : Left) (disk : Disk) → (after_all (calls_of changes here) disk).zero ≡ disk_after_all Zero changes here.file0 disk.zero
-zero_of [] here disk = refl
-zero_of (put Zero place bytes ∷ xs) here disk = zero_of xs (changed (put Zero place bytes) here) (after (call_of (put Zero place bytes) here) disk)
-zero_of (put One place bytes ∷ xs) here disk = zero_of xs (changed (put One place bytes) here) (after (call_of (put One place bytes) here) disk)
-zero_of (settled Zero ∷ xs) here disk = zero_of xs (changed (settled Zero) here) (after (call_of (settled Zero) here) disk)
-zero_of (settled One ∷ xs) here disk = zero_of xs (changed (settled One) here) (after (call_of (settled One) here) disk)
-zero_of (said piece ∷ xs) here disk = zero_of xs (changed (said piece) here) (after (call_of (said piece) here) disk)
+zero_of : (changes : List Change) (held : Held) (disk : Disk) → (after_all (calls_of changes held) disk).zero ≡ disk_after_all Zero changes held.here.file0 disk.zero
+zero_of [] held disk = refl
+zero_of (wrote Zero place bytes ∷ xs) held disk = zero_of xs (after_change (wrote Zero place bytes) held) (after (call_of (wrote Zero place bytes) held) disk)
+zero_of (wrote One place bytes ∷ xs) held disk = zero_of xs (after_change (wrote One place bytes) held) (after (call_of (wrote One place bytes) held) disk)
+zero_of (synced Zero ∷ xs) held disk = zero_of xs (after_change (synced Zero) held) (after (call_of (synced Zero) held) disk)
+zero_of (synced One ∷ xs) held disk = zero_of xs (after_change (synced One) held) (after (call_of (synced One) held) disk)
+zero_of (acted change ∷ xs) held disk = zero_of xs (after_change (acted change) held) (after (call_of (acted change) held) disk)
+zero_of (printed piece ∷ xs) held disk = zero_of xs (after_change (printed piece) held) (after (call_of (printed piece) held) disk)
 
-one_of : (changes : List Change) (here : Left) (disk : Disk) → (after_all (calls_of changes here) disk).one ≡ disk_after_all One changes here.file1 disk.one
-one_of [] here disk = refl
-one_of (put Zero place bytes ∷ xs) here disk = one_of xs (changed (put Zero place bytes) here) (after (call_of (put Zero place bytes) here) disk)
-one_of (put One place bytes ∷ xs) here disk = one_of xs (changed (put One place bytes) here) (after (call_of (put One place bytes) here) disk)
-one_of (settled Zero ∷ xs) here disk = one_of xs (changed (settled Zero) here) (after (call_of (settled Zero) here) disk)
-one_of (settled One ∷ xs) here disk = one_of xs (changed (settled One) here) (after (call_of (settled One) here) disk)
-one_of (said piece ∷ xs) here disk = one_of xs (changed (said piece) here) (after (call_of (said piece) here) disk)
+one_of : (changes : List Change) (held : Held) (disk : Disk) → (after_all (calls_of changes held) disk).one ≡ disk_after_all One changes held.here.file1 disk.one
+one_of [] held disk = refl
+one_of (wrote Zero place bytes ∷ xs) held disk = one_of xs (after_change (wrote Zero place bytes) held) (after (call_of (wrote Zero place bytes) held) disk)
+one_of (wrote One place bytes ∷ xs) held disk = one_of xs (after_change (wrote One place bytes) held) (after (call_of (wrote One place bytes) held) disk)
+one_of (synced Zero ∷ xs) held disk = one_of xs (after_change (synced Zero) held) (after (call_of (synced Zero) held) disk)
+one_of (synced One ∷ xs) held disk = one_of xs (after_change (synced One) held) (after (call_of (synced One) held) disk)
+one_of (acted change ∷ xs) held disk = one_of xs (after_change (acted change) held) (after (call_of (acted change) held) disk)
+one_of (printed piece ∷ xs) held disk = one_of xs (after_change (printed piece) held) (after (call_of (printed piece) held) disk)
 
-pub picked_zero : (pick : Pick) (past : Past) (now taken : List ℕ) → (here_of past).file0 ≡ now
-    → IsPicked pick (disk_after_all Zero past.changes past.first.file0 (settled_file past.first.file0)) now taken → IsPicked pick (disk_of past).zero (here_of past).file0 taken
-picked_zero pick past now taken is may = rw (zero_of past.changes past.first (settled_disk past.first), is) may
+pub picked_zero : (pick : Pick) (past : Past) (now taken : List ℕ) → (held_of past).here.file0 ≡ now
+    → IsPicked pick (disk_after_all Zero past.changes past.first.here.file0 (settled_file past.first.here.file0)) now taken → IsPicked pick (disk_of past).zero (held_of past).here.file0 taken
+picked_zero pick past now taken is may = rw (zero_of past.changes past.first (settled_disk past.first.here), is) may
 
-pub picked_one : (pick : Pick) (past : Past) (now taken : List ℕ) → (here_of past).file1 ≡ now
-    → IsPicked pick (disk_after_all One past.changes past.first.file1 (settled_file past.first.file1)) now taken → IsPicked pick (disk_of past).one (here_of past).file1 taken
-picked_one pick past now taken is may = rw (one_of past.changes past.first (settled_disk past.first), is) may
+pub picked_one : (pick : Pick) (past : Past) (now taken : List ℕ) → (held_of past).here.file1 ≡ now
+    → IsPicked pick (disk_after_all One past.changes past.first.here.file1 (settled_file past.first.here.file1)) now taken → IsPicked pick (disk_of past).one (held_of past).here.file1 taken
+picked_one pick past now taken is may = rw (one_of past.changes past.first (settled_disk past.first.here), is) may
 
 -- the past that these fields of a board stand for
-abbrev pub past_with : MemFile → MemFile → List Event → Past
-past_with zero one events = record { first = record { file0 = first_bytes zero; file1 = first_bytes one; out = [] }; changes = changes_of events }
+abbrev pub past_with : MemFile → MemFile → List Stored → ℕ → List Event → Past
+past_with zero one store slow events = record { first = new_held (first_bytes zero) (first_bytes one) store slow; changes = changes_of events }
 
 -- What is picked may be left.
 
 picked_may : (pick : Pick) (file : DiskFile) (now taken : List ℕ) → MayLeaveFile file now → IsPicked pick file now taken → MayLeaveFile file taken
-picked_may Old file now taken may picked = rw picked (record { stays = λ k below outside. refl; no_shorter = omega arith; no_longer = grown-least (length file.synced) file.written })
+picked_may Old file now taken may picked = rw picked (record { stays = λ k below outside. refl; no_shorter = omega arith; no_longer = greatest_length-least (length file.synced) file.written })
 picked_may New file now taken may picked = rw picked may
 picked_may (Fill byte) file now taken may picked = record {
   stays = λ k below outside. picked.others k outside ∙ may.stays k below outside;
@@ -181,12 +185,13 @@ picked_may (Fill byte) file now taken may picked = record {
   no_longer = omega (arith, picked.size, may.no_longer);
 }
 
-pub picked_left : (pick : Pick) (past : Past) (file0 file1 : List ℕ) → IsPicked pick (disk_of past).zero (here_of past).file0 file0 → IsPicked pick (disk_of past).one (here_of past).file1 file1
-    → LeftNow (clock_of past) (record { file0 = file0; file1 = file1; out = (here_of past).out })
+pub picked_left : (pick : Pick) (past : Past) (file0 file1 : List ℕ) → IsPicked pick (disk_of past).zero (held_of past).here.file0 file0 → IsPicked pick (disk_of past).one (held_of past).here.file1 file1
+    → LeftNow (clock_of past) (record (held_of past).here { file0 = file0; file1 = file1 })
 picked_left pick past file0 file1 zero one =
-    let may : MayLeave (disk_of past) [] (here_of past) = here_left past in
-    now_counts (settled_disk past.first) (calls_of past.changes past.first) (length (calls_of past.changes past.first)) (record { file0 = file0; file1 = file1; out = (here_of past).out }) (omega arith) (record {
-      zero = picked_may pick (disk_of past).zero (here_of past).file0 file0 may.zero zero;
-      one = picked_may pick (disk_of past).one (here_of past).file1 file1 may.one one;
+    let may : MayLeave (disk_of past) rests (held_of past).here = here_left past in
+    now_counts (settled_disk past.first.here) (calls_of past.changes past.first) (length (calls_of past.changes past.first)) (record (held_of past).here { file0 = file0; file1 = file1 }) (omega arith) (record {
+      zero = picked_may pick (disk_of past).zero (held_of past).here.file0 file0 may.zero zero;
+      one = picked_may pick (disk_of past).one (held_of past).here.file1 file1 may.one one;
+      store = may.store;
       out = may.out;
     })

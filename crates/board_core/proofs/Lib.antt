@@ -1,4 +1,4 @@
 pub mod HistoryLemmas
-pub mod MemBoardLemmas
-pub mod DiskModelLaws
+pub mod DiskModelLemmas
 pub mod LeavingLemmas
+pub mod MemBoardLemmas

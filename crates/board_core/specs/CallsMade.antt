@@ -3,15 +3,16 @@ use Rattle.std.specs.Prelude.{◌≡◌, List, [], ◌∷◌}
 use Rattle.std.specs.List.{flat_map}
 use Rattle.board_core.specs.declared.board.FileNo.{FileNo}
 use Rattle.board_core.specs.declared.board.FileNo.TheVariants.{Zero, One}
-use Rattle.board_core.specs.Clock.{Clock, LeftNow, Passes, Leads, IsSynced}
-use Rattle.board_core.specs.DiskModel.{Range, Disk, MayLeave, Call, writes, syncs, prints, rests}
-use Rattle.board_core.specs.Stop.{Left, Same, InFile, InOut, Begins, Appends}
+use Rattle.board_core.specs.Clock.{Clock, LeftNow, Passes, Leads, IsSynced, IsStored}
+use Rattle.board_core.specs.DiskModel.{Range, Disk, MayLeave, Call, writes, syncs, stores, prints, rests}
+use Rattle.board_core.specs.Stop.{Left, Same, InFile, InStore, InOut, Becomes, Begins, Appends}
 use Rattle.board_core.specs.Told.{Torn}
 
 -- This call was made, as the clauses of the trait say of it.
 abbrev pub IsMade : Call → Clock → Clock → Type 0
 IsMade (writes file place count) old new = Passes (InFile file (Torn place count)) old new
 IsMade (syncs file bytes) old new = Passes Same old new × IsSynced file bytes new
+IsMade (stores made store) old new = Passes (InStore (Becomes made)) old new × IsStored store new
 IsMade (prints piece part) old new = Passes (InOut (Begins piece)) old new × Leads (InOut (Appends part)) old new
 IsMade rests old new = Passes Same old new
 
@@ -22,7 +23,7 @@ AreMade {B} clock (call ∷ calls) first last = (next : B) × IsMade call (clock
 
 -- A stop now leaves only what the disk model says of this disk.
 abbrev pub Keeps : Disk → Clock → Type 0
-Keeps disk clock = (left : Left) → LeftNow clock left → MayLeave disk [] left
+Keeps disk clock = (left : Left) → LeftNow clock left → MayLeave disk rests left
 
 -- the ranges of a file that these calls wrote
 abbrev pub range_in : FileNo → Call → List Range

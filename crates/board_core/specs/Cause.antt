@@ -1,12 +1,47 @@
--- When a call may fail: only where its count of faults rose.
-use Rattle.std.specs.Prelude.{◌≡◌, ℕ, ◌+◌, ◌-◌, ◌^◌, ◌≤◌, min, Result, OnOk, OnErr}
+-- When a call may fail: only where the count of its kind of faults rose.
+use Rattle.std.specs.Prelude.{◌≡◌, ℕ, ◌+◌, ◌-◌, ◌^◌, ◌≤◌, min, Result, Ok, Err, OnOk, OnErr}
+use Rattle.board_core.specs.declared.board.BoardPut.{BoardPut}
+use Rattle.board_core.specs.declared.board.BoardPut.TheVariants.{Refused, Failed}
 
 -- A count that was before is now greater. A count ends at 2^64 - 1, where it may stand.
 abbrev pub Rose : ℕ → ℕ → Type 0
 Rose before now = min (before + 1) (2 ^ 64 - 1) ≤ now
 
--- A call's own count never falls, rose where the call failed, and is as it was where it didn't fail.
+-- A count never falls over a call, rose where the call failed, and is as it was where it didn't fail.
 pub record HasCause {T E : Type 0} (before now : ℕ) (result : Result T E) : Type 0 where
   pub later : before ≤ now
   pub failed : OnErr result (Rose before now)
   pub same : OnOk result (now ≡ before)
+
+-- How often calls of a board have failed: disk calls; register, range and put calls; prints.
+pub record Faults : Type 0 where
+  pub disk : ℕ
+  pub registers : ℕ
+  pub prints : ℕ
+
+-- the three kinds
+pub data Kind : Type 0 where
+  disk_call : Kind
+  device_call : Kind
+  print_call : Kind
+
+abbrev pub count_of : Kind → Faults → ℕ
+count_of disk_call faults = faults.disk
+count_of device_call faults = faults.registers
+count_of print_call faults = faults.prints
+
+abbrev pub with_count : Kind → ℕ → Faults → Faults
+with_count disk_call n faults = record faults { disk = n }
+with_count device_call n faults = record faults { registers = n }
+with_count print_call n faults = record faults { prints = n }
+
+-- The count of the call's kind rose exactly where the call failed, and the two others are as they were.
+pub record FailsAs {T E : Type 0} (kind : Kind) (old new : Faults) (result : Result T E) : Type 0 where
+  pub own : HasCause (count_of kind old) (count_of kind new) result
+  pub others : new ≡ with_count kind (count_of kind new) old
+
+-- A put that is refused hasn't failed.
+abbrev pub put_failure : {T : Type 0} → Result T BoardPut → Result (Unit {0}) BoardPut
+put_failure (Ok done) = Ok tt
+put_failure (Err (Refused cause)) = Ok tt
+put_failure (Err Failed) = Err Failed

@@ -1,7 +1,8 @@
 -- What stops at which moments may leave, and how a call changes it.
 use Rattle.std.specs.Prelude.{◌≡◌, ℕ, ◌≤◌, ◌⊎◌, List, Option, Some}
 use Rattle.board_core.specs.declared.board.FileNo.{FileNo}
-use Rattle.board_core.specs.Stop.{Left, file_in, left_of}
+use Rattle.erst_store.specs.Store.{Stored}
+use Rattle.board_core.specs.Stop.{Left, file_in}
 use Rattle.board_core.specs.Told.{Told}
 
 -- A clock of moments, which doesn't go back: the number of the present moment, and what a stop at some moment from
@@ -40,16 +41,20 @@ Leads Step old new = (left : Left) → LeftNow new left → After old Step left
 abbrev pub IsSynced : FileNo → List ℕ → Clock → Type 0
 IsSynced file bytes clock = (left : Left) → LeftNow clock left → file_in file left ≡ bytes
 
+-- Whatever a stop now leaves, the record store is this one.
+abbrev pub IsStored : List Stored → Clock → Type 0
+IsStored store clock = (left : Left) → LeftNow clock left → left.store ≡ store
+
 -- Calls were made, one or several. Whatever a stop during them or now leaves has this property, and what a stop at an
 -- earlier moment may have left is not more.
 pub record Adds (P : Left → Type 0) (old new : Clock) : Type 0 where
   pub later : old.now ≤ new.now
   pub each : (t : ℕ) (left : Left) → t ≤ old.now → new.may_leave_since t left → old.may_leave_since t left ⊎ P left
 
--- The board tells this, and a stop now leaves just that.
-pub record Rests (here : Told) (told : Option Told) (clock : Clock) : Type 0 where
-  pub is : told ≡ Some here
-  pub only : (left : Left) → LeftNow clock left → left ≡ left_of here
+-- The board tells this, and a stop now leaves just what is here.
+pub record Rests (t : Told) (told : Option Told) (clock : Clock) : Type 0 where
+  pub is : told ≡ Some t
+  pub only : (left : Left) → LeftNow clock left → left ≡ t.here
 
 -- Whatever a stop from moment t on may leave has this property.
 abbrev pub Always : Clock → ℕ → (Left → Type 0) → Type 0

@@ -1,9 +1,10 @@
--- The disk model: what a stop may leave of files and printed text, by the calls that were made.
+-- The disk model: what a stop may leave of files, record store and printed text, by the calls that were made.
 use Rattle.std.specs.Prelude.{◌≡◌, ℕ, zero, suc, ◌+◌, ◌<◌, ◌≤◌, ◌⊎◌, max, List, [], ◌∷◌, ◌++◌, length, slice_index}
+use Rattle.erst_store.specs.Store.{Stored}
 use Rattle.board_core.specs.declared.board.FileNo.{FileNo}
 use Rattle.board_core.specs.declared.board.FileNo.TheVariants.{Zero, One}
 use Rattle.board_core.specs.Clock.{Clock}
-use Rattle.board_core.specs.Stop.{Left, Begins}
+use Rattle.board_core.specs.Stop.{Left, Begins, Becomes}
 
 -- a range of a file: the place of its first byte, and how many bytes it has
 pub record Range : Type 0 where
@@ -16,9 +17,9 @@ IsOutside [] place = Unit {0}
 IsOutside (range ∷ ranges) place = ((place < range.place) ⊎ (range.place + range.count ≤ place)) × IsOutside ranges place
 
 -- the length that writes of these ranges give a file of this length
-abbrev pub grown : ℕ → List Range → ℕ
-grown size [] = size
-grown size (range ∷ ranges) = grown (max size (range.place + range.count)) ranges
+abbrev pub greatest_length : ℕ → List Range → ℕ
+greatest_length size [] = size
+greatest_length size (range ∷ ranges) = greatest_length (max size (range.place + range.count)) ranges
 
 -- a file on the disk: its bytes as of its last sync, and the ranges that were written since
 pub record DiskFile : Type 0 where
@@ -30,29 +31,43 @@ pub record DiskFile : Type 0 where
 pub record MayLeaveFile (file : DiskFile) (bytes : List ℕ) : Type 0 where
   pub stays : (k : ℕ) → k < length file.synced → IsOutside file.written k → slice_index bytes k ≡ slice_index file.synced k
   pub no_shorter : length file.synced ≤ length bytes
-  pub no_longer : length bytes ≤ grown (length file.synced) file.written
+  pub no_longer : length bytes ≤ greatest_length (length file.synced) file.written
 
--- both files on the disk, and what earlier prints appended
+-- both files on the disk, the record store, and what earlier prints appended
 pub record Disk : Type 0 where
   pub zero : DiskFile
   pub one : DiskFile
+  pub store : List Stored
   pub out : List ℕ
 
--- What a stop may leave while this piece is printed, which is empty where no print is in work: of each file what the disk
--- may leave of it, and of the text what earlier prints appended and a beginning of the piece.
-pub record MayLeave (disk : Disk) (piece : List ℕ) (left : Left) : Type 0 where
-  pub zero : MayLeaveFile disk.zero left.file0
-  pub one : MayLeaveFile disk.one left.file1
-  pub out : Begins piece disk.out left.out
-
 -- A call as the disk sees it: a write of so many bytes at a place of a file, whether it ended well or not; a sync that
--- ended well, with the file's bytes as a read then gives them; a print of a piece, and the part of it that was appended,
+-- ended well, with the file's bytes as a read then gives them; a call of the device, with the store that it makes and the
+-- store after it, which is that one where the call ended well; a print of a piece, and the part of it that was appended,
 -- which is all of it where the print ended well; any other.
 pub data Call : Type 0 where
   writes : FileNo → ℕ → ℕ → Call
   syncs : FileNo → List ℕ → Call
+  stores : List Stored → List Stored → Call
   prints : List ℕ → List ℕ → Call
   rests : Call
+
+-- what a call prints, and the store that it makes
+abbrev pub piece_of : Call → List ℕ
+piece_of (prints piece part) = piece
+piece_of call = []
+
+abbrev pub store_made : Call → List Stored → List Stored
+store_made (stores made store) old = made
+store_made call old = old
+
+-- What a stop may leave while this call is in work, which is `rests` where none is: of each file what the disk may leave of
+-- it; the store as before the call or as after it, never between; of the text what earlier prints appended and a beginning
+-- of the piece.
+pub record MayLeave (disk : Disk) (call : Call) (left : Left) : Type 0 where
+  pub zero : MayLeaveFile disk.zero left.file0
+  pub one : MayLeaveFile disk.one left.file1
+  pub store : Becomes (store_made call disk.store) disk.store left.store
+  pub out : Begins (piece_of call) disk.out left.out
 
 abbrev pub disk_file : FileNo → Disk → DiskFile
 disk_file Zero disk = disk.zero
@@ -63,13 +78,14 @@ with_disk_file Zero file disk = record disk { zero = file }
 with_disk_file One file disk = record disk { one = file }
 
 -- a file with one range more that was written
-abbrev pub wrote : ℕ → ℕ → DiskFile → DiskFile
-wrote place count file = record file { written = file.written ++ record { place = place; count = count } ∷ [] }
+abbrev pub with_range : ℕ → ℕ → DiskFile → DiskFile
+with_range place count file = record file { written = file.written ++ record { place = place; count = count } ∷ [] }
 
 -- the disk after a call
 abbrev pub after : Call → Disk → Disk
-after (writes file place count) disk = with_disk_file file (wrote place count (disk_file file disk)) disk
+after (writes file place count) disk = with_disk_file file (with_range place count (disk_file file disk)) disk
 after (syncs file bytes) disk = with_disk_file file (record { synced = bytes; written = [] }) disk
+after (stores made store) disk = record disk { store = store }
 after (prints piece part) disk = record disk { out = disk.out ++ part }
 after rests disk = disk
 
@@ -77,19 +93,12 @@ abbrev pub after_all : List Call → Disk → Disk
 after_all [] disk = disk
 after_all (call ∷ calls) disk = after_all calls (after call disk)
 
--- what a call prints
-abbrev pub piece_of : Call → List ℕ
-piece_of (writes file place count) = []
-piece_of (syncs file bytes) = []
-piece_of (prints piece part) = piece
-piece_of rests = []
-
 -- What a stop may leave from the moment on that comes after so many of these calls: before one of the later ones, while
 -- it is made, or after the last.
 abbrev pub MayLeaveSince : Disk → List Call → ℕ → Left → Type 0
-MayLeaveSince disk [] zero left = MayLeave disk [] left
+MayLeaveSince disk [] zero left = MayLeave disk rests left
 MayLeaveSince disk [] (suc t) left = ⊥
-MayLeaveSince disk (call ∷ calls) zero left = MayLeave disk (piece_of call) left ⊎ MayLeaveSince (after call disk) calls zero left
+MayLeaveSince disk (call ∷ calls) zero left = MayLeave disk call left ⊎ MayLeaveSince (after call disk) calls zero left
 MayLeaveSince disk (call ∷ calls) (suc t) left = MayLeaveSince (after call disk) calls t left
 
 -- the moments of these calls: their number, and what stops may leave

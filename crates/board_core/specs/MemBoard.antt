@@ -1,100 +1,159 @@
 -- What a board in memory is: what was done to it since it was new, and which calls fail.
-use Rattle.std.specs.Prelude.{◌≡◌, ℕ, ◌-◌, ◌^◌, ◌<◌, ◌≤◌, ◌⊎◌, Bool, ◌||◌, List, [], ◌∷◌, ◌++◌, length, IsTrue, ltb, Result, IsErr}
+use Rattle.std.specs.Prelude.{◌≡◌, ℕ, ◌-◌, ◌^◌, ◌<◌, ◌≤◌, ◌⊎◌, Bool, ◌||◌, List, [], ◌∷◌, ◌++◌, length, IsTrue, ltb, Result, Ok, Err, IsErr}
+use Rattle.erst_store.specs.Store.{Stored}
+use Rattle.erst_store.specs.Device.{Device, Volatile, device_with, volatile_of, new_device}
+use Rattle.board_core.specs.declared.board.Access.{Access}
+use Rattle.board_core.specs.declared.board.Access.TheVariants.{Read}
 use Rattle.board_core.specs.declared.board.DiskCall.{DiskCall}
 use Rattle.board_core.specs.declared.board.FileNo.{FileNo}
-use Rattle.board_core.specs.Cause.{Rose}
+use Rattle.board_core.specs.declared.board.Reg.{Reg}
+use Rattle.board_core.specs.Cause.{Rose, Faults, Kind, FailsAs}
 use Rattle.board_core.specs.Clock.{Clock}
-use Rattle.board_core.specs.DiskModel.{Disk, DiskFile, Call, writes, syncs, prints, after_all, disk_clock}
-use Rattle.board_core.specs.MemSource.{counted, is_chosen}
+use Rattle.board_core.specs.DiskModel.{Disk, DiskFile, Call, writes, syncs, stores, prints, after_all, disk_clock}
+use Rattle.board_core.specs.MemSource.{next_count, is_chosen}
 use Rattle.board_core.specs.Stop.{Left, file_in, with_file_in}
-use Rattle.board_core.specs.Told.{Told, overlaid}
+use Rattle.board_core.specs.Told.{Told, overlay, after_reg_write, after_range_write, after_put}
 
--- a call that went well and changed what a read gives or what a stop may leave: bytes put at a place of a file, a file
--- settled, a piece appended to the text
+-- what a board in memory holds: the files, the store and the text as they are now, and the rest of the device
+pub record Held : Type 0 where
+  pub here : Left
+  pub volatile : Volatile
+
+abbrev pub device_in : Held → Device
+device_in held = device_with held.here.store held.volatile
+
+abbrev pub with_device_in : Device → Held → Held
+with_device_in d held = record { here = record held.here { store = d.store }; volatile = volatile_of d }
+
+-- what was done to the device: a number written to a register, bytes written at a place of its range, a record put
+pub data DeviceChange : Type 0 where
+  wrote_register : Reg → ℕ → DeviceChange
+  wrote_range : ℕ → List ℕ → DeviceChange
+  put_record : ℕ → List ℕ → DeviceChange
+
+abbrev pub device_step : DeviceChange → Device → Device
+device_step (wrote_register reg value) d = after_reg_write reg value d
+device_step (wrote_range place bytes) d = after_range_write place bytes d
+device_step (put_record id bytes) d = after_put id bytes d
+
+-- a call that went well and changed what a read gives or what a stop may leave: bytes written at a place of a file, a file
+-- synced, something done to the device, a piece appended to the text
 pub data Change : Type 0 where
-  put : FileNo → ℕ → List ℕ → Change
-  settled : FileNo → Change
-  said : List ℕ → Change
+  wrote : FileNo → ℕ → List ℕ → Change
+  synced : FileNo → Change
+  acted : DeviceChange → Change
+  printed : List ℕ → Change
 
 -- what there was at first, and the changes since, the first of them first
 pub record Past : Type 0 where
-  pub first : Left
+  pub first : Held
   pub changes : List Change
 
-abbrev pub new_past : Left → Past
+abbrev pub new_past : Held → Past
 new_past first = record { first = first; changes = [] }
 
 abbrev pub with_change : Change → Past → Past
 with_change change past = record past { changes = past.changes ++ change ∷ [] }
 
--- what a read gives after a change, and after changes in order
-abbrev pub changed : Change → Left → Left
-changed (put file place bytes) here = with_file_in file (overlaid place bytes (file_in file here)) here
-changed (settled file) here = here
-changed (said piece) here = record here { out = here.out ++ piece }
+-- the past after a call, which made this change where it went well, and else none
+abbrev pub past_after : {T E : Type 0} → Result T E → Change → Past → Past
+past_after (Ok value) change past = with_change change past
+past_after (Err error) change past = past
 
-abbrev pub changed_all : List Change → Left → Left
-changed_all [] here = here
-changed_all (change ∷ changes) here = changed_all changes (changed change here)
+-- what is held after a change, and after changes in order
+abbrev pub after_change : Change → Held → Held
+after_change (wrote file place bytes) held =
+    record held { here = with_file_in file (overlay place bytes (file_in file held.here)) held.here }
+after_change (synced file) held = held
+after_change (acted change) held = with_device_in (device_step change (device_in held)) held
+after_change (printed piece) held = record held { here = record held.here { out = held.here.out ++ piece } }
+
+abbrev pub after_changes : List Change → Held → Held
+after_changes [] held = held
+after_changes (change ∷ changes) held = after_changes changes (after_change change held)
 
 -- the changes as calls that the disk sees
-abbrev pub call_of : Change → Left → Call
-call_of (put file place bytes) here = writes file place (length bytes)
-call_of (settled file) here = syncs file (file_in file here)
-call_of (said piece) here = prints piece piece
+abbrev pub call_of : Change → Held → Call
+call_of (wrote file place bytes) held = writes file place (length bytes)
+call_of (synced file) held = syncs file (file_in file held.here)
+call_of (acted change) held =
+    stores (device_step change (device_in held)).store (device_step change (device_in held)).store
+call_of (printed piece) held = prints piece piece
 
-abbrev pub calls_of : List Change → Left → List Call
-calls_of [] here = []
-calls_of (change ∷ changes) here = call_of change here ∷ calls_of changes (changed change here)
+abbrev pub calls_of : List Change → Held → List Call
+calls_of [] held = []
+calls_of (change ∷ changes) held = call_of change held ∷ calls_of changes (after_change change held)
 
 -- a disk on which all is as a read gives it
 abbrev pub settled_file : List ℕ → DiskFile
 settled_file bytes = record { synced = bytes; written = [] }
 
 abbrev pub settled_disk : Left → Disk
-settled_disk here = record { zero = settled_file here.file0; one = settled_file here.file1; out = here.out }
+settled_disk here = record {
+  zero = settled_file here.file0;
+  one = settled_file here.file1;
+  store = here.store;
+  out = here.out;
+}
 
--- what a read gives now, and the disk now
-abbrev pub here_of : Past → Left
-here_of past = changed_all past.changes past.first
+-- what is held now, and the disk now
+abbrev pub held_of : Past → Held
+held_of past = after_changes past.changes past.first
 
 abbrev pub disk_of : Past → Disk
-disk_of past = after_all (calls_of past.changes past.first) (settled_disk past.first)
+disk_of past = after_all (calls_of past.changes past.first) (settled_disk past.first.here)
 
 -- Moments are counted by changes. What stops may leave is what the disk model says of the changes as calls, no less and
 -- no more.
 abbrev pub clock_of : Past → Clock
-clock_of past = disk_clock (settled_disk past.first) (calls_of past.changes past.first)
+clock_of past = disk_clock (settled_disk past.first.here) (calls_of past.changes past.first)
 
+-- its past, the calls that it lists, the numbers of the calls that fail, how many calls go well at most, how many calls
+-- were made, how many of them were refused a growth, and the faults
 pub record State : Type 0 where
   pub past : Past
-  pub calls : List DiskCall
+  pub disk_calls : List DiskCall
+  pub accesses : List Access
   pub fails : List ℕ
   pub allowed : ℕ
   pub made : ℕ
   pub starved : ℕ
-  pub disk_faults : ℕ
-  pub print_faults : ℕ
+  pub faults : Faults
 
 abbrev pub told_of : State → Told
-told_of s = record { file0 = (here_of s.past).file0; file1 = (here_of s.past).file1; out = (here_of s.past).out; calls = s.calls }
+told_of s = record {
+  here = (held_of s.past).here;
+  volatile = (held_of s.past).volatile;
+  disk_calls = s.disk_calls;
+  accesses = s.accesses;
+}
 
--- a new board with these files, nothing printed and no faults
-abbrev pub new_with : List ℕ → List ℕ → State
-new_with file0 file1 = record {
-  past = new_past (record { file0 = file0; file1 = file1; out = [] });
-  calls = [];
+-- files and a store that are held in a new board: nothing is printed, and the device is new
+abbrev pub new_held : List ℕ → List ℕ → List Stored → ℕ → Held
+new_held file0 file1 store slow = record {
+  here = record { file0 = file0; file1 = file1; store = store; out = [] };
+  volatile = volatile_of (new_device store slow);
+}
+
+abbrev pub no_faults : Faults
+no_faults = record { disk = 0; registers = 0; prints = 0 }
+
+-- a new board, with no faults
+abbrev pub new_board : List ℕ → List ℕ → List Stored → ℕ → State
+new_board file0 file1 store slow = record {
+  past = new_past (new_held file0 file1 store slow);
+  disk_calls = [];
+  accesses = [];
   fails = [];
   allowed = 2 ^ 64 - 1;
   made = 0;
   starved = 0;
-  disk_faults = 0;
-  print_faults = 0;
+  faults = no_faults;
 }
 
 -- whether the next call was chosen to fail, by its number or since it comes past the last
 abbrev pub fails_next : State → Bool
-fails_next s = is_chosen (counted s.made) s.fails || ltb s.allowed (counted s.made)
+fails_next s = is_chosen (next_count s.made) s.fails || ltb s.allowed (next_count s.made)
 
 -- A call fails exactly where its number was chosen, or where it was refused a growth.
 pub record FailsAsChosen {T E : Type 0} (old new : State) (result : Result T E) : Type 0 where
@@ -104,32 +163,41 @@ pub record FailsAsChosen {T E : Type 0} (old new : State) (result : Result T E) 
 
 -- The calls are numbered on, the chosen ones stay, and the number of refused growths never falls.
 pub record CountsCall (old new : State) : Type 0 where
-  pub made : new.made ≡ counted old.made
+  pub made : new.made ≡ next_count old.made
   pub fails : new.fails ≡ old.fails
   pub allowed : new.allowed ≡ old.allowed
   pub starved : old.starved ≤ new.starved
 
--- a disk call that began well: it is counted and listed
-abbrev pub Begun : DiskCall → State → State → Type 0
-Begun call old new = new ≡ record old { calls = old.calls ++ call ∷ []; made = counted old.made }
+-- A call was made: this is the past after it, the calls are numbered on, and it failed exactly where it was to, with the
+-- count of its kind.
+pub record Does {T E : Type 0} (kind : Kind) (past : Past) (old new : State) (result : Result T E) : Type 0 where
+  pub past_is : new.past ≡ past
+  pub counted : CountsCall old new
+  pub exact : FailsAsChosen old new result
+  pub cause : FailsAs kind old.faults new.faults result
 
--- a call that went well after it began, and made this change
-abbrev pub Makes : Change → State → State → Type 0
-Makes change old new = new ≡ record old { past = with_change change old.past }
+-- A list with one call more. Only one that failed for a refused growth may be left out, and not one that was chosen to
+-- fail.
+abbrev pub IsListed : {T E X : Type 0} → Result T E → X → List X → List X → Type 0 → Type 0
+IsListed (Ok value) call old new starved = new ≡ old ++ call ∷ []
+IsListed (Err error) call old new starved = (new ≡ old ++ call ∷ []) ⊎ ((new ≡ old) × starved)
 
--- a call that was refused a growth after it began
-abbrev pub StarvesDisk : State → State → Type 0
-StarvesDisk old new = new ≡ record old { starved = counted old.starved; disk_faults = counted old.disk_faults }
+-- a disk call is listed, and no access
+pub record ListsCall {T E : Type 0} (call : DiskCall) (old new : State) (result : Result T E) : Type 0 where
+  pub disk_calls : IsListed result call old.disk_calls new.disk_calls (Rose old.starved new.starved)
+  pub accesses : new.accesses ≡ old.accesses
 
-abbrev pub StarvesPrint : State → State → Type 0
-StarvesPrint old new = new ≡ record old { starved = counted old.starved; print_faults = counted old.print_faults }
+-- an access is listed, and no disk call
+pub record ListsAccess {T E : Type 0} (access : Access) (old new : State) (result : Result T E) : Type 0 where
+  pub disk_calls : new.disk_calls ≡ old.disk_calls
+  pub accesses : IsListed result access old.accesses new.accesses (Rose old.starved new.starved)
 
--- a disk call that failed: it is listed or isn't, and the counts of calls and of disk faults are one greater
-pub record FailsDisk (call : DiskCall) (old new : State) : Type 0 where
-  pub past : new.past ≡ old.past
-  pub calls : (new.calls ≡ old.calls) ⊎ (new.calls ≡ old.calls ++ call ∷ [])
-  pub fails : new.fails ≡ old.fails
-  pub allowed : new.allowed ≡ old.allowed
-  pub made : new.made ≡ counted old.made
-  pub disk_faults : new.disk_faults ≡ counted old.disk_faults
-  pub print_faults : new.print_faults ≡ old.print_faults
+-- nothing is listed
+pub record ListsNone (old new : State) : Type 0 where
+  pub disk_calls : new.disk_calls ≡ old.disk_calls
+  pub accesses : new.accesses ≡ old.accesses
+
+-- an access as it is listed where it failed: a read gave no number
+abbrev pub failed_access : Access → Access
+failed_access (Read reg value) = Read reg 0
+failed_access access = access

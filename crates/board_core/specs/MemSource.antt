@@ -10,8 +10,8 @@ pub record Reading : Type 0 where
   pub faults : ℕ
 
 -- a number of calls or faults, one greater, which ends at 2^64 - 1
-abbrev pub counted : ℕ → ℕ
-counted n = min (n + 1) (2 ^ 64 - 1)
+abbrev pub next_count : ℕ → ℕ
+next_count n = min (n + 1) (2 ^ 64 - 1)
 
 -- whether a call of this number is one of the chosen
 abbrev pub is_chosen : ℕ → List ℕ → Bool
@@ -19,10 +19,10 @@ is_chosen call fails = list_any (λ fail. nat_eq fail call) fails
 
 -- whether the next call was chosen to fail
 abbrev pub fails_next : Reading → Bool
-fails_next s = is_chosen (counted s.made) s.fails
+fails_next s = is_chosen (next_count s.made) s.fails
 
 -- The reads are numbered on, and the chosen ones and the pieces stay.
 pub record CountsRead (old new : Reading) : Type 0 where
-  pub made : new.made ≡ counted old.made
+  pub made : new.made ≡ next_count old.made
   pub fails : new.fails ≡ old.fails
   pub piece : new.piece ≡ old.piece

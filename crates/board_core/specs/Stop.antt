@@ -1,13 +1,14 @@
 -- What a stop of the machine leaves, and how it may differ from what an earlier stop would have left.
-use Rattle.std.specs.Prelude.{◌≡◌, ℕ, List, ◌++◌}
+use Rattle.std.specs.Prelude.{◌≡◌, ℕ, ◌⊎◌, List, ◌++◌}
+use Rattle.erst_store.specs.Store.{Stored}
 use Rattle.board_core.specs.declared.board.FileNo.{FileNo}
 use Rattle.board_core.specs.declared.board.FileNo.TheVariants.{Zero, One}
-use Rattle.board_core.specs.Told.{Told}
 
--- what a stop leaves: the bytes of both files, and the printed text
+-- what a stop leaves: the bytes of both files, the record store, and the printed text
 pub record Left : Type 0 where
   pub file0 : List ℕ
   pub file1 : List ℕ
+  pub store : List Stored
   pub out : List ℕ
 
 abbrev pub file_in : FileNo → Left → List ℕ
@@ -17,10 +18,6 @@ file_in One left = left.file1
 abbrev pub with_file_in : FileNo → List ℕ → Left → Left
 with_file_in Zero bytes left = record left { file0 = bytes }
 with_file_in One bytes left = record left { file1 = bytes }
-
--- the files as a read gives them and the text printed so far, where these are what a stop leaves
-abbrev pub left_of : Told → Left
-left_of told = record { file0 = told.file0; file1 = told.file1; out = told.out }
 
 -- A relation of one part is lifted to the whole: all other parts are as they were.
 
@@ -33,6 +30,16 @@ pub record InFile (file : FileNo) (Step : List ℕ → List ℕ → Type 0) (old
   pub bytes : List ℕ
   pub step : Step (file_in file old) bytes
   pub rest : new ≡ with_file_in file bytes old
+
+-- the record store differs in this way
+pub record InStore (Step : List Stored → List Stored → Type 0) (old new : Left) : Type 0 where
+  pub store : List Stored
+  pub step : Step old.store store
+  pub rest : new ≡ record old { store = store }
+
+-- a store is as it was, or has become this one
+abbrev pub Becomes : List Stored → List Stored → List Stored → Type 0
+Becomes store old new = (new ≡ old) ⊎ (new ≡ store)
 
 -- the printed text differs in this way
 pub record InOut (Step : List ℕ → List ℕ → Type 0) (old new : Left) : Type 0 where

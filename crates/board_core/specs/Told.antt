@@ -1,54 +1,122 @@
 -- What a board tells of itself, and what each call does to it.
-use Rattle.std.specs.Prelude.{◌≡◌, ℕ, ◌+◌, ◌-◌, ◌≤◌, ◌⊎◌, min, max, List, [], ◌∷◌, ◌++◌, length, take, drop, Option, None, Some}
+use Rattle.std.specs.Prelude.{◌≡◌, ℕ, ◌+◌, ◌-◌, ◌≤◌, ◌⊎◌, min, max, List, [], ◌∷◌, ◌++◌, length, take, drop, Option, None, Some, Result, Ok, Err}
 use Rattle.std.specs.Option.{option_map}
+use Rattle.erst_store.specs.declared.store.PutRefused.{PutRefused}
+use Rattle.erst_store.specs.Store.{Stored, refusal_of, Answers}
+use Rattle.erst_store.specs.Device.{Device, Volatile, device_with, volatile_of, act, with_put, range_with}
 use Rattle.board_core.specs.declared.board.FileNo.{FileNo}
-use Rattle.board_core.specs.declared.board.FileNo.TheVariants.{Zero, One}
 use Rattle.board_core.specs.declared.board.DiskCall.{DiskCall}
 use Rattle.board_core.specs.declared.board.DiskCall.TheVariants.{WriteAt, Sync}
+use Rattle.board_core.specs.declared.board.Reg.{Reg}
+use Rattle.board_core.specs.declared.board.Reg.TheVariants.{Action, Value}
+use Rattle.board_core.specs.declared.board.Access.{Access}
+use Rattle.board_core.specs.declared.board.BoardPut.{BoardPut}
+use Rattle.board_core.specs.declared.board.BoardPut.TheVariants.{Refused, Failed}
+use Rattle.board_core.specs.Stop.{Left, file_in, with_file_in, Becomes}
 
--- the two files as a read gives them, the bytes printed so far, and the disk calls made so far
+-- the files as a read gives them, the record store and the bytes printed so far, which a stop leaves where all that was
+-- written is on the disk; the device's state apart from its store; the disk calls and the accesses to the device made so far
 pub record Told : Type 0 where
-  pub file0 : List ℕ
-  pub file1 : List ℕ
-  pub out : List ℕ
-  pub calls : List DiskCall
+  pub here : Left
+  pub volatile : Volatile
+  pub disk_calls : List DiskCall
+  pub accesses : List Access
+
+-- ---- the files and the text
 
 abbrev pub file_of : FileNo → Told → List ℕ
-file_of Zero t = t.file0
-file_of One t = t.file1
+file_of file t = file_in file t.here
 
 abbrev pub with_file : FileNo → List ℕ → Told → Told
-with_file Zero bytes t = record t { file0 = bytes }
-with_file One bytes t = record t { file1 = bytes }
+with_file file bytes t = record t { here = with_file_in file bytes t.here }
 
 -- with one disk call more in the list
-abbrev pub called : DiskCall → Told → Told
-called call t = record t { calls = t.calls ++ call ∷ [] }
+abbrev pub with_call : DiskCall → Told → Told
+with_call call t = record t { disk_calls = t.disk_calls ++ call ∷ [] }
 
 -- a file's bytes with others written over them from a place on, and past the end
-abbrev pub overlaid : ℕ → List ℕ → List ℕ → List ℕ
-overlaid place bytes old = take place old ++ bytes ++ drop (place + length bytes) old
+abbrev pub overlay : ℕ → List ℕ → List ℕ → List ℕ
+overlay place bytes old = take place old ++ bytes ++ drop (place + length bytes) old
 
 -- what a write leaves
-abbrev pub written : FileNo → ℕ → List ℕ → Told → Told
-written file place bytes t = called (WriteAt file place (length bytes)) (with_file file (overlaid place bytes (file_of file t)) t)
+abbrev pub after_write : FileNo → ℕ → List ℕ → Told → Told
+after_write file place bytes t =
+    with_call (WriteAt file place (length bytes)) (with_file file (overlay place bytes (file_of file t)) t)
 
 -- what a write and then a sync leave
-abbrev pub written_through : FileNo → ℕ → List ℕ → Told → Told
-written_through file place bytes t = called (Sync file) (written file place bytes t)
+abbrev pub after_write_through : FileNo → ℕ → List ℕ → Told → Told
+after_write_through file place bytes t = with_call (Sync file) (after_write file place bytes t)
 
 -- what a print leaves
-abbrev pub printed : List ℕ → Told → Told
-printed bytes t = record t { out = t.out ++ bytes }
+abbrev pub after_print : List ℕ → Told → Told
+after_print bytes t = record t { here = record t.here { out = t.here.out ++ bytes } }
 
 -- what a read of n bytes from a place gives in the front of a buffer
 pub record Reads (place n : ℕ) (buffer file : List ℕ) : Type 0 where
   pub count : n ≡ min (length buffer) (length file - place)
   pub bytes : take n buffer ≡ take n (drop place file)
 
+-- ---- the device
+
+-- the device as a whole: its store, which a stop leaves, and the rest
+abbrev pub device_of : Told → Device
+device_of t = device_with t.here.store t.volatile
+
+abbrev pub with_device : Device → Told → Told
+with_device d t = record t { here = record t.here { store = d.store }; volatile = volatile_of d }
+
+-- a step of the device, and of nothing else
+abbrev pub on_device : (Device → Device) → Told → Told
+on_device step t = with_device (step (device_of t)) t
+
+-- with one access more in the list
+abbrev pub with_access : Access → Told → Told
+with_access access t = record t { accesses = t.accesses ++ access ∷ [] }
+
+-- what a register holds
+abbrev pub register_in : Reg → Device → ℕ
+register_in Action d = d.action
+register_in Value d = d.value
+
+-- the device after a number was written to a register: a write to Action does that action
+abbrev pub after_reg_write : Reg → ℕ → Device → Device
+after_reg_write Action value d = act value d
+after_reg_write Value value d = record d { value = value }
+
+-- the device after bytes were written into its range
+abbrev pub after_range_write : ℕ → List ℕ → Device → Device
+after_range_write place bytes d = record d { range = range_with place bytes d.range }
+
+-- The device after a record was put from outside. Where the put is refused the device is as it was.
+abbrev pub unless_refused : Option PutRefused → Device → Device → Device
+unless_refused None new old = new
+unless_refused (Some cause) new old = old
+
+abbrev pub after_put : ℕ → List ℕ → Device → Device
+after_put id bytes d = unless_refused (refusal_of id bytes d.store) (with_put id bytes d) d
+
+-- A put answers its refusal. Where there is none, it goes well, or memory runs out, or it fails.
+abbrev pub AnswersPut : Result (Unit {0}) BoardPut → Option PutRefused → Type 0
+AnswersPut (Ok done) refusal = refusal ≡ None
+AnswersPut (Err (Refused cause)) refusal = Answers {X = Unit {0}} (Err cause) refusal
+AnswersPut (Err Failed) refusal = Unit {0}
+
+-- A put that is refused changes nothing at all.
+abbrev pub KeepsAtRefusal : Result (Unit {0}) BoardPut → Option Told → Option Told → Type 0
+KeepsAtRefusal (Err (Refused cause)) old new = new ≡ old
+KeepsAtRefusal result old new = Unit {0}
+
+-- What a stop during a device call leaves of the store: it is as before the call or as after it, never between. Of a board
+-- that tells nothing this says nothing.
+abbrev pub StoreBy : (Device → Device) → Option Told → List Stored → List Stored → Type 0
+StoreBy step None = λ old new. Unit {0}
+StoreBy step (Some t) = Becomes (step (device_of t)).store
+
+-- ---- calls that failed
+
 -- A failed disk call is listed or isn't, and changes nothing else.
 abbrev pub MayList : DiskCall → Told → Told → Type 0
-MayList call old new = (new ≡ old) ⊎ (new ≡ called call old)
+MayList call old new = (new ≡ old) ⊎ (new ≡ with_call call old)
 
 -- A write of n bytes that didn't end well: any bytes may stand in the written range, all others stay, and the length
 -- lies between the old one and that of the whole write.
@@ -60,15 +128,34 @@ pub record Torn (place n : ℕ) (old new : List ℕ) : Type 0 where
 
 abbrev pub FailsWrite : FileNo → ℕ → ℕ → Told → Told → Type 0
 FailsWrite file place n old new =
-    (bytes : List ℕ) × Torn place n (file_of file old) bytes × MayList (WriteAt file place n) (with_file file bytes old) new
+    (bytes : List ℕ) × Torn place n (file_of file old) bytes
+    × MayList (WriteAt file place n) (with_file file bytes old) new
 
 -- A write and then a sync, of which one failed: the write was torn, or all was written and the sync is listed or isn't.
 abbrev pub FailsThrough : FileNo → ℕ → List ℕ → Told → Told → Type 0
-FailsThrough file place bytes old new = FailsWrite file place (length bytes) old new ⊎ MayList (Sync file) (written file place bytes old) new
+FailsThrough file place bytes old new =
+    FailsWrite file place (length bytes) old new ⊎ MayList (Sync file) (after_write file place bytes old) new
 
 -- A failed print has appended a beginning of its piece.
 abbrev pub FailsPrint : List ℕ → Told → Told → Type 0
-FailsPrint bytes old new = (part : List ℕ) × (rest : List ℕ) × (part ++ rest ≡ bytes) × (new ≡ printed part old)
+FailsPrint bytes old new =
+    (part : List ℕ) × (rest : List ℕ) × (part ++ rest ≡ bytes) × (new ≡ after_print part old)
+
+-- A failed access is listed or isn't, and changes nothing else.
+abbrev pub MayListAccess : Access → Told → Told → Type 0
+MayListAccess access old new = (new ≡ old) ⊎ (new ≡ with_access access old)
+
+-- A failed device call has acted or hasn't.
+abbrev pub MayAct : (Device → Device) → Told → Told → Type 0
+MayAct step old new = (new ≡ old) ⊎ (new ≡ on_device step old)
+
+-- A failed write to the device has acted or hasn't, and is listed or isn't.
+pub record FailsAccess (access : Access) (step : Device → Device) (old new : Told) : Type 0 where
+  pub told : Told
+  pub acted : MayAct step old told
+  pub listed : MayListAccess access told new
+
+-- ---- what holds where a board tells
 
 -- where a board tells, it goes on by this step
 abbrev pub Steps : (Told → Told) → Option Told → Option Told → Type 0

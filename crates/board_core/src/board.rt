@@ -1,18 +1,33 @@
-// Two files and an output, which one stop of the machine hits together.
-ghost use Rattle.std.specs.Prelude.{◌≡◌, ℕ, ◌≤◌, length, Option, Some, IfSome, IfOk, OnOk, OnErr};
+//! Two files, a record store behind a device, and an output, which one stop of the machine hits together.
+ghost use Rattle.std.specs.Prelude.{◌≡◌, ℕ, ◌+◌, ◌≤◌, length, take, drop, Option, Some, IfSome, IfOk, OnOk, OnErr};
+ghost use Rattle.erst_store.specs.Actions.{range_length};
+ghost use Rattle.erst_store.specs.DeviceLaws.{IsDevice};
+ghost use Rattle.erst_store.specs.Store.{refusal_of};
+ghost use Rattle.board_core.specs.declared.board.Access.TheVariants.{Read, Write, RangeRead, RangeWrite};
 ghost use Rattle.board_core.specs.declared.board.DiskCall.TheVariants.{Size, ReadAt, WriteAt, Sync};
-ghost use Rattle.board_core.specs.Cause.{HasCause};
+ghost use Rattle.board_core.specs.Cause.{Faults, disk_call, device_call, print_call, FailsAs, put_failure};
 ghost use Rattle.board_core.specs.Clock.{Clock, LeftNow, Passes, Leads, IsSynced};
-ghost use Rattle.board_core.specs.Stop.{Left, Same, InFile, InOut, Begins, Appends, left_of};
-ghost use Rattle.board_core.specs.Told.{Told, Steps, Relates, file_of, called, written, printed, Reads, Torn, MayList, FailsWrite, FailsPrint};
+ghost use Rattle.board_core.specs.Stop.{Left, Same, InFile, InStore, InOut, Begins, Appends};
+ghost use Rattle.board_core.specs.Told.{Told, Steps, Relates, file_of, with_call, after_write, after_print, Reads, Torn, MayList, FailsWrite, FailsPrint};
+ghost use Rattle.board_core.specs.Told.{device_of, on_device, with_access, register_in, after_reg_write, after_range_write, after_put, AnswersPut, KeepsAtRefusal, StoreBy, MayListAccess, MayAct, FailsAccess};
 
 use crate::Failed;
+use erst_store::PutRefused;
 
 /// Which of a board's two files.
 #[derive(Clone, Copy, Debug, PartialEq, Eq)]
 pub enum FileNo {
     Zero,
     One,
+}
+
+/// Which of the device's two registers.
+#[derive(Clone, Copy, Debug, PartialEq, Eq)]
+pub enum Reg {
+    /// A number that is written here is an action, which the device then does.
+    Action,
+    /// What an action takes and answers.
+    Value,
 }
 
 /// A disk call that a board lists: of which file, and with place and length in bytes.
@@ -24,11 +39,30 @@ pub enum DiskCall {
     Sync(FileNo),
 }
 
-/// Two files and an output, which a stop of the machine hits together.
+/// An access to the device that a board lists: a register with the number read or written, or the place and the length of
+/// bytes of its range. A read that failed is listed with the number 0.
+#[derive(Clone, Copy, Debug, PartialEq, Eq)]
+pub enum Access {
+    Read(Reg, u64),
+    Write(Reg, u64),
+    RangeRead(u32, u32),
+    RangeWrite(u32, u32),
+}
+
+/// Why a record wasn't put.
+#[derive(Clone, Copy, Debug, PartialEq, Eq)]
+pub enum BoardPut {
+    /// The store refused it, and nothing changed.
+    Refused(PutRefused),
+    /// The call failed. Its count of faults rose.
+    Failed,
+}
+
+/// Two files, a device with its record store, and an output, which a stop of the machine hits together.
 ///
-/// At every moment a disk call changes what a stop may leave of its own file alone, and a print what it may leave of the
-/// printed text. A call answers `Failed` only where its own count of faults rose, and no call raises a count of another
-/// kind.
+/// At every moment a disk call changes what a stop may leave of its own file alone, a device call of the record store
+/// alone, and a print of the printed text alone. A call answers `Failed` only where the count of its kind of faults rose,
+/// and no call raises a count of another kind.
 pub trait Board {
     /// What the board tells of itself, if anything.
     ghost told: { Self → Option Told };
@@ -36,31 +70,26 @@ pub trait Board {
     /// Its moments, and what a stop of the machine at each may leave. A board that tells nothing has nothing here either.
     ghost clock: { Self → Clock };
 
-    /// How often `size`, `read_at`, `write_at` or `sync` has failed.
-    ghost disk_faults: { Self → ℕ };
-
-    /// How often `print` has failed.
-    ghost print_faults: { Self → ℕ };
+    /// How often its calls have failed, by their kinds.
+    ghost faults: { Self → Faults };
 
     /// The file's length in bytes.
     fn size(&mut self, file: FileNo) -> Result<u64, Failed>
         ensures length { IfOk result (λ n. IfSome (told self.old) (λ t. n ≡ length (file_of file t))) }
-        ensures told { OnOk result (Steps (called (Size file)) (told self.old) (told self.new)) }
+        ensures told { OnOk result (Steps (with_call (Size file)) (told self.old) (told self.new)) }
         ensures failed { OnErr result (Relates (MayList (Size file)) (told self.old) (told self.new)) }
         ensures stops { Passes Same (clock self.old) (clock self.new) }
-        ensures cause { HasCause (disk_faults self.old) (disk_faults self.new) result }
-        ensures print { print_faults self.new ≡ print_faults self.old };
+        ensures cause { FailsAs disk_call (faults self.old) (faults self.new) result };
 
     /// Reads the bytes from `place` on into the front of `buf` and answers their number: fewer than `buf` has room
     /// for only where the file ends.
     fn read_at(&mut self, file: FileNo, place: u64, buf: &mut [u8]) -> Result<usize, Failed>
         ensures within { IfOk result (λ n. n ≤ length buf.old) }
         ensures read { IfOk result (λ n. IfSome (told self.old) (λ t. Reads place n buf.new (file_of file t))) }
-        ensures told { OnOk result (Steps (called (ReadAt file place (length buf.old))) (told self.old) (told self.new)) }
+        ensures told { OnOk result (Steps (with_call (ReadAt file place (length buf.old))) (told self.old) (told self.new)) }
         ensures failed { OnErr result (Relates (MayList (ReadAt file place (length buf.old))) (told self.old) (told self.new)) }
         ensures stops { Passes Same (clock self.old) (clock self.new) }
-        ensures cause { HasCause (disk_faults self.old) (disk_faults self.new) result }
-        ensures print { print_faults self.new ≡ print_faults self.old };
+        ensures cause { FailsAs disk_call (faults self.old) (faults self.new) result };
 
     /// Writes `bytes` at `place`, which is at most the file's length, over what is there and past the file's end.
     ///
@@ -68,37 +97,90 @@ pub trait Board {
     /// sync, may leave any bytes in the written range, and any length between the old one and the new one.
     fn write_at(&mut self, file: FileNo, place: u64, bytes: &[u8]) -> Result<(), Failed>
         requires { IfSome (told self.old) (λ t. place ≤ length (file_of file t)) }
-        ensures told { OnOk result (Steps (written file place bytes.now) (told self.old) (told self.new)) }
+        ensures told { OnOk result (Steps (after_write file place bytes.now) (told self.old) (told self.new)) }
         ensures failed { OnErr result (Relates (FailsWrite file place (length bytes.now)) (told self.old) (told self.new)) }
         ensures stops { Passes (InFile file (Torn place (length bytes.now))) (clock self.old) (clock self.new) }
-        ensures cause { HasCause (disk_faults self.old) (disk_faults self.new) result }
-        ensures print { print_faults self.new ≡ print_faults self.old };
+        ensures cause { FailsAs disk_call (faults self.old) (faults self.new) result };
 
     /// Makes the file durable: from then on, and until its next write, a stop leaves it as a read gives it. After `Failed`
     /// it is not known to be.
     fn sync(&mut self, file: FileNo) -> Result<(), Failed>
-        ensures told { OnOk result (Steps (called (Sync file)) (told self.old) (told self.new)) }
+        ensures told { OnOk result (Steps (with_call (Sync file)) (told self.old) (told self.new)) }
         ensures failed { OnErr result (Relates (MayList (Sync file)) (told self.old) (told self.new)) }
         ensures stops { Passes Same (clock self.old) (clock self.new) }
         ensures synced { OnOk result (IfSome (told self.old) (λ t. IsSynced file (file_of file t) (clock self.new))) }
-        ensures cause { HasCause (disk_faults self.old) (disk_faults self.new) result }
-        ensures print { print_faults self.new ≡ print_faults self.old };
+        ensures cause { FailsAs disk_call (faults self.old) (faults self.new) result };
+
+    /// Reads a register of the device.
+    fn reg_read(&mut self, reg: Reg) -> Result<u64, Failed>
+        ensures value { IfOk result (λ n. IfSome (told self.old) (λ t. n ≡ register_in reg (device_of t))) }
+        ensures told { IfOk result (λ n. Steps (with_access (Read reg n)) (told self.old) (told self.new)) }
+        ensures failed { OnErr result (Relates (MayListAccess (Read reg 0)) (told self.old) (told self.new)) }
+        ensures stops { Passes Same (clock self.old) (clock self.new) }
+        ensures cause { FailsAs device_call (faults self.old) (faults self.new) result }
+        ensures device { IfSome (told self.old) (λ t. IsDevice (device_of t)) };
+
+    /// Writes a number to a register of the device. A number that is written to Action is an action, which the device
+    /// then does.
+    ///
+    /// After `Failed` the device has done so or hasn't, and a stop during the call leaves the record store as before it
+    /// or as after it.
+    fn reg_write(&mut self, reg: Reg, value: u64) -> Result<(), Failed>
+        ensures told { OnOk result (Steps (λ t. with_access (Write reg value) (on_device (after_reg_write reg value) t)) (told self.old) (told self.new)) }
+        ensures failed { OnErr result (Relates (FailsAccess (Write reg value) (after_reg_write reg value)) (told self.old) (told self.new)) }
+        ensures stops { Passes (InStore (StoreBy (after_reg_write reg value) (told self.old))) (clock self.old) (clock self.new) }
+        ensures cause { FailsAs device_call (faults self.old) (faults self.new) result }
+        ensures device { IfSome (told self.old) (λ t. IsDevice (device_of t)) };
+
+    /// Copies the bytes of the device's range from a place on into a buffer, all of it.
+    fn range_read(&mut self, place: u32, buf: &mut [u8]) -> Result<(), Failed>
+        requires { place + length buf.old ≤ range_length }
+        ensures read { OnOk result (IfSome (told self.old) (λ t. buf.new ≡ take (length buf.old) (drop place (device_of t).range))) }
+        ensures told { OnOk result (Steps (with_access (RangeRead place (length buf.old))) (told self.old) (told self.new)) }
+        ensures failed { OnErr result (Relates (MayListAccess (RangeRead place (length buf.old))) (told self.old) (told self.new)) }
+        ensures stops { Passes Same (clock self.old) (clock self.new) }
+        ensures cause { FailsAs device_call (faults self.old) (faults self.new) result }
+        ensures device { IfSome (told self.old) (λ t. IsDevice (device_of t)) };
+
+    /// Writes bytes into the device's range from a place on. After `Failed` they were written or weren't.
+    fn range_write(&mut self, place: u32, bytes: &[u8]) -> Result<(), Failed>
+        requires { place + length bytes.now ≤ range_length }
+        ensures told { OnOk result (Steps (λ t. with_access (RangeWrite place (length bytes.now)) (on_device (after_range_write place bytes.now) t)) (told self.old) (told self.new)) }
+        ensures failed { OnErr result (Relates (FailsAccess (RangeWrite place (length bytes.now)) (after_range_write place bytes.now)) (told self.old) (told self.new)) }
+        ensures stops { Passes Same (clock self.old) (clock self.new) }
+        ensures cause { FailsAs device_call (faults self.old) (faults self.new) result }
+        ensures device { IfSome (told self.old) (λ t. IsDevice (device_of t)) };
+
+    /// Puts a record into the store from outside, as `Store::put` of erst_store does, and sets the device's cursor to 0.
+    ///
+    /// `Refused` comes with the store's own refusal, `NoMemory` among them, and leaves all as it was. After `Failed` the
+    /// record was put or wasn't, and a stop during the call leaves the store as before it or as after it.
+    fn put(&mut self, id: u64, bytes: &[u8]) -> Result<(), BoardPut>
+        ensures told { OnOk result (Steps (on_device (after_put id bytes.now)) (told self.old) (told self.new)) }
+        ensures answers { IfSome (told self.old) (λ t. AnswersPut result (refusal_of id bytes.now t.here.store)) }
+        ensures refused { KeepsAtRefusal result (told self.old) (told self.new) }
+        ensures failed { OnErr result (Relates (MayAct (after_put id bytes.now)) (told self.old) (told self.new)) }
+        ensures stops { Passes (InStore (StoreBy (after_put id bytes.now) (told self.old))) (clock self.old) (clock self.new) }
+        ensures cause { FailsAs device_call (faults self.old) (faults self.new) (put_failure result) }
+        ensures device { IfSome (told self.old) (λ t. IsDevice (device_of t)) };
 
     /// Appends `bytes` to the output. After `Failed` a beginning of them, maybe nothing, was appended, and a stop during the
     /// call leaves such a beginning too.
     fn print(&mut self, bytes: &[u8]) -> Result<(), Failed>
-        ensures told { OnOk result (Steps (printed bytes.now) (told self.old) (told self.new)) }
+        ensures told { OnOk result (Steps (after_print bytes.now) (told self.old) (told self.new)) }
         ensures failed { OnErr result (Relates (FailsPrint bytes.now) (told self.old) (told self.new)) }
         ensures stops { Passes (InOut (Begins bytes.now)) (clock self.old) (clock self.new) }
         ensures printed { OnOk result (Leads (InOut (Appends bytes.now)) (clock self.old) (clock self.new)) }
-        ensures cause { HasCause (print_faults self.old) (print_faults self.new) result }
-        ensures disk { disk_faults self.new ≡ disk_faults self.old };
+        ensures cause { FailsAs print_call (faults self.old) (faults self.new) result };
 
     /// What the board tells is among what a stop now may leave.
-    ghost told_may_be_left: { (board : Self) (t : Told) → told board ≡ Some t → LeftNow (clock board) (left_of t) };
+    ghost told_may_be_left: { (board : Self) (t : Told) → told board ≡ Some t → LeftNow (clock board) t.here };
 
     /// Between calls a stop leaves the text that was printed, no less and no more.
-    ghost text_is_left: { (board : Self) (t : Told) (left : Left) → told board ≡ Some t → LeftNow (clock board) left → left.out ≡ t.out };
+    ghost text_is_left: { (board : Self) (t : Told) (left : Left) → told board ≡ Some t → LeftNow (clock board) left → left.out ≡ t.here.out };
+
+    /// Between calls a stop leaves the record store that is told.
+    ghost store_is_left: { (board : Self) (t : Told) (left : Left) → told board ≡ Some t → LeftNow (clock board) left → left.store ≡ t.here.store };
 
     /// What may be left from a moment on may be left from every earlier one on.
     ghost counts_earlier: { (board : Self) (s t : ℕ) (left : Left) → s ≤ t → (clock board).may_leave_since t left → (clock board).may_leave_since s left };

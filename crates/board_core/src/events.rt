@@ -1,14 +1,14 @@
-// What a board in memory keeps of each call that went well, and the calls on plain vectors.
+//! What a board in memory keeps of each call that went well, and the calls on plain vectors.
 ghost use Rattle.std.specs.Prelude.{◌≡◌, ◌≤◌, ◌++◌, [], ◌∷◌, length, IsSome, OnOk, OnErr};
 ghost use Rattle.board_core.specs.History.{first_bytes, changes_of};
-ghost use Rattle.board_core.specs.MemBoard.{put, said};
-ghost use Rattle.board_core.specs.Told.{overlaid};
+ghost use Rattle.board_core.specs.MemBoard.{wrote, printed};
+ghost use Rattle.board_core.specs.Told.{overlay};
 
 use crate::FileNo;
 use crate::history::{Event, MemFile};
 use std::alloc::{AllocError, Global};
 
-// Keeps the bytes and what the file began with, and writes them.
+/// Keeps the bytes and what the file began with, and writes them.
 pub fn write(
     alloc: Global,
     file: &mut MemFile,
@@ -18,8 +18,8 @@ pub fn write(
     bytes: &[u8],
 ) -> Result<(), AllocError>
     requires { place ≤ length file.old.bytes.items }
-    ensures file { OnOk result (file.new.bytes.items ≡ overlaid place bytes.now file.old.bytes.items) }
-    ensures events { OnOk result (changes_of events.new.items ≡ changes_of events.old.items ++ put number place bytes.now ∷ []) }
+    ensures file { OnOk result (file.new.bytes.items ≡ overlay place bytes.now file.old.bytes.items) }
+    ensures events { OnOk result (changes_of events.new.items ≡ changes_of events.old.items ++ wrote number place bytes.now ∷ []) }
     ensures first { first_bytes file.new ≡ first_bytes file.old }
     ensures same_file { OnErr result (file.new.bytes.items ≡ file.old.bytes.items) }
     ensures same_events { OnErr result (events.new.items ≡ events.old.items) }
@@ -27,7 +27,7 @@ pub fn write(
     let kept = Vec::from_slice(alloc, bytes)?;
     events.reserve(1)?;
     keep_first(alloc, file)?;
-    overlay(&mut file.bytes, place as usize, bytes)?;
+    overlay_bytes(&mut file.bytes, place as usize, bytes)?;
     events.push(Event::Wrote(number, place, kept))?;
     Ok(())
 }
@@ -44,7 +44,7 @@ fn keep_first(alloc: Global, file: &mut MemFile) -> Result<(), AllocError>
     Ok(())
 }
 
-// Keeps the piece, and appends it.
+/// Keeps the piece, and appends it.
 pub fn print(
     alloc: Global,
     out: &mut Vec<u8>,
@@ -52,7 +52,7 @@ pub fn print(
     bytes: &[u8],
 ) -> Result<(), AllocError>
     ensures out { OnOk result (out.new.items ≡ out.old.items ++ bytes.now) }
-    ensures events { OnOk result (changes_of events.new.items ≡ changes_of events.old.items ++ said bytes.now ∷ []) }
+    ensures events { OnOk result (changes_of events.new.items ≡ changes_of events.old.items ++ printed bytes.now ∷ []) }
     ensures same_out { OnErr result (out.new.items ≡ out.old.items) }
     ensures same_events { OnErr result (events.new.items ≡ events.old.items) }
 {
@@ -63,10 +63,10 @@ pub fn print(
     Ok(())
 }
 
-// Writes bytes over what is there and past the end, in place.
-pub fn overlay(file: &mut Vec<u8>, place: usize, bytes: &[u8]) -> Result<(), AllocError>
+/// Writes bytes over what is there and past the end, in place.
+pub fn overlay_bytes(file: &mut Vec<u8>, place: usize, bytes: &[u8]) -> Result<(), AllocError>
     requires { place ≤ length file.old.items }
-    ensures ok { OnOk result (file.new.items ≡ overlaid place bytes.now file.old.items) }
+    ensures ok { OnOk result (file.new.items ≡ overlay place bytes.now file.old.items) }
     ensures err { OnErr result (file.new.items ≡ file.old.items) }
 {
     let room = file.len() - place;
@@ -74,8 +74,8 @@ pub fn overlay(file: &mut Vec<u8>, place: usize, bytes: &[u8]) -> Result<(), All
         file[place..place + bytes.len()].copy_from_slice(bytes);
         return Ok(());
     }
-    let (over, behind) = bytes.split_at(room);
-    file.extend_from_slice(behind)?;
+    let (over, past) = bytes.split_at(room);
+    file.extend_from_slice(past)?;
     file[place..place + room].copy_from_slice(over);
     Ok(())
 }

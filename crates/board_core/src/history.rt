@@ -1,25 +1,34 @@
-// What was done to the files and the output of a board in memory, and what they hold now.
-ghost use Rattle.std.specs.Prelude.{◌≡◌, ℕ, ◌≤◌, ◌++◌, [], ◌∷◌, List, length, IfOk, OnOk, OnErr};
-ghost use Rattle.board_core.specs.MemBoard.{Past, Change, new_past, put, settled, said, disk_of, here_of};
+//! What was done to the files, the device and the output of a board in memory, and what they hold now.
+ghost use Rattle.std.specs.Prelude.{◌≡◌, ℕ, ◌+◌, ◌≤◌, ◌++◌, [], ◌∷◌, List, length, take, drop, IfOk, OnOk, OnErr};
+ghost use Rattle.erst_store.specs.Actions.{range_length};
+ghost use Rattle.erst_store.specs.DeviceLaws.{IsDevice};
+ghost use Rattle.erst_store.specs.Store.{refusal_of, Answers};
+ghost use Rattle.board_core.specs.MemBoard.{Past, new_past, new_held, with_change, past_after, wrote, synced, acted, printed, wrote_register, wrote_range, put_record, device_in, disk_of, held_of};
 ghost use Rattle.board_core.specs.Pick.{IsPicked};
-ghost use Rattle.board_core.specs.Stop.{Left, file_in, with_file_in};
-ghost use Rattle.board_core.specs.Told.{overlaid};
+ghost use Rattle.board_core.specs.Stop.{file_in, with_file_in};
+ghost use Rattle.board_core.specs.Told.{register_in, after_reg_write};
 
 use crate::events::{print, write};
-use crate::leaving::picked;
-use crate::{FileNo, Pick};
+use crate::leaving::picked_bytes;
+use crate::{FileNo, Pick, Reg};
+use erst_store::{Dev, PutRefused, Store};
+use ras_base::NoMemory;
 use std::alloc::{AllocError, Global};
 use std::marker::Model;
 
-/// Two files and an output in memory, with a record of all that was done to them.
+/// Two files, a device and an output in memory, with a record of all that was done to them.
 ///
-/// A write is done in place, and its bytes are kept beside. What a file began with is kept apart at its first write.
+/// A write is done in place, and its bytes are kept beside. What a file began with is kept apart at its first write. The
+/// store that the device began with is kept, and no other: what is done to the device is kept as it was asked for.
 #[derive(Drop)]
 pub struct History {
     alloc: Global,
     zero: MemFile,
     one: MemFile,
+    device: Dev,
     out: Vec<u8>,
+    first_store: Store,
+    slow: u64,
     events: Vec<Event>,
 }
 
@@ -30,37 +39,56 @@ pub struct MemFile {
     pub first: Option<Vec<u8>>,
 }
 
-/// Something that was done: bytes written at a place of a file, a file synced, a piece printed.
+/// Something that was done.
 #[derive(Drop)]
 pub enum Event {
+    /// Bytes were written at a place of a file.
     Wrote(FileNo, u64, Vec<u8>),
+    /// A file was synced.
     Synced(FileNo),
+    /// A number was written to a register of the device.
+    WroteRegister(Reg, u64),
+    /// Bytes were written at a place of the device's range.
+    WroteRange(u32, Vec<u8>),
+    /// A record was put into the store.
+    Put(u64, Vec<u8>),
+    /// A piece was printed.
     Printed(Vec<u8>),
 }
 
 impl Model for History {
-    ghost use Rattle.std.specs.Prelude.{◌≡◌, []};
-    ghost use Rattle.board_core.specs.History.{first_bytes, changes_of};
-    ghost use Rattle.board_core.specs.MemBoard.{Past, changed_all};
+    ghost use Rattle.std.specs.Prelude.{◌≡◌};
+    ghost use Rattle.board_core.specs.History.{first_bytes, changes_of, held_with};
+    ghost use Rattle.board_core.specs.MemBoard.{Past, new_held, after_changes};
 
     ghost Value = { Past };
 
     ghost view = { λ h. record {
-      first = record { file0 = first_bytes h.zero; file1 = first_bytes h.one; out = [] };
+      first = new_held (first_bytes h.zero) (first_bytes h.one) h.first_store h.slow;
       changes = changes_of h.events.items;
     } };
 
     ghost invariant = { λ h.
-        changed_all (changes_of h.events.items) (record { file0 = first_bytes h.zero; file1 = first_bytes h.one; out = [] })
-        ≡ record { file0 = h.zero.bytes.items; file1 = h.one.bytes.items; out = h.out.items } };
+        after_changes (changes_of h.events.items) (new_held (first_bytes h.zero) (first_bytes h.one) h.first_store h.slow)
+        ≡ held_with h.zero.bytes.items h.one.bytes.items h.device h.out.items };
 }
 
 impl History {
-    /// Files with these bytes, and nothing printed.
-    pub fn new(alloc: Global, file0: Vec<u8>, file1: Vec<u8>) -> History
-        ensures { result ≡ new_past (record { file0 = file0.items; file1 = file1.items; out = [] }) }
+    /// Files with these bytes and a new device over this store, with nothing printed.
+    pub fn new(
+        alloc: Global,
+        file0: Vec<u8>,
+        file1: Vec<u8>,
+        store: Store,
+        slow: u64,
+    ) -> Result<History, NoMemory>
+        ensures new {
+            IfOk result (λ history. history ≡ new_past (new_held file0.items file1.items store slow))
+        }
+        ensures device { IfOk result (λ history. IsDevice (device_in (held_of history))) }
     {
-        History {
+        let first_store = store.copy(alloc)?;
+        Ok(History {
             alloc,
             zero: MemFile {
                 bytes: file0,
@@ -70,15 +98,22 @@ impl History {
                 bytes: file1,
                 first: None,
             },
+            device: Dev::new(alloc, store, slow)?,
             out: Vec::new(alloc),
+            first_store,
+            slow,
             events: Vec::new(alloc),
-        }
+        })
     }
 
     /// Puts these bytes into a file before anything was done.
     pub fn set_file(&mut self, file: FileNo, bytes: Vec<u8>)
         requires { self.old.changes ≡ [] }
-        ensures { self.new ≡ new_past (with_file_in file bytes.items self.old.first) }
+        ensures {
+            self.new ≡ new_past (record self.old.first {
+              here = with_file_in file bytes.items self.old.first.here;
+            })
+        }
     {
         let set = MemFile { bytes, first: None };
         match file {
@@ -89,7 +124,7 @@ impl History {
 
     /// A file's bytes.
     pub fn file(&self, file: FileNo) -> &[u8]
-        ensures { result.now ≡ file_in file (here_of self.now) }
+        ensures { result.now ≡ file_in file (held_of self.now).here }
     {
         match file {
             FileNo::Zero => &self.zero.bytes,
@@ -99,15 +134,42 @@ impl History {
 
     /// The bytes printed so far.
     pub fn out(&self) -> &[u8]
-        ensures { result.now ≡ (here_of self.now).out }
+        ensures { result.now ≡ (held_of self.now).here.out }
     {
         &self.out
     }
 
+    /// The record store.
+    pub fn store(&self) -> &Store
+        ensures { result.now ≡ (held_of self.now).here.store }
+    {
+        self.device.store()
+    }
+
+    /// What a register of the device holds.
+    pub fn register(&self, reg: Reg) -> u64
+        ensures { result ≡ register_in reg (device_in (held_of self.now)) }
+    {
+        match reg {
+            Reg::Action => self.device.read_action(),
+            Reg::Value => self.device.read_value(),
+        }
+    }
+
+    /// Copies bytes of the device's range from a place on into a buffer, all of it.
+    pub fn range_read(&self, place: u32, buf: &mut [u8])
+        requires { place + length buf.old ≤ range_length }
+        ensures {
+            buf.new ≡ take (length buf.old) (drop place (device_in (held_of self.now)).range)
+        }
+    {
+        self.device.range_read(place, buf);
+    }
+
     /// Writes bytes at a place of a file that is at most its length.
     pub fn write(&mut self, file: FileNo, place: u64, bytes: &[u8]) -> Result<(), AllocError>
-        requires { place ≤ length (file_in file (here_of self.old)) }
-        ensures ok { OnOk result (self.new ≡ record self.old { changes = self.old.changes ++ put file place bytes.now ∷ [] }) }
+        requires { place ≤ length (file_in file (held_of self.old).here) }
+        ensures ok { OnOk result (self.new ≡ with_change (wrote file place bytes.now) self.old) }
         ensures err { OnErr result (self.new ≡ self.old) }
     {
         match file {
@@ -132,34 +194,103 @@ impl History {
 
     /// Notes that a file is settled as it is.
     pub fn sync(&mut self, file: FileNo) -> Result<(), AllocError>
-        ensures ok { OnOk result (self.new ≡ record self.old { changes = self.old.changes ++ settled file ∷ [] }) }
+        ensures ok { OnOk result (self.new ≡ with_change (synced file) self.old) }
         ensures err { OnErr result (self.new ≡ self.old) }
     {
         self.events.push(Event::Synced(file))?;
         Ok(())
     }
 
+    /// Writes a number to a register of the device.
+    pub fn write_register(&mut self, reg: Reg, value: u64) -> Result<(), AllocError>
+        ensures ok { OnOk result (self.new ≡ with_change (acted (wrote_register reg value)) self.old) }
+        ensures err { OnErr result (self.new ≡ self.old) }
+    {
+        self.events.reserve(1)?;
+        write_register(&mut self.device, reg, value)?;
+        self.events.push(Event::WroteRegister(reg, value))?;
+        Ok(())
+    }
+
+    /// Writes bytes into the device's range from a place on.
+    pub fn range_write(&mut self, place: u32, bytes: &[u8]) -> Result<(), AllocError>
+        requires { place + length bytes.now ≤ range_length }
+        ensures ok { OnOk result (self.new ≡ with_change (acted (wrote_range place bytes.now)) self.old) }
+        ensures err { OnErr result (self.new ≡ self.old) }
+    {
+        let kept = Vec::from_slice(self.alloc, bytes)?;
+        self.events.push(Event::WroteRange(place, kept))?;
+        self.device.range_write(place, bytes);
+        Ok(())
+    }
+
+    /// Puts a record into the store, and answers what the store answers, unless the record of the put can't be kept.
+    pub fn put(&mut self, id: u64, bytes: &[u8]) -> Result<Result<(), PutRefused>, AllocError>
+        ensures past {
+            IfOk result (λ put. self.new ≡ past_after put (acted (put_record id bytes.now)) self.old)
+        }
+        ensures answers {
+            IfOk result (λ put. Answers put (refusal_of id bytes.now (held_of self.old).here.store))
+        }
+        ensures kept { OnErr result (self.new ≡ self.old) }
+    {
+        let kept = Vec::from_slice(self.alloc, bytes)?;
+        self.events.reserve(1)?;
+        match self.device.put(id, bytes) {
+            Ok(()) => {
+                self.events.push(Event::Put(id, kept))?;
+                Ok(Ok(()))
+            }
+            Err(refused) => Ok(Err(refused)),
+        }
+    }
+
     /// Appends bytes to the output.
     pub fn print(&mut self, bytes: &[u8]) -> Result<(), AllocError>
-        ensures ok { OnOk result (self.new ≡ record self.old { changes = self.old.changes ++ said bytes.now ∷ [] }) }
+        ensures ok { OnOk result (self.new ≡ with_change (printed bytes.now) self.old) }
         ensures err { OnErr result (self.new ≡ self.old) }
     {
         print(self.alloc, &mut self.out, &mut self.events, bytes)
     }
 
-    /// Both files as they are picked.
-    pub fn left(self, pick: Pick) -> Result<(Vec<u8>, Vec<u8>), AllocError>
-        ensures zero { IfOk result (λ files. IsPicked pick (disk_of self).zero (here_of self).file0 files.0.items) }
-        ensures one { IfOk result (λ files. IsPicked pick (disk_of self).one (here_of self).file1 files.1.items) }
+    /// Both files as they are picked, and the store.
+    pub fn into_left(self, pick: Pick) -> Result<(Vec<u8>, Vec<u8>, Store, u64), AllocError>
+        ensures zero {
+            IfOk result (λ left. IsPicked pick (disk_of self).zero (held_of self).here.file0 left.0.items)
+        }
+        ensures one {
+            IfOk result (λ left. IsPicked pick (disk_of self).one (held_of self).here.file1 left.1.items)
+        }
+        ensures store { IfOk result (λ left. left.2 ≡ (held_of self).here.store) }
+        ensures slow { IfOk result (λ left. left.3 ≡ self.first.volatile.slow) }
     {
         let History {
             zero,
             one,
+            device,
+            slow,
             events,
             ..
         } = self;
-        let file0 = picked(zero, &events, FileNo::Zero, pick)?;
-        let file1 = picked(one, &events, FileNo::One, pick)?;
-        Ok((file0, file1))
+        let file0 = picked_bytes(zero, &events, FileNo::Zero, pick)?;
+        let file1 = picked_bytes(one, &events, FileNo::One, pick)?;
+        Ok((file0, file1, device.into_store(), slow))
+    }
+}
+
+// Writes a number to a register of a device.
+fn write_register(device: &mut Dev, reg: Reg, value: u64) -> Result<(), AllocError>
+    ensures ok { OnOk result (device.new ≡ after_reg_write reg value device.old) }
+    ensures err { OnErr result (device.new ≡ device.old) }
+{
+    match reg {
+        Reg::Action => match device.write_action(value) {
+            Ok(()) => Ok(()),
+            Err(NoMemory) => Err(AllocError),
+        },
+        Reg::Value => {
+            device.write_value(value);
+            Ok(())
+        }
     }
 }

@@ -1,12 +1,13 @@
-// What the clauses of a board say of calls one after another.
+//! What the clauses of a board say of calls one after another.
 ghost use Rattle.std.specs.Prelude.{◌≡◌, ℕ, ◌≤◌, ◌↔◌, List, [], ◌∷◌, ◌++◌, length};
+ghost use Rattle.erst_store.specs.Store.{Stored};
 ghost use Rattle.board_core.specs.declared.board.FileNo.{FileNo};
 ghost use Rattle.board_core.specs.CallsMade.{AreMade, Keeps, ranges_in};
 ghost use Rattle.board_core.specs.Clock.{LeftNow, IsSynced};
-ghost use Rattle.board_core.specs.DiskModel.{Range, Disk, MayLeave, MayLeaveFile, MayLeaveSince, Call, after_all, grown};
-ghost use Rattle.board_core.specs.MemBoard.{Past, with_change, said, clock_of, disk_of, here_of};
-ghost use Rattle.board_core.specs.Stop.{Left, file_in};
-ghost use Rattle.board_core.specs.Told.{overlaid};
+ghost use Rattle.board_core.specs.DiskModel.{Range, Disk, MayLeave, MayLeaveFile, MayLeaveSince, Call, rests, after_all, greatest_length};
+ghost use Rattle.board_core.specs.MemBoard.{Past, DeviceChange, device_step, with_change, acted, printed, clock_of, disk_of, held_of, device_in};
+ghost use Rattle.board_core.specs.Stop.{Left, Becomes, file_in};
+ghost use Rattle.board_core.specs.Told.{overlay};
 
 use crate::Board;
 
@@ -19,7 +20,7 @@ pub fn disk_model<B: Board>()
         → (left : Left) → (B.clock last).may_leave_since (B.clock first).now left
         → MayLeaveFile (record { synced = bytes; written = ranges_in file calls }) (file_in file left) }
 
-    // Both files and the printed text together: a stop leaves what the disk model says of one and the same moment.
+    // Both files, the record store and the printed text together: a stop leaves what the disk model says of one and the same moment.
     ensures together { (disk : Disk) (calls : List Call) (first last : B) → Keeps disk (B.clock first) → AreMade B.clock calls first last
         → (left : Left) → (B.clock last).may_leave_since (B.clock first).now left → MayLeaveSince disk calls 0 left }
     ensures after { (disk : Disk) (calls : List Call) (first last : B) → Keeps disk (B.clock first) → AreMade B.clock calls first last
@@ -33,11 +34,19 @@ pub fn disk_model_words()
 
     // The new length is that of the file with the bytes written over it.
     ensures grows { (place : ℕ) (bytes old : List ℕ) → place ≤ length old
-        → length (overlaid place bytes old) ≡ grown (length old) (record { place = place; count = length bytes } ∷ []) }
+        → length (overlay place bytes old) ≡ greatest_length (length old) (record { place = place; count = length bytes } ∷ []) }
 
     // A board in memory leaves all that the disk model says, and nothing else. While it prints it leaves each beginning of
     // the piece.
-    ensures memory { (past : Past) (left : Left) → LeftNow (clock_of past) left ↔ MayLeave (disk_of past) [] left }
+    ensures memory { (past : Past) (left : Left) → LeftNow (clock_of past) left ↔ MayLeave (disk_of past) rests left }
     ensures printing { (past : Past) (part missing : List ℕ)
-        → (clock_of (with_change (said (part ++ missing)) past)).may_leave_since (clock_of past).now (record (here_of past) { out = (here_of past).out ++ part }) }
+        → (clock_of (with_change (printed (part ++ missing)) past)).may_leave_since (clock_of past).now (record (held_of past).here { out = (held_of past).here.out ++ part }) }
+
+    // While its device acts it leaves the store as before the call and as after it.
+    ensures acting {
+        (past : Past) (change : DeviceChange) (store : List Stored)
+        → Becomes (device_step change (device_in (held_of past))).store (held_of past).here.store store
+        → (clock_of (with_change (acted change) past)).may_leave_since (clock_of past).now
+          (record (held_of past).here { store = store })
+    }
 {}

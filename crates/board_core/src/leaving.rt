@@ -1,17 +1,17 @@
-// A file of a board in memory as a stop may leave it.
+//! A file of a board in memory as a stop may leave it.
 ghost use Rattle.std.specs.Prelude.{◌≡◌, ◌↔◌, ℕ, ◌≤◌, IsTrue, [], ◌∷◌, length, take, drop, List, IfOk, OnOk};
 ghost use Rattle.board_core.specs.FileHistory.{bytes_after, bytes_after_all, disk_after_all, range_of, ranges_of, ArePartedAtSync};
 ghost use Rattle.board_core.specs.History.{change_of, changes_of, first_bytes};
-ghost use Rattle.board_core.specs.MemBoard.{settled, settled_file};
+ghost use Rattle.board_core.specs.MemBoard.{synced, settled_file};
 ghost use Rattle.board_core.specs.Pick.{IsFilled, IsPicked};
 
-use crate::events::overlay;
+use crate::events::overlay_bytes;
 use crate::history::{Event, MemFile};
 use crate::{FileNo, Pick};
 use std::alloc::AllocError;
 
 /// The file of this number as it is picked, where these events made it what it is.
-pub fn picked(
+pub fn picked_bytes(
     file: MemFile,
     events: &[Event],
     number: FileNo,
@@ -50,11 +50,11 @@ fn events_to_last_sync(events: &[Event], number: FileNo) -> usize
 }
 
 fn syncs(event: &Event, number: FileNo) -> bool
-    ensures { IsTrue result ↔ (change_of event.now ≡ settled number) }
+    ensures { IsTrue result ↔ (change_of event.now ≡ synced number) }
 {
     match event {
         Event::Synced(file) => *file == number,
-        Event::Wrote(..) | Event::Printed(_) => false,
+        _ => false,
     }
 }
 
@@ -75,9 +75,9 @@ fn repeat_one(bytes: &mut Vec<u8>, event: &Event, number: FileNo) -> Result<(), 
     match event {
         Event::Wrote(file, place, written) if *file == number => {
             let place = (*place as usize).min(bytes.len());
-            overlay(bytes, place, written)
+            overlay_bytes(bytes, place, written)
         }
-        Event::Wrote(..) | Event::Synced(_) | Event::Printed(_) => Ok(()),
+        _ => Ok(()),
     }
 }
 
@@ -97,7 +97,7 @@ fn fill_one(bytes: &mut [u8], event: &Event, number: FileNo, byte: u8)
         Event::Wrote(file, place, written) if *file == number => {
             fill_range(bytes, *place as usize, written.len(), byte);
         }
-        Event::Wrote(..) | Event::Synced(_) | Event::Printed(_) => {}
+        _ => {}
     }
 }
 

@@ -1,4 +1,5 @@
-//! What the daemon stands on: a source of script bytes, and a board with two files and an output.
+//! What the daemon stands on: a source of script bytes, and a board with two files, a device with its record store, and an
+//! output.
 //!
 //! Both are traits. Their clauses say what each call does to what a source or board tells of itself, and when it may
 //! fail. A real file or pipe tells nothing, so a clause on contents binds it to nothing, while the versions in memory
@@ -16,7 +17,7 @@ mod pick;
 mod source;
 mod through;
 
-pub use board::{Board, DiskCall, FileNo};
+pub use board::{Access, Board, BoardPut, DiskCall, FileNo, Reg};
 pub use laws::{disk_model, disk_model_words};
 pub use mem_board::MemBoard;
 pub use mem_source::MemSource;

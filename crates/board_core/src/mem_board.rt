@@ -1,18 +1,27 @@
-// A board in memory.
-ghost use Rattle.std.specs.Prelude.{◌≡◌, ℕ, ◌+◌, ◌<◌, ◌≤◌, ◌++◌, [], ◌∷◌, List, length, min, Some, IfSome, IfOk, OnOk, OnErr};
+//! A board in memory.
+ghost use Rattle.std.specs.Prelude.{◌≡◌, ℕ, ◌+◌, ◌<◌, ◌≤◌, ◌++◌, [], ◌∷◌, List, length, min, take, drop, Some, IfOk, OnOk, OnErr};
+ghost use Rattle.std.specs.Result.{result_unwrap_or};
+ghost use Rattle.erst_store.specs.Actions.{range_length};
+ghost use Rattle.erst_store.specs.DeviceLaws.{IsDevice};
+ghost use Rattle.erst_store.specs.Store.{refusal_of};
+ghost use Rattle.board_core.specs.declared.board.Access.TheVariants.{Read, Write, RangeRead, RangeWrite};
 ghost use Rattle.board_core.specs.declared.board.DiskCall.TheVariants.{Size, ReadAt, WriteAt, Sync};
-ghost use Rattle.board_core.specs.Cause.{HasCause};
+ghost use Rattle.board_core.specs.Cause.{disk_call, device_call, print_call, FailsAs, put_failure};
+ghost use Rattle.board_core.specs.ChangeLemmas.{told_left, text_left, store_left};
 ghost use Rattle.board_core.specs.Clock.{LeftNow, Passes, Leads, IsSynced};
-ghost use Rattle.board_core.specs.MemBoardLaws.{told_left, text_left};
-ghost use Rattle.board_core.specs.MemSource.{counted};
-ghost use Rattle.board_core.specs.MomentLaws.{since_earlier};
-ghost use Rattle.board_core.specs.MemBoard.{State, new_with, new_past, told_of, here_of, disk_of, clock_of, settled_disk, calls_of, put, settled, said, fails_next, FailsAsChosen, CountsCall, Begun, Makes, StarvesDisk, StarvesPrint, FailsDisk};
+ghost use Rattle.board_core.specs.MemSource.{next_count};
+ghost use Rattle.board_core.specs.MomentLemmas.{since_earlier};
+ghost use Rattle.board_core.specs.MemBoard.{State, Change, new_board, new_past, told_of, held_of, device_in, disk_of, clock_of, settled_disk, calls_of, wrote, synced, acted, printed, wrote_register, wrote_range, put_record, past_after};
+ghost use Rattle.board_core.specs.MemBoard.{fails_next, Does, ListsCall, ListsAccess, ListsNone, failed_access};
+ghost use Rattle.board_core.specs.MemBoardCalls.{Starves, Ends, EndsPut};
 ghost use Rattle.board_core.specs.Pick.{IsPicked};
-ghost use Rattle.board_core.specs.Stop.{Same, InFile, InOut, Begins, Appends, file_in, with_file_in};
-ghost use Rattle.board_core.specs.Told.{Told, Steps, Relates, Reads, Torn, MayList, FailsWrite, FailsPrint, file_of, called, written, printed};
+ghost use Rattle.board_core.specs.Stop.{Same, InFile, InStore, InOut, Begins, Appends, file_in, with_file_in};
+ghost use Rattle.board_core.specs.Told.{Told, Steps, Reads, Torn, MayList, FailsWrite, FailsPrint, file_of, with_call, after_write, after_print};
+ghost use Rattle.board_core.specs.Told.{device_of, on_device, with_access, register_in, after_reg_write, after_range_write, after_put, AnswersPut, KeepsAtRefusal, StoreBy, MayListAccess, MayAct, FailsAccess};
 
 use crate::history::History;
-use crate::{Board, DiskCall, Failed, FileNo, Pick};
+use crate::{Access, Board, BoardPut, DiskCall, Failed, FileNo, Pick, Reg};
+use erst_store::Store;
 use ras_base::NoMemory;
 use std::alloc::{AllocError, Global};
 use std::marker::Model;
@@ -25,64 +34,80 @@ use std::marker::Model;
 #[derive(Drop)]
 pub struct MemBoard {
     history: History,
-    calls: Vec<DiskCall>,
+    disk_calls: Vec<DiskCall>,
+    accesses: Vec<Access>,
     fails: Vec<u64>,
     allowed: u64,
     made: u64,
     starved: u64,
     disk_faults: u64,
+    register_faults: u64,
     print_faults: u64,
 }
 
 impl Model for MemBoard {
-    ghost use Rattle.std.specs.Prelude.{◌≡◌, []};
     ghost use Rattle.board_core.specs.MemBoard.{State};
+    ghost use Rattle.board_core.specs.MemBoardCalls.{IsMemBoard};
 
     ghost Value = { State };
 
     ghost view = { λ b. record {
       past = b.history;
-      calls = b.calls.items;
+      disk_calls = b.disk_calls.items;
+      accesses = b.accesses.items;
       fails = b.fails.items;
       allowed = b.allowed;
       made = b.made;
       starved = b.starved;
-      disk_faults = b.disk_faults;
-      print_faults = b.print_faults;
+      faults = record { disk = b.disk_faults; registers = b.register_faults; prints = b.print_faults };
     } };
 
-    // Nothing was changed before the first call.
-    ghost invariant = { λ b. b.made ≡ 0 → b.history.changes ≡ [] };
+    ghost invariant = { λ b. IsMemBoard b.made b.history };
 }
 
 impl MemBoard {
-    /// A board with empty files, nothing printed and no faults.
-    pub fn new(alloc: Global) -> Result<MemBoard, NoMemory>
-        ensures { IfOk result (λ board. board ≡ new_with [] []) }
+    /// A board with empty files, nothing printed and no faults, and a new device over this store that is busy `slow`
+    /// times after each EXECUTE_OPERATION.
+    pub fn new(alloc: Global, store: Store, slow: u64) -> Result<MemBoard, NoMemory>
+        ensures { IfOk result (λ board. board ≡ new_board [] [] store slow) }
     {
-        Ok(MemBoard::with_files(alloc, Vec::new(alloc), Vec::new(alloc)))
+        MemBoard::with_files(alloc, Vec::new(alloc), Vec::new(alloc), store, slow)
     }
 
     // A new board with these files, synced.
-    fn with_files(alloc: Global, file0: Vec<u8>, file1: Vec<u8>) -> MemBoard
-        ensures { result ≡ new_with file0.items file1.items }
+    fn with_files(
+        alloc: Global,
+        file0: Vec<u8>,
+        file1: Vec<u8>,
+        store: Store,
+        slow: u64,
+    ) -> Result<MemBoard, NoMemory>
+        ensures { IfOk result (λ board. board ≡ new_board file0.items file1.items store slow) }
     {
-        MemBoard {
-            history: History::new(alloc, file0, file1),
-            calls: Vec::new(alloc),
+        Ok(MemBoard {
+            history: History::new(alloc, file0, file1, store, slow)?,
+            disk_calls: Vec::new(alloc),
+            accesses: Vec::new(alloc),
             fails: Vec::new(alloc),
             allowed: u64::MAX,
             made: 0,
             starved: 0,
             disk_faults: 0,
+            register_faults: 0,
             print_faults: 0,
-        }
+        })
     }
 
     /// Puts these bytes into a file, synced, before any call of the trait was made.
     pub fn set_file(&mut self, file: FileNo, bytes: Vec<u8>)
         requires { self.old.made ≡ 0 }
-        ensures { self.new ≡ record self.old { past = new_past (with_file_in file bytes.items self.old.past.first) } }
+        ensures {
+            self.new ≡ record self.old {
+              past = new_past (record self.old.past.first {
+                here = with_file_in file bytes.items self.old.past.first.here;
+              });
+            }
+        }
     {
         self.history.set_file(file, bytes);
     }
@@ -112,7 +137,7 @@ impl MemBoard {
 
     /// The bytes printed so far.
     pub fn out(&self) -> &[u8]
-        ensures { result.now ≡ (told_of self.now).out }
+        ensures { result.now ≡ (told_of self.now).here.out }
     {
         self.history.out()
     }
@@ -124,31 +149,58 @@ impl MemBoard {
         self.history.file(file)
     }
 
-    /// The disk calls made so far.
-    pub fn disk_calls(&self) -> &[DiskCall]
-        ensures { result.now ≡ self.now.calls }
+    /// The record store behind the device.
+    pub fn store(&self) -> &Store
+        ensures { result.now ≡ (told_of self.now).here.store }
     {
-        &self.calls
+        self.history.store()
     }
 
-    /// A new board with one state that a stop now may leave, and nothing printed.
+    /// The disk calls made so far.
+    pub fn disk_calls(&self) -> &[DiskCall]
+        ensures { result.now ≡ self.now.disk_calls }
+    {
+        &self.disk_calls
+    }
+
+    /// The accesses to the device made so far.
+    pub fn accesses(&self) -> &[Access]
+        ensures { result.now ≡ self.now.accesses }
+    {
+        &self.accesses
+    }
+
+    /// A new board with one state that a stop now may leave, and nothing printed. Its device is new, with the store that a
+    /// stop leaves, and as slow as this board's.
     ///
     /// After `NoMemory` this board is given up.
     pub fn left(self, alloc: Global, pick: Pick) -> Result<MemBoard, NoMemory>
-        ensures fresh { IfOk result (λ board. board ≡ new_with (told_of board).file0 (told_of board).file1) }
-        ensures zero { IfOk result (λ board. IsPicked pick (disk_of self.past).zero (told_of self).file0 (told_of board).file0) }
-        ensures one { IfOk result (λ board. IsPicked pick (disk_of self.past).one (told_of self).file1 (told_of board).file1) }
-        ensures left { IfOk result (λ board. LeftNow (clock_of self.past) (record { file0 = (told_of board).file0; file1 = (told_of board).file1; out = (told_of self).out })) }
+        ensures fresh {
+            IfOk result (λ board. board ≡ new_board (told_of board).here.file0 (told_of board).here.file1
+              (told_of self).here.store self.past.first.volatile.slow)
+        }
+        ensures zero {
+            IfOk result (λ board. IsPicked pick (disk_of self.past).zero (told_of self).here.file0
+              (told_of board).here.file0)
+        }
+        ensures one {
+            IfOk result (λ board. IsPicked pick (disk_of self.past).one (told_of self).here.file1
+              (told_of board).here.file1)
+        }
+        ensures left {
+            IfOk result (λ board. LeftNow (clock_of self.past)
+              (record (told_of board).here { out = (told_of self).here.out }))
+        }
     {
         let MemBoard { history, .. } = self;
-        let (file0, file1) = history.left(pick)?;
-        Ok(MemBoard::with_files(alloc, file0, file1))
+        let (file0, file1, store, slow) = history.into_left(pick)?;
+        MemBoard::with_files(alloc, file0, file1, store, slow)
     }
 
     // Counts a call, and says whether its number was chosen to fail.
     fn count(&mut self) -> bool
         ensures chosen { result ≡ fails_next self.old }
-        ensures counted { self.new ≡ record self.old { made = counted self.old.made } }
+        ensures counted { self.new ≡ record self.old { made = next_count self.old.made } }
     {
         self.made = self.made.saturating_add(1);
         self.fails.contains(&self.made) || self.allowed < self.made
@@ -156,17 +208,12 @@ impl MemBoard {
 
     // Counts and lists a disk call. It fails where its number was chosen, or where the list can't grow.
     fn begin(&mut self, call: DiskCall) -> Result<(), Failed>
-        ensures ok { OnOk result (Begun call self.old self.new) }
-        ensures err { OnErr result (FailsDisk call self.old self.new) }
-        ensures counted { CountsCall self.old self.new }
-        ensures cause { HasCause self.old.disk_faults self.new.disk_faults result }
-        ensures exact { FailsAsChosen self.old self.new result }
+        ensures does { Does disk_call self.old.past self.old self.new result }
+        ensures listed { ListsCall call self.old self.new result }
     {
         let is_chosen = self.count();
-        if self.calls.push(call).is_err() {
-            self.starved = self.starved.saturating_add(1);
-            self.disk_faults = self.disk_faults.saturating_add(1);
-            return Err(Failed);
+        if self.disk_calls.push(call).is_err() {
+            return Err(self.starve_disk());
         }
         if is_chosen {
             self.disk_faults = self.disk_faults.saturating_add(1);
@@ -175,13 +222,42 @@ impl MemBoard {
         Ok(())
     }
 
-    // Counts a print. It fails where its number was chosen.
+    // Counts and lists an access, one that is chosen to fail as such.
+    fn begin_access(&mut self, access: Access) -> Result<(), Failed>
+        ensures does { Does device_call self.old.past self.old self.new result }
+        ensures ok { OnOk result (ListsAccess access self.old self.new result) }
+        ensures err { OnErr result (ListsAccess (failed_access access) self.old self.new result) }
+        ensures device { IsDevice (device_in (held_of self.old.past)) }
+    {
+        let is_chosen = self.count();
+        let listed = if is_chosen { failed(access) } else { access };
+        if self.accesses.push(listed).is_err() {
+            return Err(self.starve_device());
+        }
+        if is_chosen {
+            self.register_faults = self.register_faults.saturating_add(1);
+            return Err(Failed);
+        }
+        Ok(())
+    }
+
+    // Counts a put, which no list tells of.
+    fn begin_put(&mut self) -> Result<(), Failed>
+        ensures does { Does device_call self.old.past self.old self.new result }
+        ensures listed { ListsNone self.old self.new }
+        ensures device { IsDevice (device_in (held_of self.old.past)) }
+    {
+        if self.count() {
+            self.register_faults = self.register_faults.saturating_add(1);
+            return Err(Failed);
+        }
+        Ok(())
+    }
+
+    // Counts a print, which no list tells of.
     fn begin_print(&mut self) -> Result<(), Failed>
-        ensures ok { OnOk result (self.new ≡ record self.old { made = counted self.old.made }) }
-        ensures err { OnErr result (self.new ≡ record self.old { made = counted self.old.made; print_faults = counted self.old.print_faults }) }
-        ensures counted { CountsCall self.old self.new }
-        ensures cause { HasCause self.old.print_faults self.new.print_faults result }
-        ensures exact { FailsAsChosen self.old self.new result }
+        ensures does { Does print_call self.old.past self.old self.new result }
+        ensures listed { ListsNone self.old self.new }
     {
         if self.count() {
             self.print_faults = self.print_faults.saturating_add(1);
@@ -190,14 +266,41 @@ impl MemBoard {
         Ok(())
     }
 
-    // The change of a disk call that began well. It fails where it is refused a growth.
-    fn write(&mut self, file: FileNo, place: u64, bytes: &[u8]) -> Result<(), Failed>
-        requires within { place ≤ length (file_in file (here_of self.old.past)) }
+    // Counts a disk call that was refused a growth.
+    fn starve_disk(&mut self) -> Failed
+        requires { 0 < self.old.made }
+        ensures { Starves disk_call self.old self.new }
+    {
+        self.starved = self.starved.saturating_add(1);
+        self.disk_faults = self.disk_faults.saturating_add(1);
+        Failed
+    }
+
+    // Counts a device call that was refused a growth.
+    fn starve_device(&mut self) -> Failed
+        requires { 0 < self.old.made }
+        ensures { Starves device_call self.old self.new }
+    {
+        self.starved = self.starved.saturating_add(1);
+        self.register_faults = self.register_faults.saturating_add(1);
+        Failed
+    }
+
+    // Counts a print that was refused a growth.
+    fn starve_print(&mut self) -> Failed
+        requires { 0 < self.old.made }
+        ensures { Starves print_call self.old self.new }
+    {
+        self.starved = self.starved.saturating_add(1);
+        self.print_faults = self.print_faults.saturating_add(1);
+        Failed
+    }
+
+    // The change of a write that began well. It fails where it is refused a growth.
+    fn end_write(&mut self, file: FileNo, place: u64, bytes: &[u8]) -> Result<(), Failed>
+        requires within { place ≤ length (file_in file (held_of self.old.past).here) }
         requires begun { 0 < self.old.made }
-        ensures ok { OnOk result (Makes (put file place bytes.now) self.old self.new) }
-        ensures err { OnErr result (StarvesDisk self.old self.new) }
-        ensures cause { HasCause self.old.disk_faults self.new.disk_faults result }
-        ensures starved { self.old.starved ≤ self.new.starved }
+        ensures { Ends disk_call (wrote file place bytes.now) self.old self.new result }
     {
         match self.history.write(file, place, bytes) {
             Ok(()) => Ok(()),
@@ -205,12 +308,10 @@ impl MemBoard {
         }
     }
 
-    fn settle(&mut self, file: FileNo) -> Result<(), Failed>
+    // The change of a sync that began well.
+    fn end_sync(&mut self, file: FileNo) -> Result<(), Failed>
         requires { 0 < self.old.made }
-        ensures ok { OnOk result (Makes (settled file) self.old self.new) }
-        ensures err { OnErr result (StarvesDisk self.old self.new) }
-        ensures cause { HasCause self.old.disk_faults self.new.disk_faults result }
-        ensures starved { self.old.starved ≤ self.new.starved }
+        ensures { Ends disk_call (synced file) self.old self.new result }
     {
         match self.history.sync(file) {
             Ok(()) => Ok(()),
@@ -218,34 +319,136 @@ impl MemBoard {
         }
     }
 
-    // Counts a disk call that was refused a growth.
-    fn starve_disk(&mut self) -> Failed
+    // The change of a write to a register that began well.
+    fn end_reg_write(&mut self, reg: Reg, value: u64) -> Result<(), Failed>
         requires { 0 < self.old.made }
-        ensures err { StarvesDisk self.old self.new }
-        ensures cause { HasCause {T = Unit {0}} self.old.disk_faults self.new.disk_faults (Err result) }
-        ensures starved { self.old.starved ≤ self.new.starved }
+        ensures { Ends device_call (acted (wrote_register reg value)) self.old self.new result }
     {
-        self.starved = self.starved.saturating_add(1);
-        self.disk_faults = self.disk_faults.saturating_add(1);
-        Failed
+        match self.history.write_register(reg, value) {
+            Ok(()) => Ok(()),
+            Err(AllocError) => Err(self.starve_device()),
+        }
+    }
+
+    // The change of a write into the range that began well.
+    fn end_range_write(&mut self, place: u32, bytes: &[u8]) -> Result<(), Failed>
+        requires within { place + length bytes.now ≤ range_length }
+        requires begun { 0 < self.old.made }
+        ensures { Ends device_call (acted (wrote_range place bytes.now)) self.old self.new result }
+    {
+        match self.history.range_write(place, bytes) {
+            Ok(()) => Ok(()),
+            Err(AllocError) => Err(self.starve_device()),
+        }
+    }
+
+    // The change of a put that began well, unless the store refuses it.
+    fn end_put(&mut self, id: u64, bytes: &[u8]) -> Result<(), BoardPut>
+        requires { 0 < self.old.made }
+        ensures ends { EndsPut (acted (put_record id bytes.now)) self.old self.new result }
+        ensures answers {
+            AnswersPut result (refusal_of id bytes.now (held_of self.old.past).here.store)
+        }
+    {
+        match self.history.put(id, bytes) {
+            Ok(Ok(())) => Ok(()),
+            Ok(Err(refused)) => Err(BoardPut::Refused(refused)),
+            Err(AllocError) => {
+                let Failed = self.starve_device();
+                Err(BoardPut::Failed)
+            }
+        }
     }
 
     // The change of a print that began well.
-    fn say(&mut self, bytes: &[u8]) -> Result<(), Failed>
+    fn end_print(&mut self, bytes: &[u8]) -> Result<(), Failed>
         requires { 0 < self.old.made }
-        ensures ok { OnOk result (Makes (said bytes.now) self.old self.new) }
-        ensures err { OnErr result (StarvesPrint self.old self.new) }
-        ensures cause { HasCause self.old.print_faults self.new.print_faults result }
-        ensures starved { self.old.starved ≤ self.new.starved }
+        ensures { Ends print_call (printed bytes.now) self.old self.new result }
     {
         match self.history.print(bytes) {
             Ok(()) => Ok(()),
-            Err(AllocError) => {
-                self.starved = self.starved.saturating_add(1);
-                self.print_faults = self.print_faults.saturating_add(1);
-                Err(Failed)
-            }
+            Err(AllocError) => Err(self.starve_print()),
         }
+    }
+
+    // A write: counted, listed and made.
+    fn make_write(&mut self, file: FileNo, place: u64, bytes: &[u8]) -> Result<(), Failed>
+        requires { place ≤ length (file_in file (held_of self.old.past).here) }
+        ensures does {
+            Does disk_call (past_after result (wrote file place bytes.now) self.old.past) self.old self.new
+              result
+        }
+        ensures listed { ListsCall (WriteAt file place (length bytes.now)) self.old self.new result }
+    {
+        self.begin(DiskCall::WriteAt(file, place, bytes.len() as u64))?;
+        self.end_write(file, place, bytes)
+    }
+
+    // A sync: counted, listed and made.
+    fn make_sync(&mut self, file: FileNo) -> Result<(), Failed>
+        ensures does {
+            Does disk_call (past_after result (synced file) self.old.past) self.old self.new result
+        }
+        ensures listed { ListsCall (Sync file) self.old self.new result }
+    {
+        self.begin(DiskCall::Sync(file))?;
+        self.end_sync(file)
+    }
+
+    // A write to a register: counted, listed and made.
+    fn make_reg_write(&mut self, reg: Reg, value: u64) -> Result<(), Failed>
+        ensures does {
+            Does device_call (past_after result (acted (wrote_register reg value)) self.old.past) self.old
+              self.new result
+        }
+        ensures listed { ListsAccess (Write reg value) self.old self.new result }
+        ensures device { IsDevice (device_in (held_of self.old.past)) }
+    {
+        self.begin_access(Access::Write(reg, value))?;
+        self.end_reg_write(reg, value)
+    }
+
+    // A write into the range: counted, listed and made.
+    fn make_range_write(&mut self, place: u32, bytes: &[u8]) -> Result<(), Failed>
+        requires { place + length bytes.now ≤ range_length }
+        ensures does {
+            Does device_call (past_after result (acted (wrote_range place bytes.now)) self.old.past)
+              self.old self.new result
+        }
+        ensures listed { ListsAccess (RangeWrite place (length bytes.now)) self.old self.new result }
+        ensures device { IsDevice (device_in (held_of self.old.past)) }
+    {
+        self.begin_access(Access::RangeWrite(place, bytes.len() as u32))?;
+        self.end_range_write(place, bytes)
+    }
+
+    // A put: counted, and made unless the store refuses it.
+    fn make_put(&mut self, id: u64, bytes: &[u8]) -> Result<(), BoardPut>
+        ensures does {
+            Does device_call (past_after result (acted (put_record id bytes.now)) self.old.past) self.old
+              self.new (put_failure result)
+        }
+        ensures listed { ListsNone self.old self.new }
+        ensures answers {
+            AnswersPut result (refusal_of id bytes.now (held_of self.old.past).here.store)
+        }
+        ensures device { IsDevice (device_in (held_of self.old.past)) }
+    {
+        match self.begin_put() {
+            Ok(()) => self.end_put(id, bytes),
+            Err(Failed) => Err(BoardPut::Failed),
+        }
+    }
+
+    // A print: counted and made.
+    fn make_print(&mut self, bytes: &[u8]) -> Result<(), Failed>
+        ensures does {
+            Does print_call (past_after result (printed bytes.now) self.old.past) self.old self.new result
+        }
+        ensures listed { ListsNone self.old self.new }
+    {
+        self.begin_print()?;
+        self.end_print(bytes)
     }
 }
 
@@ -254,25 +457,27 @@ impl Board for MemBoard {
 
     ghost clock = { λ b. clock_of b.past };
 
-    ghost disk_faults = { λ b. b.disk_faults };
-
-    ghost print_faults = { λ b. b.print_faults };
+    ghost faults = { λ b. b.faults };
 
     ghost told_may_be_left = { λ b t is. told_left b t is };
 
     ghost text_is_left = { λ b t left is now. text_left b t left is now };
 
-    ghost counts_earlier = { λ b s t left within may. since_earlier (settled_disk b.past.first) (calls_of b.past.changes b.past.first) s t left within may };
+    ghost store_is_left = { λ b t left is now. store_left b t left is now };
+
+    ghost counts_earlier = { λ b s t left within may.
+        since_earlier (settled_disk b.past.first.here) (calls_of b.past.changes b.past.first) s t left within may };
 
     fn size(&mut self, file: FileNo) -> Result<u64, Failed>
         ensures length { IfOk result (λ n. n ≡ length (file_of file (told_of self.old))) }
-        ensures told { OnOk result (Some (told_of self.new) ≡ Some (called (Size file) (told_of self.old))) }
+        ensures told {
+            OnOk result (Some (told_of self.new) ≡ Some (with_call (Size file) (told_of self.old)))
+        }
         ensures failed { OnErr result (MayList (Size file) (told_of self.old) (told_of self.new)) }
         ensures stops { Passes Same (clock_of self.old.past) (clock_of self.new.past) }
-        ensures cause { HasCause self.old.disk_faults self.new.disk_faults result }
-        ensures print { self.new.print_faults ≡ self.old.print_faults }
-        ensures exact { FailsAsChosen self.old self.new result }
-        ensures counted { CountsCall self.old self.new }
+        ensures cause { FailsAs disk_call self.old.faults self.new.faults result }
+        ensures does { Does disk_call self.old.past self.old self.new result }
+        ensures listed { ListsCall (Size file) self.old self.new result }
     {
         self.begin(DiskCall::Size(file))?;
         Ok(self.file(file).len() as u64)
@@ -280,14 +485,20 @@ impl Board for MemBoard {
 
     fn read_at(&mut self, file: FileNo, place: u64, buf: &mut [u8]) -> Result<usize, Failed>
         ensures within { IfOk result (λ n. n ≤ length buf.old) }
-        ensures read { IfOk result (λ n. Reads place n buf.new (file_of file (told_of self.old))) }
-        ensures told { OnOk result (Some (told_of self.new) ≡ Some (called (ReadAt file place (length buf.old)) (told_of self.old))) }
-        ensures failed { OnErr result (MayList (ReadAt file place (length buf.old)) (told_of self.old) (told_of self.new)) }
+        ensures read {
+            IfOk result (λ n. Reads place n buf.new (file_of file (told_of self.old)))
+        }
+        ensures told {
+            OnOk result (Some (told_of self.new)
+              ≡ Some (with_call (ReadAt file place (length buf.old)) (told_of self.old)))
+        }
+        ensures failed {
+            OnErr result (MayList (ReadAt file place (length buf.old)) (told_of self.old) (told_of self.new))
+        }
         ensures stops { Passes Same (clock_of self.old.past) (clock_of self.new.past) }
-        ensures cause { HasCause self.old.disk_faults self.new.disk_faults result }
-        ensures print { self.new.print_faults ≡ self.old.print_faults }
-        ensures exact { FailsAsChosen self.old self.new result }
-        ensures counted { CountsCall self.old self.new }
+        ensures cause { FailsAs disk_call self.old.faults self.new.faults result }
+        ensures does { Does disk_call self.old.past self.old self.new result }
+        ensures listed { ListsCall (ReadAt file place (length buf.old)) self.old self.new result }
     {
         self.begin(DiskCall::ReadAt(file, place, buf.len() as u64))?;
         Ok(copy_from(self.file(file), place as usize, buf))
@@ -295,50 +506,201 @@ impl Board for MemBoard {
 
     fn write_at(&mut self, file: FileNo, place: u64, bytes: &[u8]) -> Result<(), Failed>
         requires { place ≤ length (file_of file (told_of self.old)) }
-        ensures told { OnOk result (Some (told_of self.new) ≡ Some (written file place bytes.now (told_of self.old))) }
-        ensures failed { OnErr result (FailsWrite file place (length bytes.now) (told_of self.old) (told_of self.new)) }
-        ensures stops { Passes (InFile file (Torn place (length bytes.now))) (clock_of self.old.past) (clock_of self.new.past) }
-        ensures cause { HasCause self.old.disk_faults self.new.disk_faults result }
-        ensures print { self.new.print_faults ≡ self.old.print_faults }
-        ensures exact { FailsAsChosen self.old self.new result }
-        ensures counted { CountsCall self.old self.new }
-        // A write that failed has written nothing.
-        ensures kept { OnErr result (self.new.past ≡ self.old.past) }
+        ensures told {
+            OnOk result (Some (told_of self.new)
+              ≡ Some (after_write file place bytes.now (told_of self.old)))
+        }
+        ensures failed {
+            OnErr result (FailsWrite file place (length bytes.now) (told_of self.old) (told_of self.new))
+        }
+        ensures stops {
+            Passes (InFile file (Torn place (length bytes.now))) (clock_of self.old.past)
+              (clock_of self.new.past)
+        }
+        ensures cause { FailsAs disk_call self.old.faults self.new.faults result }
+        // Where it failed it has written nothing.
+        ensures does {
+            Does disk_call (past_after result (wrote file place bytes.now) self.old.past) self.old self.new
+              result
+        }
+        ensures listed { ListsCall (WriteAt file place (length bytes.now)) self.old self.new result }
     {
-        self.begin(DiskCall::WriteAt(file, place, bytes.len() as u64))?;
-        self.write(file, place, bytes)
+        self.make_write(file, place, bytes)
     }
 
     fn sync(&mut self, file: FileNo) -> Result<(), Failed>
-        ensures told { OnOk result (Some (told_of self.new) ≡ Some (called (Sync file) (told_of self.old))) }
+        ensures told {
+            OnOk result (Some (told_of self.new) ≡ Some (with_call (Sync file) (told_of self.old)))
+        }
         ensures failed { OnErr result (MayList (Sync file) (told_of self.old) (told_of self.new)) }
         ensures stops { Passes Same (clock_of self.old.past) (clock_of self.new.past) }
-        ensures synced { OnOk result (IsSynced file (file_of file (told_of self.old)) (clock_of self.new.past)) }
-        ensures cause { HasCause self.old.disk_faults self.new.disk_faults result }
-        ensures print { self.new.print_faults ≡ self.old.print_faults }
-        ensures exact { FailsAsChosen self.old self.new result }
-        ensures counted { CountsCall self.old self.new }
-        // A sync that failed settles nothing.
-        ensures kept { OnErr result (self.new.past ≡ self.old.past) }
+        ensures synced {
+            OnOk result (IsSynced file (file_of file (told_of self.old)) (clock_of self.new.past))
+        }
+        ensures cause { FailsAs disk_call self.old.faults self.new.faults result }
+        // Where it failed it has settled nothing.
+        ensures does {
+            Does disk_call (past_after result (synced file) self.old.past) self.old self.new result
+        }
+        ensures listed { ListsCall (Sync file) self.old self.new result }
     {
-        self.begin(DiskCall::Sync(file))?;
-        self.settle(file)
+        self.make_sync(file)
+    }
+
+    fn reg_read(&mut self, reg: Reg) -> Result<u64, Failed>
+        ensures value { IfOk result (λ n. n ≡ register_in reg (device_of (told_of self.old))) }
+        ensures told {
+            IfOk result (λ n. Some (told_of self.new)
+              ≡ Some (with_access (Read reg n) (told_of self.old)))
+        }
+        ensures failed {
+            OnErr result (MayListAccess (Read reg 0) (told_of self.old) (told_of self.new))
+        }
+        ensures stops { Passes Same (clock_of self.old.past) (clock_of self.new.past) }
+        ensures cause { FailsAs device_call self.old.faults self.new.faults result }
+        ensures device { IsDevice (device_of (told_of self.old)) }
+        ensures does { Does device_call self.old.past self.old self.new result }
+        // A read that failed is listed with the number 0.
+        ensures listed {
+            ListsAccess (Read reg (result_unwrap_or result 0)) self.old self.new result
+        }
+    {
+        let value = self.history.register(reg);
+        self.begin_access(Access::Read(reg, value))?;
+        Ok(value)
+    }
+
+    fn reg_write(&mut self, reg: Reg, value: u64) -> Result<(), Failed>
+        ensures told {
+            OnOk result (Some (told_of self.new)
+              ≡ Some (with_access (Write reg value) (on_device (after_reg_write reg value) (told_of self.old))))
+        }
+        ensures failed {
+            OnErr result (FailsAccess (Write reg value) (after_reg_write reg value) (told_of self.old)
+              (told_of self.new))
+        }
+        ensures stops {
+            Passes (InStore (StoreBy (after_reg_write reg value) (Some (told_of self.old))))
+              (clock_of self.old.past) (clock_of self.new.past)
+        }
+        ensures cause { FailsAs device_call self.old.faults self.new.faults result }
+        ensures device { IsDevice (device_of (told_of self.old)) }
+        // Where it failed the device has done nothing.
+        ensures does {
+            Does device_call (past_after result (acted (wrote_register reg value)) self.old.past) self.old
+              self.new result
+        }
+        ensures listed { ListsAccess (Write reg value) self.old self.new result }
+    {
+        self.make_reg_write(reg, value)
+    }
+
+    fn range_read(&mut self, place: u32, buf: &mut [u8]) -> Result<(), Failed>
+        requires { place + length buf.old ≤ range_length }
+        ensures read {
+            OnOk result (buf.new ≡ take (length buf.old) (drop place (device_of (told_of self.old)).range))
+        }
+        ensures told {
+            OnOk result (Some (told_of self.new)
+              ≡ Some (with_access (RangeRead place (length buf.old)) (told_of self.old)))
+        }
+        ensures failed {
+            OnErr result (MayListAccess (RangeRead place (length buf.old)) (told_of self.old)
+              (told_of self.new))
+        }
+        ensures stops { Passes Same (clock_of self.old.past) (clock_of self.new.past) }
+        ensures cause { FailsAs device_call self.old.faults self.new.faults result }
+        ensures device { IsDevice (device_of (told_of self.old)) }
+        ensures does { Does device_call self.old.past self.old self.new result }
+        ensures listed { ListsAccess (RangeRead place (length buf.old)) self.old self.new result }
+    {
+        self.begin_access(Access::RangeRead(place, buf.len() as u32))?;
+        self.history.range_read(place, buf);
+        Ok(())
+    }
+
+    fn range_write(&mut self, place: u32, bytes: &[u8]) -> Result<(), Failed>
+        requires { place + length bytes.now ≤ range_length }
+        ensures told {
+            OnOk result (Some (told_of self.new)
+              ≡ Some (with_access (RangeWrite place (length bytes.now))
+                (on_device (after_range_write place bytes.now) (told_of self.old))))
+        }
+        ensures failed {
+            OnErr result (FailsAccess (RangeWrite place (length bytes.now)) (after_range_write place bytes.now)
+              (told_of self.old) (told_of self.new))
+        }
+        ensures stops { Passes Same (clock_of self.old.past) (clock_of self.new.past) }
+        ensures cause { FailsAs device_call self.old.faults self.new.faults result }
+        ensures device { IsDevice (device_of (told_of self.old)) }
+        // Where it failed it has written nothing.
+        ensures does {
+            Does device_call (past_after result (acted (wrote_range place bytes.now)) self.old.past)
+              self.old self.new result
+        }
+        ensures listed { ListsAccess (RangeWrite place (length bytes.now)) self.old self.new result }
+    {
+        self.make_range_write(place, bytes)
+    }
+
+    fn put(&mut self, id: u64, bytes: &[u8]) -> Result<(), BoardPut>
+        ensures told {
+            OnOk result (Some (told_of self.new)
+              ≡ Some (on_device (after_put id bytes.now) (told_of self.old)))
+        }
+        ensures answers { AnswersPut result (refusal_of id bytes.now (told_of self.old).here.store) }
+        ensures refused {
+            KeepsAtRefusal result (Some (told_of self.old)) (Some (told_of self.new))
+        }
+        ensures failed {
+            OnErr result (MayAct (after_put id bytes.now) (told_of self.old) (told_of self.new))
+        }
+        ensures stops {
+            Passes (InStore (StoreBy (after_put id bytes.now) (Some (told_of self.old))))
+              (clock_of self.old.past) (clock_of self.new.past)
+        }
+        ensures cause { FailsAs device_call self.old.faults self.new.faults (put_failure result) }
+        ensures device { IsDevice (device_of (told_of self.old)) }
+        // Where it failed nothing was put.
+        ensures does {
+            Does device_call (past_after result (acted (put_record id bytes.now)) self.old.past) self.old
+              self.new (put_failure result)
+        }
+        ensures listed { ListsNone self.old self.new }
+    {
+        self.make_put(id, bytes)
     }
 
     fn print(&mut self, bytes: &[u8]) -> Result<(), Failed>
-        ensures told { OnOk result (Some (told_of self.new) ≡ Some (printed bytes.now (told_of self.old))) }
+        ensures told {
+            OnOk result (Some (told_of self.new) ≡ Some (after_print bytes.now (told_of self.old)))
+        }
         ensures failed { OnErr result (FailsPrint bytes.now (told_of self.old) (told_of self.new)) }
-        ensures stops { Passes (InOut (Begins bytes.now)) (clock_of self.old.past) (clock_of self.new.past) }
-        ensures printed { OnOk result (Leads (InOut (Appends bytes.now)) (clock_of self.old.past) (clock_of self.new.past)) }
-        ensures cause { HasCause self.old.print_faults self.new.print_faults result }
-        ensures disk { self.new.disk_faults ≡ self.old.disk_faults }
-        ensures exact { FailsAsChosen self.old self.new result }
-        ensures counted { CountsCall self.old self.new }
-        // A print that failed has printed nothing.
-        ensures kept { OnErr result (self.new.past ≡ self.old.past) }
+        ensures stops {
+            Passes (InOut (Begins bytes.now)) (clock_of self.old.past) (clock_of self.new.past)
+        }
+        ensures printed {
+            OnOk result (Leads (InOut (Appends bytes.now)) (clock_of self.old.past)
+              (clock_of self.new.past))
+        }
+        ensures cause { FailsAs print_call self.old.faults self.new.faults result }
+        // Where it failed it has printed nothing.
+        ensures does {
+            Does print_call (past_after result (printed bytes.now) self.old.past) self.old self.new result
+        }
+        ensures listed { ListsNone self.old self.new }
     {
-        self.begin_print()?;
-        self.say(bytes)
+        self.make_print(bytes)
+    }
+}
+
+// An access as it is listed where it failed.
+fn failed(access: Access) -> Access
+    ensures { result ≡ failed_access access }
+{
+    match access {
+        Access::Read(reg, _) => Access::Read(reg, 0),
+        Access::Write(..) | Access::RangeRead(..) | Access::RangeWrite(..) => access,
     }
 }
 

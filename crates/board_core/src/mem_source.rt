@@ -1,4 +1,4 @@
-// A source over bytes in memory.
+//! A source over bytes in memory.
 ghost use Rattle.std.specs.Prelude.{◌≡◌, ℕ, ◌+◌, ◌<◌, ◌≤◌, ◌↔◌, [], drop, length, min, Some, IfOk, IsErr, OnErr, IsTrue};
 ghost use Rattle.board_core.specs.Cause.{HasCause, Rose};
 ghost use Rattle.board_core.specs.Takes.{Takes};

@@ -1,4 +1,4 @@
-// What is taken of the states that a stop may leave.
+//! What is taken of the states that a stop may leave.
 
 /// Which of the states that a stop now may leave is taken.
 #[derive(Clone, Copy, Debug, PartialEq, Eq)]

@@ -1,9 +1,9 @@
-// A write that is on the disk once it has ended well.
+//! A write that is on the disk once it has ended well.
 ghost use Rattle.std.specs.Prelude.{◌≡◌, ◌≤◌, length, IfSome, OnOk, OnErr};
-ghost use Rattle.board_core.specs.Cause.{HasCause};
+ghost use Rattle.board_core.specs.Cause.{disk_call, FailsAs};
 ghost use Rattle.board_core.specs.Clock.{Adds, After, Rests};
-ghost use Rattle.board_core.specs.Stop.{InFile, left_of};
-ghost use Rattle.board_core.specs.Told.{Told, Steps, Relates, Torn, FailsThrough, file_of, written_through};
+ghost use Rattle.board_core.specs.Stop.{InFile};
+ghost use Rattle.board_core.specs.Told.{Told, Steps, Relates, Torn, FailsThrough, file_of, after_write_through};
 
 use crate::{Board, Failed, FileNo};
 
@@ -19,18 +19,17 @@ pub fn write_through<B: Board>(
     bytes: &[u8],
     board: &mut B,
 ) -> Result<(), Failed>
-    requires { IfSome (B.told board.old) (λ t. place ≤ length (file_of file t)) }
-    ensures told { OnOk result (Steps (written_through file place bytes.now) (B.told board.old) (B.told board.new)) }
+    requires { IfSome (B.told board.old) (λ told. place ≤ length (file_of file told)) }
+    ensures told { OnOk result (Steps (after_write_through file place bytes.now) (B.told board.old) (B.told board.new)) }
     ensures failed { OnErr result (Relates (FailsThrough file place bytes.now) (B.told board.old) (B.told board.new)) }
 
     ensures stops { Adds (After (B.clock board.old) (InFile file (Torn place (length bytes.now)))) (B.clock board.old) (B.clock board.new) }
-    ensures at_rest { (here : Told) → Rests here (B.told board.old) (B.clock board.old)
-        → Adds (InFile file (Torn place (length bytes.now)) (left_of here)) (B.clock board.old) (B.clock board.new) }
-    ensures rests { OnOk result ((here : Told) → Rests here (B.told board.old) (B.clock board.old)
-        → Rests (written_through file place bytes.now here) (B.told board.new) (B.clock board.new)) }
+    ensures at_rest { (t : Told) → Rests t (B.told board.old) (B.clock board.old)
+        → Adds (InFile file (Torn place (length bytes.now)) t.here) (B.clock board.old) (B.clock board.new) }
+    ensures rests { OnOk result ((t : Told) → Rests t (B.told board.old) (B.clock board.old)
+        → Rests (after_write_through file place bytes.now t) (B.told board.new) (B.clock board.new)) }
 
-    ensures cause { HasCause (B.disk_faults board.old) (B.disk_faults board.new) result }
-    ensures print { B.print_faults board.new ≡ B.print_faults board.old }
+    ensures cause { FailsAs disk_call (B.faults board.old) (B.faults board.new) result }
 {
     board.write_at(file, place, bytes)?;
     board.sync(file)

@@ -1,4 +1,4 @@
-use Rattle.board_core.proofs.DiskModelLaws.{after_calls, file_calls, since_calls}
+use Rattle.board_core.proofs.DiskModelLemmas.{after_calls, file_calls, since_calls}
 use Rattle.board_core.proofs.laws.disk_model.Goals as goal
 
 pub returns-clause-file : goal.returns-clause-file

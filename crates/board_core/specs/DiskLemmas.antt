@@ -1,11 +1,11 @@
--- This file only carries proofs: how the disk model goes on over one write, one sync and one print.
+-- Only for proofs: how the disk model goes on over one write, one sync and one print.
 use Rattle.std.specs.Prelude.{◌≡◌, ℕ, ◌+◌, ◌-◌, ◌<◌, ◌≤◌, ◌⊎◌, max, min, List, [], ◌∷◌, ◌++◌, length, take, drop, refl}
 use Rattle.std.proofs.Common.{sym, ◌∙◌, ap, subst, inl, inr, arith, get_or, append-nil, length-append, length-take, length-drop}
 use Rattle.std.proofs.lemmas.Bool.{cases_lt}
 use Rattle.std.proofs.lemmas.List.{get_or-take, get_or-drop, get_or_append_left, get_or-append_right, ext_get_or, take-append-le, take-take, take_all, drop_all, drop_at, drop-drop}
-use Rattle.board_core.specs.Told.{Torn, overlaid}
+use Rattle.board_core.specs.Told.{Torn, overlay}
 use Rattle.board_core.specs.Stop.{Begins}
-use Rattle.board_core.specs.DiskModel.{Range, IsOutside, grown, DiskFile, MayLeaveFile, wrote}
+use Rattle.board_core.specs.DiskModel.{Range, IsOutside, greatest_length, DiskFile, MayLeaveFile, with_range}
 
 -- places of one range, and of ranges with one more
 
@@ -21,27 +21,27 @@ pub outside_more : (ranges : List Range) (r : Range) (k : ℕ) → IsOutside ran
 outside_more [] r k front last = (last, tt)
 outside_more (x ∷ xs) r k front last = (front.0, outside_more xs r k front.1 last)
 
-pub grown-more : (size : ℕ) (ranges : List Range) (r : Range) → grown size (ranges ++ r ∷ []) ≡ max (grown size ranges) (r.place + r.count)
-grown-more size [] r = refl
-grown-more size (x ∷ xs) r = grown-more (max size (x.place + x.count)) xs r
+pub greatest_length-more : (size : ℕ) (ranges : List Range) (r : Range) → greatest_length size (ranges ++ r ∷ []) ≡ max (greatest_length size ranges) (r.place + r.count)
+greatest_length-more size [] r = refl
+greatest_length-more size (x ∷ xs) r = greatest_length-more (max size (x.place + x.count)) xs r
 
-pub grown-least : (size : ℕ) (ranges : List Range) → size ≤ grown size ranges
-grown-least size [] = omega arith
-grown-least size (x ∷ xs) = let more : max size (x.place + x.count) ≤ grown (max size (x.place + x.count)) xs = grown-least (max size (x.place + x.count)) xs in omega arith
+pub greatest_length-least : (size : ℕ) (ranges : List Range) → size ≤ greatest_length size ranges
+greatest_length-least size [] = omega arith
+greatest_length-least size (x ∷ xs) = let more : max size (x.place + x.count) ≤ greatest_length (max size (x.place + x.count)) xs = greatest_length-least (max size (x.place + x.count)) xs in omega arith
 
 -- a file's bytes with others written over them
 
-pub length-overlaid : (place : ℕ) (bytes old : List ℕ) → length (overlaid place bytes old) ≡ min place (length old) + length bytes + (length old - (place + length bytes))
-length-overlaid place bytes old = simp (length-append, length-take, length-drop) refl
+pub length-overlay : (place : ℕ) (bytes old : List ℕ) → length (overlay place bytes old) ≡ min place (length old) + length bytes + (length old - (place + length bytes))
+length-overlay place bytes old = simp (length-append, length-take, length-drop) refl
 
-pub overlaid_outside : (place : ℕ) (bytes old : List ℕ) (k : ℕ) → k < length old → (k < place) ⊎ (place + length bytes ≤ k) → get_or (overlaid place bytes old) k 0 ≡ get_or old k 0
-overlaid_outside place bytes old k below (inl front) =
+pub overlay_outside : (place : ℕ) (bytes old : List ℕ) (k : ℕ) → k < length old → (k < place) ⊎ (place + length bytes ≤ k) → get_or (overlay place bytes old) k 0 ≡ get_or old k 0
+overlay_outside place bytes old k below (inl front) =
     let size : length (take place old) ≡ min place (length old) = length-take place old in
     let first : k < length (take place old) = omega arith in
     let both : k < length (take place old ++ bytes) = omega (arith, length-append (take place old) bytes) in
     get_or_append_left (take place old ++ bytes) (drop (place + length bytes) old) 0 k both
     ∙ (get_or_append_left (take place old) bytes 0 k first ∙ get_or-take place old k 0 front)
-overlaid_outside place bytes old k below (inr back) =
+overlay_outside place bytes old k below (inr back) =
     let size : length (take place old) ≡ min place (length old) = length-take place old in
     let both : length (take place old ++ bytes) ≡ place + length bytes = omega (arith, length-append (take place old) bytes) in
     let i : ℕ = k - (place + length bytes) in
@@ -49,8 +49,8 @@ overlaid_outside place bytes old k below (inr back) =
     get_or-append_right (take place old ++ bytes) (drop (place + length bytes) old) (place + length bytes) k 0 both back
     ∙ (get_or-drop (place + length bytes) old i 0 ∙ ap (λ n. get_or old n 0) is)
 
-pub overlaid_inside : (place : ℕ) (bytes old : List ℕ) (k : ℕ) → place ≤ length old → place ≤ k → k < place + length bytes → get_or (overlaid place bytes old) k 0 ≡ get_or bytes (k - place) 0
-overlaid_inside place bytes old k within from below =
+pub overlay_inside : (place : ℕ) (bytes old : List ℕ) (k : ℕ) → place ≤ length old → place ≤ k → k < place + length bytes → get_or (overlay place bytes old) k 0 ≡ get_or bytes (k - place) 0
+overlay_inside place bytes old k within from below =
     let size : length (take place old) ≡ place = omega (arith, length-take place old) in
     let both : k < length (take place old ++ bytes) = omega (arith, length-append (take place old) bytes) in
     get_or_append_left (take place old ++ bytes) (drop (place + length bytes) old) 0 k both
@@ -67,31 +67,31 @@ torn_outside place count old new torn k (inr back) =
     subst (λ (n : ℕ). get_or new n 0 ≡ get_or old n 0) is f
 
 -- a write that was torn, after others
-pub torn_more : (file : DiskFile) (place count : ℕ) (old new : List ℕ) → MayLeaveFile file old → Torn place count old new → MayLeaveFile (wrote place count file) new
+pub torn_more : (file : DiskFile) (place count : ℕ) (old new : List ℕ) → MayLeaveFile file old → Torn place count old new → MayLeaveFile (with_range place count file) new
 torn_more file place count old new may torn = record {
   stays = λ k below outside.
       torn_outside place count old new torn k (outside_last file.written (record { place = place; count = count }) k outside)
       ∙ may.stays k below (outside_front file.written (record { place = place; count = count }) k outside);
   no_shorter = (let a : length file.synced ≤ length old = may.no_shorter in let b : length old ≤ length new = torn.longer in omega arith);
   no_longer = (
-      let more : grown (length file.synced) (file.written ++ record { place = place; count = count } ∷ []) ≡ max (grown (length file.synced) file.written) (place + count) = grown-more (length file.synced) file.written (record { place = place; count = count }) in
-      let a : length old ≤ grown (length file.synced) file.written = may.no_longer in
+      let more : greatest_length (length file.synced) (file.written ++ record { place = place; count = count } ∷ []) ≡ max (greatest_length (length file.synced) file.written) (place + count) = greatest_length-more (length file.synced) file.written (record { place = place; count = count }) in
+      let a : length old ≤ greatest_length (length file.synced) file.written = may.no_longer in
       let b : length new ≤ max (length old) (place + count) = torn.within in
       omega arith);
 }
 
 -- a write that ended well, after others
-pub overlaid_more : (file : DiskFile) (place : ℕ) (bytes old : List ℕ) → MayLeaveFile file old → MayLeaveFile (wrote place (length bytes) file) (overlaid place bytes old)
-overlaid_more file place bytes old may = record {
+pub overlay_more : (file : DiskFile) (place : ℕ) (bytes old : List ℕ) → MayLeaveFile file old → MayLeaveFile (with_range place (length bytes) file) (overlay place bytes old)
+overlay_more file place bytes old may = record {
   stays = λ k below outside.
       (let within : k < length old = omega (arith, may.no_shorter) in
-      overlaid_outside place bytes old k within (outside_last file.written (record { place = place; count = length bytes }) k outside)
+      overlay_outside place bytes old k within (outside_last file.written (record { place = place; count = length bytes }) k outside)
       ∙ may.stays k below (outside_front file.written (record { place = place; count = length bytes }) k outside));
-  no_shorter = (let a : length file.synced ≤ length old = may.no_shorter in omega (arith, length-overlaid place bytes old));
+  no_shorter = (let a : length file.synced ≤ length old = may.no_shorter in omega (arith, length-overlay place bytes old));
   no_longer = (
-      let more : grown (length file.synced) (file.written ++ record { place = place; count = length bytes } ∷ []) ≡ max (grown (length file.synced) file.written) (place + length bytes) = grown-more (length file.synced) file.written (record { place = place; count = length bytes }) in
-      let a : length old ≤ grown (length file.synced) file.written = may.no_longer in
-      omega (arith, length-overlaid place bytes old));
+      let more : greatest_length (length file.synced) (file.written ++ record { place = place; count = length bytes } ∷ []) ≡ max (greatest_length (length file.synced) file.written) (place + length bytes) = greatest_length-more (length file.synced) file.written (record { place = place; count = length bytes }) in
+      let a : length old ≤ greatest_length (length file.synced) file.written = may.no_longer in
+      omega (arith, length-overlay place bytes old));
 }
 
 -- what a file may have been before its last write, which was torn
@@ -101,7 +101,7 @@ record IsBefore (file : DiskFile) (place count : ℕ) (bytes from : List ℕ) : 
   torn : Torn place count from bytes
 
 -- the write began past the end of what is left: nothing of it is there
-nothing_written : (file : DiskFile) (place count : ℕ) (bytes : List ℕ) → place ≤ grown (length file.synced) file.written → MayLeaveFile (wrote place count file) bytes → length bytes < place → IsBefore file place count bytes bytes
+nothing_written : (file : DiskFile) (place count : ℕ) (bytes : List ℕ) → place ≤ greatest_length (length file.synced) file.written → MayLeaveFile (with_range place count file) bytes → length bytes < place → IsBefore file place count bytes bytes
 nothing_written file place count bytes within may short = record {
   may = record {
     stays = λ k below outside. may.stays k below (outside_more file.written (record { place = place; count = count }) k outside (inl (omega (arith, may.no_shorter))));
@@ -112,26 +112,26 @@ nothing_written file place count bytes within may short = record {
 }
 
 -- a part of the last sync's bytes stands in the range again, and what the write made longer is cut off
-module _ (file : DiskFile) (place count cut : ℕ) (part bytes : List ℕ) (is_cut : cut ≡ grown (length file.synced) file.written) (is_part : part ≡ take count (drop place file.synced)) (within : place ≤ cut) (may : MayLeaveFile (wrote place count file) bytes) (long : place ≤ length bytes) where
+module _ (file : DiskFile) (place count cut : ℕ) (part bytes : List ℕ) (is_cut : cut ≡ greatest_length (length file.synced) file.written) (is_part : part ≡ take count (drop place file.synced)) (within : place ≤ cut) (may : MayLeaveFile (with_range place count file) bytes) (long : place ≤ length bytes) where
   abbrev from : List ℕ
-  from = overlaid place part (take cut bytes)
+  from = overlay place part (take cut bytes)
 
   base_size : length (take cut bytes) ≡ min cut (length bytes)
   base_size = length-take cut bytes
 
   synced_within : length file.synced ≤ cut
-  synced_within = omega (arith, grown-least (length file.synced) file.written)
+  synced_within = omega (arith, greatest_length-least (length file.synced) file.written)
 
   longest : length bytes ≤ max cut (place + count)
   longest =
-      let more : grown (length file.synced) (file.written ++ record { place = place; count = count } ∷ []) ≡ max (grown (length file.synced) file.written) (place + count) = grown-more (length file.synced) file.written (record { place = place; count = count }) in
+      let more : greatest_length (length file.synced) (file.written ++ record { place = place; count = count } ∷ []) ≡ max (greatest_length (length file.synced) file.written) (place + count) = greatest_length-more (length file.synced) file.written (record { place = place; count = count }) in
       omega (arith, may.no_longer)
 
   part_size : length part ≡ min count (length file.synced - place)
   part_size = ap length is_part ∙ (length-take count (drop place file.synced) ∙ ap (min count) (length-drop place file.synced))
 
   from_size : length from ≡ min cut (length bytes)
-  from_size = omega (arith, length-overlaid place part (take cut bytes), base_size, part_size, synced_within, may.no_shorter)
+  from_size = omega (arith, length-overlay place part (take cut bytes), base_size, part_size, synced_within, may.no_shorter)
 
   part_at : (i : ℕ) → i < length part → get_or part i 0 ≡ get_or file.synced (place + i) 0
   part_at i below =
@@ -142,14 +142,14 @@ module _ (file : DiskFile) (place count cut : ℕ) (part bytes : List ℕ) (is_c
   from_outside k below out =
       let in_base : k < length (take cut bytes) = omega (arith, base_size, synced_within, may.no_shorter) in
       let in_cut : k < cut = omega (arith, synced_within) in
-      overlaid_outside place part (take cut bytes) k in_base out ∙ get_or-take cut bytes k 0 in_cut
+      overlay_outside place part (take cut bytes) k in_base out ∙ get_or-take cut bytes k 0 in_cut
 
   from_inside : (k : ℕ) → place ≤ k → k < place + length part → get_or from k 0 ≡ get_or file.synced k 0
   from_inside k least below =
       let in_base : place ≤ length (take cut bytes) = omega (arith, base_size) in
       let less : k - place < length part = omega arith in
       let is : place + (k - place) ≡ k = omega arith in
-      overlaid_inside place part (take cut bytes) k in_base least below
+      overlay_inside place part (take cut bytes) k in_base least below
       ∙ (part_at (k - place) less ∙ ap (λ n. get_or file.synced n 0) is)
 
   stays_at : (k : ℕ) → k < length file.synced → IsOutside file.written k → (k < place) ⊎ (place ≤ k) → (k < place + length part) ⊎ (place + length part ≤ k) → get_or from k 0 ≡ get_or file.synced k 0
@@ -196,14 +196,14 @@ module _ (file : DiskFile) (place count cut : ℕ) (part bytes : List ℕ) (is_c
     };
   }
 
-before_from : (file : DiskFile) (place count : ℕ) (bytes : List ℕ) → place ≤ grown (length file.synced) file.written → MayLeaveFile (wrote place count file) bytes → (length bytes < place) ⊎ (place ≤ length bytes) → (from : List ℕ) × IsBefore file place count bytes from
+before_from : (file : DiskFile) (place count : ℕ) (bytes : List ℕ) → place ≤ greatest_length (length file.synced) file.written → MayLeaveFile (with_range place count file) bytes → (length bytes < place) ⊎ (place ≤ length bytes) → (from : List ℕ) × IsBefore file place count bytes from
 before_from file place count bytes within may (inl short) = (bytes, nothing_written file place count bytes within may short)
 before_from file place count bytes within may (inr long) = (
-  overlaid place (take count (drop place file.synced)) (take (grown (length file.synced) file.written) bytes),
-  is_before file place count (grown (length file.synced) file.written) (take count (drop place file.synced)) bytes refl refl within may long,
+  overlay place (take count (drop place file.synced)) (take (greatest_length (length file.synced) file.written) bytes),
+  is_before file place count (greatest_length (length file.synced) file.written) (take count (drop place file.synced)) bytes refl refl within may long,
 )
 
-pub torn_before : (file : DiskFile) (place count : ℕ) (bytes : List ℕ) → place ≤ grown (length file.synced) file.written → MayLeaveFile (wrote place count file) bytes → (from : List ℕ) × MayLeaveFile file from × Torn place count from bytes
+pub torn_before : (file : DiskFile) (place count : ℕ) (bytes : List ℕ) → place ≤ greatest_length (length file.synced) file.written → MayLeaveFile (with_range place count file) bytes → (from : List ℕ) × MayLeaveFile file from × Torn place count from bytes
 torn_before file place count bytes within may =
     let found : (from : List ℕ) × IsBefore file place count bytes from = before_from file place count bytes within may (cases_lt (length bytes) place) in
     (found.0, found.1.may, found.1.torn)

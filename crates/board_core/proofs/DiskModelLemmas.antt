@@ -1,15 +1,16 @@
 -- The clauses of a board lead to the disk model, over any calls.
 use Rattle.std.proofs.Common.{◌≡◌, ℕ, ◌+◌, ◌≤◌, ◌⊎◌, max, List, [], ◌∷◌, ◌++◌, length, refl, ap, sym, ◌∙◌, subst, inl, inr, arith, append_assoc, append-nil}
+use Rattle.erst_store.specs.Store.{Stored}
 use Rattle.board_core.specs.declared.board.FileNo.{FileNo}
 use Rattle.board_core.specs.declared.board.FileNo.TheVariants.{Zero, One}
 use Rattle.board_core.specs.CallsMade.{IsMade, AreMade, Keeps, range_in, ranges_in}
 use Rattle.board_core.specs.Clock.{Clock, LeftNow, After, Passes, IsSynced}
-use Rattle.board_core.specs.DiskLaws.{torn_more, settled_left, begins_none, nothing_begins, outside_front, grown-more}
-use Rattle.board_core.specs.DiskModel.{Range, grown, DiskFile, Disk, MayLeave, MayLeaveFile, MayLeaveSince, Call, writes, syncs, prints, rests, after, after_all, piece_of}
-use Rattle.board_core.specs.MemBoard.{Past, with_change, said, call_of, calls_of, settled_disk, clock_of, disk_of, here_of}
-use Rattle.board_core.specs.MemBoardLaws.{here_left, calls_of-more}
-use Rattle.board_core.specs.MomentLaws.{piece_more, last_counts}
-use Rattle.board_core.specs.Stop.{Left, Same, Begins, Appends, InFile, InOut, file_in}
+use Rattle.board_core.specs.DiskLemmas.{torn_more, settled_left, begins_none, nothing_begins, outside_front, greatest_length-more}
+use Rattle.board_core.specs.DiskModel.{Range, greatest_length, DiskFile, Disk, MayLeave, MayLeaveFile, MayLeaveSince, Call, writes, syncs, stores, prints, rests, after, after_all}
+use Rattle.board_core.specs.MemBoard.{Past, Change, acted, printed, with_change, DeviceChange, device_step, device_in, call_of, calls_of, settled_disk, clock_of, disk_of, held_of}
+use Rattle.board_core.specs.ChangeLemmas.{here_left, calls_of-more}
+use Rattle.board_core.specs.MomentLemmas.{becomes_same, call_more, last_counts}
+use Rattle.board_core.specs.Stop.{Left, Same, Becomes, Begins, Appends, InFile, InStore, InOut, file_in}
 use Rattle.board_core.specs.Told.{Torn}
 
 -- together
@@ -18,69 +19,85 @@ use Rattle.board_core.specs.Told.{Torn}
 after_call : (call : Call) (disk : Disk) (old new : Clock) → Keeps disk old → IsMade call old new → Keeps (after call disk) new
 after_call (writes Zero place count) disk old new keeps made left now =
     let from : After old (InFile Zero (Torn place count)) left = made.ends left now in
-    let may : MayLeave disk [] from.from = keeps from.from from.was in
-    rw from.by.rest (record { zero = torn_more disk.zero place count from.from.file0 from.by.bytes may.zero from.by.step; one = may.one; out = may.out })
+    let may : MayLeave disk rests from.from = keeps from.from from.was in
+    rw from.by.rest (record { zero = torn_more disk.zero place count from.from.file0 from.by.bytes may.zero from.by.step; one = may.one; store = may.store; out = may.out })
 after_call (writes One place count) disk old new keeps made left now =
     let from : After old (InFile One (Torn place count)) left = made.ends left now in
-    let may : MayLeave disk [] from.from = keeps from.from from.was in
-    rw from.by.rest (record { zero = may.zero; one = torn_more disk.one place count from.from.file1 from.by.bytes may.one from.by.step; out = may.out })
+    let may : MayLeave disk rests from.from = keeps from.from from.was in
+    rw from.by.rest (record { zero = may.zero; one = torn_more disk.one place count from.from.file1 from.by.bytes may.one from.by.step; store = may.store; out = may.out })
 after_call (syncs Zero bytes) disk old new keeps made left now =
     let from : After old Same left = made.0.ends left now in
-    let may : MayLeave disk [] left = rw from.by (keeps from.from from.was) in
-    record { zero = rw (made.1 left now) (settled_left bytes); one = may.one; out = may.out }
+    let may : MayLeave disk rests left = rw from.by (keeps from.from from.was) in
+    record { zero = rw (made.1 left now) (settled_left bytes); one = may.one; store = may.store; out = may.out }
 after_call (syncs One bytes) disk old new keeps made left now =
     let from : After old Same left = made.0.ends left now in
-    let may : MayLeave disk [] left = rw from.by (keeps from.from from.was) in
-    record { zero = may.zero; one = rw (made.1 left now) (settled_left bytes); out = may.out }
+    let may : MayLeave disk rests left = rw from.by (keeps from.from from.was) in
+    record { zero = may.zero; one = rw (made.1 left now) (settled_left bytes); store = may.store; out = may.out }
 after_call (prints piece part) disk old new keeps made left now =
     let from : After old (InOut (Appends part)) left = made.1 left now in
-    let may : MayLeave disk [] from.from = keeps from.from from.was in
+    let may : MayLeave disk rests from.from = keeps from.from from.was in
     let text : from.by.text ≡ disk.out ++ part = from.by.step ∙ ap (λ xs. xs ++ part) (begins_none disk.out from.from.out may.out) in
-    rw from.by.rest (record { zero = may.zero; one = may.one; out = rw text (nothing_begins [] (disk.out ++ part)) })
+    rw from.by.rest (record { zero = may.zero; one = may.one; store = may.store; out = rw text (nothing_begins [] (disk.out ++ part)) })
+after_call (stores made store) disk old new keeps is left now =
+    let from : After old (InStore (Becomes made)) left = is.0.ends left now in
+    let may : MayLeave disk rests from.from = keeps from.from from.was in
+    let zero_may : MayLeaveFile disk.zero left.file0 = rw from.by.rest may.zero in
+    let one_may : MayLeaveFile disk.one left.file1 = rw from.by.rest may.one in
+    let out_may : Begins [] disk.out left.out = rw from.by.rest may.out in
+    record { zero = zero_may; one = one_may; store = inl (is.1 left now); out = out_may }
 after_call rests disk old new keeps made left now =
     let from : After old Same left = made.ends left now in
     rw from.by (keeps from.from from.was)
 
 -- what a stop during a call leaves
 during_call : (call : Call) (disk : Disk) (old new : Clock) (t : ℕ) (left : Left) → Keeps disk old → IsMade call old new → t ≤ old.now → new.may_leave_since t left
-    → old.may_leave_since t left ⊎ (MayLeave disk (piece_of call) left ⊎ MayLeave (after call disk) [] left)
+    → old.may_leave_since t left ⊎ (MayLeave disk call left ⊎ MayLeave (after call disk) rests left)
 during_call (writes Zero place count) disk old new t left keeps made within since =
     elim (made.each t left within since) [
       | inl before ↦ inl before
       | inr from ↦ inr (inr (
-          let may : MayLeave disk [] from.from = keeps from.from from.was in
-          rw from.by.rest (record { zero = torn_more disk.zero place count from.from.file0 from.by.bytes may.zero from.by.step; one = may.one; out = may.out })))
+          let may : MayLeave disk rests from.from = keeps from.from from.was in
+          rw from.by.rest (record { zero = torn_more disk.zero place count from.from.file0 from.by.bytes may.zero from.by.step; one = may.one; store = may.store; out = may.out })))
     ]
 during_call (writes One place count) disk old new t left keeps made within since =
     elim (made.each t left within since) [
       | inl before ↦ inl before
       | inr from ↦ inr (inr (
-          let may : MayLeave disk [] from.from = keeps from.from from.was in
-          rw from.by.rest (record { zero = may.zero; one = torn_more disk.one place count from.from.file1 from.by.bytes may.one from.by.step; out = may.out })))
+          let may : MayLeave disk rests from.from = keeps from.from from.was in
+          rw from.by.rest (record { zero = may.zero; one = torn_more disk.one place count from.from.file1 from.by.bytes may.one from.by.step; store = may.store; out = may.out })))
     ]
 during_call (syncs file bytes) disk old new t left keeps made within since =
-    elim (made.0.each t left within since) [ inl before ↦ inl before | inr from ↦ inr (inl (rw from.by (keeps from.from from.was))) ]
+    elim (made.0.each t left within since) [ inl before ↦ inl before | inr from ↦ inr (inl (rw from.by (call_more disk (syncs file bytes) from.from (keeps from.from from.was)))) ]
+during_call (stores made store) disk old new t left keeps is within since =
+    elim (is.0.each t left within since) [
+      | inl before ↦ inl before
+      | inr from ↦ inr (inl (
+          let may : MayLeave disk rests from.from = keeps from.from from.was in
+          let kept : from.from.store ≡ disk.store = becomes_same disk.store from.from.store may.store in
+          rw from.by.rest (record { zero = may.zero; one = may.one; store = subst (λ (records : List Stored). Becomes made records from.by.store) kept from.by.step; out = may.out })))
+    ]
 during_call (prints piece part) disk old new t left keeps made within since =
     elim (made.0.each t left within since) [
       | inl before ↦ inl before
       | inr from ↦ inr (inl (
-          let may : MayLeave disk [] from.from = keeps from.from from.was in
+          let may : MayLeave disk rests from.from = keeps from.from from.was in
           let text : from.from.out ≡ disk.out = begins_none disk.out from.from.out may.out in
-          rw from.by.rest (record { zero = may.zero; one = may.one; out = subst (λ (xs : List ℕ). Begins piece xs from.by.text) text from.by.step })))
+          rw from.by.rest (record { zero = may.zero; one = may.one; store = may.store; out = subst (λ (xs : List ℕ). Begins piece xs from.by.text) text from.by.step })))
     ]
 during_call rests disk old new t left keeps made within since =
-    elim (made.each t left within since) [ inl before ↦ inl before | inr from ↦ inr (inl (rw from.by (keeps from.from from.was))) ]
+    elim (made.each t left within since) [ inl before ↦ inl before | inr from ↦ inr (inl (rw from.by (call_more disk rests from.from (keeps from.from from.was)))) ]
 
 call_later : (call : Call) (old new : Clock) → IsMade call old new → old.now ≤ new.now
 call_later (writes file place count) old new made = made.later
 call_later (syncs file bytes) old new made = made.0.later
+call_later (stores made store) old new is = is.0.later
 call_later (prints piece part) old new made = made.0.later
 call_later rests old new made = made.later
 
 -- what may be left at first may be left since then
-first_counts : (disk : Disk) (calls : List Call) (left : Left) → MayLeave disk [] left → MayLeaveSince disk calls 0 left
+first_counts : (disk : Disk) (calls : List Call) (left : Left) → MayLeave disk rests left → MayLeaveSince disk calls 0 left
 first_counts disk [] left may = may
-first_counts disk (call ∷ calls) left may = inl (piece_more disk (piece_of call) left may)
+first_counts disk (call ∷ calls) left may = inl (call_more disk call left may)
 
 module _ {B : Type 0} (clock : B → Clock) where
   pub after_calls : (calls : List Call) (disk : Disk) (first last : B) → Keeps disk (clock first) → AreMade clock calls first last → Keeps (after_all calls disk) (clock last)
@@ -119,7 +136,7 @@ one_range_more : (synced : List ℕ) (ranges : List Range) (r : Range) (bytes : 
 one_range_more synced ranges r bytes may = record {
   stays = λ k below outside. may.stays k below (outside_front ranges r k outside);
   no_shorter = may.no_shorter;
-  no_longer = (let more : grown (length synced) (ranges ++ r ∷ []) ≡ max (grown (length synced) ranges) (r.place + r.count) = grown-more (length synced) ranges r in omega (arith, may.no_longer));
+  no_longer = (let more : greatest_length (length synced) (ranges ++ r ∷ []) ≡ max (greatest_length (length synced) ranges) (r.place + r.count) = greatest_length-more (length synced) ranges r in omega (arith, may.no_longer));
 }
 
 ranges_more : (more : List Range) (synced : List ℕ) (ranges : List Range) (bytes : List ℕ) → MayLeaveFile (file_with synced ranges) bytes → MayLeaveFile (file_with synced (ranges ++ more)) bytes
@@ -130,12 +147,14 @@ ranges_more (r ∷ rs) synced ranges bytes may =
 abbrev step_of : Call → Left → Left → Type 0
 step_of (writes file place count) = InFile file (Torn place count)
 step_of (syncs file bytes) = Same
+step_of (stores made store) = InStore (Becomes made)
 step_of (prints piece part) = InOut (Begins piece)
 step_of rests = Same
 
 passes_made : (call : Call) (old new : Clock) → IsMade call old new → Passes (step_of call) old new
 passes_made (writes file place count) old new made = made
 passes_made (syncs file bytes) old new made = made.0
+passes_made (stores made store) old new is = is.0
 passes_made (prints piece part) old new made = made.0
 passes_made rests old new made = made
 
@@ -144,11 +163,13 @@ file_step : (file : FileNo) (call : Call) (synced : List ℕ) (ranges : List Ran
 file_step Zero (writes Zero place count) synced ranges old new step may = rw step.rest (torn_more (file_with synced ranges) place count old.file0 step.bytes may step.step)
 file_step Zero (writes One place count) synced ranges old new step may = rw step.rest (rw append-nil may)
 file_step Zero (syncs file bytes) synced ranges old new step may = rw step (rw append-nil may)
+file_step Zero (stores made store) synced ranges old new step may = rw step.rest (rw append-nil may)
 file_step Zero (prints piece part) synced ranges old new step may = rw step.rest (rw append-nil may)
 file_step Zero rests synced ranges old new step may = rw step (rw append-nil may)
 file_step One (writes Zero place count) synced ranges old new step may = rw step.rest (rw append-nil may)
 file_step One (writes One place count) synced ranges old new step may = rw step.rest (torn_more (file_with synced ranges) place count old.file1 step.bytes may step.step)
 file_step One (syncs file bytes) synced ranges old new step may = rw step (rw append-nil may)
+file_step One (stores made store) synced ranges old new step may = rw step.rest (rw append-nil may)
 file_step One (prints piece part) synced ranges old new step may = rw step.rest (rw append-nil may)
 file_step One rests synced ranges old new step may = rw step (rw append-nil may)
 
@@ -182,15 +203,32 @@ module _ {B : Type 0} (clock : B → Clock) (file : FileNo) where
         | inr during ↦ during
       ]
 
--- a board in memory that prints
+-- a board in memory that prints, and one whose device acts
 
-pub while_printing : (past : Past) (part missing : List ℕ) → (clock_of (with_change (said (part ++ missing)) past)).may_leave_since (clock_of past).now (record (here_of past) { out = (here_of past).out ++ part })
-while_printing past part missing =
-    let may : MayLeave (disk_of past) [] (here_of past) = here_left past in
-    let during : MayLeave (disk_of past) (part ++ missing) (record (here_of past) { out = (here_of past).out ++ part }) = record {
-      zero = may.zero;
-      one = may.one;
-      out = record { part = part; missing = missing; splits = refl; is = ap (λ xs. xs ++ part) (begins_none (disk_of past).out (here_of past).out may.out) };
-    } in
-    rw (calls_of-more past.changes (said (part ++ missing)) past.first)
-    (last_counts (settled_disk past.first) (calls_of past.changes past.first) (call_of (said (part ++ missing)) (here_of past)) (record (here_of past) { out = (here_of past).out ++ part }) during)
+module _ (past : Past) where
+  last_call : (change : Change) (left : Left) → MayLeave (disk_of past) (call_of change (held_of past)) left → (clock_of (with_change change past)).may_leave_since (clock_of past).now left
+  last_call change left may =
+      rw (calls_of-more past.changes change past.first)
+      (last_counts (settled_disk past.first.here) (calls_of past.changes past.first) (call_of change (held_of past)) left may)
+
+  pub while_printing : (part missing : List ℕ) → (clock_of (with_change (printed (part ++ missing)) past)).may_leave_since (clock_of past).now (record (held_of past).here { out = (held_of past).here.out ++ part })
+  while_printing part missing =
+      let may : MayLeave (disk_of past) rests (held_of past).here = here_left past in
+      last_call (printed (part ++ missing)) (record (held_of past).here { out = (held_of past).here.out ++ part }) (record {
+        zero = may.zero;
+        one = may.one;
+        store = may.store;
+        out = record { part = part; missing = missing; splits = refl; is = ap (λ xs. xs ++ part) (begins_none (disk_of past).out (held_of past).here.out may.out) };
+      })
+
+  pub while_acting : (change : DeviceChange) (store : List Stored) → Becomes (device_step change (device_in (held_of past))).store (held_of past).here.store store
+      → (clock_of (with_change (acted change) past)).may_leave_since (clock_of past).now (record (held_of past).here { store = store })
+  while_acting change store becomes =
+      let may : MayLeave (disk_of past) rests (held_of past).here = here_left past in
+      let kept : (held_of past).here.store ≡ (disk_of past).store = becomes_same (disk_of past).store (held_of past).here.store may.store in
+      last_call (acted change) (record (held_of past).here { store = store }) (record {
+        zero = may.zero;
+        one = may.one;
+        store = subst (λ (records : List Stored). Becomes (device_step change (device_in (held_of past))).store records store) kept becomes;
+        out = may.out;
+      })
