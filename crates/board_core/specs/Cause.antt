@@ -7,7 +7,8 @@ use Rattle.board_core.specs.declared.board.BoardPut.TheVariants.{Refused, Failed
 abbrev pub Rose : ℕ → ℕ → Type 0
 Rose before now = min (before + 1) (2 ^ 64 - 1) ≤ now
 
--- A count never falls over a call, rose where the call failed, and is as it was where it didn't fail.
+-- A count never falls over a call, rose where the call failed, and is as it was where it didn't
+-- fail.
 pub record HasCause {T E : Type 0} (before now : ℕ) (result : Result T E) : Type 0 where
   pub later : before ≤ now
   pub failed : OnErr result (Rose before now)
@@ -35,7 +36,8 @@ with_count disk_call n faults = record faults { disk = n }
 with_count device_call n faults = record faults { registers = n }
 with_count print_call n faults = record faults { prints = n }
 
--- The count of the call's kind rose exactly where the call failed, and the two others are as they were.
+-- The count of the call's kind rose exactly where the call failed, and the two others are as they
+-- were.
 pub record FailsAs {T E : Type 0} (kind : Kind) (old new : Faults) (result : Result T E) : Type 0 where
   pub own : HasCause (count_of kind old) (count_of kind new) result
   pub others : new ≡ with_count kind (count_of kind new) old

@@ -5,8 +5,8 @@ use Rattle.erst_store.specs.Store.{Stored}
 use Rattle.board_core.specs.Stop.{Left, file_in}
 use Rattle.board_core.specs.Told.{Told}
 
--- A clock of moments, which doesn't go back: the number of the present moment, and what a stop at some moment from
--- number t on may leave.
+-- A clock of moments, which doesn't go back: the number of the present moment, and what a stop at
+-- some moment from number t on may leave.
 pub record Clock : Type 1 where
   pub now : ℕ
   pub may_leave_since : ℕ → Left → Type 0
@@ -25,8 +25,9 @@ pub record After (old : Clock) (Step : Left → Left → Type 0) (left : Left) :
   pub was : LeftNow old from
   pub by : Step from left
 
--- One call was made. A stop during it leaves what a stop before it might have left, after this step, and so does a stop
--- now. What a stop at an earlier moment may have left is neither more nor forgotten.
+-- One call was made. A stop during it leaves what a stop before it might have left, after this
+-- step, and so does a stop now. What a stop at an earlier moment may have left is neither more nor
+-- forgotten.
 pub record Passes (Step : Left → Left → Type 0) (old new : Clock) : Type 0 where
   pub later : old.now ≤ new.now
   pub kept : (t : ℕ) (left : Left) → t ≤ old.now → old.may_leave_since t left → new.may_leave_since t left
@@ -45,8 +46,8 @@ IsSynced file bytes clock = (left : Left) → LeftNow clock left → file_in fil
 abbrev pub IsStored : List Stored → Clock → Type 0
 IsStored store clock = (left : Left) → LeftNow clock left → left.store ≡ store
 
--- Calls were made, one or several. Whatever a stop during them or now leaves has this property, and what a stop at an
--- earlier moment may have left is not more.
+-- Calls were made, one or several. Whatever a stop during them or now leaves has this property, and
+-- what a stop at an earlier moment may have left is not more.
 pub record Adds (P : Left → Type 0) (old new : Clock) : Type 0 where
   pub later : old.now ≤ new.now
   pub each : (t : ℕ) (left : Left) → t ≤ old.now → new.may_leave_since t left → old.may_leave_since t left ⊎ P left

@@ -16,7 +16,8 @@ not_told t e = cc
 
 -- One call
 
--- Whatever a stop during a call or after it leaves has a property, where every Left that its step leads to has it.
+-- Whatever a stop during a call or after it leaves has a property, where every Left that its step
+-- leads to has it.
 pub adds_after : (Step : Left → Left → Type 0) (P : Left → Type 0) (old new : Clock) → Passes Step old new → ((left : Left) → After old Step left → P left) → Adds P old new
 adds_after Step P old new passes leads = record {
   later = passes.later;
@@ -106,7 +107,8 @@ rests_through file Step t there told_old told_new old mid new rests writes syncs
       left_is ∙ (ap (λ bytes. with_file_in file bytes t.here) bytes_are ∙ sym frame));
 }
 
--- Both files are synced: a stop leaves just what is told. (That the store and the text are told are laws of the board.)
+-- Both files are synced: a stop leaves just what is told. (That the store and the text are told are
+-- laws of the board.)
 pub rests_synced : (t : Told) (told : Option Told) (clock : Clock) → told ≡ Some t → IsSynced Zero t.here.file0 clock → IsSynced One t.here.file1 clock
     → IsStored t.here.store clock → ((left : Left) → LeftNow clock left → left.out ≡ t.here.out) → Rests t told clock
 rests_synced t told clock is zero one store out = record {

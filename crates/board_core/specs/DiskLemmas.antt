@@ -111,7 +111,8 @@ nothing_written file place count bytes within may short = record {
   torn = record { front = refl; back = refl; longer = omega arith; within = omega arith };
 }
 
--- a part of the last sync's bytes stands in the range again, and what the write made longer is cut off
+-- a part of the last sync's bytes stands in the range again, and what the write made longer is cut
+-- off
 module _ (file : DiskFile) (place count cut : ℕ) (part bytes : List ℕ) (is_cut : cut ≡ greatest_length (length file.synced) file.written) (is_part : part ≡ take count (drop place file.synced)) (within : place ≤ cut) (may : MayLeaveFile (with_range place count file) bytes) (long : place ≤ length bytes) where
   abbrev from : List ℕ
   from = overlay place part (take cut bytes)

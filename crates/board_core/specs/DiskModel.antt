@@ -1,4 +1,5 @@
--- The disk model: what a stop may leave of files, record store and printed text, by the calls that were made.
+-- The disk model: what a stop may leave of files, record store and printed text, by the calls that
+-- were made.
 use Rattle.std.specs.Prelude.{◌≡◌, ℕ, zero, suc, ◌+◌, ◌<◌, ◌≤◌, ◌⊎◌, max, List, [], ◌∷◌, ◌++◌, length, slice_index}
 use Rattle.erst_store.specs.Store.{Stored}
 use Rattle.board_core.specs.declared.board.FileNo.{FileNo}
@@ -26,8 +27,8 @@ pub record DiskFile : Type 0 where
   pub synced : List ℕ
   pub written : List Range
 
--- What a stop may leave of a file: in written ranges and past the old end stand any bytes, all other bytes stay, and the
--- length lies between the old one and the new one.
+-- What a stop may leave of a file: in written ranges and past the old end stand any bytes, all
+-- other bytes stay, and the length lies between the old one and the new one.
 pub record MayLeaveFile (file : DiskFile) (bytes : List ℕ) : Type 0 where
   pub stays : (k : ℕ) → k < length file.synced → IsOutside file.written k → slice_index bytes k ≡ slice_index file.synced k
   pub no_shorter : length file.synced ≤ length bytes
@@ -40,10 +41,11 @@ pub record Disk : Type 0 where
   pub store : List Stored
   pub out : List ℕ
 
--- A call as the disk sees it: a write of so many bytes at a place of a file, whether it ended well or not; a sync that
--- ended well, with the file's bytes as a read then gives them; a call of the device, with the store that it makes and the
--- store after it, which is that one where the call ended well; a print of a piece, and the part of it that was appended,
--- which is all of it where the print ended well; any other.
+-- A call as the disk sees it: a write of so many bytes at a place of a file, whether it ended well
+-- or not; a sync that ended well, with the file's bytes as a read then gives them; a call of the
+-- device, with the store that it makes and the store after it, which is that one where the call
+-- ended well; a print of a piece, and the part of it that was appended, which is all of it where
+-- the print ended well; any other.
 pub data Call : Type 0 where
   writes : FileNo → ℕ → ℕ → Call
   syncs : FileNo → List ℕ → Call
@@ -60,9 +62,9 @@ abbrev pub store_made : Call → List Stored → List Stored
 store_made (stores made store) old = made
 store_made call old = old
 
--- What a stop may leave while this call is in work, which is `rests` where none is: of each file what the disk may leave of
--- it; the store as before the call or as after it, never between; of the text what earlier prints appended and a beginning
--- of the piece.
+-- What a stop may leave while this call is in work, which is `rests` where none is: of each file
+-- what the disk may leave of it; the store as before the call or as after it, never between; of the
+-- text what earlier prints appended and a beginning of the piece.
 pub record MayLeave (disk : Disk) (call : Call) (left : Left) : Type 0 where
   pub zero : MayLeaveFile disk.zero left.file0
   pub one : MayLeaveFile disk.one left.file1
@@ -93,8 +95,8 @@ abbrev pub after_all : List Call → Disk → Disk
 after_all [] disk = disk
 after_all (call ∷ calls) disk = after_all calls (after call disk)
 
--- What a stop may leave from the moment on that comes after so many of these calls: before one of the later ones, while
--- it is made, or after the last.
+-- What a stop may leave from the moment on that comes after so many of these calls: before one of
+-- the later ones, while it is made, or after the last.
 abbrev pub MayLeaveSince : Disk → List Call → ℕ → Left → Type 0
 MayLeaveSince disk [] zero left = MayLeave disk rests left
 MayLeaveSince disk [] (suc t) left = ⊥

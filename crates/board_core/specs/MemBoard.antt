@@ -14,7 +14,8 @@ use Rattle.board_core.specs.MemSource.{next_count, is_chosen}
 use Rattle.board_core.specs.Stop.{Left, file_in, with_file_in}
 use Rattle.board_core.specs.Told.{Told, overlay, after_reg_write, after_range_write, after_put}
 
--- what a board in memory holds: the files, the store and the text as they are now, and the rest of the device
+-- what a board in memory holds: the files, the store and the text as they are now, and the rest of
+-- the device
 pub record Held : Type 0 where
   pub here : Left
   pub volatile : Volatile
@@ -25,7 +26,8 @@ device_in held = device_with held.here.store held.volatile
 abbrev pub with_device_in : Device → Held → Held
 with_device_in d held = record { here = record held.here { store = d.store }; volatile = volatile_of d }
 
--- what was done to the device: a number written to a register, bytes written at a place of its range, a record put
+-- what was done to the device: a number written to a register, bytes written at a place of its
+-- range, a record put
 pub data DeviceChange : Type 0 where
   wrote_register : Reg → ℕ → DeviceChange
   wrote_range : ℕ → List ℕ → DeviceChange
@@ -36,8 +38,8 @@ device_step (wrote_register reg value) d = after_reg_write reg value d
 device_step (wrote_range place bytes) d = after_range_write place bytes d
 device_step (put_record id bytes) d = after_put id bytes d
 
--- a call that went well and changed what a read gives or what a stop may leave: bytes written at a place of a file, a file
--- synced, something done to the device, a piece appended to the text
+-- a call that went well and changed what a read gives or what a stop may leave: bytes written at a
+-- place of a file, a file synced, something done to the device, a piece appended to the text
 pub data Change : Type 0 where
   wrote : FileNo → ℕ → List ℕ → Change
   synced : FileNo → Change
@@ -103,13 +105,13 @@ held_of past = after_changes past.changes past.first
 abbrev pub disk_of : Past → Disk
 disk_of past = after_all (calls_of past.changes past.first) (settled_disk past.first.here)
 
--- Moments are counted by changes. What stops may leave is what the disk model says of the changes as calls, no less and
--- no more.
+-- Moments are counted by changes. What stops may leave is what the disk model says of the changes
+-- as calls, no less and no more.
 abbrev pub clock_of : Past → Clock
 clock_of past = disk_clock (settled_disk past.first.here) (calls_of past.changes past.first)
 
--- its past, the calls that it lists, the numbers of the calls that fail, how many calls go well at most, how many calls
--- were made, how many of them were refused a growth, and the faults
+-- its past, the calls that it lists, the numbers of the calls that fail, how many calls go well at
+-- most, how many calls were made, how many of them were refused a growth, and the faults
 pub record State : Type 0 where
   pub past : Past
   pub disk_calls : List DiskCall
@@ -168,16 +170,16 @@ pub record CountsCall (old new : State) : Type 0 where
   pub allowed : new.allowed ≡ old.allowed
   pub starved : old.starved ≤ new.starved
 
--- A call was made: this is the past after it, the calls are numbered on, and it failed exactly where it was to, with the
--- count of its kind.
+-- A call was made: this is the past after it, the calls are numbered on, and it failed exactly
+-- where it was to, with the count of its kind.
 pub record Does {T E : Type 0} (kind : Kind) (past : Past) (old new : State) (result : Result T E) : Type 0 where
   pub past_is : new.past ≡ past
   pub counted : CountsCall old new
   pub exact : FailsAsChosen old new result
   pub cause : FailsAs kind old.faults new.faults result
 
--- A list with one call more. Only one that failed for a refused growth may be left out, and not one that was chosen to
--- fail.
+-- A list with one call more. Only one that failed for a refused growth may be left out, and not one
+-- that was chosen to fail.
 abbrev pub IsListed : {T E X : Type 0} → Result T E → X → List X → List X → Type 0 → Type 0
 IsListed (Ok value) call old new starved = new ≡ old ++ call ∷ []
 IsListed (Err error) call old new starved = (new ≡ old ++ call ∷ []) ⊎ ((new ≡ old) × starved)

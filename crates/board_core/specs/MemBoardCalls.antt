@@ -23,7 +23,8 @@ pub record Starves (kind : Kind) (old new : State) : Type 0 where
   pub rose : Rose old.starved new.starved
   pub later : old.starved ≤ new.starved
 
--- The last part of a call of this kind, after it was counted and listed: it made this change, or it was refused a growth.
+-- The last part of a call of this kind, after it was counted and listed: it made this change, or it
+-- was refused a growth.
 abbrev pub Ends : {T E : Type 0} → Kind → Change → State → State → Result T E → Type 0
 Ends kind change old new (Ok value) = new ≡ record old { past = with_change change old.past }
 Ends kind change old new (Err error) = Starves kind old new

@@ -15,8 +15,8 @@ pub record IsFilled (byte : ℕ) (ranges : List Range) (old new : List ℕ) : Ty
   pub filled : (k : ℕ) → k < length old → IsInside ranges k → slice_index new k ≡ byte
   pub others : (k : ℕ) → IsOutside ranges k → slice_index new k ≡ slice_index old k
 
--- What is taken of a file: its bytes as of the last sync, or as a read gives them, or these with every byte written since
--- the last sync set to one byte.
+-- What is taken of a file: its bytes as of the last sync, or as a read gives them, or these with
+-- every byte written since the last sync set to one byte.
 abbrev pub IsPicked : Pick → DiskFile → List ℕ → List ℕ → Type 0
 IsPicked Old file now taken = taken ≡ file.synced
 IsPicked New file now taken = taken ≡ now

@@ -1,4 +1,5 @@
--- What a stop of the machine leaves, and how it may differ from what an earlier stop would have left.
+-- What a stop of the machine leaves, and how it may differ from what an earlier stop would have
+-- left.
 use Rattle.std.specs.Prelude.{◌≡◌, ℕ, ◌⊎◌, List, ◌++◌}
 use Rattle.erst_store.specs.Store.{Stored}
 use Rattle.board_core.specs.declared.board.FileNo.{FileNo}

@@ -14,8 +14,9 @@ use Rattle.board_core.specs.declared.board.BoardPut.{BoardPut}
 use Rattle.board_core.specs.declared.board.BoardPut.TheVariants.{Refused, Failed}
 use Rattle.board_core.specs.Stop.{Left, file_in, with_file_in, Becomes}
 
--- the files as a read gives them, the record store and the bytes printed so far, which a stop leaves where all that was
--- written is on the disk; the device's state apart from its store; the disk calls and the accesses to the device made so far
+-- the files as a read gives them, the record store and the bytes printed so far, which a stop
+-- leaves where all that was written is on the disk; the device's state apart from its store; the
+-- disk calls and the accesses to the device made so far
 pub record Told : Type 0 where
   pub here : Left
   pub volatile : Volatile
@@ -106,8 +107,8 @@ abbrev pub KeepsAtRefusal : Result (Unit {0}) BoardPut → Option Told → Optio
 KeepsAtRefusal (Err (Refused cause)) old new = new ≡ old
 KeepsAtRefusal result old new = Unit {0}
 
--- What a stop during a device call leaves of the store: it is as before the call or as after it, never between. Of a board
--- that tells nothing this says nothing.
+-- What a stop during a device call leaves of the store: it is as before the call or as after it,
+-- never between. Of a board that tells nothing this says nothing.
 abbrev pub StoreBy : (Device → Device) → Option Told → List Stored → List Stored → Type 0
 StoreBy step None = λ old new. Unit {0}
 StoreBy step (Some t) = Becomes (step (device_of t)).store
@@ -118,8 +119,8 @@ StoreBy step (Some t) = Becomes (step (device_of t)).store
 abbrev pub MayList : DiskCall → Told → Told → Type 0
 MayList call old new = (new ≡ old) ⊎ (new ≡ with_call call old)
 
--- A write of n bytes that didn't end well: any bytes may stand in the written range, all others stay, and the length
--- lies between the old one and that of the whole write.
+-- A write of n bytes that didn't end well: any bytes may stand in the written range, all others
+-- stay, and the length lies between the old one and that of the whole write.
 pub record Torn (place n : ℕ) (old new : List ℕ) : Type 0 where
   pub front : take place new ≡ take place old
   pub back : drop (place + n) new ≡ drop (place + n) old
@@ -131,7 +132,8 @@ FailsWrite file place n old new =
     (bytes : List ℕ) × Torn place n (file_of file old) bytes
     × MayList (WriteAt file place n) (with_file file bytes old) new
 
--- A write and then a sync, of which one failed: the write was torn, or all was written and the sync is listed or isn't.
+-- A write and then a sync, of which one failed: the write was torn, or all was written and the sync
+-- is listed or isn't.
 abbrev pub FailsThrough : FileNo → ℕ → List ℕ → Told → Told → Type 0
 FailsThrough file place bytes old new =
     FailsWrite file place (length bytes) old new ⊎ MayList (Sync file) (after_write file place bytes old) new

@@ -1,4 +1,5 @@
-//! Two files, a record store behind a device, and an output, which one stop of the machine hits together.
+//! Two files, a record store behind a device, and an output, which one stop of the machine hits
+//! together.
 ghost use Rattle.std.specs.Prelude.{◌≡◌, ℕ, ◌+◌, ◌≤◌, length, take, drop, Option, Some, IfSome, IfOk, OnOk, OnErr};
 ghost use Rattle.erst_store.specs.Actions.{range_length};
 ghost use Rattle.erst_store.specs.DeviceLaws.{IsDevice};
@@ -39,8 +40,8 @@ pub enum DiskCall {
     Sync(FileNo),
 }
 
-/// An access to the device that a board lists: a register with the number read or written, or the place and the length of
-/// bytes of its range. A read that failed is listed with the number 0.
+/// An access to the device that a board lists: a register with the number read or written, or the
+/// place and the length of bytes of its range. A read that failed is listed with the number 0.
 #[derive(Clone, Copy, Debug, PartialEq, Eq)]
 pub enum Access {
     Read(Reg, u64),
@@ -58,16 +59,18 @@ pub enum BoardPut {
     Failed,
 }
 
-/// Two files, a device with its record store, and an output, which a stop of the machine hits together.
+/// Two files, a device with its record store, and an output, which a stop of the machine hits
+/// together.
 ///
-/// At every moment a disk call changes what a stop may leave of its own file alone, a device call of the record store
-/// alone, and a print of the printed text alone. A call answers `Failed` only where the count of its kind of faults rose,
-/// and no call raises a count of another kind.
+/// At every moment a disk call changes what a stop may leave of its own file alone, a device call
+/// of the record store alone, and a print of the printed text alone. A call answers `Failed` only
+/// where the count of its kind of faults rose, and no call raises a count of another kind.
 pub trait Board {
     /// What the board tells of itself, if anything.
     ghost told: { Self → Option Told };
 
-    /// Its moments, and what a stop of the machine at each may leave. A board that tells nothing has nothing here either.
+    /// Its moments, and what a stop of the machine at each may leave. A board that tells nothing
+    /// has nothing here either.
     ghost clock: { Self → Clock };
 
     /// How often its calls have failed, by their kinds.
@@ -81,34 +84,40 @@ pub trait Board {
         ensures stops { Passes Same (clock self.old) (clock self.new) }
         ensures cause { FailsAs disk_call (faults self.old) (faults self.new) result };
 
-    /// Reads the bytes from `place` on into the front of `buf` and answers their number: fewer than `buf` has room
-    /// for only where the file ends.
+    /// Reads the bytes from `place` on into the front of `buf` and answers their number: fewer than
+    /// `buf` has room for only where the file ends.
     fn read_at(&mut self, file: FileNo, place: u64, buf: &mut [u8]) -> Result<usize, Failed>
         ensures within { IfOk result (λ n. n ≤ length buf.old) }
         ensures read { IfOk result (λ n. IfSome (told self.old) (λ t. Reads place n buf.new (file_of file t))) }
-        ensures told { OnOk result (Steps (with_call (ReadAt file place (length buf.old))) (told self.old) (told self.new)) }
-        ensures failed { OnErr result (Relates (MayList (ReadAt file place (length buf.old))) (told self.old) (told self.new)) }
+        ensures told { OnOk result (Steps (with_call (ReadAt file place (length buf.old))) (told self.old)
+            (told self.new)) }
+        ensures failed { OnErr result (Relates (MayList (ReadAt file place (length buf.old))) (told self.old)
+            (told self.new)) }
         ensures stops { Passes Same (clock self.old) (clock self.new) }
         ensures cause { FailsAs disk_call (faults self.old) (faults self.new) result };
 
-    /// Writes `bytes` at `place`, which is at most the file's length, over what is there and past the file's end.
+    /// Writes `bytes` at `place`, which is at most the file's length, over what is there and past
+    /// the file's end.
     ///
-    /// After `Failed` any of the bytes may have been written. A stop during the call, or later and before the file's next
-    /// sync, may leave any bytes in the written range, and any length between the old one and the new one.
+    /// After `Failed` any of the bytes may have been written. A stop during the call, or later and
+    /// before the file's next sync, may leave any bytes in the written range, and any length
+    /// between the old one and the new one.
     fn write_at(&mut self, file: FileNo, place: u64, bytes: &[u8]) -> Result<(), Failed>
         requires { IfSome (told self.old) (λ t. place ≤ length (file_of file t)) }
         ensures told { OnOk result (Steps (after_write file place bytes.now) (told self.old) (told self.new)) }
-        ensures failed { OnErr result (Relates (FailsWrite file place (length bytes.now)) (told self.old) (told self.new)) }
+        ensures failed { OnErr result (Relates (FailsWrite file place (length bytes.now)) (told self.old)
+            (told self.new)) }
         ensures stops { Passes (InFile file (Torn place (length bytes.now))) (clock self.old) (clock self.new) }
         ensures cause { FailsAs disk_call (faults self.old) (faults self.new) result };
 
-    /// Makes the file durable: from then on, and until its next write, a stop leaves it as a read gives it. After `Failed`
-    /// it is not known to be.
+    /// Makes the file durable: from then on, and until its next write, a stop leaves it as a read
+    /// gives it. After `Failed` it is not known to be.
     fn sync(&mut self, file: FileNo) -> Result<(), Failed>
         ensures told { OnOk result (Steps (with_call (Sync file)) (told self.old) (told self.new)) }
         ensures failed { OnErr result (Relates (MayList (Sync file)) (told self.old) (told self.new)) }
         ensures stops { Passes Same (clock self.old) (clock self.new) }
-        ensures synced { OnOk result (IfSome (told self.old) (λ t. IsSynced file (file_of file t) (clock self.new))) }
+        ensures synced { OnOk result (IfSome (told self.old)
+            (λ t. IsSynced file (file_of file t) (clock self.new))) }
         ensures cause { FailsAs disk_call (faults self.old) (faults self.new) result };
 
     /// Reads a register of the device.
@@ -120,52 +129,64 @@ pub trait Board {
         ensures cause { FailsAs device_call (faults self.old) (faults self.new) result }
         ensures device { IfSome (told self.old) (λ t. IsDevice (device_of t)) };
 
-    /// Writes a number to a register of the device. A number that is written to Action is an action, which the device
-    /// then does.
+    /// Writes a number to a register of the device. A number that is written to Action is an
+    /// action, which the device then does.
     ///
-    /// After `Failed` the device has done so or hasn't, and a stop during the call leaves the record store as before it
-    /// or as after it.
+    /// After `Failed` the device has done so or hasn't, and a stop during the call leaves the
+    /// record store as before it or as after it.
     fn reg_write(&mut self, reg: Reg, value: u64) -> Result<(), Failed>
-        ensures told { OnOk result (Steps (λ t. with_access (Write reg value) (on_device (after_reg_write reg value) t)) (told self.old) (told self.new)) }
-        ensures failed { OnErr result (Relates (FailsAccess (Write reg value) (after_reg_write reg value)) (told self.old) (told self.new)) }
-        ensures stops { Passes (InStore (StoreBy (after_reg_write reg value) (told self.old))) (clock self.old) (clock self.new) }
+        ensures told { OnOk result (Steps (λ t. with_access (Write reg value)
+            (on_device (after_reg_write reg value) t)) (told self.old) (told self.new)) }
+        ensures failed { OnErr result (Relates (FailsAccess (Write reg value) (after_reg_write reg value))
+            (told self.old) (told self.new)) }
+        ensures stops { Passes (InStore (StoreBy (after_reg_write reg value) (told self.old))) (clock self.old)
+            (clock self.new) }
         ensures cause { FailsAs device_call (faults self.old) (faults self.new) result }
         ensures device { IfSome (told self.old) (λ t. IsDevice (device_of t)) };
 
     /// Copies the bytes of the device's range from a place on into a buffer, all of it.
     fn range_read(&mut self, place: u32, buf: &mut [u8]) -> Result<(), Failed>
         requires { place + length buf.old ≤ range_length }
-        ensures read { OnOk result (IfSome (told self.old) (λ t. buf.new ≡ take (length buf.old) (drop place (device_of t).range))) }
-        ensures told { OnOk result (Steps (with_access (RangeRead place (length buf.old))) (told self.old) (told self.new)) }
-        ensures failed { OnErr result (Relates (MayListAccess (RangeRead place (length buf.old))) (told self.old) (told self.new)) }
+        ensures read { OnOk result (IfSome (told self.old)
+            (λ t. buf.new ≡ take (length buf.old) (drop place (device_of t).range))) }
+        ensures told { OnOk result (Steps (with_access (RangeRead place (length buf.old))) (told self.old)
+            (told self.new)) }
+        ensures failed { OnErr result (Relates (MayListAccess (RangeRead place (length buf.old))) (told self.old)
+            (told self.new)) }
         ensures stops { Passes Same (clock self.old) (clock self.new) }
         ensures cause { FailsAs device_call (faults self.old) (faults self.new) result }
         ensures device { IfSome (told self.old) (λ t. IsDevice (device_of t)) };
 
-    /// Writes bytes into the device's range from a place on. After `Failed` they were written or weren't.
+    /// Writes bytes into the device's range from a place on. After `Failed` they were written or
+    /// weren't.
     fn range_write(&mut self, place: u32, bytes: &[u8]) -> Result<(), Failed>
         requires { place + length bytes.now ≤ range_length }
-        ensures told { OnOk result (Steps (λ t. with_access (RangeWrite place (length bytes.now)) (on_device (after_range_write place bytes.now) t)) (told self.old) (told self.new)) }
-        ensures failed { OnErr result (Relates (FailsAccess (RangeWrite place (length bytes.now)) (after_range_write place bytes.now)) (told self.old) (told self.new)) }
+        ensures told { OnOk result (Steps (λ t. with_access (RangeWrite place (length bytes.now))
+            (on_device (after_range_write place bytes.now) t)) (told self.old) (told self.new)) }
+        ensures failed { OnErr result (Relates (FailsAccess (RangeWrite place (length bytes.now))
+            (after_range_write place bytes.now)) (told self.old) (told self.new)) }
         ensures stops { Passes Same (clock self.old) (clock self.new) }
         ensures cause { FailsAs device_call (faults self.old) (faults self.new) result }
         ensures device { IfSome (told self.old) (λ t. IsDevice (device_of t)) };
 
-    /// Puts a record into the store from outside, as `Store::put` of erst_store does, and sets the device's cursor to 0.
+    /// Puts a record into the store from outside, as `Store::put` of erst_store does, and sets the
+    /// device's cursor to 0.
     ///
-    /// `Refused` comes with the store's own refusal, `NoMemory` among them, and leaves all as it was. After `Failed` the
-    /// record was put or wasn't, and a stop during the call leaves the store as before it or as after it.
+    /// `Refused` comes with the store's own refusal, `NoMemory` among them, and leaves all as it
+    /// was. After `Failed` the record was put or wasn't, and a stop during the call leaves the
+    /// store as before it or as after it.
     fn put(&mut self, id: u64, bytes: &[u8]) -> Result<(), BoardPut>
         ensures told { OnOk result (Steps (on_device (after_put id bytes.now)) (told self.old) (told self.new)) }
         ensures answers { IfSome (told self.old) (λ t. AnswersPut result (refusal_of id bytes.now t.here.store)) }
         ensures refused { KeepsAtRefusal result (told self.old) (told self.new) }
         ensures failed { OnErr result (Relates (MayAct (after_put id bytes.now)) (told self.old) (told self.new)) }
-        ensures stops { Passes (InStore (StoreBy (after_put id bytes.now) (told self.old))) (clock self.old) (clock self.new) }
+        ensures stops { Passes (InStore (StoreBy (after_put id bytes.now) (told self.old))) (clock self.old)
+            (clock self.new) }
         ensures cause { FailsAs device_call (faults self.old) (faults self.new) (put_failure result) }
         ensures device { IfSome (told self.old) (λ t. IsDevice (device_of t)) };
 
-    /// Appends `bytes` to the output. After `Failed` a beginning of them, maybe nothing, was appended, and a stop during the
-    /// call leaves such a beginning too.
+    /// Appends `bytes` to the output. After `Failed` a beginning of them, maybe nothing, was
+    /// appended, and a stop during the call leaves such a beginning too.
     fn print(&mut self, bytes: &[u8]) -> Result<(), Failed>
         ensures told { OnOk result (Steps (after_print bytes.now) (told self.old) (told self.new)) }
         ensures failed { OnErr result (Relates (FailsPrint bytes.now) (told self.old) (told self.new)) }

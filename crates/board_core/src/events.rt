@@ -19,7 +19,8 @@ pub fn write(
 ) -> Result<(), AllocError>
     requires { place ≤ length file.old.bytes.items }
     ensures file { OnOk result (file.new.bytes.items ≡ overlay place bytes.now file.old.bytes.items) }
-    ensures events { OnOk result (changes_of events.new.items ≡ changes_of events.old.items ++ wrote number place bytes.now ∷ []) }
+    ensures events { OnOk result (changes_of events.new.items
+        ≡ changes_of events.old.items ++ wrote number place bytes.now ∷ []) }
     ensures first { first_bytes file.new ≡ first_bytes file.old }
     ensures same_file { OnErr result (file.new.bytes.items ≡ file.old.bytes.items) }
     ensures same_events { OnErr result (events.new.items ≡ events.old.items) }
@@ -52,7 +53,8 @@ pub fn print(
     bytes: &[u8],
 ) -> Result<(), AllocError>
     ensures out { OnOk result (out.new.items ≡ out.old.items ++ bytes.now) }
-    ensures events { OnOk result (changes_of events.new.items ≡ changes_of events.old.items ++ printed bytes.now ∷ []) }
+    ensures events { OnOk result (changes_of events.new.items
+        ≡ changes_of events.old.items ++ printed bytes.now ∷ []) }
     ensures same_out { OnErr result (out.new.items ≡ out.old.items) }
     ensures same_events { OnErr result (events.new.items ≡ events.old.items) }
 {

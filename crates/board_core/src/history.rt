@@ -1,4 +1,5 @@
-//! What was done to the files, the device and the output of a board in memory, and what they hold now.
+//! What was done to the files, the device and the output of a board in memory, and what they hold
+//! now.
 ghost use Rattle.std.specs.Prelude.{◌≡◌, ℕ, ◌+◌, ◌≤◌, ◌++◌, [], ◌∷◌, List, length, take, drop, IfOk, OnOk, OnErr};
 ghost use Rattle.erst_store.specs.Actions.{range_length};
 ghost use Rattle.erst_store.specs.DeviceLaws.{IsDevice};
@@ -18,8 +19,9 @@ use std::marker::Model;
 
 /// Two files, a device and an output in memory, with a record of all that was done to them.
 ///
-/// A write is done in place, and its bytes are kept beside. What a file began with is kept apart at its first write. The
-/// store that the device began with is kept, and no other: what is done to the device is kept as it was asked for.
+/// A write is done in place, and its bytes are kept beside. What a file began with is kept apart at
+/// its first write. The store that the device began with is kept, and no other: what is done to the
+/// device is kept as it was asked for.
 #[derive(Drop)]
 pub struct History {
     alloc: Global,
@@ -82,9 +84,7 @@ impl History {
         store: Store,
         slow: u64,
     ) -> Result<History, NoMemory>
-        ensures new {
-            IfOk result (λ history. history ≡ new_past (new_held file0.items file1.items store slow))
-        }
+        ensures new { IfOk result (λ history. history ≡ new_past (new_held file0.items file1.items store slow)) }
         ensures device { IfOk result (λ history. IsDevice (device_in (held_of history))) }
     {
         let first_store = store.copy(alloc)?;
@@ -109,11 +109,9 @@ impl History {
     /// Puts these bytes into a file before anything was done.
     pub fn set_file(&mut self, file: FileNo, bytes: Vec<u8>)
         requires { self.old.changes ≡ [] }
-        ensures {
-            self.new ≡ new_past (record self.old.first {
-              here = with_file_in file bytes.items self.old.first.here;
-            })
-        }
+        ensures { self.new ≡ new_past (record self.old.first {
+          here = with_file_in file bytes.items self.old.first.here;
+        }) }
     {
         let set = MemFile { bytes, first: None };
         match file {
@@ -159,9 +157,7 @@ impl History {
     /// Copies bytes of the device's range from a place on into a buffer, all of it.
     pub fn range_read(&self, place: u32, buf: &mut [u8])
         requires { place + length buf.old ≤ range_length }
-        ensures {
-            buf.new ≡ take (length buf.old) (drop place (device_in (held_of self.now)).range)
-        }
+        ensures { buf.new ≡ take (length buf.old) (drop place (device_in (held_of self.now)).range) }
     {
         self.device.range_read(place, buf);
     }
@@ -224,14 +220,11 @@ impl History {
         Ok(())
     }
 
-    /// Puts a record into the store, and answers what the store answers, unless the record of the put can't be kept.
+    /// Puts a record into the store, and answers what the store answers, unless the record of the
+    /// put can't be kept.
     pub fn put(&mut self, id: u64, bytes: &[u8]) -> Result<Result<(), PutRefused>, AllocError>
-        ensures past {
-            IfOk result (λ put. self.new ≡ past_after put (acted (put_record id bytes.now)) self.old)
-        }
-        ensures answers {
-            IfOk result (λ put. Answers put (refusal_of id bytes.now (held_of self.old).here.store))
-        }
+        ensures past { IfOk result (λ put. self.new ≡ past_after put (acted (put_record id bytes.now)) self.old) }
+        ensures answers { IfOk result (λ put. Answers put (refusal_of id bytes.now (held_of self.old).here.store)) }
         ensures kept { OnErr result (self.new ≡ self.old) }
     {
         let kept = Vec::from_slice(self.alloc, bytes)?;
@@ -255,12 +248,8 @@ impl History {
 
     /// Both files as they are picked, and the store.
     pub fn into_left(self, pick: Pick) -> Result<(Vec<u8>, Vec<u8>, Store, u64), AllocError>
-        ensures zero {
-            IfOk result (λ left. IsPicked pick (disk_of self).zero (held_of self).here.file0 left.0.items)
-        }
-        ensures one {
-            IfOk result (λ left. IsPicked pick (disk_of self).one (held_of self).here.file1 left.1.items)
-        }
+        ensures zero { IfOk result (λ left. IsPicked pick (disk_of self).zero (held_of self).here.file0 left.0.items) }
+        ensures one { IfOk result (λ left. IsPicked pick (disk_of self).one (held_of self).here.file1 left.1.items) }
         ensures store { IfOk result (λ left. left.2 ≡ (held_of self).here.store) }
         ensures slow { IfOk result (λ left. left.3 ≡ self.first.volatile.slow) }
     {

@@ -17,7 +17,9 @@ pub fn picked_bytes(
     number: FileNo,
     pick: Pick,
 ) -> Result<Vec<u8>, AllocError>
-    ensures { IfOk result (λ taken. IsPicked pick (disk_after_all number (changes_of events.now) (first_bytes file) (settled_file (first_bytes file))) file.bytes.items taken.items) }
+    ensures { IfOk result (λ taken. IsPicked pick
+        (disk_after_all number (changes_of events.now) (first_bytes file)
+        (settled_file (first_bytes file))) file.bytes.items taken.items) }
 {
     let MemFile { mut bytes, first } = file;
     let settled = events_to_last_sync(events, number);
@@ -38,7 +40,8 @@ pub fn picked_bytes(
 // How many events lead up to the last sync of a file and with it: none where it wasn't synced.
 fn events_to_last_sync(events: &[Event], number: FileNo) -> usize
     ensures within { result ≤ length events.now }
-    ensures parted { ArePartedAtSync number (changes_of (take result events.now)) (changes_of (drop result events.now)) (changes_of events.now) }
+    ensures parted { ArePartedAtSync number (changes_of (take result events.now))
+        (changes_of (drop result events.now)) (changes_of events.now) }
 {
     let mut count = 0;
     for (place, event) in events.iter().enumerate() {
@@ -60,7 +63,8 @@ fn syncs(event: &Event, number: FileNo) -> bool
 
 // Writes again what these events wrote into a file.
 fn repeat(bytes: &mut Vec<u8>, events: &[Event], number: FileNo) -> Result<(), AllocError>
-    ensures { OnOk result (bytes.new.items ≡ bytes_after_all number (changes_of events.now) bytes.old.items) }
+    ensures { OnOk result (bytes.new.items ≡ bytes_after_all number (changes_of events.now)
+        bytes.old.items) }
 {
     for event in events {
         repeat_one(bytes, event, number)?;

@@ -1,9 +1,10 @@
-//! What the daemon stands on: a source of script bytes, and a board with two files, a device with its record store, and an
-//! output.
+//! What the daemon stands on: a source of script bytes, and a board with two files, a device with
+//! its record store, and an output.
 //!
-//! Both are traits. Their clauses say what each call does to what a source or board tells of itself, and when it may
-//! fail. A real file or pipe tells nothing, so a clause on contents binds it to nothing, while the versions in memory
-//! tell everything. Code that is generic over the traits can't find out which it was given.
+//! Both are traits. Their clauses say what each call does to what a source or board tells of
+//! itself, and when it may fail. A real file or pipe tells nothing, so a clause on contents binds
+//! it to nothing, while the versions in memory tell everything. Code that is generic over the
+//! traits can't find out which it was given.
 #![tactic(auto)]
 
 mod board;
@@ -24,6 +25,3 @@ pub use mem_source::MemSource;
 pub use pick::Pick;
 pub use source::{Failed, Source};
 pub use through::write_through;
-
-#[cfg(test)]
-mod tests;

@@ -28,9 +28,9 @@ use std::marker::Model;
 
 /// A board in memory, which tells all and fails at chosen calls.
 ///
-/// It keeps each change since it was new, so that what a stop at any moment may have left is known. A failing call changes
-/// nothing but its counts and lists. A growth that is refused for want of memory makes the call fail, and raises the count
-/// of its kind and `starved`.
+/// It keeps each change since it was new, so that what a stop at any moment may have left is known.
+/// A failing call changes nothing but its counts and lists. A growth that is refused for want of
+/// memory makes the call fail, and raises the count of its kind and `starved`.
 #[derive(Drop)]
 pub struct MemBoard {
     history: History,
@@ -66,8 +66,8 @@ impl Model for MemBoard {
 }
 
 impl MemBoard {
-    /// A board with empty files, nothing printed and no faults, and a new device over this store that is busy `slow`
-    /// times after each EXECUTE_OPERATION.
+    /// A board with empty files, nothing printed and no faults, and a new device over this store
+    /// that is busy `slow` times after each EXECUTE_OPERATION.
     pub fn new(alloc: Global, store: Store, slow: u64) -> Result<MemBoard, NoMemory>
         ensures { IfOk result (λ board. board ≡ new_board [] [] store slow) }
     {
@@ -101,13 +101,11 @@ impl MemBoard {
     /// Puts these bytes into a file, synced, before any call of the trait was made.
     pub fn set_file(&mut self, file: FileNo, bytes: Vec<u8>)
         requires { self.old.made ≡ 0 }
-        ensures {
-            self.new ≡ record self.old {
-              past = new_past (record self.old.past.first {
-                here = with_file_in file bytes.items self.old.past.first.here;
-              });
-            }
-        }
+        ensures { self.new ≡ record self.old {
+          past = new_past (record self.old.past.first {
+            here = with_file_in file bytes.items self.old.past.first.here;
+          });
+        } }
     {
         self.history.set_file(file, bytes);
     }
@@ -170,27 +168,19 @@ impl MemBoard {
         &self.accesses
     }
 
-    /// A new board with one state that a stop now may leave, and nothing printed. Its device is new, with the store that a
-    /// stop leaves, and as slow as this board's.
+    /// A new board with one state that a stop now may leave, and nothing printed. Its device is
+    /// new, with the store that a stop leaves, and as slow as this board's.
     ///
     /// After `NoMemory` this board is given up.
     pub fn left(self, alloc: Global, pick: Pick) -> Result<MemBoard, NoMemory>
-        ensures fresh {
-            IfOk result (λ board. board ≡ new_board (told_of board).here.file0 (told_of board).here.file1
-              (told_of self).here.store self.past.first.volatile.slow)
-        }
-        ensures zero {
-            IfOk result (λ board. IsPicked pick (disk_of self.past).zero (told_of self).here.file0
-              (told_of board).here.file0)
-        }
-        ensures one {
-            IfOk result (λ board. IsPicked pick (disk_of self.past).one (told_of self).here.file1
-              (told_of board).here.file1)
-        }
-        ensures left {
-            IfOk result (λ board. LeftNow (clock_of self.past)
-              (record (told_of board).here { out = (told_of self).here.out }))
-        }
+        ensures fresh { IfOk result (λ board. board ≡ new_board (told_of board).here.file0 (told_of board).here.file1
+            (told_of self).here.store self.past.first.volatile.slow) }
+        ensures zero { IfOk result (λ board. IsPicked pick (disk_of self.past).zero (told_of self).here.file0
+            (told_of board).here.file0) }
+        ensures one { IfOk result (λ board. IsPicked pick (disk_of self.past).one (told_of self).here.file1
+            (told_of board).here.file1) }
+        ensures left { IfOk result (λ board. LeftNow (clock_of self.past)
+            (record (told_of board).here { out = (told_of self).here.out })) }
     {
         let MemBoard { history, .. } = self;
         let (file0, file1, store, slow) = history.into_left(pick)?;
@@ -206,7 +196,8 @@ impl MemBoard {
         self.fails.contains(&self.made) || self.allowed < self.made
     }
 
-    // Counts and lists a disk call. It fails where its number was chosen, or where the list can't grow.
+    // Counts and lists a disk call. It fails where its number was chosen, or where the list can't
+    // grow.
     fn begin(&mut self, call: DiskCall) -> Result<(), Failed>
         ensures does { Does disk_call self.old.past self.old self.new result }
         ensures listed { ListsCall call self.old self.new result }
@@ -346,9 +337,7 @@ impl MemBoard {
     fn end_put(&mut self, id: u64, bytes: &[u8]) -> Result<(), BoardPut>
         requires { 0 < self.old.made }
         ensures ends { EndsPut (acted (put_record id bytes.now)) self.old self.new result }
-        ensures answers {
-            AnswersPut result (refusal_of id bytes.now (held_of self.old.past).here.store)
-        }
+        ensures answers { AnswersPut result (refusal_of id bytes.now (held_of self.old.past).here.store) }
     {
         match self.history.put(id, bytes) {
             Ok(Ok(())) => Ok(()),
@@ -374,10 +363,8 @@ impl MemBoard {
     // A write: counted, listed and made.
     fn make_write(&mut self, file: FileNo, place: u64, bytes: &[u8]) -> Result<(), Failed>
         requires { place ≤ length (file_in file (held_of self.old.past).here) }
-        ensures does {
-            Does disk_call (past_after result (wrote file place bytes.now) self.old.past) self.old self.new
-              result
-        }
+        ensures does { Does disk_call (past_after result (wrote file place bytes.now) self.old.past) self.old self.new
+            result }
         ensures listed { ListsCall (WriteAt file place (length bytes.now)) self.old self.new result }
     {
         self.begin(DiskCall::WriteAt(file, place, bytes.len() as u64))?;
@@ -386,9 +373,7 @@ impl MemBoard {
 
     // A sync: counted, listed and made.
     fn make_sync(&mut self, file: FileNo) -> Result<(), Failed>
-        ensures does {
-            Does disk_call (past_after result (synced file) self.old.past) self.old self.new result
-        }
+        ensures does { Does disk_call (past_after result (synced file) self.old.past) self.old self.new result }
         ensures listed { ListsCall (Sync file) self.old self.new result }
     {
         self.begin(DiskCall::Sync(file))?;
@@ -397,10 +382,8 @@ impl MemBoard {
 
     // A write to a register: counted, listed and made.
     fn make_reg_write(&mut self, reg: Reg, value: u64) -> Result<(), Failed>
-        ensures does {
-            Does device_call (past_after result (acted (wrote_register reg value)) self.old.past) self.old
-              self.new result
-        }
+        ensures does { Does device_call (past_after result (acted (wrote_register reg value)) self.old.past) self.old
+            self.new result }
         ensures listed { ListsAccess (Write reg value) self.old self.new result }
         ensures device { IsDevice (device_in (held_of self.old.past)) }
     {
@@ -411,10 +394,8 @@ impl MemBoard {
     // A write into the range: counted, listed and made.
     fn make_range_write(&mut self, place: u32, bytes: &[u8]) -> Result<(), Failed>
         requires { place + length bytes.now ≤ range_length }
-        ensures does {
-            Does device_call (past_after result (acted (wrote_range place bytes.now)) self.old.past)
-              self.old self.new result
-        }
+        ensures does { Does device_call (past_after result (acted (wrote_range place bytes.now)) self.old.past)
+            self.old self.new result }
         ensures listed { ListsAccess (RangeWrite place (length bytes.now)) self.old self.new result }
         ensures device { IsDevice (device_in (held_of self.old.past)) }
     {
@@ -424,14 +405,10 @@ impl MemBoard {
 
     // A put: counted, and made unless the store refuses it.
     fn make_put(&mut self, id: u64, bytes: &[u8]) -> Result<(), BoardPut>
-        ensures does {
-            Does device_call (past_after result (acted (put_record id bytes.now)) self.old.past) self.old
-              self.new (put_failure result)
-        }
+        ensures does { Does device_call (past_after result (acted (put_record id bytes.now)) self.old.past) self.old
+            self.new (put_failure result) }
         ensures listed { ListsNone self.old self.new }
-        ensures answers {
-            AnswersPut result (refusal_of id bytes.now (held_of self.old.past).here.store)
-        }
+        ensures answers { AnswersPut result (refusal_of id bytes.now (held_of self.old.past).here.store) }
         ensures device { IsDevice (device_in (held_of self.old.past)) }
     {
         match self.begin_put() {
@@ -442,9 +419,7 @@ impl MemBoard {
 
     // A print: counted and made.
     fn make_print(&mut self, bytes: &[u8]) -> Result<(), Failed>
-        ensures does {
-            Does print_call (past_after result (printed bytes.now) self.old.past) self.old self.new result
-        }
+        ensures does { Does print_call (past_after result (printed bytes.now) self.old.past) self.old self.new result }
         ensures listed { ListsNone self.old self.new }
     {
         self.begin_print()?;
@@ -470,9 +445,7 @@ impl Board for MemBoard {
 
     fn size(&mut self, file: FileNo) -> Result<u64, Failed>
         ensures length { IfOk result (λ n. n ≡ length (file_of file (told_of self.old))) }
-        ensures told {
-            OnOk result (Some (told_of self.new) ≡ Some (with_call (Size file) (told_of self.old)))
-        }
+        ensures told { OnOk result (Some (told_of self.new) ≡ Some (with_call (Size file) (told_of self.old))) }
         ensures failed { OnErr result (MayList (Size file) (told_of self.old) (told_of self.new)) }
         ensures stops { Passes Same (clock_of self.old.past) (clock_of self.new.past) }
         ensures cause { FailsAs disk_call self.old.faults self.new.faults result }
@@ -485,16 +458,10 @@ impl Board for MemBoard {
 
     fn read_at(&mut self, file: FileNo, place: u64, buf: &mut [u8]) -> Result<usize, Failed>
         ensures within { IfOk result (λ n. n ≤ length buf.old) }
-        ensures read {
-            IfOk result (λ n. Reads place n buf.new (file_of file (told_of self.old)))
-        }
-        ensures told {
-            OnOk result (Some (told_of self.new)
-              ≡ Some (with_call (ReadAt file place (length buf.old)) (told_of self.old)))
-        }
-        ensures failed {
-            OnErr result (MayList (ReadAt file place (length buf.old)) (told_of self.old) (told_of self.new))
-        }
+        ensures read { IfOk result (λ n. Reads place n buf.new (file_of file (told_of self.old))) }
+        ensures told { OnOk result (Some (told_of self.new)
+            ≡ Some (with_call (ReadAt file place (length buf.old)) (told_of self.old))) }
+        ensures failed { OnErr result (MayList (ReadAt file place (length buf.old)) (told_of self.old) (told_of self.new)) }
         ensures stops { Passes Same (clock_of self.old.past) (clock_of self.new.past) }
         ensures cause { FailsAs disk_call self.old.faults self.new.faults result }
         ensures does { Does disk_call self.old.past self.old self.new result }
@@ -506,42 +473,28 @@ impl Board for MemBoard {
 
     fn write_at(&mut self, file: FileNo, place: u64, bytes: &[u8]) -> Result<(), Failed>
         requires { place ≤ length (file_of file (told_of self.old)) }
-        ensures told {
-            OnOk result (Some (told_of self.new)
-              ≡ Some (after_write file place bytes.now (told_of self.old)))
-        }
-        ensures failed {
-            OnErr result (FailsWrite file place (length bytes.now) (told_of self.old) (told_of self.new))
-        }
-        ensures stops {
-            Passes (InFile file (Torn place (length bytes.now))) (clock_of self.old.past)
-              (clock_of self.new.past)
-        }
+        ensures told { OnOk result (Some (told_of self.new)
+            ≡ Some (after_write file place bytes.now (told_of self.old))) }
+        ensures failed { OnErr result (FailsWrite file place (length bytes.now) (told_of self.old) (told_of self.new)) }
+        ensures stops { Passes (InFile file (Torn place (length bytes.now))) (clock_of self.old.past)
+            (clock_of self.new.past) }
         ensures cause { FailsAs disk_call self.old.faults self.new.faults result }
         // Where it failed it has written nothing.
-        ensures does {
-            Does disk_call (past_after result (wrote file place bytes.now) self.old.past) self.old self.new
-              result
-        }
+        ensures does { Does disk_call (past_after result (wrote file place bytes.now) self.old.past) self.old self.new
+            result }
         ensures listed { ListsCall (WriteAt file place (length bytes.now)) self.old self.new result }
     {
         self.make_write(file, place, bytes)
     }
 
     fn sync(&mut self, file: FileNo) -> Result<(), Failed>
-        ensures told {
-            OnOk result (Some (told_of self.new) ≡ Some (with_call (Sync file) (told_of self.old)))
-        }
+        ensures told { OnOk result (Some (told_of self.new) ≡ Some (with_call (Sync file) (told_of self.old))) }
         ensures failed { OnErr result (MayList (Sync file) (told_of self.old) (told_of self.new)) }
         ensures stops { Passes Same (clock_of self.old.past) (clock_of self.new.past) }
-        ensures synced {
-            OnOk result (IsSynced file (file_of file (told_of self.old)) (clock_of self.new.past))
-        }
+        ensures synced { OnOk result (IsSynced file (file_of file (told_of self.old)) (clock_of self.new.past)) }
         ensures cause { FailsAs disk_call self.old.faults self.new.faults result }
         // Where it failed it has settled nothing.
-        ensures does {
-            Does disk_call (past_after result (synced file) self.old.past) self.old self.new result
-        }
+        ensures does { Does disk_call (past_after result (synced file) self.old.past) self.old self.new result }
         ensures listed { ListsCall (Sync file) self.old self.new result }
     {
         self.make_sync(file)
@@ -549,21 +502,15 @@ impl Board for MemBoard {
 
     fn reg_read(&mut self, reg: Reg) -> Result<u64, Failed>
         ensures value { IfOk result (λ n. n ≡ register_in reg (device_of (told_of self.old))) }
-        ensures told {
-            IfOk result (λ n. Some (told_of self.new)
-              ≡ Some (with_access (Read reg n) (told_of self.old)))
-        }
-        ensures failed {
-            OnErr result (MayListAccess (Read reg 0) (told_of self.old) (told_of self.new))
-        }
+        ensures told { IfOk result (λ n. Some (told_of self.new)
+            ≡ Some (with_access (Read reg n) (told_of self.old))) }
+        ensures failed { OnErr result (MayListAccess (Read reg 0) (told_of self.old) (told_of self.new)) }
         ensures stops { Passes Same (clock_of self.old.past) (clock_of self.new.past) }
         ensures cause { FailsAs device_call self.old.faults self.new.faults result }
         ensures device { IsDevice (device_of (told_of self.old)) }
         ensures does { Does device_call self.old.past self.old self.new result }
         // A read that failed is listed with the number 0.
-        ensures listed {
-            ListsAccess (Read reg (result_unwrap_or result 0)) self.old self.new result
-        }
+        ensures listed { ListsAccess (Read reg (result_unwrap_or result 0)) self.old self.new result }
     {
         let value = self.history.register(reg);
         self.begin_access(Access::Read(reg, value))?;
@@ -571,25 +518,17 @@ impl Board for MemBoard {
     }
 
     fn reg_write(&mut self, reg: Reg, value: u64) -> Result<(), Failed>
-        ensures told {
-            OnOk result (Some (told_of self.new)
-              ≡ Some (with_access (Write reg value) (on_device (after_reg_write reg value) (told_of self.old))))
-        }
-        ensures failed {
-            OnErr result (FailsAccess (Write reg value) (after_reg_write reg value) (told_of self.old)
-              (told_of self.new))
-        }
-        ensures stops {
-            Passes (InStore (StoreBy (after_reg_write reg value) (Some (told_of self.old))))
-              (clock_of self.old.past) (clock_of self.new.past)
-        }
+        ensures told { OnOk result (Some (told_of self.new)
+            ≡ Some (with_access (Write reg value) (on_device (after_reg_write reg value) (told_of self.old)))) }
+        ensures failed { OnErr result (FailsAccess (Write reg value) (after_reg_write reg value) (told_of self.old)
+            (told_of self.new)) }
+        ensures stops { Passes (InStore (StoreBy (after_reg_write reg value) (Some (told_of self.old))))
+            (clock_of self.old.past) (clock_of self.new.past) }
         ensures cause { FailsAs device_call self.old.faults self.new.faults result }
         ensures device { IsDevice (device_of (told_of self.old)) }
         // Where it failed the device has done nothing.
-        ensures does {
-            Does device_call (past_after result (acted (wrote_register reg value)) self.old.past) self.old
-              self.new result
-        }
+        ensures does { Does device_call (past_after result (acted (wrote_register reg value)) self.old.past) self.old
+            self.new result }
         ensures listed { ListsAccess (Write reg value) self.old self.new result }
     {
         self.make_reg_write(reg, value)
@@ -597,17 +536,11 @@ impl Board for MemBoard {
 
     fn range_read(&mut self, place: u32, buf: &mut [u8]) -> Result<(), Failed>
         requires { place + length buf.old ≤ range_length }
-        ensures read {
-            OnOk result (buf.new ≡ take (length buf.old) (drop place (device_of (told_of self.old)).range))
-        }
-        ensures told {
-            OnOk result (Some (told_of self.new)
-              ≡ Some (with_access (RangeRead place (length buf.old)) (told_of self.old)))
-        }
-        ensures failed {
-            OnErr result (MayListAccess (RangeRead place (length buf.old)) (told_of self.old)
-              (told_of self.new))
-        }
+        ensures read { OnOk result (buf.new ≡ take (length buf.old) (drop place (device_of (told_of self.old)).range)) }
+        ensures told { OnOk result (Some (told_of self.new)
+            ≡ Some (with_access (RangeRead place (length buf.old)) (told_of self.old))) }
+        ensures failed { OnErr result (MayListAccess (RangeRead place (length buf.old)) (told_of self.old)
+            (told_of self.new)) }
         ensures stops { Passes Same (clock_of self.old.past) (clock_of self.new.past) }
         ensures cause { FailsAs device_call self.old.faults self.new.faults result }
         ensures device { IsDevice (device_of (told_of self.old)) }
@@ -621,73 +554,49 @@ impl Board for MemBoard {
 
     fn range_write(&mut self, place: u32, bytes: &[u8]) -> Result<(), Failed>
         requires { place + length bytes.now ≤ range_length }
-        ensures told {
-            OnOk result (Some (told_of self.new)
-              ≡ Some (with_access (RangeWrite place (length bytes.now))
-                (on_device (after_range_write place bytes.now) (told_of self.old))))
-        }
-        ensures failed {
-            OnErr result (FailsAccess (RangeWrite place (length bytes.now)) (after_range_write place bytes.now)
-              (told_of self.old) (told_of self.new))
-        }
+        ensures told { OnOk result (Some (told_of self.new)
+            ≡ Some (with_access (RangeWrite place (length bytes.now))
+            (on_device (after_range_write place bytes.now) (told_of self.old)))) }
+        ensures failed { OnErr result (FailsAccess (RangeWrite place (length bytes.now)) (after_range_write place bytes.now)
+            (told_of self.old) (told_of self.new)) }
         ensures stops { Passes Same (clock_of self.old.past) (clock_of self.new.past) }
         ensures cause { FailsAs device_call self.old.faults self.new.faults result }
         ensures device { IsDevice (device_of (told_of self.old)) }
         // Where it failed it has written nothing.
-        ensures does {
-            Does device_call (past_after result (acted (wrote_range place bytes.now)) self.old.past)
-              self.old self.new result
-        }
+        ensures does { Does device_call (past_after result (acted (wrote_range place bytes.now)) self.old.past)
+            self.old self.new result }
         ensures listed { ListsAccess (RangeWrite place (length bytes.now)) self.old self.new result }
     {
         self.make_range_write(place, bytes)
     }
 
     fn put(&mut self, id: u64, bytes: &[u8]) -> Result<(), BoardPut>
-        ensures told {
-            OnOk result (Some (told_of self.new)
-              ≡ Some (on_device (after_put id bytes.now) (told_of self.old)))
-        }
+        ensures told { OnOk result (Some (told_of self.new)
+            ≡ Some (on_device (after_put id bytes.now) (told_of self.old))) }
         ensures answers { AnswersPut result (refusal_of id bytes.now (told_of self.old).here.store) }
-        ensures refused {
-            KeepsAtRefusal result (Some (told_of self.old)) (Some (told_of self.new))
-        }
-        ensures failed {
-            OnErr result (MayAct (after_put id bytes.now) (told_of self.old) (told_of self.new))
-        }
-        ensures stops {
-            Passes (InStore (StoreBy (after_put id bytes.now) (Some (told_of self.old))))
-              (clock_of self.old.past) (clock_of self.new.past)
-        }
+        ensures refused { KeepsAtRefusal result (Some (told_of self.old)) (Some (told_of self.new)) }
+        ensures failed { OnErr result (MayAct (after_put id bytes.now) (told_of self.old) (told_of self.new)) }
+        ensures stops { Passes (InStore (StoreBy (after_put id bytes.now) (Some (told_of self.old))))
+            (clock_of self.old.past) (clock_of self.new.past) }
         ensures cause { FailsAs device_call self.old.faults self.new.faults (put_failure result) }
         ensures device { IsDevice (device_of (told_of self.old)) }
         // Where it failed nothing was put.
-        ensures does {
-            Does device_call (past_after result (acted (put_record id bytes.now)) self.old.past) self.old
-              self.new (put_failure result)
-        }
+        ensures does { Does device_call (past_after result (acted (put_record id bytes.now)) self.old.past) self.old
+            self.new (put_failure result) }
         ensures listed { ListsNone self.old self.new }
     {
         self.make_put(id, bytes)
     }
 
     fn print(&mut self, bytes: &[u8]) -> Result<(), Failed>
-        ensures told {
-            OnOk result (Some (told_of self.new) ≡ Some (after_print bytes.now (told_of self.old)))
-        }
+        ensures told { OnOk result (Some (told_of self.new) ≡ Some (after_print bytes.now (told_of self.old))) }
         ensures failed { OnErr result (FailsPrint bytes.now (told_of self.old) (told_of self.new)) }
-        ensures stops {
-            Passes (InOut (Begins bytes.now)) (clock_of self.old.past) (clock_of self.new.past)
-        }
-        ensures printed {
-            OnOk result (Leads (InOut (Appends bytes.now)) (clock_of self.old.past)
-              (clock_of self.new.past))
-        }
+        ensures stops { Passes (InOut (Begins bytes.now)) (clock_of self.old.past) (clock_of self.new.past) }
+        ensures printed { OnOk result (Leads (InOut (Appends bytes.now)) (clock_of self.old.past)
+            (clock_of self.new.past)) }
         ensures cause { FailsAs print_call self.old.faults self.new.faults result }
         // Where it failed it has printed nothing.
-        ensures does {
-            Does print_call (past_after result (printed bytes.now) self.old.past) self.old self.new result
-        }
+        ensures does { Does print_call (past_after result (printed bytes.now) self.old.past) self.old self.new result }
         ensures listed { ListsNone self.old self.new }
     {
         self.make_print(bytes)

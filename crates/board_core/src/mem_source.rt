@@ -30,11 +30,17 @@ impl Model for MemSource {
 }
 
 impl MemSource {
-    /// A source of these bytes that gives at most `piece` of them a call, which is at least 1. It fails at the calls
-    /// whose numbers, from 1, are in `fails`, and at no other.
+    /// A source of these bytes that gives at most `piece` of them a call, which is at least 1. It
+    /// fails at the calls whose numbers, from 1, are in `fails`, and at no other.
     pub fn new(bytes: Vec<u8>, piece: usize, fails: Vec<u64>) -> MemSource
         requires { 0 < piece }
-        ensures { result ≡ record { left = bytes.items; piece = piece; fails = fails.items; made = 0; faults = 0 } }
+        ensures { result ≡ record {
+          left = bytes.items;
+          piece = piece;
+          fails = fails.items;
+          made = 0;
+          faults = 0;
+        } }
     {
         MemSource {
             bytes,

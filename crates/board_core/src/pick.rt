@@ -7,6 +7,7 @@ pub enum Pick {
     Old,
     /// Each file as a read gives it.
     New,
-    /// Each file with the length that a read gives, and every byte written since its last sync set to this one.
+    /// Each file with the length that a read gives, and every byte written since its last sync set
+    /// to this one.
     Fill(u8),
 }

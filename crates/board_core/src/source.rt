@@ -15,7 +15,8 @@ pub trait Source {
     /// How often a read has failed.
     ghost faults: { Self → ℕ };
 
-    /// Takes the next bytes into the front of `buf`, which isn't empty, and answers their number. 0 means the end.
+    /// Takes the next bytes into the front of `buf`, which isn't empty, and answers their number. 0
+    /// means the end.
     ///
     /// `Failed` comes only where the count of faults rose, and has taken nothing.
     fn read(&mut self, buf: &mut [u8]) -> Result<usize, Failed>

@@ -9,8 +9,9 @@ use crate::{Board, Failed, FileNo};
 
 /// Writes `bytes` at `place`, which is at most the file's length, and syncs the file.
 ///
-/// Where a stop before left just what the board tells, so does a stop after it ended well, and the bytes are on the disk.
-/// A stop in between, or after `Failed`, leaves of the file what a torn write may leave, and all else as it was.
+/// Where a stop before left just what the board tells, so does a stop after it ended well, and the
+/// bytes are on the disk. A stop in between, or after `Failed`, leaves of the file what a torn
+/// write may leave, and all else as it was.
 ///
 /// `Failed` comes only where the write or the sync failed.
 pub fn write_through<B: Board>(
@@ -20,10 +21,13 @@ pub fn write_through<B: Board>(
     board: &mut B,
 ) -> Result<(), Failed>
     requires { IfSome (B.told board.old) (λ told. place ≤ length (file_of file told)) }
-    ensures told { OnOk result (Steps (after_write_through file place bytes.now) (B.told board.old) (B.told board.new)) }
-    ensures failed { OnErr result (Relates (FailsThrough file place bytes.now) (B.told board.old) (B.told board.new)) }
+    ensures told { OnOk result (Steps (after_write_through file place bytes.now) (B.told board.old)
+        (B.told board.new)) }
+    ensures failed { OnErr result (Relates (FailsThrough file place bytes.now) (B.told board.old)
+        (B.told board.new)) }
 
-    ensures stops { Adds (After (B.clock board.old) (InFile file (Torn place (length bytes.now)))) (B.clock board.old) (B.clock board.new) }
+    ensures stops { Adds (After (B.clock board.old) (InFile file (Torn place (length bytes.now))))
+        (B.clock board.old) (B.clock board.new) }
     ensures at_rest { (t : Told) → Rests t (B.told board.old) (B.clock board.old)
         → Adds (InFile file (Torn place (length bytes.now)) t.here) (B.clock board.old) (B.clock board.new) }
     ensures rests { OnOk result ((t : Told) → Rests t (B.told board.old) (B.clock board.old)

@@ -2,47 +2,37 @@
 use Rattle.std.proofs.Common.{◌≡◌, ℕ, zero, suc, ◌+◌, ◌-◌, ◌^◌, ◌<◌, ◌≤◌, Bool, true, false, cond, nat_eq, nat_lt, if◌then◌else◌, List, [], ◌∷◌, ◌++◌, length, get_or, take, drop, Option, None, Some, ◌||◌, refl, sym, ap, subst, ◌∙◌, arith, append_assoc, add-one, inl, inr}
 use Rattle.std.specs.Prelude.{codes, slice_get, Result, Ok, Err}
 use Rattle.std.specs.List.{AllByRecursion, IsDistinct, list_any, flat_map}
-use Rattle.std.specs.Int.{Width, w32, w64, byte_len, from_le_bytes, to_le_bytes}
 use Rattle.std.specs.Cmp.Lexicographic.{pointwise, same_text}
 use Rattle.std.proofs.lemmas.Bool.{cases_lt, ltb-false, le-ltb, eqb-true}
 use Rattle.std.proofs.lemmas.Bool.Decides.{nat_tests}
 use Rattle.std.proofs.lemmas.List.{append-nil, take_at, drop_at, take-append-drop, length-append, length-take, length-take-le, get_or-drop, get_or-take, get_or_past, map-append, nil_from_length}
 use Rattle.std.proofs.lemmas.List.Concat.{flat_map-cons}
-use Rattle.std.proofs.lemmas.Nat.{le_bytes_4, le_bytes_8, from_le_bytes-to_le_bytes_4, from_le_bytes-to_le_bytes_8}
 use Rattle.std.proofs.lemmas.Map.Keys.{IsDistinct-head, IsDistinct-tail}
-use Rattle.ras_base.specs.LittleEndian.{u32_bytes, u64_bytes}
+use Rattle.ras_base.specs.Chaining.{◌>>=◌}
+use Rattle.ras_base.specs.LittleEndian.{AreBytes, u32_bytes, u64_bytes, number_at}
+use Rattle.ras_base.specs.LittleEndianLemmas.{AreBytes-drop, length-u32_bytes, length-u64_bytes, u32_bytes-number_at, u64_bytes-number_at, number_at-u32_bytes, number_at-u64_bytes}
 use Rattle.erst_store.specs.declared.reading.StoreRefused.{StoreRefused}
 use Rattle.erst_store.specs.declared.reading.StoreRefused.TheVariants.{Malformed, NoMemory}
 use Rattle.erst_store.specs.Store.{Stored, Fits, IsStore, most_records, most_bytes, all_ones, is_reserved, ids, contents, holds, refusal_of}
 use Rattle.erst_store.specs.StoreFile.{record_bytes, heading, store_bytes, Reads, ReadsBack}
-use Rattle.erst_store.specs.StoreReading.{◌>>=◌, Fails, Gives, number_at, record_at, may_follow, followed, records_at, count_at, file_at}
-
-abbrev pub AreBytes : List ℕ → Type 0
-AreBytes bytes = (i : ℕ) → get_or bytes i 0 < 256
-
-AreBytes-drop : (n : ℕ) (bytes : List ℕ) → AreBytes bytes → AreBytes (drop n bytes)
-AreBytes-drop n bytes h i = rw get_or-drop (h (n + i))
-
-AreBytes-take : (n : ℕ) (bytes : List ℕ) → AreBytes bytes → AreBytes (take n bytes)
-AreBytes-take n bytes h i =
-    elim (cases_lt i n) [
-      | inl lt ↦ rw (get_or-take n bytes i 0 lt) (h i)
-      | inr le ↦ rw (get_or_past (take n bytes) i 0 (omega (arith, length-take n bytes))) (omega arith)
-    ]
+use Rattle.erst_store.specs.StoreReading.{Fails, Gives, front_number, front_record, may_follow, with_next, records_at, count_at, file_at}
 
 -- ---- steps that gave a value
 
-bind_some : {A B : Type 0} (o : Option A) (f : A → Option B) (y : B) → (o >>= f) ≡ Some y → (x : A) × (o ≡ Some x) × (f x ≡ Some y)
-bind_some (Some x) f y is = (x, refl, is)
-bind_some None f y is = absurd cc
+bind_ok : {A B : Type 0} (r : Result A StoreRefused) (f : A → Result B StoreRefused) (y : B) → (r >>= f) ≡ Ok y → (x : A) × (r ≡ Ok x) × (f x ≡ Ok y)
+bind_ok (Ok x) f y is = (x, refl, is)
+bind_ok (Err e) f y is = absurd cc
 
-guard_some : {X : Type 0} (b : Bool) (x y : X) → cond b None (Some x) ≡ Some y → (b ≡ false) × (x ≡ y)
-guard_some true x y is = absurd cc
-guard_some false x y is = (refl, cc)
+guard_ok : {X : Type 0} (b : Bool) (x y : X) → cond b (Err Malformed) (Ok x) ≡ Ok y → (b ≡ false) × (x ≡ y)
+guard_ok true x y is = absurd cc
+guard_ok false x y is = (refl, cc)
 
-chosen_some : {X : Type 0} (b : Bool) (o : Option X) (y : X) → cond b o None ≡ Some y → (b ≡ true) × (o ≡ Some y)
-chosen_some true o y is = (refl, is)
-chosen_some false o y is = absurd cc
+chosen_ok : {X : Type 0} (b : Bool) (r : Result X StoreRefused) (y : X) → cond b r (Err Malformed) ≡ Ok y → (b ≡ true) × (r ≡ Ok y)
+chosen_ok true r y is = (refl, is)
+chosen_ok false r y is = absurd cc
+
+ok_is : {X : Type 0} (x y : X) → ◌≡◌ {A = Result X StoreRefused} (Ok x) (Ok y) → x ≡ y
+ok_is x y is = cc
 
 some_is : {X : Type 0} (x y : X) → Some x ≡ Some y → x ≡ y
 some_is x y is = cc
@@ -57,66 +47,46 @@ Takes-then a x b y c p q = record { parts = p.parts ∙ ap (λ (t : List ℕ). x
 
 -- ---- numbers
 
-pub record IsWide (w : Width) (limit : ℕ) : Type 0 where
-  pub len : (n : ℕ) → length (to_le_bytes w n) ≡ byte_len w
-  pub back : (bytes : List ℕ) → length bytes ≡ byte_len w → AreBytes bytes → to_le_bytes w (from_le_bytes w bytes) ≡ bytes
-  pub again : (n : ℕ) → n < limit → from_le_bytes w (to_le_bytes w n) ≡ n
+u32_takes : (bytes : List ℕ) (n : ℕ) (rest : List ℕ) → AreBytes bytes → front_number 4 bytes ≡ Ok (n, rest) → Takes bytes (u32_bytes n) rest
+u32_takes bytes n rest fits e =
+    let g = guard_ok (nat_lt (length bytes) 4) (number_at 0 4 bytes, drop 4 bytes) (n, rest) e in
+    let n-is : number_at 0 4 bytes ≡ n = ap (λ (p : ℕ × List ℕ). p.0) g.1 in
+    let rest-is : drop 4 bytes ≡ rest = ap (λ (p : ℕ × List ℕ). p.1) g.1 in
+    record {
+      parts = sym (ap (λ (k : ℕ). u32_bytes k ++ rest) (sym n-is) ∙ ap (λ (back : List ℕ). u32_bytes (number_at 0 4 bytes) ++ back) (sym rest-is) ∙ ap (λ (front : List ℕ). front ++ drop 4 bytes) (u32_bytes-number_at 0 bytes fits (ltb-false _ _ g.0)) ∙ take-append-drop 4 bytes);
+      rest_fits = subst AreBytes rest-is (AreBytes-drop 4 bytes fits);
+    }
 
-wide32 : IsWide w32 (2 ^ 32)
-wide32 = record {
-  len = λ n. refl;
-  back = λ bytes len fits. le_bytes_4 bytes _ len fits refl;
-  again = λ n lt. from_le_bytes-to_le_bytes_4 n lt;
-}
+u64_takes : (bytes : List ℕ) (n : ℕ) (rest : List ℕ) → AreBytes bytes → front_number 8 bytes ≡ Ok (n, rest) → Takes bytes (u64_bytes n) rest
+u64_takes bytes n rest fits e =
+    let g = guard_ok (nat_lt (length bytes) 8) (number_at 0 8 bytes, drop 8 bytes) (n, rest) e in
+    let n-is : number_at 0 8 bytes ≡ n = ap (λ (p : ℕ × List ℕ). p.0) g.1 in
+    let rest-is : drop 8 bytes ≡ rest = ap (λ (p : ℕ × List ℕ). p.1) g.1 in
+    record {
+      parts = sym (ap (λ (k : ℕ). u64_bytes k ++ rest) (sym n-is) ∙ ap (λ (back : List ℕ). u64_bytes (number_at 0 8 bytes) ++ back) (sym rest-is) ∙ ap (λ (front : List ℕ). front ++ drop 8 bytes) (u64_bytes-number_at 0 bytes fits (ltb-false _ _ g.0)) ∙ take-append-drop 8 bytes);
+      rest_fits = subst AreBytes rest-is (AreBytes-drop 8 bytes fits);
+    }
 
-wide64 : IsWide w64 (2 ^ 64)
-wide64 = record {
-  len = λ n. refl;
-  back = λ bytes len fits. le_bytes_8 bytes _ len fits refl;
-  again = λ n lt. from_le_bytes-to_le_bytes_8 n lt;
-}
+u32_again : (n : ℕ) (rest : List ℕ) → n < 2 ^ 32 → front_number 4 (u32_bytes n ++ rest) ≡ Ok (n, rest)
+u32_again n rest lt =
+    let long : nat_lt (length (u32_bytes n ++ rest)) 4 ≡ false = le-ltb _ _ (omega (arith, length-append (u32_bytes n) rest, length-u32_bytes n)) in
+    rw (long, number_at-u32_bytes n rest lt, drop_at (u32_bytes n) rest 4 (length-u32_bytes n)) refl
 
-number_takes : (w : Width) (limit : ℕ) (wide : IsWide w limit) (bytes : List ℕ) (n : ℕ) (rest : List ℕ) → AreBytes bytes → number_at w bytes ≡ Some (n, rest) → Takes bytes (to_le_bytes w n) rest
-number_takes w limit wide bytes n rest fits e =
-    let g = guard_some (nat_lt (length bytes) (byte_len w)) (from_le_bytes w (take (byte_len w) bytes), drop (byte_len w) bytes) (n, rest) e in
-    let long : byte_len w ≤ length bytes = ltb-false _ _ g.0 in
-    let n-is : from_le_bytes w (take (byte_len w) bytes) ≡ n = ap (λ (p : ℕ × List ℕ). p.0) g.1 in
-    let rest-is : drop (byte_len w) bytes ≡ rest = ap (λ (p : ℕ × List ℕ). p.1) g.1 in
-    let front : to_le_bytes w n ≡ take (byte_len w) bytes = rw (← n-is) (wide.back (take (byte_len w) bytes) (omega (arith, length-take (byte_len w) bytes)) (AreBytes-take (byte_len w) bytes fits)) in
-    record { parts = rw (front, ← rest-is) (sym (take-append-drop (byte_len w) bytes)); rest_fits = rw (← rest-is) (AreBytes-drop (byte_len w) bytes fits) }
-
-number_again : (w : Width) (limit : ℕ) (wide : IsWide w limit) (n : ℕ) (rest : List ℕ) → n < limit → number_at w (to_le_bytes w n ++ rest) ≡ Some (n, rest)
-number_again w limit wide n rest lt =
-    let len = wide.len n in
-    let long : nat_lt (length (to_le_bytes w n ++ rest)) (byte_len w) ≡ false = le-ltb _ _ (omega (arith, length-append (to_le_bytes w n) rest)) in
-    rw (long, take_at (to_le_bytes w n) rest (byte_len w) len, drop_at (to_le_bytes w n) rest (byte_len w) len, wide.again n lt) refl
-
-u32_takes : (bytes : List ℕ) (n : ℕ) (rest : List ℕ) → AreBytes bytes → number_at w32 bytes ≡ Some (n, rest) → Takes bytes (u32_bytes n) rest
-unfolding u32_bytes
-u32_takes bytes n rest fits e = number_takes w32 (2 ^ 32) wide32 bytes n rest fits e
-
-u64_takes : (bytes : List ℕ) (n : ℕ) (rest : List ℕ) → AreBytes bytes → number_at w64 bytes ≡ Some (n, rest) → Takes bytes (u64_bytes n) rest
-unfolding u64_bytes
-u64_takes bytes n rest fits e = number_takes w64 (2 ^ 64) wide64 bytes n rest fits e
-
-u32_again : (n : ℕ) (rest : List ℕ) → n < 2 ^ 32 → number_at w32 (u32_bytes n ++ rest) ≡ Some (n, rest)
-unfolding u32_bytes
-u32_again n rest lt = number_again w32 (2 ^ 32) wide32 n rest lt
-
-u64_again : (n : ℕ) (rest : List ℕ) → n < 2 ^ 64 → number_at w64 (u64_bytes n ++ rest) ≡ Some (n, rest)
-unfolding u64_bytes
-u64_again n rest lt = number_again w64 (2 ^ 64) wide64 n rest lt
+u64_again : (n : ℕ) (rest : List ℕ) → n < 2 ^ 64 → front_number 8 (u64_bytes n ++ rest) ≡ Ok (n, rest)
+u64_again n rest lt =
+    let long : nat_lt (length (u64_bytes n ++ rest)) 8 ≡ false = le-ltb _ _ (omega (arith, length-append (u64_bytes n) rest, length-u64_bytes n)) in
+    rw (long, number_at-u64_bytes n rest lt, drop_at (u64_bytes n) rest 8 (length-u64_bytes n)) refl
 
 -- ---- a record
 
-record_takes : (bytes : List ℕ) (x : Stored × List ℕ) → AreBytes bytes → record_at bytes ≡ Some x → Takes bytes (record_bytes x.0) x.1
-unfolding record_at
+record_takes : (bytes : List ℕ) (x : Stored × List ℕ) → AreBytes bytes → front_record bytes ≡ Ok x → Takes bytes (record_bytes x.0) x.1
+unfolding front_record
 record_takes bytes x fits e =
-    let a = bind_some (number_at w64 bytes) (λ id. number_at w32 id.1 >>= λ n. if nat_lt (length n.1) n.0 then None else Some (record { id = id.0; bytes = take n.0 n.1 }, drop n.0 n.1)) x e in
-    let b = bind_some (number_at w32 a.0.1) (λ n. if nat_lt (length n.1) n.0 then None else Some (record { id = a.0.0; bytes = take n.0 n.1 }, drop n.0 n.1)) x a.2 in
+    let a = bind_ok (front_number 8 bytes) (λ id. front_number 4 id.1 >>= λ n. if nat_lt (length n.1) n.0 then Err Malformed else Ok (record { id = id.0; bytes = take n.0 n.1 }, drop n.0 n.1)) x e in
+    let b = bind_ok (front_number 4 a.0.1) (λ n. if nat_lt (length n.1) n.0 then Err Malformed else Ok (record { id = a.0.0; bytes = take n.0 n.1 }, drop n.0 n.1)) x a.2 in
     let n = b.0 in
     let made : Stored × List ℕ = (record { id = a.0.0; bytes = take n.0 n.1 }, drop n.0 n.1) in
-    let g = guard_some (nat_lt (length n.1) n.0) made x b.2 in
+    let g = guard_ok (nat_lt (length n.1) n.0) made x b.2 in
     let t0 = u64_takes bytes a.0.0 a.0.1 fits a.1 in
     let t1 = u32_takes a.0.1 n.0 n.1 t0.rest_fits b.1 in
     let len : length (take n.0 n.1) ≡ n.0 = length-take-le n.0 n.1 (ltb-false _ _ g.0) in
@@ -126,14 +96,14 @@ record_takes bytes x fits e =
     let whole : Takes bytes (record_bytes made.0) made.1 = subst (λ (k : ℕ). Takes bytes (u64_bytes a.0.0 ++ u32_bytes k ++ take n.0 n.1) (drop n.0 n.1)) (sym len) t012 in
     subst (λ (y : Stored × List ℕ). Takes bytes (record_bytes y.0) y.1) g.1 whole
 
-record_again : (r : Stored) (rest : List ℕ) → Fits r → record_at (record_bytes r ++ rest) ≡ Some (r, rest)
-unfolding record_at
+record_again : (r : Stored) (rest : List ℕ) → Fits r → front_record (record_bytes r ++ rest) ≡ Ok (r, rest)
+unfolding front_record
 record_again r rest fits =
     let grouped : record_bytes r ++ rest ≡ u64_bytes r.id ++ (u32_bytes (length r.bytes) ++ (r.bytes ++ rest)) =
     append_assoc (u64_bytes r.id ++ u32_bytes (length r.bytes)) r.bytes rest ∙ append_assoc (u64_bytes r.id) (u32_bytes (length r.bytes)) (r.bytes ++ rest)
     in
     let room : nat_lt (length (r.bytes ++ rest)) (length r.bytes) ≡ false = le-ltb _ _ (omega (arith, length-append r.bytes rest)) in
-    ap record_at grouped
+    ap front_record grouped
     ∙ rw (u64_again r.id (u32_bytes (length r.bytes) ++ (r.bytes ++ rest)) (omega (arith, fits.below)), u32_again (length r.bytes) (r.bytes ++ rest) (omega (arith, fits.size)), room, take_at r.bytes rest (length r.bytes) refl, drop_at r.bytes rest (length r.bytes) refl) refl
 
 -- ---- which record may follow
@@ -175,20 +145,20 @@ pub record TakesAll (count : ℕ) (before : List Stored) (bytes : List ℕ) (all
   pub count_is : length later ≡ count
   pub bytes_are : bytes ≡ flat_map record_bytes later
 
-records_take : (count : ℕ) (before : List Stored) (bytes : List ℕ) (all : List Stored) → AreBytes bytes → records_at count before bytes ≡ Some all → TakesAll count before bytes all
+records_take : (count : ℕ) (before : List Stored) (bytes : List ℕ) (all : List Stored) → AreBytes bytes → records_at count before bytes ≡ Ok all → TakesAll count before bytes all
 unfolding records_at
 records_take zero before bytes all fits is =
-    let ended = chosen_some (nat_eq (length bytes) 0) (Some before) all is in
+    let ended = chosen_ok (nat_eq (length bytes) 0) (Ok before) all is in
     record {
       later = [];
-      all_is = sym (append-nil before ∙ some_is before all ended.1);
+      all_is = sym (append-nil before ∙ ok_is before all ended.1);
       count_is = refl;
       bytes_are = nil_from_length bytes (eqb-true _ _ ended.0);
     }
 records_take (suc count) before bytes all fits is =
-    let first = bind_some (record_at bytes) (λ r. followed r.0 before >>= λ new. records_at count new r.1) all is in
-    let second = bind_some (followed first.0.0 before) (λ new. records_at count new first.0.1) all first.2 in
-    let new_is : before ++ first.0.0 ∷ [] ≡ second.0 = some_is _ _ (chosen_some (may_follow first.0.0 before) (Some (before ++ first.0.0 ∷ [])) second.0 second.1).1 in
+    let first = bind_ok (front_record bytes) (λ r. with_next r.0 before >>= λ new. records_at count new r.1) all is in
+    let second = bind_ok (with_next first.0.0 before) (λ new. records_at count new first.0.1) all first.2 in
+    let new_is : before ++ first.0.0 ∷ [] ≡ second.0 = ok_is _ _ (chosen_ok (may_follow first.0.0 before) (Ok (before ++ first.0.0 ∷ [])) second.0 second.1).1 in
     let taken = record_takes bytes first.0 fits first.1 in
     let others = records_take count second.0 first.0.1 all taken.rest_fits second.2 in
     record {
@@ -198,9 +168,9 @@ records_take (suc count) before bytes all fits is =
       bytes_are = taken.parts ∙ ap (λ (back : List ℕ). record_bytes first.0.0 ++ back) others.bytes_are ∙ sym (flat_map-cons record_bytes first.0.0 others.later);
     }
 
-records_again : (before later : List Stored) → IsStore (before ++ later) → records_at (length later) before (flat_map record_bytes later) ≡ Some (before ++ later)
+records_again : (before later : List Stored) → IsStore (before ++ later) → records_at (length later) before (flat_map record_bytes later) ≡ Ok (before ++ later)
 unfolding records_at
-records_again before [] kept = ap (λ (rs : List Stored). Some rs) (sym (append-nil before))
+records_again before [] kept = ap (λ (rs : List Stored). let read : Result (List Stored) StoreRefused = Ok rs in read) (sym (append-nil before))
 records_again before (r ∷ later) kept =
     let moved : before ++ r ∷ [] ++ later ≡ before ++ r ∷ later = append_assoc before (r ∷ []) later in
     let step : records_at (suc (length later)) before (record_bytes r ++ flat_map record_bytes later) ≡ records_at (length later) (before ++ r ∷ []) (flat_map record_bytes later) =
@@ -209,10 +179,10 @@ records_again before (r ∷ later) kept =
     ap (records_at (suc (length later)) before) (flat_map-cons record_bytes r later)
     ∙ step
     ∙ records_again (before ++ r ∷ []) later (subst IsStore (sym moved) kept)
-    ∙ ap (λ (rs : List Stored). Some rs) moved
+    ∙ ap (λ (rs : List Stored). let read : Result (List Stored) StoreRefused = Ok rs in read) moved
 
 -- one record more, as a loop reads it
-pub goes_on : (count i : ℕ) (before new : List Stored) (bytes after : List ℕ) (r : Stored) (total : Option (List Stored)) → i < count → record_at bytes ≡ Some (r, after) → followed r before ≡ Some new
+pub goes_on : (count i : ℕ) (before new : List Stored) (bytes after : List ℕ) (r : Stored) (total : Result (List Stored) StoreRefused) → i < count → front_record bytes ≡ Ok (r, after) → with_next r before ≡ Ok new
     → records_at (count - i) before bytes ≡ total → records_at (count - (i + 1)) new after ≡ total
 unfolding records_at
 goes_on count i before new bytes after r total lt read follow so_far =
@@ -220,38 +190,38 @@ goes_on count i before new bytes after r total lt read follow so_far =
     let one : records_at (count - i) before bytes ≡ records_at (count - (i + 1)) new after = rw (k, read, follow) refl in
     sym one ∙ so_far
 
-pub ends_read : (e : StoreRefused) (count i : ℕ) (before : List Stored) (bytes : List ℕ) (total : Option (List Stored)) → i < count → Fails e (record_at bytes)
+pub ends_read : (e : StoreRefused) (count i : ℕ) (before : List Stored) (bytes : List ℕ) (total : Result (List Stored) StoreRefused) → i < count → Fails e (front_record bytes)
     → records_at (count - i) before bytes ≡ total → Fails e total
 unfolding records_at
 ends_read NoMemory count i before bytes total lt fails so_far = tt
 ends_read Malformed count i before bytes total lt fails so_far =
     let k : count - i ≡ suc (count - (i + 1)) = omega arith in
-    let one : records_at (count - i) before bytes ≡ None = rw (k, fails) refl in
+    let one : records_at (count - i) before bytes ≡ Err Malformed = rw (k, fails) refl in
     sym so_far ∙ one
 
-pub ends_follow : (e : StoreRefused) (count i : ℕ) (before : List Stored) (bytes after : List ℕ) (r : Stored) (total : Option (List Stored)) → i < count → record_at bytes ≡ Some (r, after) → Fails e (followed r before)
+pub ends_follow : (e : StoreRefused) (count i : ℕ) (before : List Stored) (bytes after : List ℕ) (r : Stored) (total : Result (List Stored) StoreRefused) → i < count → front_record bytes ≡ Ok (r, after) → Fails e (with_next r before)
     → records_at (count - i) before bytes ≡ total → Fails e total
 unfolding records_at
 ends_follow NoMemory count i before bytes after r total lt read fails so_far = tt
 ends_follow Malformed count i before bytes after r total lt read fails so_far =
     let k : count - i ≡ suc (count - (i + 1)) = omega arith in
-    let one : records_at (count - i) before bytes ≡ None = rw (k, read, fails) refl in
+    let one : records_at (count - i) before bytes ≡ Err Malformed = rw (k, read, fails) refl in
     sym so_far ∙ one
 
-pub is_done : (count i : ℕ) (before : List Stored) (bytes : List ℕ) (total : Option (List Stored)) → count ≤ i → records_at (count - i) before bytes ≡ total → (if nat_eq (length bytes) 0 then Some before else None) ≡ total
+pub is_done : (count i : ℕ) (before : List Stored) (bytes : List ℕ) (total : Result (List Stored) StoreRefused) → count ≤ i → records_at (count - i) before bytes ≡ total → (if nat_eq (length bytes) 0 then Ok before else Err Malformed) ≡ total
 unfolding records_at
 is_done count i before bytes total le so_far =
     let k : count - i ≡ 0 = omega arith in
-    let one : records_at (count - i) before bytes ≡ (if nat_eq (length bytes) 0 then Some before else None) = rw k refl in
+    let one : records_at (count - i) before bytes ≡ (if nat_eq (length bytes) 0 then Ok before else Err Malformed) = rw k refl in
     sym one ∙ so_far
 
 -- ---- whole files
 
-pub file_takes : (bytes : List ℕ) (all : List Stored) → AreBytes bytes → file_at bytes ≡ Some all → bytes ≡ store_bytes all
+pub file_takes : (bytes : List ℕ) (all : List Stored) → AreBytes bytes → file_at bytes ≡ Ok all → bytes ≡ store_bytes all
 unfolding file_at count_at
 file_takes bytes all fits e =
-    let a = bind_some (count_at bytes) (λ n. records_at n.0 [] n.1) all e in
-    let begins = chosen_some (pointwise nat_eq (take 8 bytes) (codes "RASERST1")) (number_at w32 (drop 8 bytes)) a.0 a.1 in
+    let a = bind_ok (count_at bytes) (λ n. records_at n.0 [] n.1) all e in
+    let begins = chosen_ok (pointwise nat_eq (take 8 bytes) (codes "RASERST1")) (front_number 4 (drop 8 bytes)) a.0 a.1 in
     let magic : take 8 bytes ≡ codes "RASERST1" = same_text (take 8 bytes) (codes "RASERST1") (sym begins.0) in
     let counted = u32_takes (drop 8 bytes) a.0.0 a.0.1 (AreBytes-drop 8 bytes fits) begins.1 in
     let others = records_take a.0.0 [] a.0.1 all counted.rest_fits a.2 in
@@ -260,7 +230,7 @@ file_takes bytes all fits e =
     ∙ ap (λ (back : List ℕ). codes "RASERST1" ++ back) (counted.parts ∙ ap (λ (back : List ℕ). u32_bytes a.0.0 ++ back) others.bytes_are ∙ ap (λ (n : ℕ). u32_bytes n ++ flat_map record_bytes others.later) (sym others.count_is))
     ∙ ap store_bytes (sym others.all_is)
 
-pub file_again : (records : List Stored) → IsStore records → file_at (store_bytes records) ≡ Some records
+pub file_again : (records : List Stored) → IsStore records → file_at (store_bytes records) ≡ Ok records
 unfolding file_at count_at
 file_again records kept =
     rw (u32_again (length records) (flat_map record_bytes records) (omega (arith, kept.count))) (records_again [] records kept)
@@ -269,24 +239,24 @@ pub is_read : (bytes : List ℕ) (r : Result (List Stored) StoreRefused) → Are
 is_read bytes (Ok all) fits given = file_takes bytes all fits given
 is_read bytes (Err NoMemory) fits given = tt
 is_read bytes (Err Malformed) fits given = λ records kept is.
-    let found : file_at bytes ≡ Some records = ap file_at is ∙ file_again records kept in
+    let found : file_at bytes ≡ Ok records = ap file_at is ∙ file_again records kept in
     absurd cc
 
 pub is_read_back : (bytes : List ℕ) (r : Result (List Stored) StoreRefused) (records : List Stored) → Gives (λ s. s) r (file_at bytes) → IsStore records → bytes ≡ store_bytes records → ReadsBack records r
 is_read_back bytes (Ok all) records given kept is =
-    let found : file_at bytes ≡ Some records = ap file_at is ∙ file_again records kept in
-    some_is all records (sym given ∙ found)
+    let found : file_at bytes ≡ Ok records = ap file_at is ∙ file_again records kept in
+    ok_is all records (sym given ∙ found)
 is_read_back bytes (Err NoMemory) records given kept is = tt
 is_read_back bytes (Err Malformed) records given kept is =
-    let found : file_at bytes ≡ Some records = ap file_at is ∙ file_again records kept in
+    let found : file_at bytes ≡ Ok records = ap file_at is ∙ file_again records kept in
     absurd cc
 
 -- where the loop has ended with bytes left, or with none
-pub is_left : (count i : ℕ) (before : List Stored) (bytes : List ℕ) (total : Option (List Stored)) → count ≤ i → nat_eq (length bytes) 0 ≡ false → records_at (count - i) before bytes ≡ total → total ≡ None
-is_left count i before bytes total le left so_far = sym (is_done count i before bytes total le so_far) ∙ ap (λ b. if b then Some before else None) left
+pub is_left : (count i : ℕ) (before : List Stored) (bytes : List ℕ) (total : Result (List Stored) StoreRefused) → count ≤ i → nat_eq (length bytes) 0 ≡ false → records_at (count - i) before bytes ≡ total → total ≡ Err Malformed
+is_left count i before bytes total le left so_far = sym (is_done count i before bytes total le so_far) ∙ ap (λ b. if b then Ok before else Err Malformed) left
 
-pub is_all : (count i : ℕ) (before : List Stored) (bytes : List ℕ) (total : Option (List Stored)) → count ≤ i → nat_eq (length bytes) 0 ≡ true → records_at (count - i) before bytes ≡ total → total ≡ Some before
-is_all count i before bytes total le none so_far = sym (is_done count i before bytes total le so_far) ∙ ap (λ b. if b then Some before else None) none
+pub is_all : (count i : ℕ) (before : List Stored) (bytes : List ℕ) (total : Result (List Stored) StoreRefused) → count ≤ i → nat_eq (length bytes) 0 ≡ true → records_at (count - i) before bytes ≡ total → total ≡ Ok before
+is_all count i before bytes total le none so_far = sym (is_done count i before bytes total le so_far) ∙ ap (λ b. if b then Ok before else Err Malformed) none
 
 -- parts that were written one after the other
 pub put_parts : (out a b c : List ℕ) → out ++ a ++ b ++ c ≡ out ++ (a ++ b ++ c)

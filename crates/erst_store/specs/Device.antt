@@ -1,7 +1,8 @@
--- The error record device: its state, and what each action does to it. The actions, the statuses and the order of a read,
--- a write and a clear are those of ACPI 6.5, section 18.5, "Error Serialization". The places of a record's length and
--- identifier are those of UEFI 2.10, appendix N.2.1, "Record Header". The two registers, the cursor, the busy answers and
--- the order of the refusals are this project's own.
+-- The error record device: its state, and what each action does to it. The actions, the statuses
+-- and the order of a read, a write and a clear are those of ACPI 6.5, section 18.5, "Error
+-- Serialization". The places of a record's length and identifier are those of UEFI 2.10, appendix
+-- N.2.1, "Record Header". The two registers, the cursor, the busy answers and the order of the
+-- refusals are this project's own.
 use Rattle.std.specs.Prelude.{ℕ, ◌+◌, ◌-◌, Bool, ◌||◌, nat_eq, nat_lt, List, [], ◌∷◌, ◌++◌, if◌then◌else◌, length, take, drop, replicate, slice_get, Option, None, Some}
 use Rattle.ras_base.specs.LittleEndian.{number_at}
 use Rattle.erst_store.specs.declared.device.Command.{Command}
@@ -11,9 +12,10 @@ use Rattle.erst_store.specs.declared.device.Status.TheVariants.{Success, NotEnou
 use Rattle.erst_store.specs.Actions.{begin_write_operation, begin_read_operation, begin_clear_operation, end_operation, set_record_offset, execute_operation, check_busy_status, get_command_status, get_record_identifier, set_record_identifier, get_record_count, begin_dummy_write_operation, get_error_log_address_range, get_error_log_address_range_length, get_error_log_address_range_attributes, range_address, range_length, range_attributes}
 use Rattle.erst_store.specs.Store.{Stored, all_ones, is_reserved, ids, holds, bytes_under, with_record, without, is_full_for}
 
--- the store; the action and the value last written; the command begun, if any; the identifier and the offset set; the
--- status of the last command; how many busy answers are left; the place from which identifiers are listed; the bytes of
--- the error log address range; and how many busy answers a command costs
+-- the store; the action and the value last written; the command begun, if any; the identifier and
+-- the offset set; the status of the last command; how many busy answers are left; the place from
+-- which identifiers are listed; the bytes of the error log address range; and how many busy answers
+-- a command costs
 pub record Device : Type 0 where
   pub store : List Stored
   pub action : ℕ

@@ -7,8 +7,8 @@ use Rattle.erst_store.specs.Store.{IsStore, all_ones}
 use Rattle.erst_store.specs.Actions.{execute_operation, get_record_identifier, range_length}
 use Rattle.erst_store.specs.Device.{Device, id_at, act}
 
--- A device as `Dev` keeps it: its store can be one, its range has its length and holds bytes, and each of its numbers has
--- 64 bits.
+-- A device as `Dev` keeps it: its store can be one, its range has its length and holds bytes, and
+-- each of its numbers has 64 bits.
 pub record IsDevice (d : Device) : Type 0 where
   pub store : IsStore d.store
   pub length : length d.range ≡ range_length
@@ -25,12 +25,14 @@ pub record IsDevice (d : Device) : Type 0 where
 abbrev pub MayChange : ℕ → Device → Type 0
 MayChange action d = (action ≡ execute_operation) × ((d.command ≡ Some Write) ⊎ (d.command ≡ Some Clear))
 
--- the one identifier at which a command changes the store: a write's is in the range, and a clear's was set
+-- the one identifier at which a command changes the store: a write's is in the range, and a clear's
+-- was set
 abbrev pub id_changed : Option Command → Device → ℕ
 id_changed (Some Write) d = id_at d.range d.offset
 id_changed _ d = d.id
 
--- the values that so many GET_RECORD_IDENTIFIER give, one after the other, and the device after them
+-- the values that so many GET_RECORD_IDENTIFIER give, one after the other, and the device after
+-- them
 abbrev pub listing : ℕ → Device → List ℕ
 listing zero d = []
 listing (suc count) d = (act get_record_identifier d).value ∷ listing count (act get_record_identifier d)

@@ -1,4 +1,4 @@
--- What private functions of the device say. It only carries proofs.
+-- Only for proofs: What private functions of the device say.
 use Rattle.std.specs.Prelude.{◌≡◌, ℕ, ◌≤◌, true, false, List, length, Option, None, Some}
 use Rattle.erst_store.specs.Store.{most_bytes}
 use Rattle.erst_store.specs.Device.{is_record_out, id_at, record_at}

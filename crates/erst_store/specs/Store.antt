@@ -1,4 +1,5 @@
--- What a record store is: a list of records in the order in which they first came, each under an identifier of its own.
+-- What a record store is: a list of records in the order in which they first came, each under an
+-- identifier of its own.
 use Rattle.std.specs.Prelude.{◌≡◌, ℕ, ◌-◌, ◌^◌, ◌<◌, ◌≤◌, Bool, ◌&&◌, ◌||◌, not, nat_eq, nat_lt, List, [], ◌∷◌, ◌++◌, if◌then◌else◌, length, map, filter, Option, None, Some, Result, Ok, Err}
 use Rattle.std.specs.List.{AllByRecursion, IsDistinct, list_any}
 use Rattle.ras_base.specs.LittleEndian.{AreBytes}
@@ -57,7 +58,8 @@ bytes_under id (r ∷ rs) = if nat_eq r.id id then Some r.bytes else bytes_under
 abbrev pub record_after_put : ℕ → List ℕ → Stored → Stored
 record_after_put id bytes r = if nat_eq r.id id then record { id = r.id; bytes = bytes } else r
 
--- a store after a record was put: it stands in the place of the one under its identifier, and else after all others
+-- a store after a record was put: it stands in the place of the one under its identifier, and else
+-- after all others
 abbrev pub with_record : ℕ → List ℕ → List Stored → List Stored
 with_record id bytes records =
     if holds id records then map (record_after_put id bytes) records
@@ -86,6 +88,7 @@ Answers (Err ReservedId) refusal = refusal ≡ Some ReservedId
 Answers (Err TooLong) refusal = refusal ≡ Some TooLong
 Answers (Err StoreFull) refusal = refusal ≡ Some StoreFull
 
--- Two stores are the same but for the record under one identifier: all others keep their bytes and their order.
+-- Two stores are the same but for the record under one identifier: all others keep their bytes and
+-- their order.
 abbrev pub SameBut : ℕ → List Stored → List Stored → Type 0
 SameBut id old new = without id new ≡ without id old

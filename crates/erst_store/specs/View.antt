@@ -1,4 +1,4 @@
--- What contracts see of a store's fields. It only carries proofs.
+-- Only for proofs: What contracts see of a store's fields.
 use Rattle.std.specs.Prelude.{◌≡◌, ℕ, ◌<◌, ◌≤◌, false, Option, None, Some, List, length, map, get_or}
 use Rattle.erst_store.specs.declared.store.Record.{Record}
 use Rattle.erst_store.specs.Store.{Stored, most_bytes, ids, holds, bytes_under}

@@ -8,12 +8,13 @@ ghost use Rattle.erst_store.specs.Device.{new_device, act, after_check, after_li
 ghost use Rattle.erst_store.specs.DeviceLaws.{IsDevice, MayChange};
 ghost use Rattle.erst_store.specs.DeviceView.{FindsRecord};
 
-use crate::actions::{BEGIN_CLEAR_OPERATION, BEGIN_DUMMY_WRITE_OPERATION, BEGIN_READ_OPERATION};
-use crate::actions::{BEGIN_WRITE_OPERATION, CHECK_BUSY_STATUS, END_OPERATION, EXECUTE_OPERATION};
-use crate::actions::{GET_COMMAND_STATUS, GET_ERROR_LOG_ADDRESS_RANGE};
-use crate::actions::{GET_ERROR_LOG_ADDRESS_RANGE_ATTRIBUTES, GET_ERROR_LOG_ADDRESS_RANGE_LENGTH};
-use crate::actions::{GET_RECORD_COUNT, GET_RECORD_IDENTIFIER, RANGE_ADDRESS, RANGE_ATTRIBUTES};
-use crate::actions::{RANGE_LENGTH, SET_RECORD_IDENTIFIER, SET_RECORD_OFFSET};
+use crate::actions::{
+    BEGIN_CLEAR_OPERATION, BEGIN_DUMMY_WRITE_OPERATION, BEGIN_READ_OPERATION,
+    BEGIN_WRITE_OPERATION, CHECK_BUSY_STATUS, END_OPERATION, EXECUTE_OPERATION, GET_COMMAND_STATUS,
+    GET_ERROR_LOG_ADDRESS_RANGE, GET_ERROR_LOG_ADDRESS_RANGE_ATTRIBUTES,
+    GET_ERROR_LOG_ADDRESS_RANGE_LENGTH, GET_RECORD_COUNT, GET_RECORD_IDENTIFIER, RANGE_ADDRESS,
+    RANGE_ATTRIBUTES, RANGE_LENGTH, SET_RECORD_IDENTIFIER, SET_RECORD_OFFSET,
+};
 use crate::store::{PutRefused, Store};
 use ras_base::NoMemory;
 use ras_base::little_endian::{u32_at, u64_at};
@@ -71,8 +72,8 @@ impl Status {
     }
 }
 
-/// The error record serialization device: a record store behind two registers, Action and Value, and an address range of
-/// `RANGE_LENGTH` bytes.
+/// The error record serialization device: a record store behind two registers, Action and Value,
+/// and an address range of `RANGE_LENGTH` bytes.
 #[derive(Drop)]
 pub struct Dev {
     store: Store,
@@ -124,8 +125,8 @@ impl Model for Dev {
 }
 
 impl Dev {
-    /// A device over this store, with no command, all numbers 0 and a range of zeros. Each EXECUTE is followed by `slow`
-    /// busy answers.
+    /// A device over this store, with no command, all numbers 0 and a range of zeros. Each EXECUTE
+    /// is followed by `slow` busy answers.
     pub fn new(alloc: Global, store: Store, slow: u64) -> Result<Dev, NoMemory>
         ensures new { IfOk result (λ device. device ≡ new_device store slow) }
         ensures kept { IfOk result IsDevice }
@@ -147,15 +148,15 @@ impl Dev {
         })
     }
 
-    /// Writes a number to the Action register, which does the action of that number (ACPI 6.5, 18.5.1.1).
+    /// Writes a number to the Action register, which does the action of that number (ACPI 6.5,
+    /// 18.5.1.1).
     ///
-    /// `NoMemory` comes only at EXECUTE_OPERATION under a write command, and leaves the device as it was.
+    /// `NoMemory` comes only at EXECUTE_OPERATION under a write command, and leaves the device as
+    /// it was.
     pub fn write_action(&mut self, action: u64) -> Result<(), NoMemory>
         ensures ok { OnOk result (self.new ≡ act action self.old) }
         ensures err { OnErr result (self.new ≡ self.old) }
-        ensures memory {
-            OnErr result ((action ≡ execute_operation) × (self.old.command ≡ Some Write))
-        }
+        ensures memory { OnErr result ((action ≡ execute_operation) × (self.old.command ≡ Some Write)) }
         ensures kept { IsDevice self.new }
     {
         if action == EXECUTE_OPERATION {
@@ -193,8 +194,7 @@ impl Dev {
     pub fn may_change(&self, action: u64) -> bool
         ensures { IsTrue result ↔ MayChange action self.now }
     {
-        action == EXECUTE_OPERATION
-            && matches!(self.command, Some(Command::Write | Command::Clear))
+        action == EXECUTE_OPERATION && matches!(self.command, Some(Command::Write | Command::Clear))
     }
 
     /// Copies the bytes of the range from a place on into a buffer, all of it.
@@ -211,9 +211,7 @@ impl Dev {
     #[tactic(auto, unfolding(crate::specs::Device::range_with))]
     pub fn range_write(&mut self, place: u32, bytes: &[u8])
         requires { place + length bytes.now ≤ range_length }
-        ensures range {
-            self.new ≡ record self.old { range = range_with place bytes.now self.old.range }
-        }
+        ensures range { self.new ≡ record self.old { range = range_with place bytes.now self.old.range } }
         ensures kept { IsDevice self.new }
     {
         let start = place as usize;
@@ -236,7 +234,8 @@ impl Dev {
         self.store
     }
 
-    /// Puts a record into the store, as `Store::put`, and lists identifiers from the first one again.
+    /// Puts a record into the store, as `Store::put`, and lists identifiers from the first one
+    /// again.
     ///
     /// A refusal leaves the device as it was.
     #[tactic(auto, unfolding(crate::specs::Device::with_put))]
@@ -322,10 +321,8 @@ impl Dev {
 
     // Carries out a command, and answers its status.
     fn carry_out(&mut self, command: Option<Command>) -> Result<Status, NoMemory>
-        ensures ok {
-            IfOk result (λ status.
-                record self.new { status = status } ≡ after_command command self.old)
-        }
+        ensures ok { IfOk result (λ status.
+            record self.new { status = status } ≡ after_command command self.old) }
         ensures err { OnErr result (self.new ≡ self.old) }
         ensures memory { OnErr result (command ≡ Some Write) }
     {
@@ -400,7 +397,8 @@ fn fill_range(range: &mut [u8], start: usize, bytes: &[u8])
     range[end..].fill(0);
 }
 
-// The identifier and the bytes of the record that stands in the range at an offset, if a whole one stands there.
+// The identifier and the bytes of the record that stands in the range at an offset, if a whole one
+// stands there.
 #[tactic(auto, using(crate::proofs::DeviceLemmas::out_far))]
 fn record_in(range: &[u8], offset: u64) -> Option<(u64, &[u8])>
     requires { length range.now ≡ range_length }

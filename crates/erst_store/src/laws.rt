@@ -11,15 +11,11 @@ pub fn action_laws()
     // The store changes only by EXECUTE under a write or a clear.
     ensures kept { (action : ℕ) (d : Device) → ¬ MayChange action d → (act action d).store ≡ d.store }
     // It changes only at one identifier: all other records keep their bytes and their order.
-    ensures one {
-        (action : ℕ) (d : Device) → SameBut (id_changed d.command d) d.store (act action d).store
-    }
+    ensures one { (action : ℕ) (d : Device) → SameBut (id_changed d.command d) d.store (act action d).store }
 
     // EXECUTE forgets the Value register.
-    ensures forgets {
-        (value : ℕ) (d : Device)
-        → act execute_operation (record d { value = value }) ≡ act execute_operation d
-    }
+    ensures forgets { (value : ℕ) (d : Device)
+        → act execute_operation (record d { value = value }) ≡ act execute_operation d }
 
     // What the answering actions answer.
     ensures busy { (d : Device) → (act check_busy_status d).value < 2 }
@@ -27,47 +23,33 @@ pub fn action_laws()
     ensures id { (d : Device) → IsDevice d → (act get_record_identifier d).value < 2 ^ 64 }
     ensures count { (d : Device) → IsDevice d → (act get_record_count d).value < 2 ^ 32 }
 
-    // From any cursor a listing gives the identifiers from there on in the store's order, and then all ones. It begins
-    // anew after that, and changes nothing else.
-    ensures listed {
-        (d : Device) → listing (left_to_list d) d ≡ drop d.cursor (ids d.store) ++ all_ones ∷ []
-    }
+    // From any cursor a listing gives the identifiers from there on in the store's order, and then
+    // all ones. It begins anew after that, and changes nothing else.
+    ensures listed { (d : Device) → listing (left_to_list d) d ≡ drop d.cursor (ids d.store) ++ all_ones ∷ [] }
     ensures anew { (d : Device) → after_listings (left_to_list d) d ≡ listed_to_end d }
     ensures all { (d : Device) → d.cursor ≡ 0 → left_to_list d ≡ length d.store + 1 }
 
-    // The record that a write finds in the range has its identifier and its length at their own places.
-    ensures identifier {
-        (range : List ℕ) (offset : ℕ) → is_record_out range offset ≡ false
-        → number_at id_place 8 (record_at range offset) ≡ id_at range offset
-    }
-    ensures size {
-        (range : List ℕ) (offset : ℕ) → is_record_out range offset ≡ false
-        → number_at length_place 4 (record_at range offset) ≡ length_at range offset
-    }
+    // The record that a write finds in the range has its identifier and its length at their own
+    // places.
+    ensures identifier { (range : List ℕ) (offset : ℕ) → is_record_out range offset ≡ false
+        → number_at id_place 8 (record_at range offset) ≡ id_at range offset }
+    ensures size { (range : List ℕ) (offset : ℕ) → is_record_out range offset ≡ false
+        → number_at length_place 4 (record_at range offset) ≡ length_at range offset }
 {}
 
-/// What is done to a device leaves it a device. The function does nothing: its clauses are what it is for.
+/// What is done to a device leaves it a device. The function does nothing: its clauses are what it
+/// is for.
 pub fn device_laws()
-    ensures new {
-        (store : List Stored) (slow : ℕ) → IsStore store → slow < 2 ^ 64 → IsDevice (new_device store slow)
-    }
+    ensures new { (store : List Stored) (slow : ℕ) → IsStore store → slow < 2 ^ 64 → IsDevice (new_device store slow) }
     ensures action { (action : ℕ) (d : Device) → IsDevice d → action < 2 ^ 64 → IsDevice (act action d) }
-    ensures value {
-        (value : ℕ) (d : Device) → IsDevice d → value < 2 ^ 64 → IsDevice (record d { value = value })
-    }
-    ensures range {
-        (place : ℕ) (bytes : List ℕ) (d : Device) → IsDevice d → AreBytes bytes
+    ensures value { (value : ℕ) (d : Device) → IsDevice d → value < 2 ^ 64 → IsDevice (record d { value = value }) }
+    ensures range { (place : ℕ) (bytes : List ℕ) (d : Device) → IsDevice d → AreBytes bytes
         → place + length bytes ≤ range_length
-        → IsDevice (record d { range = range_with place bytes d.range })
-    }
-    ensures put {
-        (id : ℕ) (bytes : List ℕ) (d : Device) → IsDevice d → id < 2 ^ 64 → AreBytes bytes
-        → refusal_of id bytes d.store ≡ None → IsDevice (with_put id bytes d)
-    }
+        → IsDevice (record d { range = range_with place bytes d.range }) }
+    ensures put { (id : ℕ) (bytes : List ℕ) (d : Device) → IsDevice d → id < 2 ^ 64 → AreBytes bytes
+        → refusal_of id bytes d.store ≡ None → IsDevice (with_put id bytes d) }
 
     // A put leaves the store with the record, and lists identifiers from the first one again.
-    ensures stored {
-        (id : ℕ) (bytes : List ℕ) (d : Device)
-        → with_put id bytes d ≡ record d { store = with_record id bytes d.store; cursor = 0 }
-    }
+    ensures stored { (id : ℕ) (bytes : List ℕ) (d : Device)
+        → with_put id bytes d ≡ record d { store = with_record id bytes d.store; cursor = 0 } }
 {}

@@ -1,7 +1,8 @@
 //! The store of error records behind an error record serialization device, and the device itself.
 //!
-//! A store holds records of bytes under identifiers, and is read and written as one file. The device has the state that
-//! its two registers and its address range show, and does the actions of ACPI 6.5, section 18.5, "Error Serialization".
+//! A store holds records of bytes under identifiers, and is read and written as one file. The
+//! device has the state that its two registers and its address range show, and does the actions of
+//! ACPI 6.5, section 18.5, "Error Serialization".
 #![tactic(auto)]
 
 pub mod actions;
@@ -15,6 +16,3 @@ pub use device::{Command, Dev, Status};
 pub use laws::{action_laws, device_laws};
 pub use reading::StoreRefused;
 pub use store::{MOST_BYTES, MOST_RECORDS, PutRefused, Store};
-
-#[cfg(test)]
-mod tests;

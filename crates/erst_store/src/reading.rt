@@ -1,21 +1,23 @@
 //! The store file: a store as bytes, and bytes as a store.
 ghost use Rattle.std.specs.Prelude.{◌≡◌, ◌≤◌, List, [], ◌++◌, length, IfOk, OnOk};
-ghost use Rattle.std.specs.Int.{w32, w64};
-ghost use Rattle.ras_base.specs.LittleEndian.{u32_bytes, u64_bytes};
 ghost use Rattle.erst_store.specs.Store.{Stored, IsStore};
 ghost use Rattle.erst_store.specs.StoreFile.{record_bytes, store_bytes, Reads, ReadsBack};
-ghost use Rattle.erst_store.specs.StoreReading.{Gives, number_at, record_at, followed, records_at, count_at, file_at};
+ghost use Rattle.erst_store.specs.StoreReading.{Gives, front_number, front_record, with_next, records_at, count_at, file_at};
 
 use crate::store::{PutRefused, Store};
 use ras_base::NoMemory;
+use ras_base::little_endian::{push_u32, push_u64, u32_at, u64_at};
 use std::alloc::Global;
+use thiserror::Error;
 
 /// Why bytes give no store.
-#[derive(Clone, Copy, Debug, PartialEq, Eq)]
+#[derive(Clone, Copy, Debug, PartialEq, Eq, Drop, Error)]
 pub enum StoreRefused {
     /// The bytes are no store file.
+    #[error("the bytes are no store file")]
     Malformed,
     /// Memory ran out.
+    #[error("memory ran out")]
     NoMemory,
 }
 
@@ -23,8 +25,9 @@ pub enum StoreRefused {
 const MAGIC: &[u8; 8] = b"RASERST1";
 
 impl Store {
-    /// The bytes of the store's file: eight letters, the number of records in 4 bytes, and for each record its
-    /// identifier in 8 bytes, its length in 4 and its bytes. All numbers are little-endian.
+    /// The bytes of the store's file: eight letters, the number of records in 4 bytes, and for each
+    /// record its identifier in 8 bytes, its length in 4 and its bytes. All numbers are
+    /// little-endian.
     pub fn to_bytes(&self, alloc: Global) -> Result<Vec<u8>, NoMemory>
         ensures { IfOk result (λ v. v.items ≡ store_bytes self.now) }
     {
@@ -38,18 +41,20 @@ impl Store {
 
     /// The store whose file these bytes are.
     ///
-    /// `Malformed` comes exactly where the bytes are no store file, and nothing but memory keeps a store file from being
-    /// read.
+    /// `Malformed` comes exactly where the bytes are no store file, and nothing but memory keeps a
+    /// store file from being read.
     pub fn from_bytes(alloc: Global, bytes: &[u8]) -> Result<Store, StoreRefused>
         ensures read { Reads bytes.now result }
-        ensures back { (records : List Stored) → IsStore records → bytes.now ≡ store_bytes records → ReadsBack records result }
+        ensures back { (records : List Stored) → IsStore records → bytes.now ≡ store_bytes records
+            → ReadsBack records result }
     {
         read_all(alloc, bytes)
     }
 
-    // Puts a record behind all others, where it may stand there.
+    // Puts a record after all others, where it may stand there.
     fn append(&mut self, id: u64, bytes: &[u8]) -> Result<(), StoreRefused>
-        ensures { Gives (λ _. self.new) result (followed (record { id = id; bytes = bytes.now }) self.old) }
+        ensures { Gives (λ _. self.new) result (with_next (record { id = id; bytes = bytes.now })
+            self.old) }
     {
         if self.place(id).is_some() {
             return Err(StoreRefused::Malformed);
@@ -62,28 +67,11 @@ impl Store {
     }
 }
 
-// Adds a number of 4 bytes, from its low byte.
-#[tactic(auto, unfolding(ras_base::specs::LittleEndian::u32_bytes))]
-fn push_u32(out: &mut Vec<u8>, number: u32) -> Result<(), NoMemory>
-    ensures { OnOk result (out.new.items ≡ out.old.items ++ u32_bytes number) }
-{
-    out.extend_from_slice(&number.to_le_bytes())?;
-    Ok(())
-}
-
-// Adds a number of 8 bytes, from its low byte.
-#[tactic(auto, unfolding(ras_base::specs::LittleEndian::u64_bytes))]
-fn push_u64(out: &mut Vec<u8>, number: u64) -> Result<(), NoMemory>
-    ensures { OnOk result (out.new.items ≡ out.old.items ++ u64_bytes number) }
-{
-    out.extend_from_slice(&number.to_le_bytes())?;
-    Ok(())
-}
-
 // Adds a record: its identifier, its length and its bytes.
 fn push_record(out: &mut Vec<u8>, id: u64, bytes: &[u8]) -> Result<(), NoMemory>
     requires { length bytes.now ≤ 16384 }
-    ensures { OnOk result (out.new.items ≡ out.old.items ++ record_bytes (record { id = id; bytes = bytes.now })) }
+    ensures { OnOk result (out.new.items ≡ out.old.items ++ record_bytes
+        (record { id = id; bytes = bytes.now })) }
 {
     push_u64(out, id)?;
     push_u32(out, bytes.len() as u32)?;
@@ -92,29 +80,25 @@ fn push_record(out: &mut Vec<u8>, id: u64, bytes: &[u8]) -> Result<(), NoMemory>
 }
 
 // The number in the first 4 bytes, and the bytes after it.
-fn u32_at(bytes: &[u8]) -> Result<(u32, &[u8]), StoreRefused>
-    ensures { Gives (λ x. (x.0, x.1.now)) result (number_at w32 bytes.now) }
+fn front_u32(bytes: &[u8]) -> Result<(u32, &[u8]), StoreRefused>
+    ensures { Gives (λ x. (x.0, x.1.now)) result (front_number 4 bytes.now) }
 {
     if bytes.len() < 4 {
         return Err(StoreRefused::Malformed);
     }
-    let (front, rest) = bytes.split_at(4);
-    let number = u32::from_le_bytes([front[0], front[1], front[2], front[3]]);
-    Ok((number, rest))
+    let (_, rest) = bytes.split_at(4);
+    Ok((u32_at(bytes, 0), rest))
 }
 
 // The number in the first 8 bytes, and the bytes after it.
-fn u64_at(bytes: &[u8]) -> Result<(u64, &[u8]), StoreRefused>
-    ensures { Gives (λ x. (x.0, x.1.now)) result (number_at w64 bytes.now) }
+fn front_u64(bytes: &[u8]) -> Result<(u64, &[u8]), StoreRefused>
+    ensures { Gives (λ x. (x.0, x.1.now)) result (front_number 8 bytes.now) }
 {
     if bytes.len() < 8 {
         return Err(StoreRefused::Malformed);
     }
-    let (front, rest) = bytes.split_at(8);
-    let number = u64::from_le_bytes([
-        front[0], front[1], front[2], front[3], front[4], front[5], front[6], front[7],
-    ]);
-    Ok((number, rest))
+    let (_, rest) = bytes.split_at(8);
+    Ok((u64_at(bytes, 0), rest))
 }
 
 // The number of records that a file tells, and the bytes after it.
@@ -123,18 +107,18 @@ fn count_of(bytes: &[u8]) -> Result<(u32, &[u8]), StoreRefused>
     ensures { Gives (λ x. (x.0, x.1.now)) result (count_at bytes.now) }
 {
     match bytes.strip_prefix(MAGIC) {
-        Some(rest) => u32_at(rest),
+        Some(rest) => front_u32(rest),
         None => Err(StoreRefused::Malformed),
     }
 }
 
 // The first record of these bytes, and the bytes after it.
-#[tactic(auto, unfolding(crate::specs::StoreReading::record_at))]
-fn record_of(bytes: &[u8]) -> Result<(u64, &[u8], &[u8]), StoreRefused>
-    ensures { Gives (λ x. (record { id = x.0; bytes = x.1.now }, x.2.now)) result (record_at bytes.now) }
+#[tactic(auto, unfolding(crate::specs::StoreReading::front_record))]
+fn front_record(bytes: &[u8]) -> Result<(u64, &[u8], &[u8]), StoreRefused>
+    ensures { Gives (λ x. (record { id = x.0; bytes = x.1.now }, x.2.now)) result (front_record bytes.now) }
 {
-    let (id, rest) = u64_at(bytes)?;
-    let (len, rest) = u32_at(rest)?;
+    let (id, rest) = front_u64(bytes)?;
+    let (len, rest) = front_u32(rest)?;
     let len = len as usize;
     if rest.len() < len {
         return Err(StoreRefused::Malformed);
@@ -150,7 +134,7 @@ fn records_of(alloc: Global, count: u32, bytes: &[u8]) -> Result<Store, StoreRef
     let mut store = Store::new(alloc);
     let mut rest = bytes;
     for _ in 0..count {
-        let (id, content, after) = record_of(rest)?;
+        let (id, content, after) = front_record(rest)?;
         store.append(id, content)?;
         rest = after;
     }

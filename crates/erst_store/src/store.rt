@@ -9,6 +9,7 @@ ghost use Rattle.erst_store.specs.View.{views, StandsAt, Places, Finds};
 use ras_base::NoMemory;
 use std::alloc::Global;
 use std::marker::Model;
+use thiserror::Error;
 
 /// The most records that a store holds.
 pub const MOST_RECORDS: usize = 1024;
@@ -17,15 +18,19 @@ pub const MOST_RECORDS: usize = 1024;
 pub const MOST_BYTES: usize = 16_384;
 
 /// Why a record can't be put. The first cause that applies, in this order, is answered.
-#[derive(Clone, Copy, Debug, PartialEq, Eq)]
+#[derive(Clone, Copy, Debug, PartialEq, Eq, Drop, Error)]
 pub enum PutRefused {
     /// The identifier is 0 or all ones, which name no record.
+    #[error("the identifier is 0 or all ones, which name no record")]
     ReservedId,
     /// There are more than `MOST_BYTES` bytes.
+    #[error("the record has more than {MOST_BYTES} bytes")]
     TooLong,
     /// The store holds `MOST_RECORDS` records, none of them under this identifier.
+    #[error("the store holds {MOST_RECORDS} records, none of them under this identifier")]
     StoreFull,
     /// Memory ran out.
+    #[error("memory ran out")]
     NoMemory,
 }
 
@@ -46,7 +51,8 @@ struct Record {
     bytes: Vec<u8>,
 }
 
-/// Error records, each under an identifier of its own, in the order in which their identifiers first came.
+/// Error records, each under an identifier of its own, in the order in which their identifiers
+/// first came.
 #[derive(Drop)]
 pub struct Store {
     alloc: Global,
@@ -76,9 +82,11 @@ impl Store {
         }
     }
 
-    /// Puts a record under an identifier: in the place of the record that is there under it, or else behind all others.
+    /// Puts a record under an identifier: in the place of the record that is there under it, or
+    /// else after all others.
     ///
-    /// Each refusal comes exactly where it is the first that applies, and leaves the store as it was.
+    /// Each refusal comes exactly where it is the first that applies, and leaves the store as it
+    /// was.
     pub fn put(&mut self, id: u64, bytes: &[u8]) -> Result<(), PutRefused>
         ensures ok { OnOk result (self.new ≡ with_record id bytes.now self.old) }
         ensures err { OnErr result (self.new ≡ self.old) }
@@ -198,7 +206,7 @@ impl Store {
         Ok(())
     }
 
-    // Puts a record under a new identifier behind all others.
+    // Puts a record under a new identifier after all others.
     fn push(&mut self, id: u64, bytes: &[u8]) -> Result<(), NoMemory>
         requires new { holds id self.old ≡ false }
         requires fits { Fits (record { id = id; bytes = bytes.now }) }

@@ -5,7 +5,8 @@ ghost use Rattle.board_core.specs.Cause.{HasCause};
 use board_core::Failed;
 use std::io;
 
-/// What the system answered, with the count raised where that was an error. A count ends at 2^64 - 1.
+/// What the system answered, with the count raised where that was an error. A count ends at 2^64 -
+/// 1.
 pub fn counted<T>(answer: io::Result<T>, faults: &mut u64) -> Result<T, Failed>
     ensures ok { IfOk answer (λ value. result ≡ Ok value) }
     ensures err { OnErr answer (IsErr result) }

@@ -101,7 +101,8 @@ impl Board for FileBoard {
     }
 }
 
-// One write of the whole piece. What a short write left goes on in another, and so does an interrupted one.
+// One write of the whole piece. What a short write left goes on in another, and so does an
+// interrupted one.
 fn write_output(output: Option<Stdout>, bytes: &[u8]) -> io::Result<()> {
     match output {
         Some(output) => output.write_all(bytes),

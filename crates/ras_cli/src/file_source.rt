@@ -28,8 +28,8 @@ impl Model for FileSource {
 }
 
 impl FileSource {
-    /// Standard input from where it stands, with no faults. Where the program was started with it closed, every read
-    /// fails.
+    /// Standard input from where it stands, with no faults. Where the program was started with it
+    /// closed, every read fails.
     pub fn new(rt: HostRuntime) -> FileSource
         ensures { result ≡ 0 }
     {

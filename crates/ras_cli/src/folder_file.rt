@@ -31,7 +31,8 @@ impl FolderFile {
         Ok(self.file()?.metadata()?.len())
     }
 
-    /// Reads from `place` on until the buffer is full or the file ends, and answers the number of bytes.
+    /// Reads from `place` on until the buffer is full or the file ends, and answers the number of
+    /// bytes.
     pub fn read_at(&mut self, place: u64, buf: &mut [u8]) -> io::Result<usize>
         ensures { ReadsAtMost result buf.new }
     {
@@ -43,8 +44,9 @@ impl FolderFile {
         self.file()?.write_all_at(bytes, place)
     }
 
-    /// Makes the file durable, and at the first time in a run also its entry in the folder: this run may have made the
-    /// file, or an earlier one that ended before it could make the entry durable.
+    /// Makes the file durable, and at the first time in a run also its entry in the folder: this
+    /// run may have made the file, or an earlier one that ended before it could make the entry
+    /// durable.
     pub fn sync(&mut self) -> io::Result<()> {
         self.file()?.sync_all()?;
         if !self.is_folder_synced {

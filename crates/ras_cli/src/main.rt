@@ -41,8 +41,8 @@ fn words_of(rt: HostRuntime) -> Result<Vec<RasWord>, NoMemory> {
     Ok(words)
 }
 
-// The word at a place of the command line, where there is one. Of a longer word than `LONGEST_WORD` its first bytes are
-// taken, so many that they too are in no form of a call.
+// The word at a place of the command line, where there is one. Of a longer word than `LONGEST_WORD`
+// its first bytes are taken, so many that they too are in no form of a call.
 fn word_at(rt: HostRuntime, place: usize) -> Result<Option<RasWord>, NoMemory> {
     let mut bytes = [0; LONGEST_WORD];
     let length = match rt.arg(place, &mut bytes) {

@@ -1,5 +1,5 @@
-// What no clause says: that the calls succeed, and what rows that were set down apart from the program give.
-use crate::{Dev, PutRefused, Store, StoreRefused};
+//! The record store and its file.
+use erst_store::{PutRefused, Store, StoreRefused};
 use std::test::Fail;
 
 // The file of the store of one record, under 6, of one byte 00.
@@ -72,7 +72,7 @@ fn refuses_what_is_no_file(rt: HostRuntime) -> Result<(), Fail> {
 }
 
 #[test]
-fn puts_in_place_or_behind(rt: HostRuntime) -> Result<(), Fail> {
+fn puts_in_place_or_at_the_end(rt: HostRuntime) -> Result<(), Fail> {
     let mut store = Store::new(rt.alloc());
     store.put(6, &[1])?;
     store.put(4, &[2, 2])?;
@@ -92,63 +92,5 @@ fn puts_in_place_or_behind(rt: HostRuntime) -> Result<(), Fail> {
         assert_eq!(rt; store.id(i), id);
         assert_eq!(rt; store.bytes(i), bytes);
     }
-    Ok(())
-}
-
-// An action with the value before it and the value after it. The store holds nothing at first, and the range holds a
-// record of 128 bytes under 6 at 0.
-const ACTIONS: [(u64, u64, u64); 34] = [
-    (7, 2, 7),
-    (7, 5, 0),
-    (7, 7, 4),
-    (7, 0, 7),
-    (0, 4, 0),
-    (7, 5, 0),
-    (7, 6, 1),
-    (7, 6, 1),
-    (7, 6, 0),
-    (7, 7, 0),
-    (7, 10, 1),
-    (7, 8, 6),
-    (7, 8, u64::MAX),
-    (7, 8, 6),
-    (7, 1, 7),
-    (16_257, 4, 16_257),
-    (6, 9, 6),
-    (7, 5, 0),
-    (7, 7, 1),
-    (16_256, 4, 16_256),
-    (7, 5, 0),
-    (7, 7, 0),
-    (7, 2, 7),
-    (7, 9, 7),
-    (7, 5, 0),
-    (9, 7, 5),
-    (6, 9, 6),
-    (7, 5, 0),
-    (7, 7, 0),
-    (7, 10, 0),
-    (7, 3, 7),
-    (7, 5, 0),
-    (7, 7, 5),
-    (7, 13, 0xf001_0000),
-];
-
-#[test]
-fn keeps_one_record(rt: HostRuntime) -> Result<(), Fail> {
-    let mut device = Dev::new(rt.alloc(), Store::new(rt.alloc()), 2)?;
-    let mut record = [0; 128];
-    record[20] = 128;
-    record[96] = 6;
-    device.range_write(0, &record);
-    for (before, action, after) in ACTIONS {
-        device.write_value(before);
-        device.write_action(action)?;
-        assert_eq!(rt; device.read_value(), after, "after action {action}");
-    }
-    let mut copy = [1; 128];
-    device.range_read(16_256, &mut copy);
-    assert_eq!(rt; copy.as_slice(), record.as_slice());
-    assert_eq!(rt; device.store().len(), 0);
     Ok(())
 }
