@@ -1,4 +1,5 @@
--- What a line tells of an entry, whatever a stop leaves, and what is left of a call of it that failed.
+-- What a line tells of an entry, whatever a stop leaves, and what is left of a call of it that
+-- failed.
 use Rattle.std.specs.Prelude.{◌≡◌, ℕ, ◌<◌, ◌⊎◌, List, length}
 use Rattle.board_core.specs.declared.board.DiskCall.TheVariants.{Sync}
 use Rattle.board_core.specs.declared.board.FileNo.TheVariants.{Zero}
@@ -15,7 +16,8 @@ pub record KeepsOthers (before : Told) (left : Left) : Type 0 where
   pub file1 : left.file1 ≡ before.here.file1
   pub store : left.store ≡ before.here.store
 
--- One of the three calls failed, and it was the last: the write; or the sync, after the write; or the print, after both.
+-- One of the three calls failed, and it was the last: the write; or the sync, after the write; or
+-- the print, after both.
 abbrev pub FailsEntry : ℕ → List ℕ → List ℕ → Told → Told → Type 0
 FailsEntry place entry line old new =
     FailsWrite Zero place (length entry) old new

@@ -1,4 +1,5 @@
-//! A caller of a board, proved over every board: that the board's clauses say enough of a stop at any moment.
+//! A caller of a board, proved over every board: that the board's clauses say enough of a stop at
+//! any moment.
 #![tactic(auto)]
 
 ghost use Rattle.std.specs.Prelude.{◌≡◌, ◌≤◌, ◌⊎◌, length, IfSome, OnOk, OnErr};
@@ -11,9 +12,9 @@ use board_core::{Board, Failed, FileNo};
 
 /// Writes an entry into file 0, syncs it, and then prints a line that tells of it.
 ///
-/// Where a stop before left just what the board told, every stop since then that leaves a byte of the line leaves the
-/// entry too, and file 1 and the record store are left alone. A call of the board that fails is the last one, and
-/// `Failed` comes only where one failed.
+/// Where a stop before left just what the board told, every stop since then that leaves a byte of
+/// the line leaves the entry too, and file 1 and the record store are left alone. A call of the
+/// board that fails is the last one, and `Failed` comes only where one failed.
 pub fn write_sync_print<B: Board>(
     place: u64,
     entry: &[u8],

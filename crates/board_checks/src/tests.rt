@@ -1,4 +1,5 @@
-//! What no clause says: that the calls succeed, and what rows that were set down apart from the program give.
+//! What no clause says: that the calls succeed, and what rows that were set down apart from the
+//! program give.
 
 mod calls;
 mod devices;

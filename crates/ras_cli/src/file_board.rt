@@ -1,111 +1,197 @@
-// The working folder's files and standard output as a board.
+//! The working folder's files and standard output as a board.
+ghost use Rattle.std.specs.Io.{ReadsAtMost};
 ghost use Rattle.std.specs.Prelude.{◌≡◌, None};
 ghost use Rattle.board_core.specs.Clock.{untold};
-ghost use Rattle.board_core.specs.ClockLaws.{not_told};
+ghost use Rattle.board_core.specs.ClockLemmas.{not_told};
 
-use crate::counted::counted;
+use crate::fault_count::with_fault_count;
 use crate::folder_file::FolderFile;
-use crate::streams::{closed, if_open};
-use board_core::{Board, Failed, FileNo};
+use crate::store_file::StoredDevice;
+use crate::streams::{Output, if_open};
+use crate::system::System;
+use board_core::{Board, BoardPut, Failed, FileNo, Reg};
 use std::io;
-use std::io::{Print, Stdout};
 use std::marker::Model;
 
-/// The files `rasd.0` and `rasd.1` of the working folder, and standard output.
+/// The files `rasd.0`, `rasd.1` and `rasd.store` of the working folder, and standard output.
 ///
 /// It tells nothing of their contents. Each call that fails is a fault of its kind.
 #[derive(Drop)]
-pub struct FileBoard {
-    files: FolderFiles,
-    output: Option<Stdout>,
+pub struct FileBoard<S: System> {
+    folder: WorkingFolder<S>,
+    output: Output,
     disk_faults: u64,
+    register_faults: u64,
     print_faults: u64,
 }
 
-impl Model for FileBoard {
-    ghost use Rattle.ras_cli.specs.Faults.{Faults};
+impl<S: System> Model for FileBoard<S> {
+    ghost use Rattle.board_core.specs.Cause.{Faults};
 
     ghost Value = { Faults };
 
-    ghost view = { λ b. record { disk = b.disk_faults; print = b.print_faults } };
+    ghost view = { λ b. record { disk = b.disk_faults; registers = b.register_faults; prints = b.print_faults } };
 }
 
-impl FileBoard {
-    /// The board of the working folder, with no faults. No file is opened yet.
-    pub fn new(rt: HostRuntime) -> FileBoard
-        ensures { result ≡ record { disk = 0; print = 0 } }
+impl<S: System> FileBoard<S> {
+    /// The board of the working folder, with no faults. No file is opened yet. An exclusive one
+    /// takes a lock on `rasd.0` before it uses a journal file, so that it fails at its first disk
+    /// call where another program has the lock.
+    pub fn new(rt: HostRuntime, output: Output, system: S, is_exclusive: bool) -> FileBoard<S>
+        ensures { result ≡ record { disk = 0; registers = 0; prints = 0 } }
     {
         FileBoard {
-            files: FolderFiles {
-                zero: FolderFile::new(rt, "rasd.0"),
-                one: FolderFile::new(rt, "rasd.1"),
+            folder: WorkingFolder {
+                system,
+                zero: FolderFile::new("rasd.0", is_exclusive),
+                one: FolderFile::new("rasd.1", false),
+                device: StoredDevice::new(rt.alloc()),
+                is_exclusive,
             },
-            output: if_open(rt.stdout()),
+            output,
             disk_faults: 0,
+            register_faults: 0,
             print_faults: 0,
         }
     }
 }
 
-// The two files, apart from the counts, which so stay as they are where a file is used.
+// The files and the device, apart from the counts, which so stay as they are where one is used.
 #[derive(Drop)]
-struct FolderFiles {
-    zero: FolderFile,
-    one: FolderFile,
+struct WorkingFolder<S: System> {
+    system: S,
+    zero: FolderFile<S>,
+    one: FolderFile<S>,
+    device: StoredDevice,
+    is_exclusive: bool,
 }
 
-impl FolderFiles {
-    fn file(&mut self, number: FileNo) -> &mut FolderFile {
-        match number {
-            FileNo::Zero => &mut self.zero,
-            FileNo::One => &mut self.one,
+impl<S: System> WorkingFolder<S> {
+    // Opens a file. File 0 comes first where its lock is to keep other programs away.
+    fn open(&mut self, file: FileNo) -> io::Result<()> {
+        if self.is_exclusive || file == FileNo::Zero {
+            self.zero.open(&mut self.system)?;
+        }
+        match file {
+            FileNo::Zero => Ok(()),
+            FileNo::One => self.one.open(&mut self.system),
+        }
+    }
+
+    fn size(&mut self, file: FileNo) -> io::Result<u64> {
+        self.open(file)?;
+        match file {
+            FileNo::Zero => self.zero.size(&mut self.system),
+            FileNo::One => self.one.size(&mut self.system),
+        }
+    }
+
+    fn read_at(&mut self, file: FileNo, place: u64, buf: &mut [u8]) -> io::Result<usize>
+        ensures { ReadsAtMost result buf.new }
+    {
+        self.open(file)?;
+        match file {
+            FileNo::Zero => self.zero.read_at(&mut self.system, place, buf),
+            FileNo::One => self.one.read_at(&mut self.system, place, buf),
+        }
+    }
+
+    fn write_at(&mut self, file: FileNo, place: u64, bytes: &[u8]) -> io::Result<()> {
+        self.open(file)?;
+        match file {
+            FileNo::Zero => self.zero.write_at(&mut self.system, place, bytes),
+            FileNo::One => self.one.write_at(&mut self.system, place, bytes),
+        }
+    }
+
+    fn sync(&mut self, file: FileNo) -> io::Result<()> {
+        self.open(file)?;
+        match file {
+            FileNo::Zero => self.zero.sync(&mut self.system),
+            FileNo::One => self.one.sync(&mut self.system),
+        }
+    }
+
+    fn reg_read(&mut self, reg: Reg) -> io::Result<u64> {
+        match reg {
+            Reg::Action => self.device.action(&mut self.system),
+            Reg::Value => self.device.value(&mut self.system),
+        }
+    }
+
+    fn reg_write(&mut self, reg: Reg, value: u64) -> io::Result<()> {
+        match reg {
+            Reg::Action => self.device.act(&mut self.system, value),
+            Reg::Value => self.device.set_value(&mut self.system, value),
         }
     }
 }
 
-impl Board for FileBoard {
+impl<S: System> Board for FileBoard<S> {
     ghost told = { λ _. None };
 
     ghost clock = { λ _. untold };
 
-    ghost disk_faults = { λ b. b.disk };
-
-    ghost print_faults = { λ b. b.print };
+    ghost faults = { λ b. b };
 
     ghost told_may_be_left = { λ _ t told. not_told t told };
 
     ghost text_is_left = { λ _ t left told now. absurd now };
 
+    ghost store_is_left = { λ _ t left told now. absurd now };
+
     ghost counts_earlier = { λ _ s t left within may. may };
 
     fn size(&mut self, file: FileNo) -> Result<u64, Failed> {
-        counted(self.files.file(file).size(), &mut self.disk_faults)
+        with_fault_count(self.folder.size(file), &mut self.disk_faults)
     }
 
     fn read_at(&mut self, file: FileNo, place: u64, buf: &mut [u8]) -> Result<usize, Failed> {
-        let read = self.files.file(file).read_at(place, buf);
-        counted(read, &mut self.disk_faults)
+        let read = self.folder.read_at(file, place, buf);
+        with_fault_count(read, &mut self.disk_faults)
     }
 
     fn write_at(&mut self, file: FileNo, place: u64, bytes: &[u8]) -> Result<(), Failed> {
-        let written = self.files.file(file).write_at(place, bytes);
-        counted(written, &mut self.disk_faults)
+        let done = self.folder.write_at(file, place, bytes);
+        with_fault_count(done, &mut self.disk_faults)
     }
 
     fn sync(&mut self, file: FileNo) -> Result<(), Failed> {
-        counted(self.files.file(file).sync(), &mut self.disk_faults)
+        with_fault_count(self.folder.sync(file), &mut self.disk_faults)
+    }
+
+    fn reg_read(&mut self, reg: Reg) -> Result<u64, Failed> {
+        with_fault_count(self.folder.reg_read(reg), &mut self.register_faults)
+    }
+
+    fn reg_write(&mut self, reg: Reg, value: u64) -> Result<(), Failed> {
+        let done = self.folder.reg_write(reg, value);
+        with_fault_count(done, &mut self.register_faults)
+    }
+
+    fn range_read(&mut self, place: u32, buf: &mut [u8]) -> Result<(), Failed> {
+        let WorkingFolder { system, device, .. } = &mut self.folder;
+        let done = device.range_read(system, place, buf);
+        with_fault_count(done, &mut self.register_faults)
+    }
+
+    fn range_write(&mut self, place: u32, bytes: &[u8]) -> Result<(), Failed> {
+        let WorkingFolder { system, device, .. } = &mut self.folder;
+        let done = device.range_write(system, place, bytes);
+        with_fault_count(done, &mut self.register_faults)
+    }
+
+    fn put(&mut self, id: u64, bytes: &[u8]) -> Result<(), BoardPut> {
+        let WorkingFolder { system, device, .. } = &mut self.folder;
+        let put = device.put(system, id, bytes);
+        match with_fault_count(put, &mut self.register_faults) {
+            Ok(Ok(())) => Ok(()),
+            Ok(Err(refused)) => Err(BoardPut::Refused(refused)),
+            Err(Failed) => Err(BoardPut::Failed),
+        }
     }
 
     fn print(&mut self, bytes: &[u8]) -> Result<(), Failed> {
-        counted(write_output(self.output, bytes), &mut self.print_faults)
-    }
-}
-
-// One write of the whole piece. What a short write left goes on in another, and so does an
-// interrupted one.
-fn write_output(output: Option<Stdout>, bytes: &[u8]) -> io::Result<()> {
-    match output {
-        Some(output) => output.write_all(bytes),
-        None => Err(closed()),
+        with_fault_count(self.output.write(bytes), &mut self.print_faults)
     }
 }

@@ -1,11 +1,11 @@
-// Standard input as a source.
-ghost use Rattle.std.specs.Prelude.{◌≡◌, ◌≢◌, None, IfErr};
+//! Standard input as a source.
+ghost use Rattle.std.specs.Prelude.{◌≡◌, ◌≢◌, None, IfErr, IsErr, IsNone};
 ghost use Rattle.std.specs.Io.{ReadsAtMost};
 ghost use Rattle.std.specs.Io.KnownBytes.{ReadConsumes};
 ghost use Rattle.std.specs.IoError.{error_kind};
 
-use crate::counted::counted;
-use crate::streams::{closed, if_open};
+use crate::fault_count::with_fault_count;
+use crate::streams::{closed_stream_error, if_open};
 use board_core::{Failed, Source};
 use std::io;
 use std::io::{ErrorKind, Read, Stdin};
@@ -46,14 +46,15 @@ impl Source for FileSource {
     ghost faults = { λ s. s };
 
     fn read(&mut self, buf: &mut [u8]) -> Result<usize, Failed> {
-        counted(read_input(self.input, buf), &mut self.faults)
+        with_fault_count(read_input(self.input, buf), &mut self.faults)
     }
 }
 
 fn read_input(input: Option<Stdin>, buf: &mut [u8]) -> io::Result<usize>
-    ensures { ReadsAtMost result buf.new }
+    ensures within { ReadsAtMost result buf.new }
+    ensures closed { IsNone input → IsErr result }
 {
-    let mut input = input.ok_or(closed())?;
+    let mut input = input.ok_or(closed_stream_error())?;
     read_retrying(&mut input, buf)
 }
 

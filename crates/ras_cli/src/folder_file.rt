@@ -1,76 +1,94 @@
-// A file of the working folder.
+//! A journal file of the working folder.
+ghost use Rattle.std.specs.Prelude.{IsTrue};
+ghost use Rattle.std.specs.Option.{ForSome};
 ghost use Rattle.std.specs.Io.{ReadsAtMost};
 
-use std::fs::{File, OpenOptions};
+use crate::system::{Opened, System};
 use std::io;
 use std::io::ErrorKind;
-use std::os::unix::fs::FileExt;
 
-/// A file of the working folder, opened at its first use, and made then where it is missing.
+/// A journal file, opened at its first use, and made then where it is missing. An exclusive one is
+/// used under a lock.
 #[derive(Drop)]
-pub struct FolderFile {
-    rt: HostRuntime,
+pub struct FolderFile<S: System> {
     name: &'static str,
-    opened: Option<File>,
+    is_exclusive: bool,
+    opened: Option<Opened<S::File>>,
     is_folder_synced: bool,
+    ghost locked: { IsTrue is_exclusive → ForSome opened (λ it. IsTrue (S.is_locked it.file)) },
 }
 
-impl FolderFile {
+impl<S: System> FolderFile<S> {
     /// The file of this name. Nothing is opened yet.
-    pub fn new(rt: HostRuntime, name: &'static str) -> FolderFile {
+    pub fn new(name: &'static str, is_exclusive: bool) -> FolderFile<S> {
         FolderFile {
-            rt,
             name,
+            is_exclusive,
             opened: None,
             is_folder_synced: false,
         }
     }
 
+    /// Opens the file, if it isn't open yet, with a lock where it is to be this program's alone.
+    pub fn open(&mut self, system: &mut S) -> io::Result<()> {
+        if self.opened.is_none() {
+            let opened = system.open(self.name)?;
+            if self.is_exclusive {
+                system.lock(&opened.file)?;
+            }
+            self.opened = Some(opened);
+        }
+        Ok(())
+    }
+
     /// The length in bytes.
-    pub fn size(&mut self) -> io::Result<u64> {
-        Ok(self.file()?.metadata()?.len())
+    pub fn size(&self, system: &mut S) -> io::Result<u64> {
+        system.len(&self.opened()?.file)
     }
 
     /// Reads from `place` on until the buffer is full or the file ends, and answers the number of
     /// bytes.
-    pub fn read_at(&mut self, place: u64, buf: &mut [u8]) -> io::Result<usize>
+    pub fn read_at(&self, system: &mut S, place: u64, buf: &mut [u8]) -> io::Result<usize>
         ensures { ReadsAtMost result buf.new }
     {
-        read_full(self.file()?, place, buf)
+        read_full(system, &self.opened()?.file, place, buf)
     }
 
     /// Writes all the bytes at `place`.
-    pub fn write_at(&mut self, place: u64, bytes: &[u8]) -> io::Result<()> {
-        self.file()?.write_all_at(bytes, place)
+    pub fn write_at(&self, system: &mut S, place: u64, bytes: &[u8]) -> io::Result<()> {
+        write_full(system, &self.opened()?.file, place, bytes)
     }
 
     /// Makes the file durable, and at the first time in a run also its entry in the folder: this
     /// run may have made the file, or an earlier one that ended before it could make the entry
-    /// durable.
-    pub fn sync(&mut self) -> io::Result<()> {
-        self.file()?.sync_all()?;
+    /// durable. A sync that failed isn't tried again, since the system may then say that all is
+    /// well though the bytes are not on the disk.
+    pub fn sync(&mut self, system: &mut S) -> io::Result<()> {
+        let opened = self.opened()?;
+        system.sync_data(&opened.file)?;
         if !self.is_folder_synced {
-            File::open(&self.rt, ".")?.sync_all()?;
+            system.sync_folder(&opened.folder)?;
             self.is_folder_synced = true;
         }
         Ok(())
     }
 
-    fn file(&mut self) -> io::Result<&File> {
-        let file = match self.opened.take() {
-            Some(file) => file,
-            None => OpenOptions::new()
-                .read(true)
-                .write(true)
-                .create(true)
-                .open(&self.rt, self.name)?,
-        };
-        Ok(self.opened.insert(file))
+    fn opened(&self) -> io::Result<&Opened<S::File>> {
+        match &self.opened {
+            Some(opened) => Ok(opened),
+            None => Err(io::Error::from(ErrorKind::NotFound)),
+        }
     }
 }
 
-// A read gives fewer bytes than asked for at any place, so the next one goes on behind them.
-pub fn read_full(file: &impl FileExt, place: u64, buf: &mut [u8]) -> io::Result<usize>
+/// Reads until the buffer is full or the file ends. A read gives fewer bytes than asked for at any
+/// place, so the next one goes on after them.
+pub fn read_full<S: System>(
+    system: &mut S,
+    file: &S::File,
+    place: u64,
+    buf: &mut [u8],
+) -> io::Result<usize>
     ensures { ReadsAtMost result buf.new }
 {
     let mut count = 0;
@@ -78,7 +96,7 @@ pub fn read_full(file: &impl FileExt, place: u64, buf: &mut [u8]) -> io::Result<
         if count >= buf.len() {
             break;
         }
-        match file.read_at(&mut buf[count..], place.saturating_add(count as u64)) {
+        match system.read_at(file, place.saturating_add(count as u64), &mut buf[count..]) {
             Ok(0) => break,
             Ok(n) => count += n,
             Err(e) if e.kind() == ErrorKind::Interrupted => {}
@@ -86,4 +104,27 @@ pub fn read_full(file: &impl FileExt, place: u64, buf: &mut [u8]) -> io::Result<
         }
     }
     Ok(count)
+}
+
+/// Writes all the bytes. A write takes fewer bytes than given at any place, so the next one goes on
+/// after them.
+pub fn write_full<S: System>(
+    system: &mut S,
+    file: &S::File,
+    place: u64,
+    bytes: &[u8],
+) -> io::Result<()> {
+    let mut count = 0;
+    for _ in 0..u64::MAX {
+        if count >= bytes.len() {
+            return Ok(());
+        }
+        match system.write_at(file, place.saturating_add(count as u64), &bytes[count..]) {
+            Ok(0) => return Err(io::Error::from(ErrorKind::WriteZero)),
+            Ok(n) => count += n,
+            Err(e) if e.kind() == ErrorKind::Interrupted => {}
+            Err(e) => return Err(e),
+        }
+    }
+    Err(io::Error::from(ErrorKind::TimedOut))
 }

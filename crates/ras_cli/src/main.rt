@@ -1,11 +1,13 @@
 //! The program: the daemon over standard input, standard output and the working folder's files.
 #![tactic(auto)]
 
-mod counted;
+mod fault_count;
 mod file_board;
 mod file_source;
 mod folder_file;
+mod store_file;
 mod streams;
+mod system;
 #[cfg(test)]
 mod tests;
 
@@ -15,18 +17,29 @@ use ras_base::NoMemory;
 use ras_daemon::{Exit, RasWord, rasd};
 use std::env::{Env, FillError};
 use std::process::ExitCode;
+use streams::Output;
+use system::Host;
 
 // No word of a form of a call is longer.
 const LONGEST_WORD: usize = 64;
 
 fn main(rt: HostRuntime) -> ExitCode {
+    // Both streams are asked before the system's files are.
     let mut source = FileSource::new(rt);
-    let mut board = FileBoard::new(rt);
+    let output = Output::new(rt);
     let exit = match words_of(rt) {
-        Ok(words) => rasd(rt.alloc(), &words, &mut source, &mut board),
+        Ok(words) => {
+            let mut board = FileBoard::new(rt, output, Host::new(rt), is_run(&words));
+            rasd(rt.alloc(), &words, &mut source, &mut board)
+        }
         Err(NoMemory) => Exit::NoMemory,
     };
     ExitCode::from(exit.status())
+}
+
+// Whether the words ask for a run, which is to be the only one in its folder.
+fn is_run(words: &[RasWord]) -> bool {
+    words.len() == 1 && words[0].bytes() == b"run"
 }
 
 // The program's words without its name.

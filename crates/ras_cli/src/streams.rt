@@ -1,6 +1,10 @@
-// Whether a standard stream is open.
+//! The standard streams.
+ghost use Rattle.std.specs.Prelude.{◌≡◌, IsErr, IsNone};
+ghost use Rattle.std.specs.IoError.{error_kind};
+
+use crate::system::room_of_output;
 use std::io;
-use std::io::ErrorKind;
+use std::io::{ErrorKind, Print, Stdout};
 use std::os::fd::AsFd;
 
 /// The stream, unless the program was started with it closed.
@@ -16,6 +20,46 @@ pub fn if_open<S: AsFd + Drop>(stream: S) -> Option<S> {
 }
 
 /// What a call on a closed stream fails with.
-pub fn closed() -> io::Error {
+pub fn closed_stream_error() -> io::Error
+    ensures { error_kind result ≡ ErrorKind.NotConnected }
+{
     io::Error::from(ErrorKind::NotConnected)
+}
+
+/// Standard output.
+#[derive(Drop)]
+pub struct Output {
+    rt: HostRuntime,
+    stream: Option<Stdout>,
+}
+
+impl Output {
+    /// Standard output as the program was started with it.
+    pub fn new(rt: HostRuntime) -> Output {
+        Output {
+            rt,
+            stream: if_open(rt.stdout()),
+        }
+    }
+
+    /// Writes the whole piece in one write. What a short write left goes on in another, and so does
+    /// an interrupted one. A write to a file past the limit on the size of files would end the
+    /// program by a signal, and is an error here.
+    pub fn write(&self, bytes: &[u8]) -> io::Result<()> {
+        let room = room_of_output(&self.rt);
+        if room >= bytes.len() as u64 {
+            return write_to(self.stream, bytes);
+        }
+        write_to(self.stream, &bytes[..room as usize])?;
+        Err(io::Error::from(ErrorKind::FileTooLarge))
+    }
+}
+
+fn write_to(stream: Option<Stdout>, bytes: &[u8]) -> io::Result<()>
+    ensures { IsNone stream → IsErr result }
+{
+    match stream {
+        Some(stream) => stream.write_all(bytes),
+        None => Err(closed_stream_error()),
+    }
 }

@@ -1,4 +1,5 @@
-//! The device of a board in memory: each action, busy answers, and what a stop leaves of the record store.
+//! The device of a board in memory: each action, busy answers, and what a stop leaves of the record
+//! store.
 use super::steps::{Step, get, left, make, new_board, put, range_read, range_write, set};
 use board_core::{BoardPut, MemBoard, Pick, Reg};
 use erst_store::PutRefused;
@@ -9,8 +10,9 @@ use erst_store::actions::{
 use std::process::Abort;
 use std::test::Fail;
 
-// An action with the value before it and the value after it, on a device that is busy twice after each command. The
-// store holds nothing at first, and the range holds a record of 128 bytes under 6 at 0.
+// An action with the value before it and the value after it, on a device that is busy twice after
+// each command. The store holds nothing at first, and the range holds a record of 128 bytes under 6
+// at 0.
 const ACTIONS: [(u64, u64, u64); 41] = [
     (7, 2, 7),
     (7, 5, 0),
@@ -112,8 +114,8 @@ const STEPS: [Step; 5] = [
     Step::Set(Reg::Action, EXECUTE_OPERATION),
 ];
 
-// Before the put and after the clear a stop leaves no record, and in between the one, whatever it leaves of the files.
-// The device is new then: nothing is set.
+// Before the put and after the clear a stop leaves no record, and in between the one, whatever it
+// leaves of the files. The device is new then: nothing is set.
 #[test]
 fn leaves_the_store_as_it_is(rt: HostRuntime) -> Result<(), Fail> {
     for calls in 0..=5 {
@@ -137,7 +139,8 @@ fn leaves_the_store_as_it_is(rt: HostRuntime) -> Result<(), Fail> {
     Ok(())
 }
 
-// A put that is refused changes nothing, the cursor neither, and one that goes well lists from the first identifier.
+// A put that is refused changes nothing, the cursor neither, and one that goes well lists from the
+// first identifier.
 #[test]
 fn put_lists_from_the_first(rt: HostRuntime) -> Result<(), Fail> {
     let mut board = new_board(rt.alloc(), 0)?;

@@ -37,8 +37,8 @@ fn reads_and_writes(rt: HostRuntime) -> Result<(), Fail> {
     Ok(())
 }
 
-// A call on a file, and what a stop after it leaves of the file: as last synced, as a read gives it, and with
-// every byte written since set to A5.
+// A call on a file, and what a stop after it leaves of the file: as last synced, as a read gives
+// it, and with every byte written since set to A5.
 type Row = (
     Option<(u64, &'static [u8])>,
     &'static [u8],
@@ -68,7 +68,8 @@ fn other(file: FileNo) -> FileNo {
     }
 }
 
-// A board on which the first of these calls were made on a file, a write or where there is none a sync.
+// A board on which the first of these calls were made on a file, a write or where there is none a
+// sync.
 fn board_after(
     rt: &impl Abort,
     alloc: Global,

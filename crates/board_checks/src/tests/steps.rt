@@ -1,4 +1,5 @@
-//! Calls of a board in memory, made through functions that state nothing, so that each test stays short to prove.
+//! Calls of a board in memory, made through functions that state nothing, so that each test stays
+//! short to prove.
 use board_core::{Board, BoardPut, FileNo, MemBoard, Pick, Reg};
 use erst_store::Store;
 use std::alloc::Global;

@@ -2,4 +2,4 @@ use Rattle.std.proofs.Common.{◌≤◌, length}
 use Rattle.ras_cli.proofs.folder_file.read_full.Given as goal
 
 abbrev pub invariant-loop : goal.invariant-loop
-invariant-loop o l = l.count ≤ length l.buf
+invariant-loop g l = l.count ≤ length l.buf

@@ -1,4 +1,4 @@
-// How a failed call of the system becomes a counted fault.
+//! How a failed call of the system becomes a counted fault.
 ghost use Rattle.std.specs.Prelude.{◌≡◌, IfOk, OnErr, IsErr};
 ghost use Rattle.board_core.specs.Cause.{HasCause};
 
@@ -7,7 +7,7 @@ use std::io;
 
 /// What the system answered, with the count raised where that was an error. A count ends at 2^64 -
 /// 1.
-pub fn counted<T>(answer: io::Result<T>, faults: &mut u64) -> Result<T, Failed>
+pub fn with_fault_count<T>(answer: io::Result<T>, faults: &mut u64) -> Result<T, Failed>
     ensures ok { IfOk answer (λ value. result ≡ Ok value) }
     ensures err { OnErr answer (IsErr result) }
     ensures cause { HasCause faults.old faults.new result }

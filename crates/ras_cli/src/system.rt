@@ -1,0 +1,219 @@
+//! What the program asks of the system's files, so that a test can answer in its place.
+ghost use Rattle.std.specs.Prelude.{◌≤◌, length, Bool, true, IfOk, OnOk, IsTrue};
+ghost use Rattle.std.specs.Io.{ReadsAtMost, WritesAtMost};
+
+use std::fs::{File, OpenOptions, canonicalize, metadata, remove_file, rename, symlink_metadata};
+use std::io;
+use std::io::ErrorKind;
+use std::os::fd::AsRawFd;
+use std::os::unix::fs::FileExt;
+
+/// A file that was opened, and the folder that it lies in.
+#[derive(Drop)]
+pub struct Opened<F> {
+    pub file: F,
+    pub folder: F,
+}
+
+/// Calls on files of the working folder. Each is one call of the system, or a few that have no part
+/// in between.
+pub trait System: Drop {
+    type File: Drop;
+
+    /// That this program has the lock on a file. Only `lock` shows it.
+    ghost is_locked: { Self.File → Bool };
+
+    /// Opens a file for reads and writes, and makes it where it is missing. Where a link has its
+    /// name, this is the file that the link leads to, with that file's folder.
+    fn open(&mut self, name: &str) -> io::Result<Opened<Self::File>>;
+
+    /// Opens a file for reads, where it is there.
+    fn open_if_there(&mut self, name: &str) -> io::Result<Option<Self::File>>;
+
+    /// Makes an empty file for writes in the place of what has its name.
+    fn make(&mut self, name: &str) -> io::Result<Opened<Self::File>>;
+
+    /// The length in bytes.
+    fn len(&mut self, file: &Self::File) -> io::Result<u64>;
+
+    /// Reads at a place, maybe fewer bytes than the buffer has room for.
+    fn read_at(&mut self, file: &Self::File, place: u64, buf: &mut [u8]) -> io::Result<usize>
+        ensures { ReadsAtMost result buf.new };
+
+    /// Writes at a place, maybe fewer bytes than were given.
+    fn write_at(&mut self, file: &Self::File, place: u64, bytes: &[u8]) -> io::Result<usize>
+        ensures { WritesAtMost result bytes.now };
+
+    /// Makes a file's bytes and its length durable.
+    fn sync_data(&mut self, file: &Self::File) -> io::Result<()>;
+
+    /// Makes a folder's entries durable.
+    fn sync_folder(&mut self, folder: &Self::File) -> io::Result<()>;
+
+    /// Takes an exclusive lock on a file, and fails where another program has one.
+    fn lock(&mut self, file: &Self::File) -> io::Result<()>
+        ensures { OnOk result (IsTrue (is_locked file.now)) };
+
+    /// Puts a file in the place of another.
+    fn rename(&mut self, from: &str, to: &str) -> io::Result<()>;
+}
+
+// What getrlimit is asked for the limit on the size of a file.
+const RLIMIT_FSIZE: i32 = 1;
+
+/// The system that the program runs on.
+#[derive(Drop)]
+pub struct Host {
+    rt: HostRuntime,
+    // Files in the place of standard streams that were closed, so that no file of the journal takes
+    // their numbers.
+    in_place_of_streams: [Option<File>; 3],
+}
+
+impl Host {
+    /// The system. The standard streams that are to be known as closed are asked before.
+    pub fn new(rt: HostRuntime) -> Host {
+        let mut in_place_of_streams = [None, None, None];
+        for place in &mut in_place_of_streams {
+            match File::open(&rt, "/") {
+                Ok(file) if file.as_raw_fd() < 3 => *place = Some(file),
+                _ => break,
+            }
+        }
+        Host {
+            rt,
+            in_place_of_streams,
+        }
+    }
+
+    // The folder of a file of this name that is there.
+    fn folder_of(&self, name: &str) -> io::Result<File> {
+        if !symlink_metadata(&self.rt, name)?.is_symlink() {
+            return File::open(&self.rt, ".");
+        }
+        let path = canonicalize(&self.rt, name)?;
+        match path.parent() {
+            Some(folder) => File::open(&self.rt, folder),
+            None => File::open(&self.rt, "/"),
+        }
+    }
+}
+
+impl System for Host {
+    type File = File;
+
+    ghost is_locked = { λ _. true };
+
+    fn open(&mut self, name: &str) -> io::Result<Opened<File>> {
+        let file = OpenOptions::new()
+            .read(true)
+            .write(true)
+            .create(true)
+            .open(&self.rt, name)?;
+        Ok(Opened {
+            file,
+            folder: self.folder_of(name)?,
+        })
+    }
+
+    fn open_if_there(&mut self, name: &str) -> io::Result<Option<File>> {
+        match File::open(&self.rt, name) {
+            Ok(file) => Ok(Some(file)),
+            Err(error) if error.kind() == ErrorKind::NotFound => Ok(None),
+            Err(error) => Err(error),
+        }
+    }
+
+    fn make(&mut self, name: &str) -> io::Result<Opened<File>> {
+        match remove_file(&self.rt, name) {
+            Ok(()) => {}
+            Err(error) if error.kind() == ErrorKind::NotFound => {}
+            Err(error) => return Err(error),
+        }
+        Ok(Opened {
+            file: File::create_new(&self.rt, name)?,
+            folder: File::open(&self.rt, ".")?,
+        })
+    }
+
+    fn len(&mut self, file: &File) -> io::Result<u64> {
+        Ok(file.metadata()?.len())
+    }
+
+    fn read_at(&mut self, file: &File, place: u64, buf: &mut [u8]) -> io::Result<usize> {
+        file.read_at(buf, place)
+    }
+
+    fn write_at(&mut self, file: &File, place: u64, bytes: &[u8]) -> io::Result<usize> {
+        let part = within_limit(place, bytes)?;
+        match file.write_at(part, place) {
+            Ok(count) => Ok(count),
+            Err(error) => Err(error),
+        }
+    }
+
+    fn sync_data(&mut self, file: &File) -> io::Result<()> {
+        file.sync_data()
+    }
+
+    fn sync_folder(&mut self, folder: &File) -> io::Result<()> {
+        folder.sync_all()
+    }
+
+    fn lock(&mut self, file: &File) -> io::Result<()> {
+        match file.try_lock() {
+            Ok(()) => Ok(()),
+            Err(error) => Err(io::Error::from(error)),
+        }
+    }
+
+    fn rename(&mut self, from: &str, to: &str) -> io::Result<()> {
+        rename(&self.rt, from, to)
+    }
+}
+
+// The bytes of a write that the limit on the size of files lets through. A write that begins at the
+// limit or past it would end the program by a signal, and is an error here.
+fn within_limit(place: u64, bytes: &[u8]) -> io::Result<&[u8]>
+    ensures { IfOk result (λ part. length part.now ≤ length bytes.now) }
+{
+    let room = size_limit().saturating_sub(place);
+    if room >= bytes.len() as u64 {
+        return Ok(bytes);
+    }
+    if room == 0 {
+        return Err(io::Error::from(ErrorKind::FileTooLarge));
+    }
+    Ok(&bytes[..room as usize])
+}
+
+// The limit on the size of the files that the program writes, which is the greatest number where
+// there is none.
+fn size_limit() -> u64 {
+    let mut limit = libc::types::rlimit {
+        rlim_cur: u64::MAX,
+        rlim_max: u64::MAX,
+    };
+    if libc::getrlimit(RLIMIT_FSIZE, &mut limit) == 0 {
+        limit.rlim_cur
+    } else {
+        u64::MAX
+    }
+}
+
+/// How many bytes standard output takes before it comes to the limit on the size of files. Only a
+/// file has one.
+pub fn room_of_output(rt: &HostRuntime) -> u64 {
+    let limit = size_limit();
+    if limit == u64::MAX {
+        return u64::MAX;
+    }
+    match metadata(rt, "/dev/stdout") {
+        Ok(found) if found.is_file() => {
+            let place = libc::lseek(1, 0, libc::SEEK_CUR);
+            let place = u64::try_from(place).unwrap_or(0);
+            limit.saturating_sub(place.max(found.len()))
+        }
+        _ => u64::MAX,
+    }
+}
