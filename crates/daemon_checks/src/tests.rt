@@ -7,6 +7,7 @@ mod lines;
 mod modules;
 
 use board_core::{MemBoard, MemSource};
+use erst_store::Store;
 use ras_daemon::{Exit, RasWord, rasd};
 use std::alloc::Global;
 use std::process::Abort;
@@ -22,6 +23,11 @@ const LOGGED: &str = concat!(
 );
 
 const REPEATED: &str = "repeat bank=1/0/7/1000\n";
+
+// A board with empty files and no record.
+fn empty_board(alloc: Global) -> Result<MemBoard, Fail> {
+    Ok(MemBoard::new(alloc, Store::new(alloc), 0)?)
+}
 
 // The exit of a call over a board in memory. Every test over such a board goes through this.
 fn exit_in_memory(
@@ -50,7 +56,7 @@ fn check_run(
     status: u8,
 ) -> Result<(), Fail> {
     for piece in [1, 7, usize::MAX] {
-        let mut board = MemBoard::new(alloc)?;
+        let mut board = empty_board(alloc)?;
         let exit = run(alloc, script, piece, &mut board)?;
         assert_eq!(rt; exit.status(), status, "{script} in pieces of {piece}");
         assert_eq!(rt;

@@ -8,9 +8,10 @@ use Rattle.ras_account.specs.Account.{account_of}
 use Rattle.ras_daemon.specs.declared.exit.Exit.{Exit}
 use Rattle.ras_daemon.specs.declared.exit.Exit.TheVariants.{Done, Usage, BadLine, SourceFault, DiskFault, PrintFault, Damaged, Full, NoMemory, TooLong}
 use Rattle.ras_daemon.specs.declared.word.Command.TheVariants.{Run}
-use Rattle.ras_daemon.specs.Causes.{SourceCause, DiskCause, PrintCause}
+use Rattle.board_core.specs.Cause.{Faults, disk_call, print_call}
+use Rattle.ras_daemon.specs.Causes.{BoardCause, SourceCause}
 use Rattle.ras_daemon.specs.Command.{command_of}
-use Rattle.ras_daemon.specs.Ended.{IsAccepted, IsQuiet, IsAcceptedScript, OnAnswer, OverTold, CanBeDone}
+use Rattle.ras_daemon.specs.Ended.{IsAccepted, IsQuiet, IsQuietBoard, IsAcceptedScript, OnAnswer, OverTold, CanBeDone}
 use Rattle.ras_daemon.specs.Reports.{Event, Read, asks_nothing, reopens_account, adds_row, counts_entries, event_in, reads_of, reports, rows_told}
 use Rattle.ras_daemon.specs.Status.{event_refusal, is_past, refusal_at, refusal_among, exit_of}
 use Rattle.ras_daemon.specs.declared.script.TheConstants.{LONGEST_SCRIPT}
@@ -49,9 +50,9 @@ status-end words script file run empty readable =
     rw (run, empty, short) (lines-end [] (reads_of script) readable.lines)
 
 -- the exit of a call, where its counts are quiet and there is room
-exit-end : (exit : Exit) (status : Exit) (source source' disk disk' print print' : ℕ) → OnAnswer exit (exit ≡ status) → IsEnd status → SourceCause exit source source' → DiskCause exit disk disk'
-    → PrintCause exit print print' → IsQuiet source source' → IsQuiet disk disk' → IsQuiet print print' → exit ≢ Full → (exit ≡ Done) ⊎ (exit ≡ NoMemory)
-exit-end exit status source source' disk disk' print print' answer end cause_s cause_d cause_p quiet_s quiet_d quiet_p room = by exit answer cause_s cause_d cause_p room
+exit-end : (exit : Exit) (status : Exit) (source source' : ℕ) (board board' : Faults) → OnAnswer exit (exit ≡ status) → IsEnd status → SourceCause exit source source'
+    → BoardCause exit board board' → IsQuiet source source' → IsQuietBoard board board' → exit ≢ Full → (exit ≡ Done) ⊎ (exit ≡ NoMemory)
+exit-end exit status source source' board board' answer end cause_s cause_b quiet_s quiet_b room = by exit answer cause_s cause_b room
   where
     ends : (e : Exit) → e ≡ status → e ≢ Full → (e ≡ Done) ⊎ (e ≡ NoMemory)
     ends e is not = elim end [
@@ -59,24 +60,24 @@ exit-end exit status source source' disk disk' print print' answer end cause_s c
       | inr full ↦ absurd (not (is ∙ full))
     ]
 
-    by : (e : Exit) → OnAnswer e (e ≡ status) → SourceCause e source source' → DiskCause e disk disk' → PrintCause e print print' → e ≢ Full → (e ≡ Done) ⊎ (e ≡ NoMemory)
-    by SourceFault a s d p not = absurd (quiet_s s)
-    by DiskFault a s d p not = absurd (quiet_d d)
-    by PrintFault a s d p not = absurd (quiet_p p)
-    by NoMemory a s d p not = inr refl
-    by Done a s d p not = inl refl
-    by Usage a s d p not = ends Usage a not
-    by (BadLine line reason) a s d p not = ends (BadLine line reason) a not
-    by (Damaged file place) a s d p not = ends (Damaged file place) a not
-    by Full a s d p not = ends Full a not
-    by TooLong a s d p not = ends TooLong a not
+    by : (e : Exit) → OnAnswer e (e ≡ status) → SourceCause e source source' → BoardCause e board board' → e ≢ Full → (e ≡ Done) ⊎ (e ≡ NoMemory)
+    by SourceFault a s b not = absurd (quiet_s s)
+    by DiskFault a s b not = absurd (quiet_b disk_call b.own)
+    by PrintFault a s b not = absurd (quiet_b print_call b.own)
+    by NoMemory a s b not = inr refl
+    by Done a s b not = inl refl
+    by Usage a s b not = ends Usage a not
+    by (BadLine line reason) a s b not = ends (BadLine line reason) a not
+    by (Damaged file place) a s b not = ends (Damaged file place) a not
+    by Full a s b not = ends Full a not
+    by TooLong a s b not = ends TooLong a not
 
-module _ (words : List (List ℕ)) (exit : Exit) (source source' disk disk' print print' : ℕ) (cause_s : SourceCause exit source source') (cause_d : DiskCause exit disk disk') (cause_p : PrintCause exit print print') where
-  pub completes : (left : Option (List ℕ)) (old : Option Told) → OverTold (λ script told. OnAnswer exit (exit ≡ exit_of words script told.file0)) left old
-      → command_of words ≡ Some Run → IsQuiet source source' → IsQuiet disk disk' → IsQuiet print print'
-      → OverTold (λ script told. told.file0 ≡ [] → IsAcceptedScript script → exit ≢ Full → (exit ≡ Done) ⊎ (exit ≡ NoMemory)) left old
-  completes None old answers run quiet_s quiet_d quiet_p = tt
-  completes (Some script) None answers run quiet_s quiet_d quiet_p = tt
-  completes (Some script) (Some t) answers run quiet_s quiet_d quiet_p = λ empty readable room.
-      exit-end exit (exit_of words script t.file0) source source' disk disk' print print' answers (status-end words script t.file0 run empty readable)
-      cause_s cause_d cause_p quiet_s quiet_d quiet_p room
+module _ (words : List (List ℕ)) (exit : Exit) (source source' : ℕ) (board board' : Faults) (cause_s : SourceCause exit source source') (cause_b : BoardCause exit board board') where
+  pub completes : (left : Option (List ℕ)) (old : Option Told) → OverTold (λ script told. OnAnswer exit (exit ≡ exit_of words script told.here.file0)) left old
+      → command_of words ≡ Some Run → IsQuiet source source' → IsQuietBoard board board'
+      → OverTold (λ script told. told.here.file0 ≡ [] → IsAcceptedScript script → exit ≢ Full → (exit ≡ Done) ⊎ (exit ≡ NoMemory)) left old
+  completes None old answers run quiet_s quiet_b = tt
+  completes (Some script) None answers run quiet_s quiet_b = tt
+  completes (Some script) (Some t) answers run quiet_s quiet_b = λ empty readable room.
+      exit-end exit (exit_of words script t.here.file0) source source' board board' answers (status-end words script t.here.file0 run empty readable)
+      cause_s cause_b quiet_s quiet_b room

@@ -32,12 +32,12 @@ step_text (prints_text bytes) = bytes
 abbrev pub printed_by : List Step → List ℕ
 printed_by steps = flat_map step_text steps
 
-pub out-after : (steps : List Step) (told : Told) → (told_after_all steps told).out ≡ told.out ++ printed_by steps
-out-after [] told = sym (append-nil told.out)
+pub out-after : (steps : List Step) (told : Told) → (told_after_all steps told).here.out ≡ told.here.out ++ printed_by steps
+out-after [] told = sym (append-nil told.here.out)
 out-after (asks_size ∷ steps) told = out-after steps (told_after asks_size told)
 out-after (reads_file count ∷ steps) told = out-after steps (told_after (reads_file count) told)
 out-after (appends place bytes ∷ steps) told = out-after steps (told_after (appends place bytes) told)
-out-after (prints_text bytes ∷ steps) told = out-after steps (told_after (prints_text bytes) told) ∙ append_assoc told.out bytes (printed_by steps)
+out-after (prints_text bytes ∷ steps) told = out-after steps (told_after (prints_text bytes) told) ∙ append_assoc told.here.out bytes (printed_by steps)
 
 pub printed-append : (xs ys : List Step) → printed_by (xs ++ ys) ≡ printed_by xs ++ printed_by ys
 printed-append xs ys = flat_map-append step_text xs ys

@@ -118,25 +118,25 @@ whole_printed before (read ∷ reads) done step rest disk is = by (refusal_at (b
     by None refused ih = rw refused (found (place_of done step rest (read_steps before read) (lines_course (before ++ read ∷ []) reads).steps (rw refused at is)) ih)
 
 abbrev out_of : Told → List ℕ
-out_of t = t.out
+out_of t = t.here.out
 
 -- what a failed call has printed
-fails-out : (step : Step) (old new : Told) → Fails step old new → (part : List ℕ) × (new.out ≡ old.out ++ part) × IsPrefixOf part (step_text step)
-fails-out asks_size old new (inl same) = ([], ap out_of same ∙ sym (append-nil old.out), ([], refl))
-fails-out asks_size old new (inr listed) = ([], ap out_of listed ∙ sym (append-nil old.out), ([], refl))
-fails-out (reads_file count) old new (inl same) = ([], ap out_of same ∙ sym (append-nil old.out), ([], refl))
-fails-out (reads_file count) old new (inr listed) = ([], ap out_of listed ∙ sym (append-nil old.out), ([], refl))
-fails-out (appends place bytes) old new (inr (inl same)) = ([], ap out_of same ∙ sym (append-nil old.out), ([], refl))
-fails-out (appends place bytes) old new (inr (inr listed)) = ([], ap out_of listed ∙ sym (append-nil old.out), ([], refl))
+fails-out : (step : Step) (old new : Told) → Fails step old new → (part : List ℕ) × (new.here.out ≡ old.here.out ++ part) × IsPrefixOf part (step_text step)
+fails-out asks_size old new (inl same) = ([], ap out_of same ∙ sym (append-nil old.here.out), ([], refl))
+fails-out asks_size old new (inr listed) = ([], ap out_of listed ∙ sym (append-nil old.here.out), ([], refl))
+fails-out (reads_file count) old new (inl same) = ([], ap out_of same ∙ sym (append-nil old.here.out), ([], refl))
+fails-out (reads_file count) old new (inr listed) = ([], ap out_of listed ∙ sym (append-nil old.here.out), ([], refl))
+fails-out (appends place bytes) old new (inr (inl same)) = ([], ap out_of same ∙ sym (append-nil old.here.out), ([], refl))
+fails-out (appends place bytes) old new (inr (inr listed)) = ([], ap out_of listed ∙ sym (append-nil old.here.out), ([], refl))
 fails-out (appends place bytes) old new (inl torn) = elim torn.2 [
-  | inl same ↦ ([], ap out_of same ∙ sym (append-nil old.out), ([], refl))
-  | inr listed ↦ ([], ap out_of listed ∙ sym (append-nil old.out), ([], refl))
+  | inl same ↦ ([], ap out_of same ∙ sym (append-nil old.here.out), ([], refl))
+  | inr listed ↦ ([], ap out_of listed ∙ sym (append-nil old.here.out), ([], refl))
 ]
 fails-out (prints_text bytes) old new fails = (fails.0, ap out_of fails.3, (fails.1, fails.2))
 
 -- calls that were cut short have printed a beginning of what they print
 pub cut-out : {Kind : Step → Type 0} (steps : List Step) (t : Told) (new : Option Told) → Cut Kind steps (Some t) new
-    → IsSomeAnd new (λ now. PrintsPart (printed_by steps) t.out now.out)
+    → IsSomeAnd new (λ now. PrintsPart (printed_by steps) t.here.out now.here.out)
 cut-out steps t None cut = cut.leaves
 cut-out steps t (Some now) cut =
     let failed = fails-out cut.step (told_after_all cut.done t) now cut.leaves in
@@ -149,11 +149,11 @@ cut-out steps t (Some now) cut =
             ∙ sym (printed-append cut.done (cut.step ∷ cut.rest))
             ∙ ap printed_by cut.splits,
       ),
-      failed.1 ∙ ap (λ text. text ++ failed.0) (out-after cut.done t) ∙ append_assoc t.out (printed_by cut.done) failed.0,
+      failed.1 ∙ ap (λ text. text ++ failed.0) (out-after cut.done t) ∙ append_assoc t.here.out (printed_by cut.done) failed.0,
     )
 
 pub paused-out : (steps : List Step) (t : Told) (new : Option Told) → Paused steps (Some t) new
-    → IsSomeAnd new (λ now. PrintsPart (printed_by steps) t.out now.out)
+    → IsSomeAnd new (λ now. PrintsPart (printed_by steps) t.here.out now.here.out)
 paused-out steps t new paused = rw paused.leaves (
   printed_by paused.done,
   (printed_by paused.rest, sym (printed-append paused.done paused.rest) ∙ ap printed_by paused.splits),
@@ -179,11 +179,11 @@ whole_call words script file done step rest disk is = by (command_of words) refl
     by None none = absurd (no_disk done step rest (prints_text (stop_line Usage) ∷ []) (rw none at is) (tt, tt) disk)
     by (Some Run) run = found (start_refusal (Some Run) script file) (place_of done step rest (asks_size ∷ []) (start_course (start_refusal (Some Run) script file) script).steps (rw run at is))
 
-fails_disk-out : (step : Step) (old new : Told) → IsDisk step → Fails step old new → new.out ≡ old.out
+fails_disk-out : (step : Step) (old new : Told) → IsDisk step → Fails step old new → new.here.out ≡ old.here.out
 fails_disk-out step old new disk fails =
     let failed = fails-out step old new fails in
     let none : failed.0 ≡ [] = nil-front failed.0 failed.2.0 (failed.2.1 ∙ silent step disk) in
-    failed.1 ∙ ap (λ part. old.out ++ part) none ∙ append-nil old.out
+    failed.1 ∙ ap (λ part. old.here.out ++ part) none ∙ append-nil old.here.out
   where
     silent : (s : Step) → IsDisk s → step_text s ≡ []
     silent asks_size d = refl
@@ -192,9 +192,9 @@ fails_disk-out step old new disk fails =
     silent (prints_text bytes) d = absurd d
 
 -- where a disk call failed whole lines are printed
-pub disk-out : (words : List (List ℕ)) (script : List ℕ) (t : Told) (new : Option Told) → Cut IsDisk (call_course (command_of words) script t.file0).steps (Some t) new
-    → IsSomeAnd new (λ now. (count : ℕ) × (now.out ≡ t.out ++ output_upto (reads_of script) count))
+pub disk-out : (words : List (List ℕ)) (script : List ℕ) (t : Told) (new : Option Told) → Cut IsDisk (call_course (command_of words) script t.here.file0).steps (Some t) new
+    → IsSomeAnd new (λ now. (count : ℕ) × (now.here.out ≡ t.here.out ++ output_upto (reads_of script) count))
 disk-out words script t None cut = cut.leaves
 disk-out words script t (Some now) cut =
-    let whole = whole_call words script t.file0 cut.done cut.step cut.rest cut.kind cut.splits in
-    (whole.0, fails_disk-out cut.step (told_after_all cut.done t) now cut.kind cut.leaves ∙ out-after cut.done t ∙ ap (λ text. t.out ++ text) whole.1)
+    let whole = whole_call words script t.here.file0 cut.done cut.step cut.rest cut.kind cut.splits in
+    (whole.0, fails_disk-out cut.step (told_after_all cut.done t) now cut.kind cut.leaves ∙ out-after cut.done t ∙ ap (λ text. t.here.out ++ text) whole.1)

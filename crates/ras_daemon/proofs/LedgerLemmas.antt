@@ -7,7 +7,8 @@ use Rattle.std.proofs.lemmas.List.Elements.{All-from_recursion}
 use Rattle.std.specs.Option.{option_map}
 use Rattle.board_core.specs.declared.board.DiskCall.TheVariants.{Size, ReadAt}
 use Rattle.board_core.specs.declared.board.FileNo.TheVariants.{Zero}
-use Rattle.board_core.specs.Told.{Told, Relates, MayList, Reads, Steps, called}
+use Rattle.board_core.specs.Cause.{Faults}
+use Rattle.board_core.specs.Told.{Told, Relates, MayList, Reads, Steps, with_call}
 use Rattle.entry_format.specs.File.{AreEntriesOf}
 use Rattle.ras_facts.specs.Entries.{IsValidEntry}
 use Rattle.ras_facts.specs.declared.entry.Entry.{Entry}
@@ -28,7 +29,7 @@ pub size_failed : (reported : List Entry) (old new : Option Told) → Relates (M
 size_failed reported old new failed = cut_first asks_size (reads_file (file_end reported) ∷ []) tt failed
 
 -- the file's size was asked for
-module _ (reported : List Entry) (old mid : Option Told) (size : ℕ) (went : Steps (called (Size Zero)) old mid) where
+module _ (reported : List Entry) (old mid : Option Told) (size : ℕ) (went : Steps (with_call (Size Zero)) old mid) where
   asked : mid ≡ option_map (told_after_all (asks_size ∷ [])) old
   asked = went ∙ sym (map_one asks_size old)
 
@@ -39,14 +40,14 @@ module _ (reported : List Entry) (old mid : Option Told) (size : ℕ) (went : St
   out_of_memory = no_memory asked
 
   -- it is the size of what is stored
-  size-is : IsKept reported old → IfSome old (λ t. size ≡ length t.file0) → size ≡ file_end reported
+  size-is : IsKept reported old → IfSome old (λ t. size ≡ length t.here.file0) → size ≡ file_end reported
   size-is kept is = by old kept.file is
     where
-      by : (o : Option Told) → IsSomeAnd o (λ t. t.file0 ≡ file_bytes reported) → IfSome o (λ t. size ≡ length t.file0) → size ≡ file_end reported
+      by : (o : Option Told) → IsSomeAnd o (λ t. t.here.file0 ≡ file_bytes reported) → IfSome o (λ t. size ≡ length t.here.file0) → size ≡ file_end reported
       by None file long = absurd file
       by (Some t) file long = long ∙ ap length file
 
-  pub read_failed : (new : Option Told) (room : ℕ) → IsKept reported old → IfSome old (λ t. size ≡ length t.file0) → room ≡ size → Relates (MayList (ReadAt Zero 0 room)) mid new
+  pub read_failed : (new : Option Told) (room : ℕ) → IsKept reported old → IfSome old (λ t. size ≡ length t.here.file0) → room ≡ size → Relates (MayList (ReadAt Zero 0 room)) mid new
       → Cut IsDisk (reopen_steps (file_end reported)) old new
   read_failed new room kept is same failed =
       let at : Relates (MayList (ReadAt Zero 0 (file_end reported))) mid new = subst (λ n. Relates (MayList (ReadAt Zero 0 n)) mid new) (same ∙ size-is kept is) failed in
@@ -79,10 +80,10 @@ module _ (reported : List Entry) (old new : Option Told) (bytes : List ℕ) (kep
   are : AreEntriesOf (fresh reported) bytes
   are = rw same (stored-entries reported kept.valid)
 
-  told : IsSomeAnd new (λ t. t.file0 ≡ file_bytes reported)
+  told : IsSomeAnd new (λ t. t.here.file0 ≡ file_bytes reported)
   told = by old kept.file went
     where
-      by : (o : Option Told) → IsSomeAnd o (λ t. t.file0 ≡ file_bytes reported) → new ≡ option_map (told_after_all (reopen_steps (file_end reported))) o → IsSomeAnd new (λ t. t.file0 ≡ file_bytes reported)
+      by : (o : Option Told) → IsSomeAnd o (λ t. t.here.file0 ≡ file_bytes reported) → new ≡ option_map (told_after_all (reopen_steps (file_end reported))) o → IsSomeAnd new (λ t. t.here.file0 ≡ file_bytes reported)
       by None file is = absurd file
       by (Some t) file is = rw is file
 
@@ -107,23 +108,23 @@ module _ (reported : List Entry) (old new : Option Told) (bytes : List ℕ) (kep
   reopened (Err NoMemory) read = record { done = reopen_steps (file_end reported); rest = []; splits = refl; leaves = went }
 
 -- the whole of a file was read
-module _ (reported : List Entry) (old mid new : Option Told) (size count : ℕ) (room : ℕ) (buffer bytes : List ℕ) (kept : IsKept reported old) (asks : Steps (called (Size Zero)) old mid)
-    (long : IfSome old (λ t. size ≡ length t.file0)) (fits : room ≡ size) (filled : length buffer ≡ room) (got : IfSome mid (λ t. Reads 0 count buffer t.file0))
-    (reads : Steps (called (ReadAt Zero 0 room)) mid new) (are : bytes ≡ take count buffer) where
+module _ (reported : List Entry) (old mid new : Option Told) (size count : ℕ) (room : ℕ) (buffer bytes : List ℕ) (kept : IsKept reported old) (asks : Steps (with_call (Size Zero)) old mid)
+    (long : IfSome old (λ t. size ≡ length t.here.file0)) (fits : room ≡ size) (filled : length buffer ≡ room) (got : IfSome mid (λ t. Reads 0 count buffer t.here.file0))
+    (reads : Steps (with_call (ReadAt Zero 0 room)) mid new) (are : bytes ≡ take count buffer) where
   bytes-stored : bytes ≡ file_bytes reported
   bytes-stored = are ∙ by old kept.file long asks
     where
-      at : (m : Option Told) (t : Told) → m ≡ Some (called (Size Zero) t) → IfSome m (λ t. Reads 0 count buffer t.file0) → Reads 0 count buffer t.file0
+      at : (m : Option Told) (t : Told) → m ≡ Some (with_call (Size Zero) t) → IfSome m (λ t. Reads 0 count buffer t.here.file0) → Reads 0 count buffer t.here.file0
       at m t is h = rw is at h
 
-      by : (o : Option Told) → IsSomeAnd o (λ t. t.file0 ≡ file_bytes reported) → IfSome o (λ t. size ≡ length t.file0) → Steps (called (Size Zero)) o mid → take count buffer ≡ file_bytes reported
+      by : (o : Option Told) → IsSomeAnd o (λ t. t.here.file0 ≡ file_bytes reported) → IfSome o (λ t. size ≡ length t.here.file0) → Steps (with_call (Size Zero)) o mid → take count buffer ≡ file_bytes reported
       by None file is went = absurd file
-      by (Some t) file is went = whole-read count buffer t.file0 (filled ∙ fits ∙ is) (at mid t went got) ∙ file
+      by (Some t) file is went = whole-read count buffer t.here.file0 (filled ∙ fits ∙ is) (at mid t went got) ∙ file
 
   calls-made : new ≡ option_map (told_after_all (reopen_steps (file_end reported))) old
   calls-made =
       let asked : mid ≡ option_map (told_after_all (asks_size ∷ [])) old = asks ∙ sym (map_one asks_size old) in
-      let is : Steps (called (ReadAt Zero 0 (file_end reported))) mid new = subst (λ n. Steps (called (ReadAt Zero 0 n)) mid new) (fits ∙ size-is reported old mid size asks kept long) reads in
+      let is : Steps (with_call (ReadAt Zero 0 (file_end reported))) mid new = subst (λ n. Steps (with_call (ReadAt Zero 0 n)) mid new) (fits ∙ size-is reported old mid size asks kept long) reads in
       is ∙ sym (map_one (reads_file (file_end reported)) mid) ∙ ap (option_map (told_after_all (reads_file (file_end reported) ∷ []))) asked
       ∙ sym (map_append (asks_size ∷ []) (reads_file (file_end reported) ∷ []) old)
 
@@ -131,7 +132,7 @@ module _ (reported : List Entry) (old mid new : Option Told) (size count : ℕ) 
   file_read result read = reopened reported old new bytes kept bytes-stored calls-made result read
 
 -- the count of faults stayed
-pub open_same : (result : Result Ledger OpenRefused) (before now : ℕ) → result ≢ Err Disk → now ≡ before → OpenCause result before now
+pub open_same : (result : Result Ledger OpenRefused) (before now : Faults) → result ≢ Err Disk → now ≡ before → OpenCause result before now
 open_same (Ok ledger) before now not same = same
 open_same (Err Disk) before now not same = absurd (not refl)
 open_same (Err (Damaged file place)) before now not same = same

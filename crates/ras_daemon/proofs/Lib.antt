@@ -1,3 +1,5 @@
+pub mod DeviceLemmas
+pub mod FaultLemmas
 pub mod ScriptLemmas
 pub mod StepLemmas
 pub mod FileLemmas

@@ -40,8 +40,8 @@ prepared-steps before number detail entries event place state end is prepared =
     rw (end, is, prepared.file_calls, prepared.texts, prepared.orders, prepared.ends) refl
 
 -- the file after calls that went well, where the board tells
-went-file : (before entries : List Entry) (number : ℕ) (detail : List ℕ) (old new : Option Told) → IsSomeAnd old (λ t. t.file0 ≡ file_bytes before)
-    → new ≡ option_map (told_after_all (count_steps before number detail entries)) old → IsSomeAnd new (λ t. t.file0 ≡ file_bytes (before ++ entries))
+went-file : (before entries : List Entry) (number : ℕ) (detail : List ℕ) (old new : Option Told) → IsSomeAnd old (λ t. t.here.file0 ≡ file_bytes before)
+    → new ≡ option_map (told_after_all (count_steps before number detail entries)) old → IsSomeAnd new (λ t. t.here.file0 ≡ file_bytes (before ++ entries))
 went-file before entries number detail None new file went = absurd file
 went-file before entries number detail (Some t) new file went = rw went (count-file before number detail entries t file)
 
@@ -96,7 +96,7 @@ module _ (before : List Read) (number : ℕ) (line : Line) where
   counts_taken detail entries old new run (Err exit) asks none topology taken = rw asks taken
 
   -- a line whose event adds a row
-  row-file : (old new : Option Told) → IsSomeAnd old (λ t. t.file0 ≡ file_bytes (reports before)) → new ≡ option_map (told_after_all (prints_text (done_line number) ∷ [])) old → IsSomeAnd new (λ t. t.file0 ≡ file_bytes (reports before))
+  row-file : (old new : Option Told) → IsSomeAnd old (λ t. t.here.file0 ≡ file_bytes (reports before)) → new ≡ option_map (told_after_all (prints_text (done_line number) ∷ [])) old → IsSomeAnd new (λ t. t.here.file0 ≡ file_bytes (reports before))
   row-file None new file went = absurd file
   row-file (Some t) new file went = rw went file
 
@@ -185,7 +185,7 @@ pub started : (told : Option Told) (run : Run) (P : Type 0) → FileEndsAt told 
 started None run P empty topology account end stands = tt
 started (Some t) run P empty topology account end stands = stands (record {
   rows = topology;
-  keeps = record { account = account; end = end; room = refl; valid = tt; file = none t.file0 empty };
+  keeps = record { account = account; end = end; room = refl; valid = tt; file = none t.here.file0 empty };
 })
   where
     none : (file : List ℕ) → length file ≡ 0 → file ≡ []
@@ -197,8 +197,8 @@ pub kept : (before : List Entry) (ledger : Ledger) (told : Option Told) → IsLe
 kept before ledger told keeps = record { room = keeps.room; valid = keeps.valid; file = keeps.file }
 
 -- the account was made again, and what it tells was printed or not
-said-file : (before : List Entry) (text : List ℕ) (number : ℕ) (old new : Option Told) → IsSomeAnd old (λ t. t.file0 ≡ file_bytes before) → new ≡ option_map (told_after_all (say_steps text number)) old
-    → IsSomeAnd new (λ t. t.file0 ≡ file_bytes before)
+said-file : (before : List Entry) (text : List ℕ) (number : ℕ) (old new : Option Told) → IsSomeAnd old (λ t. t.here.file0 ≡ file_bytes before) → new ≡ option_map (told_after_all (say_steps text number)) old
+    → IsSomeAnd new (λ t. t.here.file0 ≡ file_bytes before)
 said-file before text number None new file went = absurd file
 said-file before text number (Some t) new file went = rw went (say-file text number t ∙ file)
 

@@ -1,7 +1,8 @@
 -- What an exit says of how far a call came.
-use Rattle.std.specs.Prelude.{◌≡◌, ℕ, ◌≤◌, List, ◌++◌, length, None, Ok, Err, Option, IfSome, IsSomeAnd, ⊤}
+use Rattle.std.specs.Prelude.{◌≡◌, ℕ, ◌≤◌, List, ◌++◌, length, None, Some, Ok, Err, Option, IfSome, IsSomeAnd, ⊤}
 use Rattle.std.specs.List.{AllByRecursion}
-use Rattle.board_core.specs.Cause.{Rose}
+use Rattle.board_core.specs.Cause.{Rose, Faults, Kind, count_of}
+use Rattle.board_core.specs.Clock.{Clock, Adds}
 use Rattle.board_core.specs.Told.{Told}
 use Rattle.ras_base.specs.Prefix.{IsPrefixOf}
 use Rattle.ras_daemon.specs.declared.exit.Exit.{Exit}
@@ -12,9 +13,26 @@ use Rattle.ras_daemon.specs.Reports.{Event, Read, adds_row, event_in, reads_of, 
 use Rattle.ras_daemon.specs.Status.{Place}
 use Rattle.ras_daemon.specs.declared.script.TheConstants.{LONGEST_SCRIPT}
 
--- a count of faults didn't rise
+-- a source's count of faults didn't rise
 abbrev pub IsQuiet : ℕ → ℕ → Type 0
 IsQuiet before now = ¬ Rose before now
+
+-- no count of a board's faults rose
+abbrev pub IsQuietBoard : Faults → Faults → Type 0
+IsQuietBoard before now = (kind : Kind) → IsQuiet (count_of kind before) (count_of kind now)
+
+-- the device with its record store, and the list of accesses to it, are as they were
+pub record KeepsDevice (before now : Told) : Type 0 where
+  pub store : now.here.store ≡ before.here.store
+  pub volatile : now.volatile ≡ before.volatile
+  pub accesses : now.accesses ≡ before.accesses
+
+-- The device stays as it is told, and whatever a stop of the machine since then leaves has the record
+-- store that was told. Of a board that tells nothing this says nothing.
+abbrev pub LeavesDevice : Option Told → Option Told → Clock → Clock → Type 0
+LeavesDevice None told old new = ⊤
+LeavesDevice (Some before) told old new =
+    IsSomeAnd told (KeepsDevice before) × Adds (λ left. left.store ≡ before.here.store) old new
 
 -- what an event asks for can be done, as far as its own line tells: a row is one that the rows
 -- before it take

@@ -2,7 +2,8 @@
 use Rattle.std.specs.Prelude.{◌≡◌, ℕ, ◌+◌, ◌≤◌, true, false, List, [], ◌∷◌, ◌++◌, length, Option, None, Some, IfSome, IsSomeAnd, Result, Ok, Err, ⊤}
 use Rattle.std.specs.List.{AllByRecursion}
 use Rattle.std.specs.Option.{option_map}
-use Rattle.board_core.specs.Cause.{Rose}
+use Rattle.board_core.specs.Cause.{Faults, disk_call}
+use Rattle.ras_daemon.specs.Causes.{Raises}
 use Rattle.board_core.specs.Told.{Told}
 use Rattle.dimm_topology.specs.declared.topology.TopologyRefused.{TopologyRefused}
 use Rattle.page_policy.specs.declared.rows.Order.{Order}
@@ -123,7 +124,7 @@ ReserveExit state entries exit = ⊥
 
 -- the file ends there, where the board tells it
 abbrev pub FileEndsAt : Option Told → ℕ → Type 0
-FileEndsAt told end = IfSome told (λ t. length t.file0 ≡ end)
+FileEndsAt told end = IfSome told (λ t. length t.here.file0 ≡ end)
 
 -- These were reported: the account is theirs, and the board tells that the file holds it.
 pub record IsLedgerOf (reported : List Entry) (ledger : Ledger) (told : Option Told) : Type 0 where
@@ -131,7 +132,7 @@ pub record IsLedgerOf (reported : List Entry) (ledger : Ledger) (told : Option T
   pub end : ledger.end ≡ file_end reported
   pub room : is_past (account_of reported) ≡ false
   pub valid : AreValid (fresh reported)
-  pub file : IsSomeAnd told (λ t. t.file0 ≡ file_bytes reported)
+  pub file : IsSomeAnd told (λ t. t.here.file0 ≡ file_bytes reported)
 
 -- What a run has at hand behind these lines: the rows that they told, and the account of what they
 -- reported.
@@ -157,7 +158,7 @@ TakesEntries before number detail entries (Err exit) old new ledger =
 pub record IsKept (reported : List Entry) (told : Option Told) : Type 0 where
   pub room : is_past (account_of reported) ≡ false
   pub valid : AreValid (fresh reported)
-  pub file : IsSomeAnd told (λ t. t.file0 ≡ file_bytes reported)
+  pub file : IsSomeAnd told (λ t. t.here.file0 ≡ file_bytes reported)
 
 -- The account was made again from a file that holds it, or as far as a fault or want of memory let.
 abbrev pub Reopens : List Entry → Result Ledger OpenRefused → Option Told → Option Told → Type 0
@@ -168,8 +169,8 @@ Reopens reported (Err refused) old new = ⊥
 
 -- Where making the account again failed at the disk the count of faults rose, and else it is as it
 -- was.
-abbrev pub OpenCause : Result Ledger OpenRefused → ℕ → ℕ → Type 0
-OpenCause (Err Disk) before now = Rose before now
+abbrev pub OpenCause : Result Ledger OpenRefused → Faults → Faults → Type 0
+OpenCause (Err Disk) before now = Raises disk_call before now
 OpenCause result before now = now ≡ before
 
 -- a refusal that isn't for what the file's bytes are

@@ -5,7 +5,7 @@ use Rattle.std.specs.List.{flat_map}
 use Rattle.std.specs.Option.{option_map}
 use Rattle.board_core.specs.declared.board.DiskCall.TheVariants.{Size, ReadAt}
 use Rattle.board_core.specs.declared.board.FileNo.TheVariants.{Zero}
-use Rattle.board_core.specs.Told.{Told, Relates, called, written_through, printed, MayList, FailsThrough, FailsPrint}
+use Rattle.board_core.specs.Told.{Told, Relates, with_call, after_write_through, after_print, MayList, FailsThrough, FailsPrint}
 use Rattle.entry_format.specs.Spelling.{entry_bytes}
 use Rattle.ras_base.specs.Places.{places_behind}
 use Rattle.ras_facts.specs.declared.entry.Entry.{Entry}
@@ -33,10 +33,10 @@ pub data Step : Type 0 where
 
 -- what a call, and what calls in order, leave
 abbrev pub told_after : Step → Told → Told
-told_after asks_size told = called (Size Zero) told
-told_after (reads_file count) told = called (ReadAt Zero 0 count) told
-told_after (appends place bytes) told = written_through Zero place bytes told
-told_after (prints_text bytes) told = printed bytes told
+told_after asks_size told = with_call (Size Zero) told
+told_after (reads_file count) told = with_call (ReadAt Zero 0 count) told
+told_after (appends place bytes) told = after_write_through Zero place bytes told
+told_after (prints_text bytes) told = after_print bytes told
 
 abbrev pub told_after_all : List Step → Told → Told
 told_after_all [] told = told

@@ -1,9 +1,9 @@
 //! The top call.
 
 ghost use Rattle.std.specs.Prelude.{◌≡◌, ◌≢◌, ◌⊎◌, ◌++◌, ℕ, [], Some, None, IfSome, IfNone, IsSomeAnd};
-ghost use Rattle.ras_daemon.specs.Causes.{DiskCause, PrintCause, SourceCause};
+ghost use Rattle.ras_daemon.specs.Causes.{BoardCause, SourceCause};
 ghost use Rattle.ras_daemon.specs.Command.{command_of};
-ghost use Rattle.ras_daemon.specs.Ended.{IsAcceptedScript, IsQuiet, OnAnswer, OverBoth, OverTold, PrintsPart};
+ghost use Rattle.ras_daemon.specs.Ended.{IsAcceptedScript, IsQuiet, IsQuietBoard, LeavesDevice, OnAnswer, OverBoth, OverTold, PrintsPart};
 ghost use Rattle.ras_daemon.specs.Event.{FileEndsAt};
 ghost use Rattle.ras_daemon.specs.FileAndCalls.{calls_of, file_after};
 ghost use Rattle.ras_daemon.specs.Output.{output_of, output_upto};
@@ -29,38 +29,37 @@ pub fn rasd<S: Source, B: Board>(
     // Over a source and a board that tell, the exit and what was printed are the stated functions
     // of the words, the script and file 0. A fault or want of memory cuts what is printed short.
     ensures status { OverTold (λ script told. OnAnswer result
-        (result ≡ exit_of words.now script told.file0))
+        (result ≡ exit_of words.now script told.here.file0))
         (S.left source.old) (B.told board.old) }
     ensures output { OverTold (λ script told. OnAnswer result (IsSomeAnd (B.told board.new)
-        (λ now. now.out ≡ told.out ++ output_of words.now script told.file0)))
+        (λ now. now.here.out ≡ told.here.out ++ output_of words.now script told.here.file0)))
         (S.left source.old) (B.told board.old) }
     ensures begun { OverBoth (λ script told now.
-        PrintsPart (output_of words.now script told.file0) told.out now.out)
+        PrintsPart (output_of words.now script told.here.file0) told.here.out now.here.out)
         (S.left source.old) (B.told board.old) (B.told board.new) }
 
     // So are file 0 and the disk calls. File 1 stays.
     ensures file { OverTold (λ script told. OnAnswer result (IsSomeAnd (B.told board.new)
-        (λ now. now.file0 ≡ file_after words.now script told.file0)))
+        (λ now. now.here.file0 ≡ file_after words.now script told.here.file0)))
         (S.left source.old) (B.told board.old) }
     ensures calls { OverTold (λ script told. OnAnswer result (IsSomeAnd (B.told board.new)
-        (λ now. now.calls ≡ told.calls ++ calls_of words.now script told.file0)))
+        (λ now. now.disk_calls ≡ told.disk_calls ++ calls_of words.now script told.here.file0)))
         (S.left source.old) (B.told board.old) }
-    ensures other { OverBoth (λ script told now. now.file1 ≡ told.file1)
+    ensures other { OverBoth (λ script told now. now.here.file1 ≡ told.here.file1)
         (S.left source.old) (B.told board.old) (B.told board.new) }
 
     // No line of an event is printed before its entry is written and synced: where one of these
     // fails, what is printed ends with a whole event.
     ensures synced { result ≡ Exit.DiskFault → OverBoth (λ script told now.
-        (count : ℕ) × (now.out ≡ told.out ++ output_upto (reads_of script) count))
+        (count : ℕ) × (now.here.out ≡ told.here.out ++ output_upto (reads_of script) count))
         (S.left source.old) (B.told board.old) (B.told board.new) }
 
     // Over an empty file an accepted script is taken to its end, unless a fault came, the account
     // is full, or memory ran out.
     ensures complete { command_of words.now ≡ Some Run
         → IsQuiet (S.faults source.old) (S.faults source.new)
-        → IsQuiet (B.disk_faults board.old) (B.disk_faults board.new)
-        → IsQuiet (B.print_faults board.old) (B.print_faults board.new)
-        → OverTold (λ script told. told.file0 ≡ [] → IsAcceptedScript script → result ≢ Exit.Full
+        → IsQuietBoard (B.faults board.old) (B.faults board.new)
+        → OverTold (λ script told. told.here.file0 ≡ [] → IsAcceptedScript script → result ≢ Exit.Full
         → (result ≡ Exit.Done) ⊎ (result ≡ Exit.NoMemory))
         (S.left source.old) (B.told board.old) }
 
@@ -68,10 +67,11 @@ pub fn rasd<S: Source, B: Board>(
     ensures ended { result ≡ Exit.Done
         → IfSome (S.left source.old) (λ script. S.left source.new ≡ Some []) }
 
-    // Where a count of faults rose that fault is the exit, and else the count is as it was.
+    // Where a count of faults rose that fault is the exit, and every other count is as it was.
     ensures source { SourceCause result (S.faults source.old) (S.faults source.new) }
-    ensures disk { DiskCause result (B.disk_faults board.old) (B.disk_faults board.new) }
-    ensures print { PrintCause result (B.print_faults board.old) (B.print_faults board.new) }
+    ensures board { BoardCause result (B.faults board.old) (B.faults board.new) }
+    ensures device { LeavesDevice (B.told board.old) (B.told board.new)
+        (B.clock board.old) (B.clock board.new) }
 
     // Words of no listed form take no memory and leave the source alone, and no other words are
     // such.
@@ -91,14 +91,15 @@ fn call<S: Source, B: Board>(
     board: &mut B,
 ) -> Exit
     ensures takes { OverTold (λ script told. FollowsCall
-        (call_course (command_of words.now) script told.file0)
+        (call_course (command_of words.now) script told.here.file0)
         result (B.told board.old) (B.told board.new))
         (S.left source.old) (B.told board.old) }
     ensures ended { result ≡ Exit.Done
         → IfSome (S.left source.old) (λ script. S.left source.new ≡ Some []) }
     ensures source { SourceCause result (S.faults source.old) (S.faults source.new) }
-    ensures disk { DiskCause result (B.disk_faults board.old) (B.disk_faults board.new) }
-    ensures print { PrintCause result (B.print_faults board.old) (B.print_faults board.new) }
+    ensures faults { BoardCause result (B.faults board.old) (B.faults board.new) }
+    ensures device { LeavesDevice (B.told board.old) (B.told board.new)
+        (B.clock board.old) (B.clock board.new) }
     ensures usage { IfNone (command_of words.now)
         ((result ≡ Exit.Usage) ⊎ (result ≡ Exit.PrintFault)) }
     ensures listed { IfSome (command_of words.now) (λ command. result ≡ Exit.Usage → ⊥) }
@@ -115,12 +116,13 @@ fn run<S: Source, B: Board>(alloc: Global, source: &mut S, board: &mut B) -> Exi
     ensures ended { result ≡ Exit.Done
         → IfSome (S.left source.old) (λ script. S.left source.new ≡ Some []) }
     ensures listed { result ≡ Exit.Usage → ⊥ }
-    ensures takes { OverTold (λ script told. FollowsCall (call_course (Some Run) script told.file0)
+    ensures takes { OverTold (λ script told. FollowsCall (call_course (Some Run) script told.here.file0)
         result (B.told board.old) (B.told board.new))
         (S.left source.old) (B.told board.old) }
     ensures source { SourceCause result (S.faults source.old) (S.faults source.new) }
-    ensures disk { DiskCause result (B.disk_faults board.old) (B.disk_faults board.new) }
-    ensures print { PrintCause result (B.print_faults board.old) (B.print_faults board.new) }
+    ensures faults { BoardCause result (B.faults board.old) (B.faults board.new) }
+    ensures device { LeavesDevice (B.told board.old) (B.told board.new)
+        (B.clock board.old) (B.clock board.new) }
 {
     let size = match board.size(FileNo::Zero) {
         Ok(size) => size,
@@ -143,8 +145,9 @@ fn run_source<S: Source, B: Board>(alloc: Global, source: &mut S, board: &mut B)
         result (B.told board.old) (B.told board.new))
         (S.left source.old) (B.told board.old) }
     ensures source { SourceCause result (S.faults source.old) (S.faults source.new) }
-    ensures disk { DiskCause result (B.disk_faults board.old) (B.disk_faults board.new) }
-    ensures print { PrintCause result (B.print_faults board.old) (B.print_faults board.new) }
+    ensures faults { BoardCause result (B.faults board.old) (B.faults board.new) }
+    ensures device { LeavesDevice (B.told board.old) (B.told board.new)
+        (B.clock board.old) (B.clock board.new) }
 {
     let script = match read_script(alloc, source) {
         Ok(script) => script,

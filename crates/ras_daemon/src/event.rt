@@ -10,7 +10,8 @@ ghost use Rattle.ras_account.specs.View.{added_by};
 ghost use Rattle.ras_texts.specs.OrderRoom.{HasRoomFor};
 ghost use Rattle.ras_texts.specs.Orders.{order_lines};
 ghost use Rattle.ras_texts.specs.Text.{done_line, log_lines};
-ghost use Rattle.ras_daemon.specs.Causes.{Causes, DiskCause, PrintCause};
+ghost use Rattle.ras_daemon.specs.Causes.{BoardCause, Causes};
+ghost use Rattle.ras_daemon.specs.Ended.{LeavesDevice};
 ghost use Rattle.ras_daemon.specs.Event.{AreFit, CanDo, CanTake, FileEndsAt, IsFit, IsPrepared, PrepareExit, ReserveExit};
 ghost use Rattle.ras_daemon.specs.Event.{end_after, longest_entry, prepared_steps, state_after};
 ghost use Rattle.ras_daemon.specs.Progress.{Performs, appends};
@@ -165,8 +166,9 @@ pub fn commit<B: Board>(event: Prepared, ledger: &mut Ledger, board: &mut B) -> 
     ensures end { OnOk result (ledger.new.end ≡ end_after event.fresh ledger.old.end) }
     ensures grows { OnOk result (ledger.new.end ≤ ledger.old.end + longest_entry) }
     ensures fits { OnOk result (FileEndsAt (B.told board.new) ledger.new.end) }
-    ensures disk { Causes DiskCause result (B.disk_faults board.old) (B.disk_faults board.new) }
-    ensures print { Causes PrintCause result (B.print_faults board.old) (B.print_faults board.new) }
+    ensures faults { Causes BoardCause result (B.faults board.old) (B.faults board.new) }
+    ensures device { LeavesDevice (B.told board.old) (B.told board.new)
+        (B.clock board.old) (B.clock board.new) }
 {
     let Prepared {
         fresh,
@@ -199,8 +201,9 @@ fn count<B: Board>(
         ≡ continued ledger.old.account.state fresh.entry) }
     ensures end { OnOk result (ledger.new.end ≡ ledger.old.end + length fresh.bytes.items) }
     ensures fits { OnOk result (FileEndsAt (B.told board.new) ledger.new.end) }
-    ensures disk { Causes DiskCause result (B.disk_faults board.old) (B.disk_faults board.new) }
-    ensures print { Causes PrintCause result (B.print_faults board.old) (B.print_faults board.new) }
+    ensures faults { Causes BoardCause result (B.faults board.old) (B.faults board.new) }
+    ensures device { LeavesDevice (B.told board.old) (B.told board.new)
+        (B.clock board.old) (B.clock board.new) }
 {
     append(board, ledger.end, &fresh.bytes)?;
     let FreshEntry {

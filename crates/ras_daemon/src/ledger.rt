@@ -5,6 +5,7 @@ ghost use Rattle.entry_format.specs.File.{AreEntriesOf, BreaksOffAt};
 ghost use Rattle.ras_facts.specs.declared.entry.Entry.{Entry};
 ghost use Rattle.ras_account.specs.Account.{account_of};
 ghost use Rattle.ras_account.specs.Continued.{IsWithin};
+ghost use Rattle.ras_daemon.specs.Ended.{LeavesDevice};
 ghost use Rattle.ras_daemon.specs.Event.{FileEndsAt, IsKept, IsRoomRefusal, OpenCause, Reopens};
 
 use board_core::{Board, Failed, FileNo};
@@ -68,8 +69,9 @@ pub fn reopen<B: Board>(alloc: Global, board: &mut B) -> Result<Ledger, OpenRefu
         → Reopens reported result (B.told board.old) (B.told board.new) }
     ensures fits { IfOk result (λ ledger. FileEndsAt (B.told board.new) ledger.end) }
     ensures small { IfOk result (λ ledger. ledger.end < 2 ^ 63) }
-    ensures disk { OpenCause result (B.disk_faults board.old) (B.disk_faults board.new) }
-    ensures print { B.print_faults board.new ≡ B.print_faults board.old }
+    ensures faults { OpenCause result (B.faults board.old) (B.faults board.new) }
+    ensures device { LeavesDevice (B.told board.old) (B.told board.new)
+        (B.clock board.old) (B.clock board.new) }
 {
     let size = match board.size(FileNo::Zero) {
         Ok(size) => size,

@@ -9,7 +9,8 @@ ghost use Rattle.ras_script.specs.Line.{line_of};
 ghost use Rattle.ras_texts.specs.Detail.{bank_detail};
 ghost use Rattle.ras_texts.specs.Orders.{standing_lines};
 ghost use Rattle.ras_texts.specs.Text.{done_line, end_line};
-ghost use Rattle.ras_daemon.specs.Causes.{Causes, DiskCause, PrintCause};
+ghost use Rattle.ras_daemon.specs.Causes.{BoardCause, Causes};
+ghost use Rattle.ras_daemon.specs.Ended.{LeavesDevice};
 ghost use Rattle.ras_daemon.specs.Event.{AreFit, FileEndsAt, IsLedgerOf, IsRunAfter, longest_entry};
 ghost use Rattle.ras_daemon.specs.Event.{Reopened, TakesEntries, TakesLine, TakesRow};
 ghost use Rattle.ras_daemon.specs.Progress.{Follows, ends, lines_course};
@@ -49,8 +50,9 @@ pub fn run_script<B: Board>(alloc: Global, script: &[u8], board: &mut B) -> Exit
         (B.told board.new)) }
     ensures listed { result ≡ Exit.Usage → ⊥ }
     ensures source { result ≡ Exit.SourceFault → ⊥ }
-    ensures disk { DiskCause result (B.disk_faults board.old) (B.disk_faults board.new) }
-    ensures print { PrintCause result (B.print_faults board.old) (B.print_faults board.new) }
+    ensures faults { BoardCause result (B.faults board.old) (B.faults board.new) }
+    ensures device { LeavesDevice (B.told board.old) (B.told board.new)
+        (B.clock board.old) (B.clock board.new) }
 {
     let mut run = Run {
         topology: Topology::new(alloc),
@@ -68,8 +70,9 @@ fn end_run<B: Board>(alloc: Global, account: &Account, board: &mut B) -> Exit
         (B.told board.old) (B.told board.new) }
     ensures listed { result ≡ Exit.Usage → ⊥ }
     ensures source { result ≡ Exit.SourceFault → ⊥ }
-    ensures disk { DiskCause result (B.disk_faults board.old) (B.disk_faults board.new) }
-    ensures print { PrintCause result (B.print_faults board.old) (B.print_faults board.new) }
+    ensures faults { BoardCause result (B.faults board.old) (B.faults board.new) }
+    ensures device { LeavesDevice (B.told board.old) (B.told board.new)
+        (B.clock board.old) (B.clock board.new) }
 {
     match end_line(alloc, account) {
         Ok(line) => last_line(&line, Exit::Done, board),
@@ -91,8 +94,9 @@ fn take_lines<B: Board>(
         → TakesLines (reads_of script.now) result (B.told board.old)
         (B.told board.new) run.new.ledger.account.state }
     ensures stops { IfErr result IsStop }
-    ensures disk { Causes DiskCause result (B.disk_faults board.old) (B.disk_faults board.new) }
-    ensures print { Causes PrintCause result (B.print_faults board.old) (B.print_faults board.new) }
+    ensures faults { Causes BoardCause result (B.faults board.old) (B.faults board.new) }
+    ensures device { LeavesDevice (B.told board.old) (B.told board.new)
+        (B.clock board.old) (B.clock board.new) }
 {
     let mut rest = script;
     let mut number = 0u64;
@@ -121,8 +125,9 @@ fn take_line<B: Board>(
     ensures grows { OnOk result (run.new.ledger.end ≤ max run.old.ledger.end (2 ^ 63) + longest_entry) }
     ensures fits { OnOk result (FileEndsAt (B.told board.new) run.new.ledger.end) }
     ensures stops { IfErr result IsStop }
-    ensures disk { Causes DiskCause result (B.disk_faults board.old) (B.disk_faults board.new) }
-    ensures print { Causes PrintCause result (B.print_faults board.old) (B.print_faults board.new) }
+    ensures faults { Causes BoardCause result (B.faults board.old) (B.faults board.new) }
+    ensures device { LeavesDevice (B.told board.old) (B.told board.new)
+        (B.clock board.old) (B.clock board.new) }
 {
     let line = match read_line(alloc, bytes) {
         Ok(line) => line,
@@ -195,8 +200,9 @@ fn take_row<B: Board>(
     ensures fits { (end : ℕ) → FileEndsAt (B.told board.old) end
         → OnOk result (FileEndsAt (B.told board.new) end) }
     ensures stops { IfErr result IsStop }
-    ensures disk { Causes DiskCause result (B.disk_faults board.old) (B.disk_faults board.new) }
-    ensures print { Causes PrintCause result (B.print_faults board.old) (B.print_faults board.new) }
+    ensures faults { Causes BoardCause result (B.faults board.old) (B.faults board.new) }
+    ensures device { LeavesDevice (B.told board.old) (B.told board.new)
+        (B.clock board.old) (B.clock board.new) }
 {
     match added {
         Ok(()) => {}
@@ -233,8 +239,9 @@ fn take_bank<B: Board>(
     ensures grows { OnOk result (run.new.ledger.end ≤ run.old.ledger.end + longest_entry) }
     ensures fits { OnOk result (FileEndsAt (B.told board.new) run.new.ledger.end) }
     ensures stops { IfErr result IsStop }
-    ensures disk { Causes DiskCause result (B.disk_faults board.old) (B.disk_faults board.new) }
-    ensures print { Causes PrintCause result (B.print_faults board.old) (B.print_faults board.new) }
+    ensures faults { Causes BoardCause result (B.faults board.old) (B.faults board.new) }
+    ensures device { LeavesDevice (B.told board.old) (B.told board.new)
+        (B.clock board.old) (B.clock board.new) }
 {
     match told_by(alloc, bank, &run.topology) {
         Ok((detail, made)) => take_entry(alloc, number, &detail, made, &mut run.ledger, board),
@@ -278,8 +285,9 @@ fn take_entry<B: Board>(
     ensures grows { OnOk result (ledger.new.end ≤ ledger.old.end + longest_entry) }
     ensures fits { OnOk result (FileEndsAt (B.told board.new) ledger.new.end) }
     ensures stops { IfErr result IsStop }
-    ensures disk { Causes DiskCause result (B.disk_faults board.old) (B.disk_faults board.new) }
-    ensures print { Causes PrintCause result (B.print_faults board.old) (B.print_faults board.new) }
+    ensures faults { Causes BoardCause result (B.faults board.old) (B.faults board.new) }
+    ensures device { LeavesDevice (B.told board.old) (B.told board.new)
+        (B.clock board.old) (B.clock board.new) }
 {
     match prepare(alloc, number, detail, made, &mut ledger.account) {
         Ok(event) => commit(event, ledger, board),
@@ -300,8 +308,9 @@ fn take_restart<B: Board>(
     ensures small { OnOk result (ledger.new.end < 2 ^ 63) }
     ensures fits { OnOk result (FileEndsAt (B.told board.new) ledger.new.end) }
     ensures stops { IfErr result IsStop }
-    ensures disk { Causes DiskCause result (B.disk_faults board.old) (B.disk_faults board.new) }
-    ensures print { Causes PrintCause result (B.print_faults board.old) (B.print_faults board.new) }
+    ensures faults { Causes BoardCause result (B.faults board.old) (B.faults board.new) }
+    ensures device { LeavesDevice (B.told board.old) (B.told board.new)
+        (B.clock board.old) (B.clock board.new) }
 {
     match reopen(alloc, board) {
         Ok(opened) => *ledger = opened,
@@ -336,8 +345,9 @@ fn restart_texts(
 fn refuse_line<B: Board>(alloc: Global, number: u64, refused: LineRefused, board: &mut B) -> Exit
     ensures stops { IsStop result }
     ensures refuses { RefusesLine number refused result (B.told board.old) (B.told board.new) }
-    ensures disk { DiskCause result (B.disk_faults board.old) (B.disk_faults board.new) }
-    ensures print { PrintCause result (B.print_faults board.old) (B.print_faults board.new) }
+    ensures faults { BoardCause result (B.faults board.old) (B.faults board.new) }
+    ensures device { LeavesDevice (B.told board.old) (B.told board.new)
+        (B.clock board.old) (B.clock board.new) }
 {
     let exit = match refused {
         LineRefused::NoMemory => Exit::NoMemory,
@@ -357,8 +367,9 @@ pub fn refuse<B: Board>(alloc: Global, exit: Exit, board: &mut B) -> Exit
     ensures refuses { Refuses exit result (B.told board.old) (B.told board.new) }
     ensures answers { (result ≡ exit) ⊎ ((result ≡ Exit.PrintFault) ⊎ (result ≡ Exit.NoMemory)) }
     ensures stops { IsStop result }
-    ensures disk { DiskCause result (B.disk_faults board.old) (B.disk_faults board.new) }
-    ensures print { PrintCause result (B.print_faults board.old) (B.print_faults board.new) }
+    ensures faults { BoardCause result (B.faults board.old) (B.faults board.new) }
+    ensures device { LeavesDevice (B.told board.old) (B.told board.new)
+        (B.clock board.old) (B.clock board.new) }
 {
     if exit == Exit::NoMemory {
         return exit;
@@ -374,8 +385,9 @@ pub fn last_line<B: Board>(line: &[u8], exit: Exit, board: &mut B) -> Exit
     requires { IsAnswer exit }
     ensures takes { Follows (ends line.now exit) result (B.told board.old) (B.told board.new) }
     ensures answers { (result ≡ exit) ⊎ (result ≡ Exit.PrintFault) }
-    ensures disk { DiskCause result (B.disk_faults board.old) (B.disk_faults board.new) }
-    ensures print { PrintCause result (B.print_faults board.old) (B.print_faults board.new) }
+    ensures faults { BoardCause result (B.faults board.old) (B.faults board.new) }
+    ensures device { LeavesDevice (B.told board.old) (B.told board.new)
+        (B.clock board.old) (B.clock board.new) }
 {
     match board.print(line) {
         Ok(()) => exit,

@@ -2,7 +2,8 @@
 
 ghost use Rattle.std.specs.Prelude.{◌≡◌, ◌≤◌, ℕ, [], ◌∷◌, ◌++◌, length, IfSome, OnOk};
 ghost use Rattle.board_core.specs.declared.board.FileNo.TheVariants.{Zero};
-ghost use Rattle.ras_daemon.specs.Causes.{Causes, DiskCause, PrintCause};
+ghost use Rattle.ras_daemon.specs.Causes.{BoardCause, Causes};
+ghost use Rattle.ras_daemon.specs.Ended.{LeavesDevice};
 ghost use Rattle.ras_daemon.specs.Event.{FileEndsAt};
 ghost use Rattle.ras_daemon.specs.Progress.{Performs, prints_text, appends, text_steps};
 
@@ -15,11 +16,12 @@ use board_core::{Board, Failed, FileNo, write_through};
 ///
 /// `DiskFault` comes only where a disk call failed.
 pub fn append<B: Board>(board: &mut B, place: u64, bytes: &[u8]) -> Result<(), Exit>
-    requires { IfSome (B.told board.old) (λ told. place ≤ length told.file0) }
+    requires { IfSome (B.told board.old) (λ told. place ≤ length told.here.file0) }
     ensures performs { Performs (appends place bytes.now ∷ [])
         result (B.told board.old) (B.told board.new) }
-    ensures disk { Causes DiskCause result (B.disk_faults board.old) (B.disk_faults board.new) }
-    ensures print { Causes PrintCause result (B.print_faults board.old) (B.print_faults board.new) }
+    ensures faults { Causes BoardCause result (B.faults board.old) (B.faults board.new) }
+    ensures device { LeavesDevice (B.told board.old) (B.told board.new)
+        (B.clock board.old) (B.clock board.new) }
 {
     match write_through(FileNo::Zero, place, bytes, board) {
         Ok(()) => Ok(()),
@@ -37,8 +39,9 @@ pub fn say<B: Board>(board: &mut B, text: &[u8]) -> Result<(), Exit>
         → OnOk result (FileEndsAt (B.told board.new) end) }
     ensures performs { Performs (text_steps text.now)
         result (B.told board.old) (B.told board.new) }
-    ensures disk { Causes DiskCause result (B.disk_faults board.old) (B.disk_faults board.new) }
-    ensures print { Causes PrintCause result (B.print_faults board.old) (B.print_faults board.new) }
+    ensures faults { Causes BoardCause result (B.faults board.old) (B.faults board.new) }
+    ensures device { LeavesDevice (B.told board.old) (B.told board.new)
+        (B.clock board.old) (B.clock board.new) }
 {
     if text.is_empty() {
         return Ok(());
@@ -56,8 +59,9 @@ pub fn say_done<B: Board>(text: &[u8], done: &[u8], board: &mut B) -> Result<(),
         result (B.told board.old) (B.told board.new) }
     ensures fits { (end : ℕ) → FileEndsAt (B.told board.old) end
         → OnOk result (FileEndsAt (B.told board.new) end) }
-    ensures disk { Causes DiskCause result (B.disk_faults board.old) (B.disk_faults board.new) }
-    ensures print { Causes PrintCause result (B.print_faults board.old) (B.print_faults board.new) }
+    ensures faults { Causes BoardCause result (B.faults board.old) (B.faults board.new) }
+    ensures device { LeavesDevice (B.told board.old) (B.told board.new)
+        (B.clock board.old) (B.clock board.new) }
 {
     say(board, text)?;
     print(board, done)
@@ -69,8 +73,9 @@ fn print<B: Board>(board: &mut B, text: &[u8]) -> Result<(), Exit>
         result (B.told board.old) (B.told board.new) }
     ensures fits { (end : ℕ) → FileEndsAt (B.told board.old) end
         → OnOk result (FileEndsAt (B.told board.new) end) }
-    ensures disk { Causes DiskCause result (B.disk_faults board.old) (B.disk_faults board.new) }
-    ensures print { Causes PrintCause result (B.print_faults board.old) (B.print_faults board.new) }
+    ensures faults { Causes BoardCause result (B.faults board.old) (B.faults board.new) }
+    ensures device { LeavesDevice (B.told board.old) (B.told board.new)
+        (B.clock board.old) (B.clock board.new) }
 {
     match board.print(text) {
         Ok(()) => Ok(()),

@@ -1,4 +1,4 @@
--- Only for proofs: that a text has room for the lines of orders.
+-- That a text has room for the lines of orders.
 use Rattle.std.specs.Prelude.{ℕ, ◌+◌, ◌*◌, ◌≤◌}
 use Rattle.std.specs.Global.{Vec}
 use Rattle.std.specs.Vec.{vec_capacity, vec_len}

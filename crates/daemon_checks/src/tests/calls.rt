@@ -1,7 +1,7 @@
 //! The disk calls of a run, and what it leaves in both files.
 
-use super::{EVERYDAY, run};
-use board_core::{DiskCall, FileNo, MemBoard};
+use super::{EVERYDAY, empty_board, run};
+use board_core::{DiskCall, FileNo};
 use ras_daemon::Exit;
 use std::alloc::Global;
 use std::process::Abort;
@@ -38,7 +38,7 @@ fn check_calls(
     file: &[u8],
     calls: &[DiskCall],
 ) -> Result<(), Fail> {
-    let mut board = MemBoard::new(alloc)?;
+    let mut board = empty_board(alloc)?;
     assert_eq!(rt; run(alloc, script, 7, &mut board)?, Exit::Done);
     assert_eq!(rt; board.file(FileNo::Zero), file);
     assert_eq!(rt; board.file(FileNo::One), b"".as_slice());

@@ -3,21 +3,23 @@
 ghost use Rattle.std.specs.Prelude.{◌≡◌, None, IfOk, OnErr, IsErr};
 ghost use Rattle.board_core.specs.Cause.{HasCause};
 ghost use Rattle.board_core.specs.Clock.{untold};
-ghost use Rattle.board_core.specs.ClockLaws.{not_told};
+ghost use Rattle.board_core.specs.ClockLemmas.{not_told};
 
 use super::{EVERYDAY, LOGGED, REPEATED};
-use board_core::{Board, Failed, FileNo, MemBoard, MemSource};
+use board_core::{Board, BoardPut, Failed, FileNo, MemBoard, MemSource, Reg};
+use erst_store::Store;
 use ras_daemon::{Exit, RasWord, rasd};
 use std::alloc::Global;
 use std::test::Fail;
 
-// A board that tells nothing, as one over real files does. At its first sync its disk is exchanged
+// A board that tells nothing, as one over real files does, and whose device fails at each call. At its first sync its disk is exchanged
 // for another one, whose files are empty: every later disk call goes there. All is printed to the
 // first.
 #[derive(Drop)]
 struct ExchangedDisk {
     disks: Disks,
     disk_faults: u64,
+    device_faults: u64,
     print_faults: u64,
 }
 
@@ -33,11 +35,12 @@ impl ExchangedDisk {
     fn new(alloc: Global) -> Result<ExchangedDisk, Fail> {
         Ok(ExchangedDisk {
             disks: Disks {
-                first: MemBoard::new(alloc)?,
-                second: MemBoard::new(alloc)?,
+                first: MemBoard::new(alloc, Store::new(alloc), 0)?,
+                second: MemBoard::new(alloc, Store::new(alloc), 0)?,
                 is_exchanged: false,
             },
             disk_faults: 0,
+            device_faults: 0,
             print_faults: 0,
         })
     }
@@ -65,13 +68,13 @@ impl Board for ExchangedDisk {
 
     ghost clock = { λ _. untold };
 
-    ghost disk_faults = { λ b. b.disk_faults };
-
-    ghost print_faults = { λ b. b.print_faults };
+    ghost faults = { λ b. record { disk = b.disk_faults; registers = b.device_faults; prints = b.print_faults } };
 
     ghost told_may_be_left = { λ _ t told. not_told t told };
 
     ghost text_is_left = { λ _ t left told now. absurd now };
+
+    ghost store_is_left = { λ _ t left told now. absurd now };
 
     ghost counts_earlier = { λ _ s t left within may. may };
 
@@ -91,6 +94,27 @@ impl Board for ExchangedDisk {
 
     fn sync(&mut self, file: FileNo) -> Result<(), Failed> {
         count_failure(self.disks.sync(file), &mut self.disk_faults)
+    }
+
+    fn reg_read(&mut self, _: Reg) -> Result<u64, Failed> {
+        count_failure(Err(Failed), &mut self.device_faults)
+    }
+
+    fn reg_write(&mut self, _: Reg, _: u64) -> Result<(), Failed> {
+        count_failure(Err(Failed), &mut self.device_faults)
+    }
+
+    fn range_read(&mut self, _: u32, _: &mut [u8]) -> Result<(), Failed> {
+        count_failure(Err(Failed), &mut self.device_faults)
+    }
+
+    fn range_write(&mut self, _: u32, _: &[u8]) -> Result<(), Failed> {
+        count_failure(Err(Failed), &mut self.device_faults)
+    }
+
+    fn put(&mut self, _: u64, _: &[u8]) -> Result<(), BoardPut> {
+        self.device_faults = self.device_faults.saturating_add(1);
+        Err(BoardPut::Failed)
     }
 
     fn print(&mut self, bytes: &[u8]) -> Result<(), Failed> {

@@ -1,7 +1,7 @@
 //! Calls that fail.
 
-use super::{EVERYDAY, LOGGED, exit_in_memory, run};
-use board_core::{MemBoard, MemSource};
+use super::{EVERYDAY, LOGGED, empty_board, exit_in_memory, run};
+use board_core::MemSource;
 use ras_daemon::{Exit, RasWord};
 use std::alloc::Global;
 use std::process::Abort;
@@ -16,7 +16,7 @@ fn check_fault(
     exit: Exit,
     output: &str,
 ) -> Result<(), Fail> {
-    let mut board = MemBoard::new(alloc)?;
+    let mut board = empty_board(alloc)?;
     board.fail_at(call)?;
     assert_eq!(rt; run(alloc, script, 7, &mut board)?, exit, "call {call}");
     assert_eq!(rt; board.out(), output.as_bytes(), "call {call}");
@@ -61,7 +61,7 @@ fn a_source_that_fails(rt: HostRuntime) -> Result<(), Fail> {
         (b"", Exit::Usage, b"stop 1 usage\n"),
     ];
     for (word, exit, output) in rows {
-        let mut board = MemBoard::new(alloc)?;
+        let mut board = empty_board(alloc)?;
         let words = vec![in alloc; RasWord::new(alloc, word)?]?;
         let mut source = MemSource::new(Vec::new(alloc), 1, vec![in alloc; 1]?);
         assert_eq!(rt;

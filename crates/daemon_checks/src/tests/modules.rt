@@ -1,7 +1,6 @@
 //! The rows that tell whose errors are whose.
 
-use super::{EVERYDAY, LOGGED, check_run, run};
-use board_core::MemBoard;
+use super::{EVERYDAY, LOGGED, check_run, empty_board, run};
 use std::alloc::Global;
 use std::process::Abort;
 use std::test::Fail;
@@ -47,7 +46,7 @@ fn check_rows(
         }
     }
     output.push_str(last_line)?;
-    let mut board = MemBoard::new(alloc)?;
+    let mut board = empty_board(alloc)?;
     let exit = run(alloc, script.as_str(), 1000, &mut board)?;
     assert_eq!(rt; exit.status(), status);
     assert_eq!(rt; board.out(), output.as_bytes());

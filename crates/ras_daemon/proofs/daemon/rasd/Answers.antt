@@ -25,5 +25,5 @@ returns-clause-synced g c = λ is. disk-taken c.args.words.now c.call.result _ (
 
 pub returns-clause-complete : goal.returns-clause-complete
 returns-clause-complete g c =
-    completes c.args.words.now c.call.result _ _ _ _ _ _ c.call.ensures.source c.call.ensures.disk c.call.ensures.print _ (g.B.Board.told c.args.board.now)
+    completes c.args.words.now c.call.result _ _ _ _ c.call.ensures.source c.call.ensures.faults _ (g.B.Board.told c.args.board.now)
     (status-taken c.args.words.now c.call.result _ (g.B.Board.told c.args.board.now) (g.B.Board.told c.call.new.board) c.call.ensures.takes)

@@ -2,6 +2,7 @@ use Rattle.std.proofs.Common.{◌+◌, ◌∙◌, refl, arith}
 use Rattle.std.proofs.lemmas.Result.{err_from_is_err_and}
 use Rattle.ras_script.specs.Line.{line_of}
 use Rattle.ras_daemon.specs.Reports.{reads_from, reads_of}
+use Rattle.ras_daemon.proofs.DeviceLemmas.{device_goes_on, device_stays}
 use Rattle.ras_daemon.proofs.RunLemmas.{took_none, took_line, took_stop, reads-first}
 use Rattle.ras_daemon.proofs.run.take_lines.Goals as goal
 
@@ -11,8 +12,8 @@ loop-rest-init g c = record {
   short = omega arith;
   small = (let none = c.requires.end in omega arith);
   fits = rw c.requires.end c.requires.empty;
-  disk = refl;
-  print = refl;
+  faults = refl;
+  device = device_stays _ _;
 }
 
 pub returns-in_err-take_line-clause-takes : goal.returns-in_err-take_line-clause-takes
@@ -34,6 +35,9 @@ loop-rest-preserved g c = record {
   short = (let shorter = c.first_line.ensures.shorter in omega arith);
   small = (let grows = c.in_ok-take_line.ensures.grows in let small = c.loop-rest.invariant.small in omega arith);
   fits = c.in_ok-take_line.ensures.fits;
-  disk = c.in_ok-take_line.ensures.disk ∙ c.loop-rest.invariant.disk;
-  print = c.in_ok-take_line.ensures.print ∙ c.loop-rest.invariant.print;
+  faults = c.in_ok-take_line.ensures.faults ∙ c.loop-rest.invariant.faults;
+  device = device_goes_on _ _ _ _ _ _ c.loop-rest.invariant.device c.in_ok-take_line.ensures.device;
 }
+
+pub returns-in_err-take_line-clause-device : goal.returns-in_err-take_line-clause-device
+returns-in_err-take_line-clause-device g c = device_goes_on _ _ _ _ _ _ c.loop-rest.invariant.device c.in_err-take_line.ensures.device

@@ -1,5 +1,6 @@
 use Rattle.std.proofs.Common.{◌≡◌, [], ◌+◌, ◌*◌, ◌^◌, ◌≤◌, length}
 use Rattle.ras_daemon.specs.declared.script.TheConstants.{LONGEST_SCRIPT}
+use Rattle.ras_daemon.specs.Ended.{LeavesDevice}
 use Rattle.ras_daemon.specs.Event.{FileEndsAt, IsRunAfter, longest_entry}
 use Rattle.ras_daemon.specs.Reports.{reads_from, reads_of}
 use Rattle.ras_daemon.specs.Run.{TookSome}
@@ -13,8 +14,8 @@ invariant-loop-rest g l = record {
   short : l.number + length l.rest ≤ LONGEST_SCRIPT;
   small : l.run.ledger.end ≤ 2 ^ 63 + longest_entry * l.number;
   fits : FileEndsAt (g.B.Board.told l.board) l.run.ledger.end;
-  disk : g.B.Board.disk_faults l.board ≡ g.B.Board.disk_faults l.fn.board;
-  print : g.B.Board.print_faults l.board ≡ g.B.Board.print_faults l.fn.board;
+  faults : g.B.Board.faults l.board ≡ g.B.Board.faults l.fn.board;
+  device : LeavesDevice (g.B.Board.told l.fn.board) (g.B.Board.told l.board) (g.B.Board.clock l.fn.board) (g.B.Board.clock l.board);
 }
 
 abbrev pub decreases-loop-rest : goal.decreases-loop-rest

@@ -1,6 +1,7 @@
 use Rattle.std.proofs.Common.{[], ◌∷◌}
 use Rattle.std.proofs.lemmas.Result.{err_from_is_err_and}
 use Rattle.ras_daemon.specs.Progress.{prints_text, text_steps}
+use Rattle.ras_daemon.proofs.DeviceLemmas.{device_goes_on}
 use Rattle.ras_daemon.proofs.StepLemmas.{performs_first, performs_then}
 use Rattle.ras_daemon.proofs.step.say_done.Goals as goal
 
@@ -13,3 +14,6 @@ returns-in_err-say-clause-performs g c =
 pub returns-clause-performs : goal.returns-clause-performs
 returns-clause-performs g c =
     performs_then _ _ _ (text_steps c.args.text.now) (prints_text c.args.done.now ∷ []) c.print.result c.in_ok-say.ensures.performs c.print.ensures.performs
+
+pub returns-clause-device : goal.returns-clause-device
+returns-clause-device g c = device_goes_on _ _ _ _ _ _ c.in_ok-say.ensures.device c.print.ensures.device
