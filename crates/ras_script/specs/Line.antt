@@ -2,12 +2,13 @@
 use Rattle.std.specs.Prelude.{◌≡◌, ℕ, ◌-◌, ◌^◌, ◌==◌, List, [], ◌∷◌, length, codes, Result, Ok, Err, ⊤, Option, None, Some, if◌then◌else◌, nat_le, slice_index, slice_index_or}
 use Rattle.std.specs.Str.{bytes_eq}
 use Rattle.dimm_topology.specs.Labels.{is_label}
+use Rattle.page_policy.specs.declared.buckets.TheConstants.{MOST_CAPACITY, MOST_PERIOD}
 use Rattle.ras_base.specs.Chaining.{◌>>=◌}
 use Rattle.ras_script.specs.declared.line.Line.{Line}
 use Rattle.ras_script.specs.declared.line.Line.TheVariants.{Empty, Comment, Bank, Cpu, Module, Range, Limit, Restart}
 use Rattle.ras_script.specs.declared.line.LineRefused.{LineRefused}
 use Rattle.ras_script.specs.declared.line.LineRefused.TheVariants.{Kind, Words, Number, Label as NoLabel, NoMemory}
-use Rattle.ras_script.specs.declared.line.TheConstants.{BANK_WORDS, CPU_WORDS, MODULE_WORDS, RANGE_WORDS, LIMIT_WORDS, LAST_CHANNEL, MOST_CAPACITY, LONGEST_PERIOD}
+use Rattle.ras_script.specs.declared.line.TheConstants.{BANK_WORDS, CPU_WORDS, MODULE_WORDS, RANGE_WORDS, LIMIT_WORDS, LAST_CHANNEL}
 use Rattle.ras_script.specs.Number.{decimal_of, hexadecimal_of}
 use Rattle.ras_script.specs.Splitting.{words_of}
 
@@ -81,7 +82,7 @@ range_of words = if length words == RANGE_WORDS then (do
 abbrev pub limit_of : List (List ℕ) → Result Line LineRefused
 limit_of words = if length words == LIMIT_WORDS then (do
   capacity ← positive_at words 0 MOST_CAPACITY
-  period ← positive_at words 1 LONGEST_PERIOD
+  period ← positive_at words 1 MOST_PERIOD
   Ok (Limit capacity period)) else Err Words
 
 -- The account is to be made again from the file; no word stands after `restart`.

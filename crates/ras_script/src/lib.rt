@@ -8,11 +8,14 @@ mod splitting;
 mod window;
 
 pub use line::{
-    LAST_CHANNEL, LONGEST_PERIOD, Line, LineRefused, MOST_CAPACITY, numbers_are_in_range,
-    read_line, refused_lines_have_words, written_lines_are_read,
+    LAST_CHANNEL, Line, LineRefused, numbers_are_in_range, read_line, refused_lines_have_words,
+    written_lines_are_read,
 };
 pub use number::{
     DECIMAL_DIGITS, HEXADECIMAL_DIGITS, decimal, hexadecimal, written_numbers_are_read,
 };
 pub use reader::{LONGEST_LINE, LONGEST_SCRIPT, LineReader, NextRefused};
 pub use splitting::{first_line, lines_are_the_script, spaces_separate_words, words};
+
+#[cfg(test)]
+mod tests;

@@ -11,6 +11,7 @@ ghost use Rattle.ras_script.specs.declared.line.LineRefused.TheVariants as Refus
 use crate::number::{decimal, hexadecimal};
 use crate::splitting::words;
 use dimm_topology::{Label, LabelRefused};
+use page_policy::{MOST_CAPACITY, MOST_PERIOD};
 use ras_base::NoMemory;
 use std::alloc::Global;
 use thiserror::Error;
@@ -98,12 +99,6 @@ const LIMIT_WORDS: usize = 2;
 
 /// The greatest number of a memory channel.
 pub const LAST_CHANNEL: u64 = 14;
-
-/// The greatest capacity of a limit, in corrected errors.
-pub const MOST_CAPACITY: u64 = 1_000_000;
-
-/// The longest period of a limit, in seconds.
-pub const LONGEST_PERIOD: u64 = 10_000_000;
 
 /// What a line says, whose bytes these are without its line feed.
 ///
@@ -250,8 +245,8 @@ fn limit_of(words: &[&[u8]]) -> Result<Line, LineRefused>
     if words.len() != LIMIT_WORDS {
         return Err(LineRefused::Words);
     }
-    let capacity = positive_at(words, 0, MOST_CAPACITY)? as u32;
-    let period = positive_at(words, 1, LONGEST_PERIOD)? as u32;
+    let capacity = positive_at(words, 0, u64::from(MOST_CAPACITY))? as u32;
+    let period = positive_at(words, 1, u64::from(MOST_PERIOD))? as u32;
     Ok(Line::Limit { capacity, period })
 }
 
