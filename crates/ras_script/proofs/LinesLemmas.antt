@@ -2,7 +2,7 @@
 use Rattle.std.proofs.Common.{one-add, take_all, ◌≡◌, ℕ, suc, ◌+◌, ◌-◌, ◌<◌, ◌≤◌, ◌==◌, Bool, true, false, cond, not, nat_lt, List, [], ◌∷◌, ◌++◌, length, take, refl, ap, sym, ◌∙◌, arith, length-append}
 use Rattle.std.proofs.Math.Seq.{take-append-add, take-append_seam, take-nil}
 use Rattle.std.proofs.lemmas.Bool.Decides.{nat_tests}
-use Rattle.std.proofs.lemmas.List.{length-take}
+use Rattle.std.proofs.lemmas.List.{append-nil, length-take}
 use Rattle.std.specs.List.{slice_split, list_any, take_while, prefix_len}
 use Rattle.ras_script.specs.Lines.{script_ended, line_too_long, script_too_long, lines_within, with_line, no_line, is_too_long, without_last}
 use Rattle.ras_script.specs.Splitting.{lines_of, without_empty_last}
@@ -136,3 +136,19 @@ unfolding lines_within
 no_lines most =
     let few : nat_lt most 0 ≡ false = grind (arith, nat_tests) in
     rw (take-nil (most + 1), few) refl
+
+-- parts after others keep their last one
+last_append : (xs ys : List (List ℕ)) → 0 < length ys → without_empty_last (xs ++ ys) ≡ xs ++ without_empty_last ys
+last_append [] ys some = refl
+last_append (x ∷ xs) ys some =
+    let more : 0 < length (xs ++ ys) = omega (arith, length-append xs ys) in
+    part_first x (xs ++ ys) more ∙ ap (λ (t : List (List ℕ)). x ∷ t) (last_append xs ys some)
+
+split_cut : (front rest : List ℕ) → lines_of (front ++ 10 ∷ rest) ≡ slice_split (λ b. b == 10) front ++ lines_of rest
+split_cut front rest =
+    ap without_empty_last (split_between 10 front rest) ∙ last_append (slice_split (λ b. b == 10) front) (slice_split (λ b. b == 10) rest) (some_part (λ b. b == 10) rest)
+
+pub lines_feed_cut : (front rest : List ℕ) → lines_of (front ++ 10 ∷ rest) ≡ lines_of (front ++ 10 ∷ []) ++ lines_of rest
+lines_feed_cut front rest =
+    let alone : lines_of (front ++ 10 ∷ []) ≡ slice_split (λ b. b == 10) front = split_cut front [] ∙ append-nil (slice_split (λ b. b == 10) front) in
+    split_cut front rest ∙ ap (λ (t : List (List ℕ)). t ++ lines_of rest) (sym alone)

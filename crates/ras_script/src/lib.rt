@@ -14,7 +14,7 @@ pub use line::{
 pub use number::{
     DECIMAL_DIGITS, HEXADECIMAL_DIGITS, decimal, hexadecimal, written_numbers_are_read,
 };
-pub use reader::{LONGEST_LINE, LONGEST_SCRIPT, LineReader, NextRefused};
+pub use reader::{LONGEST_LINE, LONGEST_SCRIPT, LineReader, NextRefused, line_feeds_cut_scripts};
 pub use splitting::{first_line, lines_are_the_script, spaces_separate_words, words};
 
 #[cfg(test)]

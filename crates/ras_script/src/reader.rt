@@ -1,7 +1,9 @@
 //! The lines of a script, from a source that gives its bytes in pieces.
 
-ghost use Rattle.std.specs.Prelude.{◌≡◌, ◌+◌, ◌<◌, ◌≤◌, ◌↔◌, true, [], length, take, drop, IfOk, IfErr, IfSome, OnErr, OnOk, Ok, Err, IsTrue, MatchOption, Contains};
+ghost use Rattle.std.specs.Prelude.{◌≡◌, ◌+◌, ◌<◌, ◌≤◌, ◌↔◌, true, [], length, take, drop, IfOk, IfErr, IfSome, OnErr, OnOk, Ok, Err, IsTrue, MatchOption, Contains, ℕ, List, ◌-◌, ◌∷◌, ◌++◌};
 ghost use Rattle.board_core.specs.Cause.{HasCause};
+ghost use Rattle.ras_script.specs.Lines.{lines_within, with_line};
+ghost use Rattle.ras_script.specs.Splitting.{lines_of};
 ghost use Rattle.ras_script.specs.Reader.{GivesNext, MovesLine, Moves, HasSourceCause, IsLine, lines_to_come, given_count};
 ghost use Rattle.ras_script.specs.ReaderSteps.{FeedAt, Finds, IsHeld};
 ghost use Rattle.ras_script.specs.SplittingLaws.{Lacks};
@@ -42,6 +44,18 @@ impl From<Failed> for NextRefused {
         NextRefused::Source
     }
 }
+
+/// A line feed cuts the lines of a script: those of two texts with a line feed between them are
+/// those of the one and then those of the other, and within the limits a line that is ended by a
+/// line feed comes first, and then the lines of what follows, which may have so many bytes less.
+/// The function does nothing: its clauses are what it is for.
+pub fn line_feeds_cut_scripts()
+    ensures cut { (front rest : List ℕ)
+        → lines_of (front ++ 10 ∷ rest) ≡ lines_of (front ++ 10 ∷ []) ++ lines_of rest }
+    ensures within { (most : ℕ) (line rest : List ℕ) → IsLine line → length line < most
+        → lines_within most (line ++ 10 ∷ rest)
+        ≡ with_line line (lines_within (most - (length line + 1)) rest) }
+{}
 
 /// A reader of the lines of a script, which holds at most a line and a byte of the bytes that it
 /// took of its source.
