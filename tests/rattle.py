@@ -50,15 +50,24 @@ class Item:
         """The number of the line in which the item's own comment begins."""
         return self.line - next((n for n, it in enumerate(self.lines) if CODE_HEAD.match(it)), 0)
 
-    def with_clause(self, name):
-        """The function with this one of its clauses alone."""
-        lines, is_kept = [], True
+    @property
+    def parts(self):
+        """The lines before a function's clauses, and then those of each clause with its name."""
+        found = [(None, [])]
         for line in self.lines:
             if match := CLAUSE.match(line):
-                is_kept = match["name"] == name
-            if is_kept:
-                lines.append(line)
-        return dataclasses.replace(self, name=f"{self.name}/{name}", lines=tuple(lines))
+                found.append((match["name"] or match["kind"], []))
+            found[-1][1].append(line)
+        return found
+
+    def with_lines(self, lines):
+        """The item with these of its lines alone."""
+        return dataclasses.replace(self, lines=tuple(lines))
+
+    def with_clause(self, name):
+        """The function with this one of its clauses alone, under the name of both."""
+        kept = [line for clause, lines in self.parts for line in lines if clause in (None, name)]
+        return dataclasses.replace(self.with_lines(kept), name=f"{self.name}/{name}")
 
 
 def path_of(file):
@@ -292,9 +301,9 @@ def clause_end(lines, start):
 
 def clauses_of(item):
     """A function's clauses by name, or by `requires` and `ensures` where they have none, each with
-    its line."""
+    its line; of a struct its ghost fields."""
     found = {}
     for place, line in enumerate(item.lines):
-        if (match := CLAUSE.match(line)) and match["kind"] != "ghost":
+        if (match := CLAUSE.match(line)) and (match["kind"] == "ghost") == ("struct" in item.kind):
             found.setdefault(match["name"] or match["kind"], item.first_line + place)
     return found
