@@ -7,3 +7,4 @@ pub mod LineTextLemmas
 pub mod WindowLemmas
 pub mod LinesLemmas
 pub mod ReaderLemmas
+pub mod LinesLawLemmas

@@ -162,7 +162,7 @@ moves_line (Err refused) size old mid new before now moves at some line held tak
 }
 
 -- a front of bytes that hold no line feed holds none
-front_lacks : (xs ys : List ℕ) → Lacks 10 (xs ++ ys) → Lacks 10 xs
+pub front_lacks : (xs ys : List ℕ) → Lacks 10 (xs ++ ys) → Lacks 10 xs
 front_lacks [] ys lacks = tt
 front_lacks (x ∷ xs) ys lacks = (lacks.0, front_lacks xs ys lacks.1)
 

@@ -7,3 +7,4 @@ pub mod Lines
 pub mod Reader
 pub mod ReaderSteps
 pub mod Window
+pub mod LinesLaws

@@ -14,7 +14,10 @@ pub use line::{
 pub use number::{
     DECIMAL_DIGITS, HEXADECIMAL_DIGITS, decimal, hexadecimal, written_numbers_are_read,
 };
-pub use reader::{LONGEST_LINE, LONGEST_SCRIPT, LineReader, NextRefused, line_feeds_cut_scripts};
+pub use reader::{
+    LONGEST_LINE, LONGEST_SCRIPT, LineReader, NextRefused, line_feeds_cut_scripts,
+    lines_within_limits_are_the_script,
+};
 pub use splitting::{first_line, lines_are_the_script, spaces_separate_words, words};
 
 #[cfg(test)]

@@ -3,6 +3,7 @@
 ghost use Rattle.std.specs.Prelude.{◌≡◌, ◌+◌, ◌<◌, ◌≤◌, ◌↔◌, true, [], length, take, drop, IfOk, IfErr, IfSome, OnErr, OnOk, Ok, Err, IsTrue, MatchOption, Contains, ℕ, List, ◌-◌, ◌∷◌, ◌++◌};
 ghost use Rattle.board_core.specs.Cause.{HasCause};
 ghost use Rattle.ras_script.specs.Lines.{lines_within, with_line};
+ghost use Rattle.ras_script.specs.LinesLaws.{AreLinesOf};
 ghost use Rattle.ras_script.specs.Splitting.{lines_of};
 ghost use Rattle.ras_script.specs.Reader.{GivesNext, MovesLine, Moves, HasSourceCause, IsLine, lines_to_come, given_count};
 ghost use Rattle.ras_script.specs.ReaderSteps.{FeedAt, Finds, IsHeld};
@@ -55,6 +56,13 @@ pub fn line_feeds_cut_scripts()
     ensures within { (most : ℕ) (line rest : List ℕ) → IsLine line → length line < most
         → lines_within most (line ++ 10 ∷ rest)
         ≡ with_line line (lines_within (most - (length line + 1)) rest) }
+{}
+
+/// The lines of a script within the limits, each with a line feed at its end, are the script again,
+/// up to where their list ends early: before a line that is too long, or before the one in which
+/// the script gets too long. The function does nothing: its clause is what it is for.
+pub fn lines_within_limits_are_the_script()
+    ensures { (most : ℕ) (text : List ℕ) → AreLinesOf most text (lines_within most text) }
 {}
 
 /// A reader of the lines of a script, which holds at most a line and a byte of the bytes that it
