@@ -39,7 +39,7 @@ fn main(rt: HostRuntime) -> ExitCode {
 
 // Whether the words ask for a run, which is to be the only one in its folder.
 fn is_run(words: &[RasWord]) -> bool {
-    words.len() == 1 && words[0].bytes() == b"run"
+    words.len() == 1 && words[0].bytes() == b"run".as_slice()
 }
 
 // The program's words without its name.

@@ -2,7 +2,7 @@
 ghost use Rattle.std.specs.Prelude.{◌≡◌, IsErr, IsNone};
 ghost use Rattle.std.specs.IoError.{error_kind};
 
-use crate::system::room_of_output;
+use crate::system::{room_of_output, size_limit};
 use std::io;
 use std::io::{ErrorKind, Print, Stdout};
 use std::os::fd::AsFd;
@@ -30,15 +30,18 @@ pub fn closed_stream_error() -> io::Error
 #[derive(Drop)]
 pub struct Output {
     rt: HostRuntime,
+    size_limit: u64,
     stream: Option<Stdout>,
 }
 
 impl Output {
     /// Standard output as the program was started with it.
     pub fn new(rt: HostRuntime) -> Output {
+        let stream = if_open(rt.stdout());
         Output {
             rt,
-            stream: if_open(rt.stdout()),
+            size_limit: size_limit(&rt),
+            stream,
         }
     }
 
@@ -46,7 +49,7 @@ impl Output {
     /// an interrupted one. A write to a file past the limit on the size of files would end the
     /// program by a signal, and is an error here.
     pub fn write(&self, bytes: &[u8]) -> io::Result<()> {
-        let room = room_of_output(&self.rt);
+        let room = room_of_output(&self.rt, self.size_limit);
         if room >= bytes.len() as u64 {
             return write_to(self.stream, bytes);
         }

@@ -2,7 +2,10 @@
 ghost use Rattle.std.specs.Prelude.{◌≤◌, length, Bool, true, IfOk, OnOk, IsTrue};
 ghost use Rattle.std.specs.Io.{ReadsAtMost, WritesAtMost};
 
-use std::fs::{File, OpenOptions, canonicalize, metadata, remove_file, rename, symlink_metadata};
+use std::fs::{
+    File, OpenOptions, canonicalize, metadata, read_to_string, remove_file, rename,
+    symlink_metadata,
+};
 use std::io;
 use std::io::ErrorKind;
 use std::os::fd::AsRawFd;
@@ -58,13 +61,11 @@ pub trait System: Drop {
     fn rename(&mut self, from: &str, to: &str) -> io::Result<()>;
 }
 
-// What getrlimit is asked for the limit on the size of a file.
-const RLIMIT_FSIZE: i32 = 1;
-
 /// The system that the program runs on.
 #[derive(Drop)]
 pub struct Host {
     rt: HostRuntime,
+    size_limit: u64,
     // Files in the place of standard streams that were closed, so that no file of the journal takes
     // their numbers.
     in_place_of_streams: [Option<File>; 3],
@@ -82,6 +83,7 @@ impl Host {
         }
         Host {
             rt,
+            size_limit: size_limit(&rt),
             in_place_of_streams,
         }
     }
@@ -145,7 +147,7 @@ impl System for Host {
     }
 
     fn write_at(&mut self, file: &File, place: u64, bytes: &[u8]) -> io::Result<usize> {
-        let part = within_limit(place, bytes)?;
+        let part = within_limit(self.size_limit, place, bytes)?;
         match file.write_at(part, place) {
             Ok(count) => Ok(count),
             Err(error) => Err(error),
@@ -174,10 +176,10 @@ impl System for Host {
 
 // The bytes of a write that the limit on the size of files lets through. A write that begins at the
 // limit or past it would end the program by a signal, and is an error here.
-fn within_limit(place: u64, bytes: &[u8]) -> io::Result<&[u8]>
+fn within_limit(limit: u64, place: u64, bytes: &[u8]) -> io::Result<&[u8]>
     ensures { IfOk result (λ part. length part.now ≤ length bytes.now) }
 {
-    let room = size_limit().saturating_sub(place);
+    let room = limit.saturating_sub(place);
     if room >= bytes.len() as u64 {
         return Ok(bytes);
     }
@@ -187,33 +189,32 @@ fn within_limit(place: u64, bytes: &[u8]) -> io::Result<&[u8]>
     Ok(&bytes[..room as usize])
 }
 
-// The limit on the size of the files that the program writes, which is the greatest number where
-// there is none.
-fn size_limit() -> u64 {
-    let mut limit = libc::types::rlimit {
-        rlim_cur: u64::MAX,
-        rlim_max: u64::MAX,
-    };
-    if libc::getrlimit(RLIMIT_FSIZE, &mut limit) == 0 {
-        limit.rlim_cur
-    } else {
-        u64::MAX
-    }
+/// The limit on the size of the files that the program writes, which is the greatest number where none is known.
+pub fn size_limit(rt: &HostRuntime) -> u64 {
+    number_told(rt, "/proc/self/limits", "Max file size").unwrap_or(u64::MAX)
 }
 
-/// How many bytes standard output takes before it comes to the limit on the size of files. Only a
-/// file has one.
-pub fn room_of_output(rt: &HostRuntime) -> u64 {
-    let limit = size_limit();
+/// How many bytes standard output takes before it comes to a limit on the size of files. Only a file has one.
+pub fn room_of_output(rt: &HostRuntime, limit: u64) -> u64 {
     if limit == u64::MAX {
         return u64::MAX;
     }
     match metadata(rt, "/dev/stdout") {
         Ok(found) if found.is_file() => {
-            let place = libc::lseek(1, 0, libc::SEEK_CUR);
-            let place = u64::try_from(place).unwrap_or(0);
+            let place = number_told(rt, "/proc/self/fdinfo/1", "pos:").unwrap_or(0);
             limit.saturating_sub(place.max(found.len()))
         }
         _ => u64::MAX,
     }
+}
+
+// The number that a file of the system tells after this front of a line.
+fn number_told(rt: &HostRuntime, path: &str, front: &str) -> Option<u64> {
+    let text = read_to_string(rt, path).ok()?;
+    for line in text.lines() {
+        if let Some(rest) = line.strip_prefix(front) {
+            return rest.split_whitespace().next()?.parse().ok();
+        }
+    }
+    None
 }

@@ -1,5 +1,7 @@
 //! Calls of a board in memory, made through functions that state nothing, so that each test stays
 //! short to prove.
+ghost use Rattle.std.specs.Prelude.{◌≡◌};
+
 use board_core::{Board, BoardPut, FileNo, MemBoard, Pick, Reg};
 use erst_store::Store;
 use std::alloc::Global;
