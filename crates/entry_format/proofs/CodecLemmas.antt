@@ -24,6 +24,10 @@ done x = Ok x
 pub ok_is : {A : Type 0} (x y : A) → done x ≡ done y → x ≡ y
 ok_is x y e = cc
 
+-- what holds of one value that was read holds of the other name of it
+pub read_as : {A : Type 0} (P : A → Type 0) (x y : A) → done x ≡ done y → P x → P y
+read_as P x y same holds = subst P (ok_is x y same) holds
+
 -- bytes behind others
 pub rest_fits : (bytes text rest : List ℕ) → AreBytes bytes → bytes ≡ text ++ rest → AreBytes rest
 rest_fits bytes text rest fits parts i =
@@ -114,7 +118,7 @@ many_takes {A} r s V a (suc n) bytes xs rest fits e =
     let t1 = many_takes r s V a n p.0.1 p'.0.0 p'.0.1 (rest_fits bytes (s p.0.0) p.0.1 fits t0.0) p'.1 in
     let parts = joined bytes (s p.0.0) (flat_map s p'.0.0) p.0.1 p'.0.1 t0.0 t1.0 in
     let made : List A × List ℕ = (p.0.0 ∷ p'.0.0, p'.0.1) in
-    subst (λ (y : List A × List ℕ). (bytes ≡ flat_map s y.0 ++ y.1) × AreMany V (suc n) y.0) (ok_is made (xs, rest) p'.2) (parts, (ap suc t1.1.0, (t0.1, t1.1.1)))
+    read_as (λ (y : List A × List ℕ). (bytes ≡ flat_map s y.0 ++ y.1) × AreMany V (suc n) y.0) made (xs, rest) p'.2 (parts, (ap suc t1.1.0, (t0.1, t1.1.1)))
 
 many_again : {A : Type 0} (r : Reader A) (s : A → List ℕ) (V : A → Type 0) → Reads r s V → (n : ℕ) (xs : List A) (rest : List ℕ) → AreMany V n xs → many_at r n (flat_map s xs ++ rest) ≡ Ok (xs, rest)
 unfolding many_at

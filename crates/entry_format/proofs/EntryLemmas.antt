@@ -18,10 +18,12 @@ use Rattle.ras_facts.specs.declared.fact.Fact.{Fact}
 use Rattle.ras_facts.specs.declared.entry.Entry.{Entry}
 use Rattle.ras_facts.specs.declared.entry.Entry.TheVariants as entry
 use Rattle.ras_facts.specs.Valid.{IsPage, IsValidItem, IsValidName, IsValidFact}
-use Rattle.ras_facts.specs.Entries.{IsValidEntry}
 use Rattle.entry_format.specs.declared.refused.EntryRefused.TheVariants.{Bad}
+use Rattle.entry_format.specs.declared.version.Version.{Version}
+use Rattle.entry_format.specs.declared.version.Version.TheVariants.{One, Two}
+use Rattle.entry_format.specs.File.{CanHold, IsEntryOf}
 use Rattle.entry_format.specs.Spelling.{name_bytes, label_bytes, page_bytes, item_bytes, fact_bytes, limit_bytes, entry_bytes}
-use Rattle.entry_format.specs.Reading.{both_at, many_at, u16_at, u64_at, name_at, class_at, label_at, page_at, weight_at, item_at, items_at, fact_at, limit_at, fact_entry_at, limit_entry_at, entry_of_kind, entry_at}
+use Rattle.entry_format.specs.Reading.{both_at, many_at, u16_at, u64_at, name_at, class_at, label_at, page_at, weight_at, item_at, items_at, fact_at, limit_at, fact_entry_at, limit_entry_at, retire_entry_at, module_limit_entry_at, entry_of_kind, entry_at}
 use Rattle.entry_format.proofs.CodecLemmas.{Reads, Makes, bind_ok, ok_is, rest_fits, like_read, both_read, made_read, many_read, kinds_read, either_kind}
 use Rattle.entry_format.proofs.FieldLemmas.{u16_read, u64_read, class_read, label_read, page_read, IsWeight, weight_read}
 use Rattle.entry_format.proofs.NameFormatLemmas.{name_read}
@@ -215,58 +217,116 @@ limit_read =
 abbrev kind_of : Entry → ℕ
 kind_of (entry.Fact fact) = 1
 kind_of (entry.Limit limit) = 2
+kind_of (entry.Retire boot) = 3
+kind_of (entry.ModuleLimit limit) = 4
 
 abbrev fields_of : Entry → List ℕ
 fields_of (entry.Fact fact) = fact_bytes fact
 fields_of (entry.Limit limit) = limit_bytes limit
+fields_of (entry.Retire boot) = u64_bytes boot
+fields_of (entry.ModuleLimit limit) = limit_bytes limit
 
 -- what is read of an entry of a kind
-abbrev Taken : ℕ → List ℕ → Entry → List ℕ → Type 0
-Taken kind bytes e rest = (kind ≡ kind_of e) × (bytes ≡ fields_of e ++ rest) × IsValidEntry e
+abbrev Taken : Version → ℕ → List ℕ → Entry → List ℕ → Type 0
+Taken version kind bytes e rest = (kind ≡ kind_of e) × (bytes ≡ fields_of e ++ rest) × IsEntryOf version e
 
 abbrev pair : Entry → List ℕ → Entry × List ℕ
 pair e rest = (e, rest)
 
-fact_takes : (bytes : List ℕ) (x : Entry) (rest : List ℕ) → AreBytes bytes → fact_entry_at bytes ≡ Ok (x, rest) → Taken 1 bytes x rest
+first_holds_fact : (version : Version) (fact : Fact) → CanHold version (entry.Fact fact)
+first_holds_fact One fact = tt
+first_holds_fact Two fact = tt
+
+first_holds_limit : (version : Version) (limit : Limit) → CanHold version (entry.Limit limit)
+first_holds_limit One limit = tt
+first_holds_limit Two limit = tt
+
+first_holds_retire : (version : Version) (boot : ℕ) → CanHold version (entry.Retire boot)
+first_holds_retire One boot = tt
+first_holds_retire Two boot = tt
+
+fact_takes : (version : Version) (bytes : List ℕ) (x : Entry) (rest : List ℕ) → AreBytes bytes → fact_entry_at bytes ≡ Ok (x, rest) → Taken version 1 bytes x rest
 unfolding fact_entry_at
-fact_takes bytes x rest fits e =
+fact_takes version bytes x rest fits e =
     let p = bind_ok (fact_at bytes) (λ u. Ok (entry.Fact u.0, u.1)) (x, rest) e in
     let t = fact_read.takes bytes p.0.0 p.0.1 fits p.1 in
-    subst (λ (y : Entry × List ℕ). Taken 1 bytes y.0 y.1) (ok_is (pair (entry.Fact p.0.0) p.0.1) (x, rest) p.2) (refl, t.0, t.1)
+    subst (λ (y : Entry × List ℕ). Taken version 1 bytes y.0 y.1) (ok_is (pair (entry.Fact p.0.0) p.0.1) (x, rest) p.2)
+    (refl, t.0, record { valid = t.1; held = first_holds_fact version p.0.0 })
 
-limit_takes : (bytes : List ℕ) (x : Entry) (rest : List ℕ) → AreBytes bytes → limit_entry_at bytes ≡ Ok (x, rest) → Taken 2 bytes x rest
+limit_takes : (version : Version) (bytes : List ℕ) (x : Entry) (rest : List ℕ) → AreBytes bytes → limit_entry_at bytes ≡ Ok (x, rest) → Taken version 2 bytes x rest
 unfolding limit_entry_at
-limit_takes bytes x rest fits e =
+limit_takes version bytes x rest fits e =
     let p = bind_ok (limit_at bytes) (λ u. Ok (entry.Limit u.0, u.1)) (x, rest) e in
     let t = limit_read.takes bytes p.0.0 p.0.1 fits p.1 in
-    subst (λ (y : Entry × List ℕ). Taken 2 bytes y.0 y.1) (ok_is (pair (entry.Limit p.0.0) p.0.1) (x, rest) p.2) (refl, t.0, t.1)
+    subst (λ (y : Entry × List ℕ). Taken version 2 bytes y.0 y.1) (ok_is (pair (entry.Limit p.0.0) p.0.1) (x, rest) p.2)
+    (refl, t.0, record { valid = t.1; held = first_holds_limit version p.0.0 })
 
-entry_takes : (k : ℕ) (bytes : List ℕ) (x : Entry) (rest : List ℕ) → AreBytes bytes → entry_of_kind k bytes ≡ Ok (x, rest) → Taken k bytes x rest
-entry_takes k bytes x rest fits e =
-    elim (either_kind k 1 (fact_entry_at bytes) (cond (eqb k 2) (limit_entry_at bytes) (Err Bad)) (x, rest) e) [
-      | inl h ↦ let t = fact_takes bytes x rest fits h.1 in (h.0 ∙ t.0, t.1, t.2)
+retire_takes : (version : Version) (bytes : List ℕ) (x : Entry) (rest : List ℕ) → AreBytes bytes → retire_entry_at bytes ≡ Ok (x, rest) → Taken version 3 bytes x rest
+unfolding retire_entry_at
+retire_takes version bytes x rest fits e =
+    let p = bind_ok (u64_at bytes) (λ u. Ok (entry.Retire u.0, u.1)) (x, rest) e in
+    let t = u64_read.takes bytes p.0.0 p.0.1 fits p.1 in
+    subst (λ (y : Entry × List ℕ). Taken version 3 bytes y.0 y.1) (ok_is (pair (entry.Retire p.0.0) p.0.1) (x, rest) p.2)
+    (refl, t.0, record { valid = t.1; held = first_holds_retire version p.0.0 })
+
+module_limit_takes : (version : Version) (bytes : List ℕ) (x : Entry) (rest : List ℕ) → AreBytes bytes → module_limit_entry_at version bytes ≡ Ok (x, rest) → Taken version 4 bytes x rest
+unfolding module_limit_entry_at
+module_limit_takes One bytes x rest fits e = absurd cc
+module_limit_takes Two bytes x rest fits e =
+    let p = bind_ok (limit_at bytes) (λ u. Ok (entry.ModuleLimit u.0, u.1)) (x, rest) e in
+    let t = limit_read.takes bytes p.0.0 p.0.1 fits p.1 in
+    subst (λ (y : Entry × List ℕ). Taken Two 4 bytes y.0 y.1) (ok_is (pair (entry.ModuleLimit p.0.0) p.0.1) (x, rest) p.2)
+    (refl, t.0, record { valid = t.1; held = tt })
+
+of_kind : (version : Version) (k kind : ℕ) (bytes : List ℕ) (x : Entry) (rest : List ℕ) → k ≡ kind → Taken version kind bytes x rest → Taken version k bytes x rest
+of_kind version k kind bytes x rest same t = (same ∙ t.0, t.1, t.2)
+
+entry_takes : (version : Version) (k : ℕ) (bytes : List ℕ) (x : Entry) (rest : List ℕ) → AreBytes bytes → entry_of_kind version k bytes ≡ Ok (x, rest) → Taken version k bytes x rest
+entry_takes version k bytes x rest fits e =
+    let fourth = cond (eqb k 4) (module_limit_entry_at version bytes) (Err Bad) in
+    let third = cond (eqb k 3) (retire_entry_at bytes) fourth in
+    let second = cond (eqb k 2) (limit_entry_at bytes) third in
+    elim (either_kind k 1 (fact_entry_at bytes) second (x, rest) e) [
+      | inl h ↦ of_kind version k 1 bytes x rest h.0 (fact_takes version bytes x rest fits h.1)
       | inr e2 ↦
-          elim (either_kind k 2 (limit_entry_at bytes) (Err Bad) (x, rest) e2) [
-            | inl h ↦ let t = limit_takes bytes x rest fits h.1 in (h.0 ∙ t.0, t.1, t.2)
-            | inr none ↦ absurd cc
+          elim (either_kind k 2 (limit_entry_at bytes) third (x, rest) e2) [
+            | inl h ↦ of_kind version k 2 bytes x rest h.0 (limit_takes version bytes x rest fits h.1)
+            | inr e3 ↦
+                elim (either_kind k 3 (retire_entry_at bytes) fourth (x, rest) e3) [
+                  | inl h ↦ of_kind version k 3 bytes x rest h.0 (retire_takes version bytes x rest fits h.1)
+                  | inr e4 ↦
+                      elim (either_kind k 4 (module_limit_entry_at version bytes) (Err Bad) (x, rest) e4) [
+                        | inl h ↦ of_kind version k 4 bytes x rest h.0 (module_limit_takes version bytes x rest fits h.1)
+                        | inr none ↦ absurd cc
+                      ]
+                ]
           ]
     ]
 
-entry_again : (x : Entry) (rest : List ℕ) → IsValidEntry x → entry_of_kind (kind_of x) (fields_of x ++ rest) ≡ Ok (x, rest)
-unfolding fact_entry_at limit_entry_at
-entry_again (entry.Fact fact) rest v = rw (fact_read.again fact rest v) refl
-entry_again (entry.Limit limit) rest v = rw (limit_read.again limit rest v) refl
+module_limit_again : (version : Version) (limit : Limit) (rest : List ℕ) → IsEntryOf version (entry.ModuleLimit limit) → module_limit_entry_at version (limit_bytes limit ++ rest) ≡ Ok (entry.ModuleLimit limit, rest)
+unfolding module_limit_entry_at
+module_limit_again One limit rest v = absurd v.held
+module_limit_again Two limit rest v = rw (limit_read.again limit rest v.valid) refl
+
+entry_again : (version : Version) (x : Entry) (rest : List ℕ) → IsEntryOf version x → entry_of_kind version (kind_of x) (fields_of x ++ rest) ≡ Ok (x, rest)
+unfolding fact_entry_at limit_entry_at retire_entry_at
+entry_again version (entry.Fact fact) rest v = rw (fact_read.again fact rest v.valid) refl
+entry_again version (entry.Limit limit) rest v = rw (limit_read.again limit rest v.valid) refl
+entry_again version (entry.Retire boot) rest v = rw (u64_read.again boot rest v.valid) refl
+entry_again version (entry.ModuleLimit limit) rest v = module_limit_again version limit rest v
 
 entry_spelled : (x : Entry) → kind_of x ∷ fields_of x ≡ entry_bytes x
 unfolding entry_bytes
 entry_spelled (entry.Fact fact) = refl
 entry_spelled (entry.Limit limit) = refl
+entry_spelled (entry.Retire boot) = refl
+entry_spelled (entry.ModuleLimit limit) = refl
 
-pub entry_read : Reads entry_at entry_bytes IsValidEntry
+pub entry_read : (version : Version) → Reads (entry_at version) entry_bytes (IsEntryOf version)
 unfolding entry_at
-entry_read =
-    like_read entry_at (λ x. kind_of x ∷ fields_of x) entry_bytes IsValidEntry IsValidEntry
-    (kinds_read entry_of_kind kind_of fields_of IsValidEntry (record { takes = entry_takes; again = entry_again }))
+entry_read version =
+    like_read (entry_at version) (λ x. kind_of x ∷ fields_of x) entry_bytes (IsEntryOf version) (IsEntryOf version)
+    (kinds_read (entry_of_kind version) kind_of fields_of (IsEntryOf version) (record { takes = entry_takes version; again = entry_again version }))
     (λ x v. v) (λ x v. v) entry_spelled
 
 pub entry_not_empty : (x : Entry) → 0 < length (entry_bytes x)

@@ -17,6 +17,8 @@ use Rattle.ras_facts.specs.declared.items.TheConstants.{MOST_WEIGHT, PAGES}
 use Rattle.ras_facts.specs.declared.fact.Fact.{Fact}
 use Rattle.ras_facts.specs.declared.entry.Entry.{Entry}
 use Rattle.ras_facts.specs.declared.entry.Entry.TheVariants as entry
+use Rattle.entry_format.specs.declared.version.Version.{Version}
+use Rattle.entry_format.specs.declared.version.Version.TheVariants.{One, Two}
 use Rattle.entry_format.specs.declared.refused.EntryRefused.{EntryRefused}
 use Rattle.entry_format.specs.declared.refused.EntryRefused.TheVariants.{Bad, NoMemory}
 
@@ -192,9 +194,20 @@ fact_entry_at = made_at (λ fact. Some (entry.Fact fact)) fact_at
 unfoldable pub limit_entry_at : Reader Entry
 limit_entry_at = made_at (λ limit. Some (entry.Limit limit)) limit_at
 
-abbrev pub entry_of_kind : ℕ → Reader Entry
-entry_of_kind kind bytes =
-    if kind == 1 then fact_entry_at bytes else if kind == 2 then limit_entry_at bytes else Err Bad
+unfoldable pub retire_entry_at : Reader Entry
+retire_entry_at = made_at (λ boot. Some (entry.Retire boot)) u64_at
 
-unfoldable pub entry_at : Reader Entry
-entry_at = by_kind entry_of_kind
+unfoldable pub module_limit_entry_at : Version → Reader Entry
+module_limit_entry_at One bytes = Err Bad
+module_limit_entry_at Two bytes = made_at (λ limit. Some (entry.ModuleLimit limit)) limit_at bytes
+
+abbrev pub entry_of_kind : Version → ℕ → Reader Entry
+entry_of_kind version kind bytes =
+    if kind == 1 then fact_entry_at bytes
+    else if kind == 2 then limit_entry_at bytes
+    else if kind == 3 then retire_entry_at bytes
+    else if kind == 4 then module_limit_entry_at version bytes
+    else Err Bad
+
+unfoldable pub entry_at : Version → Reader Entry
+entry_at version = by_kind (entry_of_kind version)

@@ -46,10 +46,12 @@ fact_bytes fact =
 unfoldable pub limit_bytes : Limit → List ℕ
 limit_bytes limit = u64_bytes limit.capacity ++ u64_bytes limit.period
 
--- an entry: its kind (1), and then the fact or the limit
+-- an entry: its kind (1), and then the fact, the limit, the boot (8), or the limit of modules
 unfoldable pub entry_bytes : Entry → List ℕ
 entry_bytes (entry.Fact fact) = 1 ∷ fact_bytes fact
 entry_bytes (entry.Limit limit) = 2 ∷ limit_bytes limit
+entry_bytes (entry.Retire boot) = 3 ∷ u64_bytes boot
+entry_bytes (entry.ModuleLimit limit) = 4 ∷ limit_bytes limit
 
 -- a list of entries, one after the other
 abbrev pub entries_bytes : List Entry → List ℕ

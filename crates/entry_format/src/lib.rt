@@ -12,10 +12,12 @@ mod list;
 mod names;
 mod reading;
 mod refused;
+mod version;
 mod writing;
 
 pub use file::read_entries;
 pub use laws::format_laws;
 pub use list::read_list;
 pub use refused::{EntriesRefused, EntryRefused};
+pub use version::Version;
 pub use writing::{entry_bytes, push_entry};

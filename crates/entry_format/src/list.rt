@@ -3,23 +3,24 @@ ghost use Rattle.std.specs.Prelude.{◌≡◌, ◌≢◌, ℕ, List, length, IfO
 ghost use Rattle.entry_format.specs.File.{AreEntriesOf};
 ghost use Rattle.entry_format.specs.Reading.{Gives, many_at, whole_at, entry_at};
 
-use crate::EntryRefused;
 use crate::reading::entry_at;
+use crate::{EntryRefused, Version};
 use ras_facts::Entry;
 use std::alloc::Global;
 
 // So many entries at the front of the bytes, and the bytes after them.
 fn many_entries_at(
     alloc: Global,
+    version: Version,
     count: u32,
     bytes: &[u8],
 ) -> Result<(Vec<Entry>, &[u8]), EntryRefused>
-    ensures { Gives (λ x. (x.0.items, x.1.now)) result (many_at entry_at count bytes.now) }
+    ensures { Gives (λ x. (x.0.items, x.1.now)) result (many_at (entry_at version) count bytes.now) }
 {
     let mut entries = Vec::new(alloc);
     let mut rest = bytes;
     for _ in 0..count {
-        let (entry, after) = entry_at(alloc, rest)?;
+        let (entry, after) = entry_at(alloc, version, rest)?;
         entries.push(entry)?;
         rest = after;
     }
@@ -27,10 +28,15 @@ fn many_entries_at(
 }
 
 // So many entries that are all of the bytes.
-fn whole_list(alloc: Global, count: u32, bytes: &[u8]) -> Result<Vec<Entry>, EntryRefused>
-    ensures { Gives (λ entries. entries.items) result (whole_at (many_at entry_at count) bytes.now) }
+fn whole_list(
+    alloc: Global,
+    version: Version,
+    count: u32,
+    bytes: &[u8],
+) -> Result<Vec<Entry>, EntryRefused>
+    ensures { Gives (λ entries. entries.items) result (whole_at (many_at (entry_at version) count) bytes.now) }
 {
-    let (entries, rest) = many_entries_at(alloc, count, bytes)?;
+    let (entries, rest) = many_entries_at(alloc, version, count, bytes)?;
     if rest.is_empty() {
         Ok(entries)
     } else {
@@ -41,16 +47,21 @@ fn whole_list(alloc: Global, count: u32, bytes: &[u8]) -> Result<Vec<Entry>, Ent
 /// The entries whose spelling the bytes are, where there are so many of them. Each byte is read
 /// once, and no byte after the last of so many entries.
 ///
-/// It is refused as `Bad` exactly where the bytes aren't the spelling of so many valid entries, and
-/// as `NoMemory` where memory runs out.
-pub fn read_list(alloc: Global, count: u32, bytes: &[u8]) -> Result<Vec<Entry>, EntryRefused>
+/// It is refused as `Bad` exactly where the bytes aren't the spelling of so many valid entries of
+/// the version, and as `NoMemory` where memory runs out.
+pub fn read_list(
+    alloc: Global,
+    version: Version,
+    count: u32,
+    bytes: &[u8],
+) -> Result<Vec<Entry>, EntryRefused>
     // What is read is what the bytes are.
-    ensures found { IfOk result (λ read. AreEntriesOf read.items bytes.now) }
+    ensures found { IfOk result (λ read. AreEntriesOf version read.items bytes.now) }
     ensures count { IfOk result (λ read. length read.items ≡ count) }
 
     // What the bytes are is read, unless memory runs out.
-    ensures entries { (entries : List Entry) → AreEntriesOf entries bytes.now → length entries ≡ count
+    ensures entries { (entries : List Entry) → AreEntriesOf version entries bytes.now → length entries ≡ count
         → result ≢ Err EntryRefused.NoMemory → IsOkAnd result (λ read. read.items ≡ entries) }
 {
-    whole_list(alloc, count, bytes)
+    whole_list(alloc, version, count, bytes)
 }

@@ -1,11 +1,11 @@
 //! One entry from bytes.
 ghost use Rattle.std.specs.Prelude.{◌≡◌};
-ghost use Rattle.entry_format.specs.Reading.{Gives, fact_at, limit_at, entry_at};
+ghost use Rattle.entry_format.specs.Reading.{Gives, fact_at, limit_at, module_limit_entry_at, entry_at};
 
-use crate::EntryRefused;
 use crate::fields::{byte_at, u64_at};
 use crate::items::items_at;
 use crate::names::name_at;
+use crate::{EntryRefused, Version};
 use page_policy::Limit;
 use ras_facts::{Entry, Fact};
 use std::alloc::Global;
@@ -14,6 +14,10 @@ use std::alloc::Global;
 pub(crate) const FACT: u8 = 1;
 /// The kind of an entry that is a limit.
 pub(crate) const LIMIT: u8 = 2;
+/// The kind of an entry that retires boots.
+pub(crate) const RETIRE: u8 = 3;
+/// The kind of an entry that is a limit of modules.
+pub(crate) const MODULE_LIMIT: u8 = 4;
 
 // A fact.
 #[tactic(auto, unfolding(crate::specs::Reading::fact_at))]
@@ -44,10 +48,28 @@ fn limit_at(bytes: &[u8]) -> Result<(Limit, &[u8]), EntryRefused>
     }
 }
 
+// A limit of modules, which only version 2 has.
+#[tactic(auto, unfolding(crate::specs::Reading::module_limit_entry_at))]
+fn module_limit_entry_at(version: Version, bytes: &[u8]) -> Result<(Entry, &[u8]), EntryRefused>
+    ensures { Gives (λ x. (x.0, x.1.now)) result (module_limit_entry_at version bytes.now) }
+{
+    match version {
+        Version::One => Err(EntryRefused::Bad),
+        Version::Two => {
+            let (limit, rest) = limit_at(bytes)?;
+            Ok((Entry::ModuleLimit(limit), rest))
+        }
+    }
+}
+
 // An entry.
-#[tactic(auto, unfolding(crate::specs::Reading::entry_at, crate::specs::Reading::fact_entry_at, crate::specs::Reading::limit_entry_at))]
-pub(crate) fn entry_at(alloc: Global, bytes: &[u8]) -> Result<(Entry, &[u8]), EntryRefused>
-    ensures { Gives (λ x. (x.0, x.1.now)) result (entry_at bytes.now) }
+#[tactic(auto, unfolding(crate::specs::Reading::entry_at, crate::specs::Reading::fact_entry_at, crate::specs::Reading::limit_entry_at, crate::specs::Reading::retire_entry_at))]
+pub(crate) fn entry_at(
+    alloc: Global,
+    version: Version,
+    bytes: &[u8],
+) -> Result<(Entry, &[u8]), EntryRefused>
+    ensures { Gives (λ x. (x.0, x.1.now)) result (entry_at version bytes.now) }
 {
     let (kind, rest) = byte_at(bytes)?;
     match kind {
@@ -59,6 +81,11 @@ pub(crate) fn entry_at(alloc: Global, bytes: &[u8]) -> Result<(Entry, &[u8]), En
             let (limit, rest) = limit_at(rest)?;
             Ok((Entry::Limit(limit), rest))
         }
+        RETIRE => {
+            let (boot, rest) = u64_at(rest)?;
+            Ok((Entry::Retire(boot), rest))
+        }
+        MODULE_LIMIT => module_limit_entry_at(version, rest),
         _ => Err(EntryRefused::Bad),
     }
 }

@@ -5,7 +5,7 @@ ghost use Rattle.ras_facts.specs.Entries.{items_in};
 ghost use Rattle.entry_format.specs.Spelling.{name_bytes, label_bytes, page_bytes, item_bytes, fact_bytes, limit_bytes, entry_bytes};
 
 use crate::names::{BANK, BLOCK, BOOT, RECORD};
-use crate::reading::{FACT, LIMIT};
+use crate::reading::{FACT, LIMIT, MODULE_LIMIT, RETIRE};
 use dimm_topology::Label;
 use page_policy::Limit;
 use ras_base::NoMemory;
@@ -137,6 +137,14 @@ pub fn push_entry(bytes: &mut Vec<u8>, entry: &Entry) -> Result<(), NoMemory>
         }
         Entry::Limit(limit) => {
             bytes.push(LIMIT)?;
+            push_limit(bytes, *limit)
+        }
+        Entry::Retire(boot) => {
+            bytes.push(RETIRE)?;
+            push_u64(bytes, *boot)
+        }
+        Entry::ModuleLimit(limit) => {
+            bytes.push(MODULE_LIMIT)?;
             push_limit(bytes, *limit)
         }
     }

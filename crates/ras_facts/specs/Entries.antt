@@ -1,17 +1,25 @@
 -- Which entries are valid, and what one has.
-use Rattle.std.specs.Prelude.{List, []}
+use Rattle.std.specs.Prelude.{ℕ, ◌*◌, ◌<◌, ◌^◌, List, [], length}
 use Rattle.page_policy.specs.Buckets.{IsLimit}
 use Rattle.ras_facts.specs.declared.items.Item.{Item}
 use Rattle.ras_facts.specs.declared.entry.Entry.{Entry}
-use Rattle.ras_facts.specs.declared.entry.Entry.TheVariants.{Fact, Limit as Settles}
+use Rattle.ras_facts.specs.declared.entry.Entry.TheVariants.{Fact, Limit, Retire, ModuleLimit}
 use Rattle.ras_facts.specs.Valid.{IsValidFact}
 
--- a valid fact, or a limit in its ranges
+-- a valid fact, a limit in its ranges, the number of a boot, or a module limit in its ranges
 abbrev pub IsValidEntry : Entry → Type 0
 IsValidEntry (Fact fact) = IsValidFact fact
-IsValidEntry (Settles limit) = IsLimit limit
+IsValidEntry (Limit limit) = IsLimit limit
+IsValidEntry (Retire boot) = boot < 2 ^ 64
+IsValidEntry (ModuleLimit limit) = IsLimit limit
 
 -- the items of an entry
 abbrev pub items_in : Entry → List Item
 items_in (Fact fact) = fact.items
-items_in (Settles limit) = []
+items_in (Limit limit) = []
+items_in (Retire boot) = []
+items_in (ModuleLimit limit) = []
+
+-- how many orders an entry gives at most: two an item, one of its page and one of its module
+abbrev pub most_orders : Entry → ℕ
+most_orders entry = 2 * length (items_in entry)

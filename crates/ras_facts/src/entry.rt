@@ -9,12 +9,17 @@ use page_policy::Limit;
 pub enum Entry {
     /// What a report tells.
     Fact(Fact),
-    /// From now on this limit is in force.
+    /// From now on this limit is in force for pages.
     Limit(Limit),
+    /// From now on reports of the boots below this number are not counted any more, and their names
+    /// are dropped.
+    Retire(u64),
+    /// From now on this limit is in force for memory modules.
+    ModuleLimit(Limit),
 }
 
 impl Entry {
-    ghost use Rattle.ras_facts.specs.Entries.{items_in};
+    ghost use Rattle.ras_facts.specs.Entries.{IsValidEntry, items_in, most_orders};
 
     /// How many items the entry has. Only a fact has some.
     pub fn item_count(&self) -> usize
@@ -22,7 +27,18 @@ impl Entry {
     {
         match self {
             Entry::Fact(fact) => fact.items.as_slice().len(),
-            Entry::Limit(_) => 0,
+            Entry::Limit(_) | Entry::Retire(_) | Entry::ModuleLimit(_) => 0,
+        }
+    }
+
+    /// How many orders the entry gives at most: two an item, one of its page and one of its module.
+    pub fn most_orders(&self) -> usize
+        requires { IsValidEntry self.now }
+        ensures { result ≡ most_orders self.now }
+    {
+        match self {
+            Entry::Fact(fact) => 2 * fact.items.as_slice().len(),
+            Entry::Limit(_) | Entry::Retire(_) | Entry::ModuleLimit(_) => 0,
         }
     }
 }
