@@ -86,3 +86,10 @@ class_number Item.TheVariants.Corrected = 6
 class_number Item.TheVariants.Recoverable = 7
 class_number Item.TheVariants.Fatal = 8
 class_number Item.TheVariants.Informational = 9
+
+-- the ten classes of items, in the order of their numbers
+abbrev pub classes : List ItemClass
+classes =
+    Item.TheVariants.Ce ∷ Item.TheVariants.Ucna ∷ Item.TheVariants.Srao ∷ Item.TheVariants.Srar
+    ∷ Item.TheVariants.Uc ∷ Item.TheVariants.Odd ∷ Item.TheVariants.Corrected
+    ∷ Item.TheVariants.Recoverable ∷ Item.TheVariants.Fatal ∷ Item.TheVariants.Informational ∷ []

@@ -24,6 +24,9 @@ pub enum Class {
     Odd,
 }
 
+/// How many classes of items there are.
+pub const CLASS_COUNT: usize = 10;
+
 /// The class of an item of a report: a bank's class, or the severity of a firmware record.
 #[derive(Clone, Copy, Debug, PartialEq, Eq)]
 pub enum ItemClass {

@@ -10,7 +10,7 @@ mod thresholds;
 mod weights;
 
 pub use addresses::{usable_address, usable_page};
-pub use classes::{Class, ItemClass, class_of};
+pub use classes::{CLASS_COUNT, Class, ItemClass, class_of};
 pub use registers::{Cap, GlobalStatus, Misc, Status};
 pub use thresholds::{Threshold, threshold_of};
 pub use weights::weight_of;

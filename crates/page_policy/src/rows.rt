@@ -18,13 +18,16 @@ pub enum PageState {
     Hard,
 }
 
-/// An order to take a page out of use, by the page's number: its address over 4,096.
+/// An order to take a page out of use, by the page's number, its address over 4,096, or to replace
+/// a memory module.
 #[derive(Clone, Copy, Debug, PartialEq, Eq)]
 pub enum Order {
     /// Move the page's contents away first.
     Soft(u64),
     /// Take the page away at once.
     Hard(u64),
+    /// Replace the module whose row stands at this place.
+    Module(usize),
 }
 
 /// What is known of a page.
