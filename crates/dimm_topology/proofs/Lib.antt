@@ -1,3 +1,4 @@
 pub mod OwnerLemmas
 pub mod TopologyLemmas
 pub mod NamedLemmas
+pub mod RoomLemmas

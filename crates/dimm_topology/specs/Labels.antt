@@ -2,6 +2,7 @@
 use Rattle.std.specs.Prelude.{ℕ, Bool, nat_eq, nat_le, ◌&&◌, ◌||◌, not, List, length, codes}
 use Rattle.std.specs.List.{list_all}
 use Rattle.std.specs.Cmp.Lexicographic.{pointwise}
+use Rattle.dimm_topology.specs.declared.label.TheConstants.{MOST_LABEL_BYTES}
 
 -- a label is the list of its bytes, the empty one for none
 abbrev pub Bytes : Type 0
@@ -18,7 +19,7 @@ is_label_byte byte = nat_le 0x21 byte && nat_le byte 0x7e
 -- whether bytes are a label: 1 to 32 such bytes, and not the one byte that is printed for none
 abbrev pub is_label : Bytes → Bool
 is_label bytes =
-    nat_le 1 (length bytes) && nat_le (length bytes) 32 && list_all is_label_byte bytes && not (same_label bytes (codes "-"))
+    nat_le 1 (length bytes) && nat_le (length bytes) MOST_LABEL_BYTES && list_all is_label_byte bytes && not (same_label bytes (codes "-"))
 
 -- whether bytes are a label or none
 abbrev pub is_label_or_none : Bytes → Bool

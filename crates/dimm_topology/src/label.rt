@@ -1,4 +1,4 @@
-// What names a memory module.
+//! What names a memory module.
 ghost use Rattle.std.specs.Prelude.{◌≡◌, ◌↔◌, [], IfOk, Err, IsTrue, nat_eq};
 ghost use Rattle.std.specs.Bool.{IsFalse};
 ghost use Rattle.std.specs.List.{list_all};
@@ -8,31 +8,40 @@ ghost use Rattle.std.specs.Cmp.{partial_equiv_from_equiv};
 ghost use Rattle.std.specs.Cmp.Rules.{hashing};
 ghost use Rattle.std.proofs.Common.{rules};
 ghost use Rattle.dimm_topology.specs.Labels.{is_label, is_label_byte, is_label_or_none};
+ghost use Rattle.dimm_topology.specs.LabelLemmas.{same_label-exact};
 
-use ras_base::NoMemory;
+use ras_base::{ExactEq, NoMemory};
 use std::alloc::Global;
 use std::hash::{Hash, Hasher};
 use std::marker::Model;
 
+/// The most bytes that a label has.
+pub const MOST_LABEL_BYTES: usize = 32;
+
 /// The name of a memory module, as it stands on the board, or none.
 ///
-/// A label is 1 to 32 printable bytes without a space, and not the one byte `-`, which stands for none where labels are
-/// printed. Contracts see its list of bytes, the empty one for none.
-#[derive(Debug, Drop)]
+/// A label is 1 to 32 printable bytes without a space, and not the one byte `-`, which stands for
+/// none where labels are printed. Contracts see its list of bytes, the empty one for none.
+#[derive(Clone, Copy, Debug)]
 pub struct Label {
-    bytes: Option<Vec<u8>>,
+    // The bytes, and zeros behind them.
+    room: [u8; MOST_LABEL_BYTES],
+    len: usize,
 }
 
 impl Model for Label {
-    ghost use Rattle.std.specs.Prelude.{ℕ, List, [], IsTrue};
-    ghost use Rattle.std.specs.Option.{ForSome, option_map_or};
-    ghost use Rattle.dimm_topology.specs.Labels.{is_label};
+    ghost use Rattle.std.specs.Prelude.{ℕ, List, take, length};
+    ghost use Rattle.dimm_topology.specs.LabelRoom.{IsRoom, room_of, room-back, length-back};
 
     ghost Value = { List ℕ };
 
-    ghost view = { λ a. option_map_or (λ held. held.items) a.bytes [] };
+    ghost view = { λ a. take a.len a.room };
 
-    ghost invariant = { λ a. ForSome a.bytes (λ held. IsTrue (is_label held.items)) };
+    ghost invariant = { λ a. IsRoom a.room a.len };
+
+    ghost inverse = { λ bytes. record { room = room_of bytes; len = length bytes } };
+
+    ghost inverse_ok = { λ a is i. record { room = room-back a.room a.len is i; len = length-back a.room a.len is i } };
 }
 
 /// Why bytes are not taken as a label.
@@ -48,24 +57,24 @@ impl Label {
     /// The label of these bytes.
     ///
     /// `Bad` comes exactly where they aren't 1 to 32 bytes of 21h to 7Eh, or are the one byte `-`.
-    pub fn new(alloc: Global, bytes: &[u8]) -> Result<Label, LabelRefused>
+    pub fn new(_alloc: Global, bytes: &[u8]) -> Result<Label, LabelRefused>
         ensures ok { IfOk result (λ label. label ≡ bytes.now) }
         ensures bad { (result ≡ Err LabelRefused.Bad) ↔ IsFalse (is_label bytes.now) }
     {
         if !is_label(bytes) {
             return Err(LabelRefused::Bad);
         }
-        match Vec::from_slice(alloc, bytes) {
-            Ok(held) => Ok(Label { bytes: Some(held) }),
-            Err(_) => Err(LabelRefused::NoMemory),
-        }
+        Ok(Label::from_bytes(bytes))
     }
 
     /// No label, printed as `-`. It takes no memory.
     pub fn none() -> Label
         ensures { result ≡ [] }
     {
-        Label { bytes: None }
+        Label {
+            room: [0; MOST_LABEL_BYTES],
+            len: 0,
+        }
     }
 
     /// The bytes of the label, none for `Label::none()`.
@@ -73,21 +82,26 @@ impl Label {
         ensures bytes { result.now ≡ self.now }
         ensures label { IsTrue (is_label_or_none self.now) }
     {
-        match &self.bytes {
-            Some(held) => held.as_slice(),
-            None => &[],
-        }
+        &self.room[..self.len]
     }
 
     /// An equal label.
-    pub fn copy(&self, alloc: Global) -> Result<Label, NoMemory>
+    pub fn copy(&self, _alloc: Global) -> Result<Label, NoMemory>
         ensures { IfOk result (λ copy. copy ≡ self.now) }
     {
-        match &self.bytes {
-            Some(held) => Ok(Label {
-                bytes: Some(Vec::from_slice(alloc, held.as_slice())?),
-            }),
-            None => Ok(Label::none()),
+        Ok(*self)
+    }
+
+    // The label of bytes that are one.
+    fn from_bytes(bytes: &[u8]) -> Label
+        requires { IsTrue (is_label bytes.now) }
+        ensures { result ≡ bytes.now }
+    {
+        let mut room = [0; MOST_LABEL_BYTES];
+        room[..bytes.len()].copy_from_slice(bytes);
+        Label {
+            room,
+            len: bytes.len(),
         }
     }
 }
@@ -96,7 +110,9 @@ impl Label {
 fn is_label(bytes: &[u8]) -> bool
     ensures { result ≡ is_label bytes.now }
 {
-    matches!(bytes.len(), 1..=32) && are_label_bytes(bytes) && bytes != b"-".as_slice()
+    matches!(bytes.len(), 1..=MOST_LABEL_BYTES)
+        && are_label_bytes(bytes)
+        && bytes != b"-".as_slice()
 }
 
 // Whether each byte may stand in a label.
@@ -118,6 +134,10 @@ impl PartialEq for Label {
 
 impl Eq for Label {
     ghost laws = { nat_list_eq_equiv };
+}
+
+impl ExactEq for Label {
+    ghost exact = { same_label-exact };
 }
 
 impl Hash for Label {

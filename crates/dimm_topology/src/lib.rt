@@ -9,7 +9,7 @@ mod label;
 mod row;
 mod topology;
 
-pub use label::{Label, LabelRefused};
+pub use label::{Label, LabelRefused, MOST_LABEL_BYTES};
 pub use row::{Location, Row};
 pub use topology::{MOST_ROWS, Topology, TopologyRefused};
 
