@@ -1,14 +1,15 @@
 -- Tables whose first rows are held and whose other keys wait behind them, as a list of entries and
 -- the number of rows held. For the crates above too.
-use Rattle.std.proofs.Common.{◌≡◌, ℕ, zero, suc, ◌+◌, ◌<◌, ◌≤◌, Bool, true, false, not, cond, if◌then◌else◌, ◌||◌, nat_lt, List, [], ◌∷◌, ◌++◌, length, take, drop, None, Some, refl, sym, ap, ◌∙◌, true≢false, max, unwrap_or, slice_get, is_some, arith, append-nil, add-one, get_or}
+use Rattle.std.proofs.Common.{◌≡◌, ℕ, zero, suc, ◌+◌, ◌<◌, ◌≤◌, Bool, true, false, not, cond, if◌then◌else◌, ◌||◌, nat_lt, List, [], ◌∷◌, ◌++◌, length, take, drop, None, Some, refl, sym, ap, ◌∙◌, true≢false, max, unwrap_or, slice_get, is_some, arith, append-nil, add-one, get_or, filter, nat_eq, ◌-◌, length-append, length-drop}
 use Rattle.std.specs.List.{list_any, position, position_or_len}
 use Rattle.std.specs.Map.{keys_of, values_of, lookup}
 use Rattle.std.proofs.lemmas.Bool.Decides.{nat_tests}
-use Rattle.std.proofs.Math.Seq.{take-suc}
+use Rattle.std.specs.Map.Calls.{RetainsPairs}
+use Rattle.std.proofs.Math.Seq.{take-suc, take-append_seam, drop-append_seam}
 use Rattle.std.proofs.lemmas.Map.Made.{is_some-lookup}
 use Rattle.indexmap.specs.IndexMap.{set_value_at, insert_entry}
 use Rattle.row_tables.specs.Tables.{added_keys, updated_rows}
-use Rattle.row_tables.specs.Held.{Held, IsPlace, is_ready, with_row, waiting_rows}
+use Rattle.row_tables.specs.Held.{Held, IsPlace, is_ready, with_row, waiting_rows, kept_entries}
 use Rattle.row_tables.proofs.TableLemmas.{added-append}
 
 pub not_true : (b : Bool) → true ≡ not b → b ≡ false
@@ -18,6 +19,9 @@ not_true false is = refl
 pub not_false : (b : Bool) → false ≡ not b → b ≡ true
 not_false true is = refl
 not_false false is = absurd (true≢false (sym is))
+
+not_zero : (n : ℕ) → nat_eq (suc n) 0 ≡ false
+not_zero n = grind (arith, nat_tests)
 
 -- how many rows are held once the one at a place is
 abbrev pub covers : ℕ → ℕ → ℕ
@@ -98,6 +102,68 @@ module _ {K R : Type 0} where
       let value : e.1 ≡ row = cc in
       λ i. Some (key i, value i)
   slice_get-pair (e ∷ es) (suc i) k row is row_is = slice_get-pair es i k row is row_is
+
+  -- entries that are kept: those held that pass, and all that wait
+  kept-append : (test : K → Bool) (held : ℕ) (es : List (K × R)) → held ≤ length es
+      → kept_entries test held es ≡ filter {X = K × R} (λ e. test e.0) (take held es) ++ drop held es
+  kept-append test zero es within = refl
+  kept-append test (suc held) [] within = absurd (omega arith)
+  kept-append test (suc held) (e ∷ es) within = by (test e.0) (kept-append test held es (omega arith))
+    where
+      by : (b : Bool) → kept_entries test held es ≡ filter {X = K × R} (λ e. test e.0) (take held es) ++ drop held es
+          → (if b then e ∷ kept_entries test held es else kept_entries test held es)
+          ≡ cond b (e ∷ filter {X = K × R} (λ e. test e.0) (take held es)) (filter {X = K × R} (λ e. test e.0) (take held es)) ++ drop held es
+      by true ih = ap (λ (rest : List (K × R)). e ∷ rest) ih
+      by false ih = ih
+
+  keys_of-drop : (held : ℕ) (es : List (K × R)) → keys_of (drop held es) ≡ drop held (keys_of es)
+  keys_of-drop zero es = refl
+  keys_of-drop (suc held) [] = refl
+  keys_of-drop (suc held) (e ∷ es) = keys_of-drop held es
+
+  -- the number of rows held is what is left of all beside those that wait
+  pub kept-count : (test : K → Bool) (held : ℕ) (es after : List (K × R)) (n : ℕ) → held ≤ length es → after ≡ kept_entries test held es → n ≡ length after - (length es - held)
+      → n ≡ length (filter {X = K × R} (λ e. test e.0) (take held es))
+  kept-count test held es after n within kept count =
+      let all : after ≡ filter {X = K × R} (λ e. test e.0) (take held es) ++ drop held es = kept ∙ kept-append test held es within in
+      omega (arith, count, within, ap length all, length-append (filter {X = K × R} (λ e. test e.0) (take held es)) (drop held es), length-drop held es)
+
+  pub viewed-kept : (test : K → Bool) (held : ℕ) (es after : List (K × R)) (n : ℕ) → held ≤ length es → after ≡ kept_entries test held es → n ≡ length after - (length es - held)
+      → viewed n after ≡ record { rows = filter {X = K × R} (λ e. test e.0) (take held es); waiting = drop held (keys_of es) }
+  viewed-kept test held es after n within kept count =
+      let front : List (K × R) = filter {X = K × R} (λ e. test e.0) (take held es) in
+      let all : after ≡ front ++ drop held es = kept ∙ kept-append test held es within in
+      let size : n ≡ length front = kept-count test held es after n within kept count in
+      let rows : take n after ≡ front = (λ i. take (size i) (all i)) ∙ take-append_seam front (drop held es) in
+      let waiting : drop n (keys_of after) ≡ drop held (keys_of es) =
+      (λ i. drop (size i) (keys_of (all i)))
+      ∙ (λ i. drop (sym (length-keys front) i) (keys_of-append front (drop held es) i))
+      ∙ drop-append_seam (keys_of front) (keys_of (drop held es)) ∙ keys_of-drop held es in
+      λ i. record { rows = rows i; waiting = waiting i }
+
+  pub kept-length : (test : K → Bool) (held : ℕ) (es after : List (K × R)) → held ≤ length es → after ≡ kept_entries test held es → length es - held ≤ length after
+  kept-length test held es after within kept =
+      let all : after ≡ filter {X = K × R} (λ e. test e.0) (take held es) ++ drop held es = kept ∙ kept-append test held es within in
+      omega (arith, within, ap length all, length-append (filter {X = K × R} (λ e. test e.0) (take held es)) (drop held es), length-drop held es)
+
+  -- what a map's `retain` leaves, where the closure counts down and passes all once it has come to 0
+  pub kept-RetainsPairs : {F : Type 0} (T : F → K → R → Bool → R → F → Type 0) (test : F → K → Bool) (left : F → ℕ)
+      → ((f : F) (k : K) (row : R) (b : Bool) (row' : R) (g : F) → T f k row b row' g → (b ≡ (nat_eq (left f) 0 || test f k)) × (row' ≡ row) × (left g ≡ left f - 1) × (test g ≡ test f))
+      → (es : List (K × R)) (f : F) (held : ℕ) → left f ≡ held → (kept : List (K × R)) → RetainsPairs T f es kept → kept ≡ kept_entries (test f) held es
+  kept-RetainsPairs T test left says [] f zero start kept h = h
+  kept-RetainsPairs T test left says [] f (suc held) start kept h = h
+  kept-RetainsPairs T test left says (e ∷ es) f zero start kept h =
+      let s = says f e.0 e.1 h.0 h.1 h.2 h.4 in
+      let passes : h.0 ≡ true = s.0 ∙ ap (λ n. nat_eq n 0 || test f e.0) start in
+      let next : left h.2 ≡ 0 = omega (arith, s.2, start) in
+      let rest : h.3 ≡ es = kept-RetainsPairs T test left says es h.2 0 next h.3 h.5 in
+      h.6 ∙ (λ i. cond (passes i) ((e.0, s.1 i) ∷ rest i) (rest i))
+  kept-RetainsPairs T test left says (e ∷ es) f (suc held) start kept h =
+      let s = says f e.0 e.1 h.0 h.1 h.2 h.4 in
+      let passes : h.0 ≡ test f e.0 = s.0 ∙ ap (λ n. nat_eq n 0 || test f e.0) start ∙ ap (λ b. b || test f e.0) (not_zero held) in
+      let next : left h.2 ≡ held = omega (arith, s.2, start) in
+      let rest : h.3 ≡ kept_entries (test f) held es = kept-RetainsPairs T test left says es h.2 held next h.3 h.5 ∙ ap (λ t. kept_entries t held es) s.3 in
+      h.6 ∙ (λ i. cond (passes i) ((e.0, s.1 i) ∷ rest i) (rest i))
 
   -- where no key waits, all rows are held
   pub all_held : (held : ℕ) (es : List (K × R)) → held ≤ length es → drop held (keys_of es) ≡ [] → take held es ≡ es

@@ -24,6 +24,12 @@ module _ {K R : Type 0} where
   abbrev pub waiting_rows : R → List K → List (K × R)
   waiting_rows row keys = map {B = K × R} (λ key. (key, row)) keys
 
+  -- entries without those of the first `held` whose keys fail a test
+  abbrev pub kept_entries : (K → Bool) → ℕ → List (K × R) → List (K × R)
+  kept_entries test zero entries = entries
+  kept_entries test (suc held) [] = []
+  kept_entries test (suc held) (e ∷ es) = if test e.0 then e ∷ kept_entries test held es else kept_entries test held es
+
   module _ (same : K → K → Bool) where
     -- whether a key is among the rows
     abbrev pub is_held : List (K × R) → K → Bool

@@ -4,4 +4,4 @@
 
 mod row_table;
 
-pub use row_table::{RowRefused, RowTable};
+pub use row_table::{KeyTest, RowRefused, RowTable};

@@ -1,17 +1,26 @@
 //! The table of keys that are held, each with its row, and of keys that wait.
 
-ghost use Rattle.std.specs.Prelude.{◌≡◌, ◌↔◌, ◌<◌, ◌≤◌, ◌^◌, ◌++◌, [], ◌∷◌, not, map, IsTrue, Some, Err, IfOk, OnOk, OnErr, length, slice_get, take, drop};
+ghost use Rattle.std.specs.Prelude.{◌≡◌, ◌↔◌, ◌<◌, ◌≤◌, ◌^◌, ◌++◌, [], ◌∷◌, not, map, IsTrue, Some, Err, IfOk, OnOk, OnErr, length, slice_get, take, drop, filter, nat_eq, ◌-◌, ◌||◌, Bool};
 ghost use Rattle.std.specs.Bool.{IsFalse};
 ghost use Rattle.std.specs.List.{list_any};
 ghost use Rattle.std.specs.Map.{keys_of, values_of, lookup};
 ghost use Rattle.row_tables.specs.Tables.{added_keys};
-ghost use Rattle.row_tables.specs.Held.{all_keys, is_held, is_ready, with_row, waiting_rows, IsPlace};
+ghost use Rattle.row_tables.specs.Held.{all_keys, is_held, is_ready, with_row, waiting_rows, kept_entries, IsPlace};
 
 use indexmap::IndexMap;
 use ras_base::{ExactEq, NoMemory};
 use std::alloc::Global;
 use std::hash::Hash;
 use std::marker::Model;
+
+/// A test of keys, by which a table keeps its rows.
+pub trait KeyTest<K> {
+    ghost passes: { Self → K → Bool };
+
+    /// Whether a key passes.
+    fn passes(&self, key: &K) -> bool
+        ensures { result ≡ passes self.now key.now };
+}
 
 /// Why a row can't be put behind the others.
 #[derive(Clone, Copy, Debug, PartialEq, Eq)]
@@ -176,6 +185,16 @@ impl<K: Hash + ExactEq + Copy, R: Copy> RowTable<K, R> {
         self.table.truncate(self.held);
     }
 
+    /// Keeps the rows of the held keys that pass the test, in their order. What waits stays.
+    pub fn retain<T: KeyTest<K>>(&mut self, test: &T)
+        ensures rows { self.new.rows ≡ filter (λ e. T.passes test.now e.0) self.old.rows }
+        ensures waiting { self.new.waiting ≡ self.old.waiting }
+    {
+        let waiting = self.table.len() - self.held;
+        keep_passing(&mut self.table, self.held, test);
+        self.held = self.table.len() - waiting;
+    }
+
     /// Lets a key wait behind the others that do, where it is neither held nor waits yet. The
     /// answer is whether it is such a key. Nothing reads `row` while the key waits.
     pub fn let_wait(&mut self, key: K, row: R) -> Result<bool, NoMemory>
@@ -251,4 +270,29 @@ fn insert_last<K: Hash + ExactEq + Copy, R: Copy>(
             Ok(false)
         }
     }
+}
+
+// Keeps those of the first `held` entries whose keys pass the test, and all others.
+fn keep_passing<K: Hash + ExactEq + Copy, R: Copy, T: KeyTest<K>>(
+    table: &mut IndexMap<K, R>,
+    held: usize,
+    test: &T,
+)
+    ensures { table.new.entries ≡ kept_entries (T.passes test.now) held table.old.entries }
+{
+    let mut left = held;
+    table.retain(
+        |key: &K, row: &mut R| -> bool
+            ensures kept { result ≡ (nat_eq left.entry 0 || T.passes test.entry.now key.now) }
+            ensures row { row.new ≡ row.old }
+            ensures left { left.exit ≡ left.entry - 1 }
+            ensures test { test.exit.now ≡ test.entry.now }
+        {
+            if left == 0 {
+                return true;
+            }
+            left -= 1;
+            test.passes(key)
+        },
+    );
 }
