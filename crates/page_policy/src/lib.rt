@@ -15,7 +15,7 @@ pub use buckets::{Bucket, Limit, MOST_CAPACITY, MOST_PERIOD};
 pub use laws::page_laws;
 pub use pages::Pages;
 pub use row_tables::RowRefused;
-pub use rows::{Order, PageRow, PageState};
+pub use rows::{Order, PageRow, PageState, is_corrected};
 
 #[cfg(test)]
 mod tests;

@@ -61,7 +61,7 @@ impl PageRow {
         ensures count { result.bucket.count ≤ most_count }
     {
         let mut bucket = self.bucket;
-        let trips = counts(class) && bucket.step(limit, seconds, weight);
+        let trips = is_corrected(class) && bucket.step(limit, seconds, weight);
         PageRow {
             bucket,
             state: self.state.higher_of(calls_for(class, trips)),
@@ -82,8 +82,8 @@ impl PageState {
     }
 }
 
-// Whether an item of this class fills the bucket of its page.
-fn counts(class: ItemClass) -> bool
+/// Whether an item of this class tells of corrected errors, which fill a bucket.
+pub fn is_corrected(class: ItemClass) -> bool
     ensures { result ≡ is_corrected class }
 {
     matches!(class, ItemClass::Ce | ItemClass::Corrected)

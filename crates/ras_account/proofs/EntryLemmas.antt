@@ -1,93 +1,127 @@
 -- What an entry adds to an account, and when it can be taken.
-use Rattle.std.proofs.Common.{◌≡◌, ◌+◌, Bool, true, false, if◌then◌else◌, List, [], ◌∷◌, ◌++◌, length, drop, refl, sym, ap, subst, ◌∙◌, arith, append-nil, length-append}
+use Rattle.std.proofs.Common.{◌≡◌, ◌≤◌, ◌+◌, Bool, true, false, not, nat_eq, if◌then◌else◌, List, [], ◌∷◌, ◌++◌, length, refl, sym, ap, subst, ◌∙◌, arith, append-nil, length-append, true≢false}
 use Rattle.std.specs.Map.{keys_of}
-use Rattle.std.proofs.Math.Seq.{drop-append_seam}
-use Rattle.page_policy.specs.declared.buckets.Limit.{Limit}
-use Rattle.ras_facts.specs.declared.fact.Fact.{Fact as Report}
+use Rattle.std.proofs.lemmas.List.{append_cancel_left}
+use Rattle.dimm_topology.specs.Labels.{same_label}
+use Rattle.row_tables.specs.Tables.{added_keys}
+use Rattle.ras_facts.specs.declared.fact.Fact.{Fact as Told}
 use Rattle.ras_facts.specs.declared.entry.Entry.{Entry}
-use Rattle.ras_facts.specs.declared.entry.Entry.TheVariants.{Fact, Limit as Settles}
+use Rattle.ras_facts.specs.declared.entry.Entry.TheVariants.{Fact, Limit as PageLimit, Retire, ModuleLimit}
+use Rattle.ras_facts.specs.Valid.{IsValidFact}
 use Rattle.ras_account.specs.Sightings.{sightings_in}
-use Rattle.ras_account.specs.Account.{State}
-use Rattle.ras_account.specs.Continued.{is_fresh_in, entry_taken, continued, IsWithin}
-use Rattle.ras_account.specs.Orders.{orders_along}
-use Rattle.ras_account.specs.View.{View, OrderList, Waiting, WaitsFirst, then_waits, nothing, added_by}
-use Rattle.ras_account.specs.Taking.{adds_fact, CanTakeFact, TakesFact, Takes, Gives, sightings_of}
-use Rattle.ras_account.proofs.LawLemmas.{names-items_taken}
-use Rattle.ras_account.proofs.TakingLemmas.{keys-modules, keys-pages, total-items, entries-items}
-
-drop-all : {X : Type 0} (xs : List X) → drop (length xs) xs ≡ []
-drop-all [] = refl
-drop-all (x ∷ xs) = drop-all xs
-
-drop-keys : {K R : Type 0} (es : List (K × R)) → drop (length es) (keys_of es) ≡ []
-drop-keys [] = refl
-drop-keys (e ∷ es) = drop-keys es
-
-drop-keys-append : {K R : Type 0} (es : List (K × R)) (ks : List K) → drop (length es) (keys_of es ++ ks) ≡ ks
-drop-keys-append [] ks = refl
-drop-keys-append (e ∷ es) ks = drop-keys-append es ks
-
--- what an account is short of in another
-abbrev pub new_in : State → State → Waiting
-new_in a b = record { names = drop (length a.names) b.names; labels = drop (length a.modules) (keys_of b.modules); pages = drop (length a.pages) (keys_of b.pages) }
-
-none_new : (a : State) → new_in a a ≡ nothing
-none_new a = λ i. record { names = drop-all a.names i; labels = drop-keys a.modules i; pages = drop-keys a.pages i }
-
--- a fact's name, as the account counts it before its items
-abbrev pub named : State → Report → State
-named a fact = record a { names = a.names ++ fact.name ∷ []; entries = a.entries + 1 }
-
-new_in-fact : (a : State) (fact : Report) → new_in a (entry_taken a (Fact fact)) ≡ adds_fact a fact
-new_in-fact a fact =
-    λ i. record {
-      names = (ap (drop (length a.names)) (names-items_taken (named a fact) (sightings_in a.limit (Fact fact))) ∙ drop-append_seam a.names (fact.name ∷ [])) i;
-      labels = (ap (drop (length a.modules)) (keys-modules a.limit fact.seconds (named a fact) fact.items) ∙ drop-keys-append a.modules _) i;
-      pages = (ap (drop (length a.pages)) (keys-pages a.limit fact.seconds (named a fact) fact.items) ∙ drop-keys-append a.pages _) i;
-    }
+use Rattle.ras_account.specs.Account.{State, names_of}
+use Rattle.ras_account.specs.Continued.{knows, is_fresh_in, account_after, account_after_fresh, account_with_count}
+use Rattle.ras_account.specs.Orders.{orders_along, orders_at}
+use Rattle.ras_account.specs.Numbers.{IsWithin, items_of}
+use Rattle.ras_account.specs.View.{View, OrderList, Waiting, WaitsFirst, then_waits, nothing, labels_in, pages_in, added_by}
+use Rattle.ras_account.specs.Taking.{adds_fact, CanTakeFact, TakesFact, Takes, Gives, sightings_at}
+use Rattle.ras_account.proofs.ItemLemmas.{names-items, entries-items, total-items}
+use Rattle.ras_account.proofs.NumberLemmas.{adds}
 
 -- what one entry adds
 module _ (a : State) where
-  goes : (e : Entry) (b : Bool) → is_fresh_in a e ≡ b → added_by a (e ∷ []) ≡ new_in a (if b then entry_taken a e else a)
-  goes e b is = ap (λ c. new_in a (if c then entry_taken a e else a)) is
+  added_by-fact : (fact : Told) → is_fresh_in a (Fact fact) ≡ true → added_by a (Fact fact ∷ []) ≡ adds_fact a fact
+  added_by-fact fact fresh =
+      ap (λ b. adds a (if b then Fact fact ∷ [] else [])) fresh
+      ∙ (λ i. record {
+        names = fact.name ∷ [];
+        labels = added_keys same_label (keys_of a.modules) (labels_in (append-nil fact.items i));
+        pages = added_keys nat_eq (keys_of a.pages) (pages_in (append-nil fact.items i));
+      })
 
-  pub added_by-fact : (fact : Report) → is_fresh_in a (Fact fact) ≡ true → added_by a (Fact fact ∷ []) ≡ adds_fact a fact
-  added_by-fact fact fresh = goes (Fact fact) true fresh ∙ new_in-fact a fact
+  added_by-stale : (e : Entry) → is_fresh_in a e ≡ false → added_by a (e ∷ []) ≡ nothing
+  added_by-stale e stale = ap (λ b. adds a (if b then e ∷ [] else [])) stale
 
-  pub added_by-limit : (limit : Limit) → is_fresh_in a (Settles limit) ≡ true → added_by a (Settles limit ∷ []) ≡ nothing
-  added_by-limit limit fresh = goes (Settles limit) true fresh ∙ none_new a
+-- an entry without a name and items adds nothing
+adds_nothing : (a : State) (e : Entry) (b : Bool) → adds a (e ∷ []) ≡ nothing → adds a (if b then e ∷ [] else []) ≡ nothing
+adds_nothing a e true is = is
+adds_nothing a e false is = refl
 
-  pub added_by-repeat : (e : Entry) → is_fresh_in a e ≡ false → added_by a (e ∷ []) ≡ nothing
-  added_by-repeat e repeat = goes e false repeat ∙ none_new a
+no_items : (old new : View) (e : Entry) → adds old.state (e ∷ []) ≡ nothing → new.waiting ≡ old.waiting → old.waiting ≡ then_waits (added_by old.state (e ∷ [])) new.waiting
+no_items old new e none waiting = sym waiting ∙ ap (λ front. then_waits front new.waiting) (sym (adds_nothing old.state e (is_fresh_in old.state e) none))
+
+-- no order is given by an entry without items
+unordered : (a : State) (e : Entry) (b : Bool) → orders_along a (sightings_in a.limit a.module_limit e) ≡ [] → (if b then orders_along a (sightings_in a.limit a.module_limit e) else []) ≡ []
+unordered a e true is = is
+unordered a e false is = refl
+
+gives-none : (before : OrderList) (a : State) (e : Entry) → orders_along a (sightings_in a.limit a.module_limit e) ≡ [] → Gives before before (orders_at a e)
+gives-none before a e none = record {
+  orders = sym (append-nil before.orders) ∙ ap (λ os. before.orders ++ os) (sym (unordered a e (is_fresh_in a e) none));
+  room = omega (arith, ap length (unordered a e (is_fresh_in a e) none));
+}
+
+-- taking a fresh entry other than a fact
+pub takes_other : (old new : View) (before : OrderList) (e : Entry) → is_fresh_in old.state e ≡ true
+    → adds old.state (e ∷ []) ≡ nothing → orders_along old.state (sightings_in old.state.limit old.state.module_limit e) ≡ []
+    → new.state ≡ account_after_fresh (account_with_count old.state) e → new.waiting ≡ old.waiting → Takes old new before before e
+takes_other old new before e fresh none unasked state waiting = record {
+  state = state ∙ sym (ap (λ b. if b then account_after_fresh (account_with_count old.state) e else old.state) fresh);
+  waiting = no_items old new e none waiting;
+  gives = gives-none before old.state e unasked;
+}
+
+-- passing over an entry that isn't fresh
+pub takes_stale : (v : View) (before : OrderList) (e : Entry) → is_fresh_in v.state e ≡ false → Takes v v before before e
+takes_stale v before e stale = record {
+  state = sym (ap (λ b. if b then account_after_fresh (account_with_count v.state) e else v.state) stale);
+  waiting = ap (λ front. then_waits front v.waiting) (sym (added_by-stale v.state e stale));
+  gives = record {
+    orders = sym (append-nil before.orders) ∙ ap (λ os. before.orders ++ os) (sym asked);
+    room = omega (arith, ap length asked);
+  };
+}
+  where
+    asked : orders_at v.state e ≡ []
+    asked = ap (λ b. if b then orders_along v.state (sightings_in v.state.limit v.state.module_limit e) else []) stale
+
+-- a fresh entry leaves room for itself
+pub entry-room : (a : State) (e : Entry) → is_fresh_in a e ≡ true → names_of (e ∷ []) ≡ [] → IsWithin (account_after a e) → IsWithin (account_after_fresh (account_with_count a) e)
+entry-room a e fresh none within = subst (λ b. IsWithin (if b then account_after_fresh (account_with_count a) e else a)) fresh within
 
 -- a fresh fact can be taken where what it adds waits first
-pub can_take : (v : View) (fact : Report) → is_fresh_in v.state (Fact fact) ≡ true → WaitsFirst (added_by v.state (Fact fact ∷ [])) v.waiting
-    → IsWithin (continued v.state (Fact fact)) → CanTakeFact v fact
-can_take v fact fresh (rest, first) within =
+pub can_take : (v : View) (fact : Told) → is_fresh_in v.state (Fact fact) ≡ true → IsValidFact fact → WaitsFirst (added_by v.state (Fact fact ∷ [])) v.waiting
+    → IsWithin (account_after v.state (Fact fact)) → CanTakeFact v fact
+can_take v fact fresh valid (rest, first) within =
     let wait : v.waiting ≡ then_waits (adds_fact v.state fact) rest = sym first ∙ ap (λ front. then_waits front rest) (added_by-fact v.state fact fresh) in
-    let a : State = named v.state fact in
-    let room : IsWithin (entry_taken v.state (Fact fact)) = subst (λ b. IsWithin (if b then entry_taken v.state (Fact fact) else v.state)) fresh within in
+    let a : State = record v.state { names = v.state.names ++ fact.name ∷ []; entries = v.state.entries + 1 } in
+    let room : IsWithin (account_after_fresh (account_with_count v.state) (Fact fact)) = subst (λ b. IsWithin (if b then account_after_fresh (account_with_count v.state) (Fact fact) else v.state)) fresh within in
     record {
       rest = rest;
+      valid = valid;
+      unknown = known (knows v.state fact.name) fresh;
       name = ap (λ (w : Waiting). w.names) wait;
       next = record {
+        valid = valid.items;
         labels = ap (λ (w : Waiting). w.labels) wait;
         pages = ap (λ (w : Waiting). w.pages) wait;
-        total = omega (arith, room.total, total-items v.state.limit fact.seconds a fact.items);
+        total = omega (arith, room.total, total-items v.state.limit v.state.module_limit fact.seconds a fact.items);
       };
-      names_room = omega (arith, room.names, ap length (names-items_taken a (sightings_in v.state.limit (Fact fact))), length-append v.state.names (fact.name ∷ []));
-      entries_room = omega (arith, room.entries, entries-items v.state.limit fact.seconds a fact.items);
+      names_room = omega (arith, room.names, ap length (names-items a (sightings_in v.state.limit v.state.module_limit (Fact fact))), length-append v.state.names (fact.name ∷ []));
+      entries_room = omega (arith, room.entries, entries-items a (sightings_in v.state.limit v.state.module_limit (Fact fact)));
     }
+  where
+    known : (b : Bool) → not b ≡ true → b ≡ false
+    known true h = absurd (true≢false (sym h))
+    known false h = refl
 
 -- taking a fresh fact takes the entry
-pub takes_fact : (old new : View) (before after : OrderList) (fact : Report) → is_fresh_in old.state (Fact fact) ≡ true → TakesFact old new fact
-    → Gives before after (orders_along old.state.pages (sightings_of old.state.limit fact.seconds fact.items)) → Takes old new before after (Fact fact)
+pub takes_fact : (old new : View) (before after : OrderList) (fact : Told) → is_fresh_in old.state (Fact fact) ≡ true → TakesFact old new fact
+    → Gives before after (orders_along old.state (sightings_at old.state fact.seconds fact.items)) → Takes old new before after (Fact fact)
 takes_fact old new before after fact fresh taken gives = record {
-  state = taken.state ∙ sym (ap (λ b. if b then entry_taken old.state (Fact fact) else old.state) fresh);
+  state = taken.state ∙ sym (ap (λ b. if b then account_after_fresh (account_with_count old.state) (Fact fact) else old.state) fresh);
   waiting = taken.waiting ∙ ap (λ front. then_waits front new.waiting) (sym (added_by-fact old.state fact fresh));
-  gives = subst (λ b. Gives before after (if b then orders_along old.state.pages (sightings_in old.state.limit (Fact fact)) else [])) (sym fresh) gives;
+  gives = subst (λ b. Gives before after (if b then orders_along old.state (sightings_in old.state.limit old.state.module_limit (Fact fact)) else [])) (sym fresh) gives;
 }
 
 -- where nothing waits behind it, what waits in front is all
 pub all_waits : (front : Waiting) → then_waits front nothing ≡ front
 all_waits front = λ i. record { names = append-nil front.names i; labels = append-nil front.labels i; pages = append-nil front.pages i }
+
+-- what waits behind the same front is the same
+pub left_waits : (front one other : Waiting) → then_waits front one ≡ then_waits front other → one ≡ other
+left_waits front one other is =
+    let names : one.names ≡ other.names = append_cancel_left front.names one.names other.names (ap (λ (w : Waiting). w.names) is) in
+    let labels : one.labels ≡ other.labels = append_cancel_left front.labels one.labels other.labels (ap (λ (w : Waiting). w.labels) is) in
+    let pages : one.pages ≡ other.pages = append_cancel_left front.pages one.pages other.pages (ap (λ (w : Waiting). w.pages) is) in
+    λ i. record { names = names i; labels = labels i; pages = pages i }

@@ -1,115 +1,156 @@
--- The fresh entries of a list that grows.
-use Rattle.std.proofs.Common.{◌≡◌, Bool, true, false, not, cond, if◌then◌else◌, List, [], ◌∷◌, ◌++◌, filter, map, ◌||◌, refl, sym, ap, subst, ◌∙◌, true≢false}
-use Rattle.std.proofs.lemmas.List.Elements.{filter-append, filter_map-append}
+-- The names that an account knows are those that its history makes stale.
+use Rattle.std.proofs.Common.{◌≡◌, ℕ, ◌≤◌, Bool, true, false, not, nat_lt, max, cond, ◌||◌, ◌&&◌, if◌then◌else◌, Option, Some, None, List, [], ◌∷◌, ◌++◌, refl, sym, ap, ◌∙◌, true≢false, arith}
+use Rattle.std.specs.List.{list_any}
+use Rattle.std.specs.Option.{option_map_or}
+use Rattle.std.proofs.Math.Nat.{le-max_left, le-max_right}
+use Rattle.std.proofs.lemmas.Bool.Decides.{nat_tests}
 use Rattle.std.proofs.lemmas.List.Folds.{list_any-append}
-use Rattle.std.proofs.lemmas.List.{map-append}
-use Rattle.std.specs.List.{list_any, filter_map}
-use Rattle.ras_base.specs.Places.{places_behind, places}
-use Rattle.ras_base.specs.PlacesLemmas.{places-snoc}
 use Rattle.page_policy.specs.declared.buckets.Limit.{Limit}
 use Rattle.ras_facts.specs.declared.name.Name.{Name}
 use Rattle.ras_facts.specs.declared.fact.Fact.{Fact as Report}
 use Rattle.ras_facts.specs.declared.entry.Entry.{Entry}
-use Rattle.ras_facts.specs.declared.entry.Entry.TheVariants.{Fact, Limit as Settles}
-use Rattle.ras_account.specs.Fresh.{name_in, names_in, limit_in, last_limit, limit_after, first_limit, is_fresh_behind, fresh_places, fresh}
-use Rattle.ras_facts.specs.Names.{same_name}
-use Rattle.ras_facts.proofs.NameLemmas.{same_name-exact}
+use Rattle.ras_facts.specs.declared.entry.Entry.TheVariants.{Fact, Limit as PageLimit, Retire, ModuleLimit}
+use Rattle.ras_facts.specs.Names.{same_name, boot_of}
+use Rattle.ras_facts.specs.NameLemmas.{same_name-exact}
+use Rattle.ras_account.specs.History.{History, empty, with_entry, with_mark, names_in, floor_after, is_retired}
+use Rattle.ras_account.specs.Fresh.{is_among, is_fresh_behind, fresh_entries}
+use Rattle.ras_account.specs.Account.{account_of, names_of, kept_names}
+use Rattle.ras_account.specs.Continued.{is_fresh_in}
 
-pub names_in-append : (xs ys : List Entry) → names_in (xs ++ ys) ≡ names_in xs ++ names_in ys
-names_in-append xs ys = filter_map-append name_in xs ys
-
-last_limit-append : (before : Limit) (xs ys : List Limit) → last_limit before (xs ++ ys) ≡ last_limit (last_limit before xs) ys
-last_limit-append before [] ys = refl
-last_limit-append before (x ∷ xs) ys = last_limit-append x xs ys
-
-pub limit_after-append : (xs ys : List Entry) → limit_after (xs ++ ys) ≡ last_limit (limit_after xs) (filter_map limit_in ys)
-limit_after-append xs ys =
-    ap (last_limit first_limit) (filter_map-append limit_in xs ys) ∙ last_limit-append first_limit (filter_map limit_in xs) (filter_map limit_in ys)
-
--- whether the second of a pair is fresh behind the first
-abbrev is_fresh_at : List Entry × Entry → Bool
-is_fresh_at p = is_fresh_behind p.0 p.1
-
-abbrev entry_of : List Entry × Entry → Entry
-entry_of p = p.1
-
--- one entry more is the last of the fresh ones, or isn't among them
-pub fresh_places-snoc : (h : List Entry) (e : Entry) → fresh_places (h ++ e ∷ []) ≡ fresh_places h ++ (if is_fresh_behind h e then (h, e) ∷ [] else [])
-fresh_places-snoc h e = ap (filter is_fresh_at) (places-snoc h e) ∙ filter-append is_fresh_at (places h) ((h, e) ∷ [])
-
-pub fresh-snoc : (h : List Entry) (e : Entry) → fresh (h ++ e ∷ []) ≡ fresh h ++ (if is_fresh_behind h e then e ∷ [] else [])
-fresh-snoc h e =
-    ap (λ (ps : List (List Entry × Entry)). map entry_of ps) (fresh_places-snoc h e)
-    ∙ map-append entry_of (fresh_places h) (if is_fresh_behind h e then (h, e) ∷ [] else [])
-    ∙ ap (λ es. fresh h ++ es) (by (is_fresh_behind h e))
-  where
-    by : (b : Bool) → map entry_of (if b then (h, e) ∷ [] else []) ≡ (if b then e ∷ [] else [])
-    by true = refl
-    by false = refl
-
-not_false : (b : Bool) → not b ≡ false → b ≡ true
-not_false true h = refl
-not_false false h = absurd (true≢false h)
-
--- b: whether a name is among the earlier ones; t: whether it is this one; r and s: whether it is among those of the
--- later fresh ones and of all later ones
-step_fresh : (b t r s : Bool) → ((b || (t || false)) || r) ≡ ((b || (t || false)) || s) → (b || (t || r)) ≡ (b || (t || s))
-step_fresh true t r s h = refl
-step_fresh false true r s h = refl
-step_fresh false false r s h = h
-
-step_known : (b t r s : Bool) → (t ≡ true → b ≡ true) → ((b || (t || false)) || r) ≡ ((b || (t || false)) || s) → (b || r) ≡ (b || (t || s))
-step_known true t r s known h = refl
-step_known false true r s known h = absurd (true≢false (sym (known refl)))
-step_known false false r s known h = h
+or_true : (b : Bool) → (b || true) ≡ true
+or_true true = refl
+or_true false = refl
 
 or_false : (b : Bool) → (b || false) ≡ b
 or_false true = refl
 or_false false = refl
 
--- the fresh entries of a list that stands behind another
-abbrev fresh_from : List Entry → List Entry → List Entry
-fresh_from before entries = map entry_of (filter is_fresh_at (places_behind before entries))
+pub not_false : (b : Bool) → not b ≡ false → b ≡ true
+not_false true h = refl
+not_false false h = absurd (true≢false h)
 
--- a name is among those of the fresh entries where it is among all
-module _ (name : Name) where
-  abbrev is_among : List Entry → Bool
-  is_among entries = list_any (same_name name) (names_in entries)
+pub de_morgan : (b c : Bool) → not (b || c) ≡ (not b && not c)
+de_morgan true c = refl
+de_morgan false c = refl
 
-  is_among-append : (before entries : List Entry) → is_among (before ++ entries) ≡ (is_among before || is_among entries)
-  is_among-append before entries = ap (list_any (same_name name)) (names_in-append before entries) ∙ list_any-append (same_name name) (names_in before) (names_in entries)
+-- a boot is below the greater of two numbers where it is below one
+lt-max : (a b n : ℕ) → nat_lt n (max a b) ≡ (nat_lt n a || nat_lt n b)
+lt-max a b n = by (nat_lt n a) refl (nat_lt n b) refl
+  where
+    by : (x : Bool) → nat_lt n a ≡ x → (y : Bool) → nat_lt n b ≡ y → nat_lt n (max a b) ≡ (x || y)
+    by true one y other = let left : a ≤ max a b = le-max_left a b in grind (arith, nat_tests)
+    by false one true other = let right : b ≤ max a b = le-max_right a b in grind (arith, nat_tests)
+    by false one false other = grind (arith, nat_tests)
 
-  -- an entry that isn't fresh brings no new name
-  is_known : (before : List Entry) (fact : Report) → is_fresh_behind before (Fact fact) ≡ false → same_name name fact.name ≡ true → is_among before ≡ true
-  is_known before fact repeat same = subst (λ n. list_any (same_name n) (names_in before) ≡ true) (sym (same_name-exact name fact.name same)) (not_false _ repeat)
+pub is_retired-max : (a b : ℕ) (name : Name) → is_retired (max a b) name ≡ (is_retired a name || is_retired b name)
+is_retired-max a b name = by (boot_of name)
+  where
+    by : (o : Option ℕ) → option_map_or (λ boot. nat_lt boot (max a b)) o false ≡ (option_map_or (λ boot. nat_lt boot a) o false || option_map_or (λ boot. nat_lt boot b) o false)
+    by None = refl
+    by (Some boot) = lt-max a b boot
 
-  among_fresh_from : (before entries : List Entry) → (is_among before || is_among (fresh_from before entries)) ≡ (is_among before || is_among entries)
-  among_fresh_from before [] = refl
-  among_fresh_from before (Fact fact ∷ entries) =
-      by (is_fresh_behind before (Fact fact)) refl (rw (is_among-append before (Fact fact ∷ [])) at (among_fresh_from (before ++ Fact fact ∷ []) entries))
-    where
-      later : List Entry
-      later = fresh_from (before ++ Fact fact ∷ []) entries
+-- dropping the names of retired boots hides none that isn't retired
+pub among_kept : (floor : ℕ) (names : List Name) (name : Name)
+    → (is_among (kept_names floor names) name || is_retired floor name) ≡ (is_among names name || is_retired floor name)
+among_kept floor [] name = refl
+among_kept floor (n ∷ ns) name = by (is_retired floor n) refl (same_name name n) refl (among_kept floor ns name)
+  where
+    by : (r : Bool) → is_retired floor n ≡ r → (s : Bool) → same_name name n ≡ s
+        → (is_among (kept_names floor ns) name || is_retired floor name) ≡ (is_among ns name || is_retired floor name)
+        → (is_among (cond (not r) (n ∷ kept_names floor ns) (kept_names floor ns)) name || is_retired floor name) ≡ ((s || is_among ns name) || is_retired floor name)
+    by true gone true same ih =
+        let retired : is_retired floor name ≡ true = ap (is_retired floor) (same_name-exact name n same) ∙ gone in
+        ap (λ b. is_among (kept_names floor ns) name || b) retired ∙ or_true _
+    by true gone false other ih = ih
+    by false stays true same ih = ap (λ b. (b || is_among (kept_names floor ns) name) || is_retired floor name) same
+    by false stays false other ih = ap (λ b. (b || is_among (kept_names floor ns) name) || is_retired floor name) other ∙ ih
 
-      by : (f : Bool) → is_fresh_behind before (Fact fact) ≡ f
-          → ((is_among before || (same_name name fact.name || false)) || is_among later) ≡ ((is_among before || (same_name name fact.name || false)) || is_among entries)
-          → (is_among before || is_among (map entry_of (cond f ((before, Fact fact) ∷ filter is_fresh_at (places_behind (before ++ Fact fact ∷ []) entries)) (filter is_fresh_at (places_behind (before ++ Fact fact ∷ []) entries))))) ≡ (is_among before || (same_name name fact.name || is_among entries))
-      by true is ih = step_fresh (is_among before) (same_name name fact.name) _ _ ih
-      by false is ih = step_known (is_among before) (same_name name fact.name) _ _ (is_known before fact is) ih
-  among_fresh_from before (Settles limit ∷ entries) =
-      by (is_fresh_behind before (Settles limit))
-      (sym (ap (λ b. b || is_among later) known) ∙ among_fresh_from (before ++ Settles limit ∷ []) entries ∙ ap (λ b. b || is_among entries) known)
-    where
-      later : List Entry
-      later = fresh_from (before ++ Settles limit ∷ []) entries
+pub names_of-append : (xs ys : List Entry) → names_of (xs ++ ys) ≡ names_of xs ++ names_of ys
+names_of-append [] ys = refl
+names_of-append (Fact fact ∷ xs) ys = ap (λ ns. fact.name ∷ ns) (names_of-append xs ys)
+names_of-append (PageLimit limit ∷ xs) ys = names_of-append xs ys
+names_of-append (Retire boot ∷ xs) ys = names_of-append xs ys
+names_of-append (ModuleLimit limit ∷ xs) ys = names_of-append xs ys
 
-      known : is_among (before ++ Settles limit ∷ []) ≡ is_among before
-      known = is_among-append before (Settles limit ∷ []) ∙ or_false (is_among before)
+-- f and g: whether a name is among those of fresh facts and of all; r: whether it is retired; s: whether it is the last
+grown : (f g s r : Bool) → (f || r) ≡ (g || r) → ((f || (s || false)) || r) ≡ ((g || (s || false)) || r)
+grown true true s r ih = refl
+grown false false s r ih = refl
+grown true false true r ih = refl
+grown true false false true ih = refl
+grown true false false false ih = absurd (true≢false ih)
+grown false true true r ih = refl
+grown false true false true ih = refl
+grown false true false false ih = absurd (true≢false (sym ih))
 
-      by : (f : Bool) → (is_among before || is_among later) ≡ (is_among before || is_among entries)
-          → (is_among before || is_among (map entry_of (cond f ((before, Settles limit) ∷ filter is_fresh_at (places_behind (before ++ Settles limit ∷ []) entries)) (filter is_fresh_at (places_behind (before ++ Settles limit ∷ []) entries))))) ≡ (is_among before || is_among entries)
-      by true ih = ih
-      by false ih = ih
+known : (f g s r : Bool) → (f || r) ≡ (g || r) → (s ≡ true → (g || r) ≡ true) → (f || r) ≡ ((g || (s || false)) || r)
+known f true s r ih stale = ih
+known f false true r ih stale = ih ∙ stale refl
+known f false false r ih stale = ih
 
-  pub among_fresh : (entries : List Entry) → is_among (fresh entries) ≡ is_among entries
-  among_fresh entries = among_fresh_from [] entries
+lowered : (f g r q : Bool) → (f || r) ≡ (g || r) → (f || (r || q)) ≡ (g || (r || q))
+lowered true true r q ih = refl
+lowered false false r q ih = refl
+lowered true false true q ih = refl
+lowered true false false q ih = absurd (true≢false ih)
+lowered false true true q ih = refl
+lowered false true false q ih = absurd (true≢false (sym ih))
+
+-- an entry that brings no name leaves those of the fresh ones, fresh or not
+same_names : (b : Bool) (h : History) (e : Entry) → names_of (e ∷ []) ≡ [] → names_of (if b then fresh_entries h ++ e ∷ [] else fresh_entries h) ≡ names_of (fresh_entries h)
+same_names true h e none = names_of-append (fresh_entries h) (e ∷ []) ∙ ap (λ ns. names_of (fresh_entries h) ++ ns) none ∙ nil (names_of (fresh_entries h))
+  where
+    nil : (ns : List Name) → ns ++ [] ≡ ns
+    nil [] = refl
+    nil (n ∷ ns) = ap (λ rest. n ∷ rest) (nil ns)
+same_names false h e none = refl
+
+-- a name that isn't retired is among those of the fresh facts where it is among all
+pub among_fresh : (h : History) (name : Name)
+    → (is_among (names_of (fresh_entries h)) name || is_retired (floor_after h) name) ≡ (is_among (names_in h) name || is_retired (floor_after h) name)
+among_fresh empty name = refl
+among_fresh (with_mark h) name = among_fresh h name
+among_fresh (with_entry h (PageLimit limit)) name =
+    ap (λ ns. is_among ns name || is_retired (floor_after h) name) (same_names (is_fresh_behind h (PageLimit limit)) h (PageLimit limit) refl) ∙ among_fresh h name
+among_fresh (with_entry h (ModuleLimit limit)) name =
+    ap (λ ns. is_among ns name || is_retired (floor_after h) name) (same_names (is_fresh_behind h (ModuleLimit limit)) h (ModuleLimit limit) refl) ∙ among_fresh h name
+among_fresh (with_entry h (Retire boot)) name =
+    ap (λ ns. is_among ns name || is_retired (max (floor_after h) boot) name) (same_names (is_fresh_behind h (Retire boot)) h (Retire boot) refl)
+    ∙ ap (λ b. is_among (names_of (fresh_entries h)) name || b) (is_retired-max (floor_after h) boot name)
+    ∙ lowered _ _ _ (is_retired boot name) (among_fresh h name)
+    ∙ ap (λ b. is_among (names_in h) name || b) (sym (is_retired-max (floor_after h) boot name))
+among_fresh (with_entry h (Fact fact)) name =
+    by (among_fresh h name) (is_fresh_behind h (Fact fact)) refl
+    ∙ ap (λ b. b || is_retired (floor_after h) name) (sym (list_any-append (same_name name) (names_in h) (fact.name ∷ [])))
+  where
+    F : Bool
+    F = is_among (names_of (fresh_entries h)) name
+
+    G : Bool
+    G = is_among (names_in h) name
+
+    R : Bool
+    R = is_retired (floor_after h) name
+
+    stale : is_fresh_behind h (Fact fact) ≡ false → same_name name fact.name ≡ true → (G || R) ≡ true
+    stale repeat same =
+        let here : fact.name ≡ name = sym (same_name-exact name fact.name same) in
+        ap (λ n. is_among (names_in h) n || is_retired (floor_after h) n) (sym here)
+        ∙ not_false _ (de_morgan (is_among (names_in h) fact.name) (is_retired (floor_after h) fact.name) ∙ repeat)
+
+    by : (F || R) ≡ (G || R) → (b : Bool) → is_fresh_behind h (Fact fact) ≡ b
+        → (is_among (names_of (if b then fresh_entries h ++ Fact fact ∷ [] else fresh_entries h)) name || R) ≡ ((G || (same_name name fact.name || false)) || R)
+    by ih true is =
+        ap (λ ns. is_among ns name || R) (names_of-append (fresh_entries h) (Fact fact ∷ []))
+        ∙ ap (λ b. b || R) (list_any-append (same_name name) (names_of (fresh_entries h)) (fact.name ∷ []))
+        ∙ grown F G (same_name name fact.name) R ih
+    by ih false is = known F G (same_name name fact.name) R ih (stale is)
+
+-- in the account of a history an entry is fresh where it is fresh behind the history
+pub is_fresh_in-account_of : (h : History) (e : Entry) → is_fresh_in (account_of h) e ≡ is_fresh_behind h e
+is_fresh_in-account_of h (Fact fact) =
+    ap not (among_kept (floor_after h) (names_of (fresh_entries h)) fact.name ∙ among_fresh h fact.name)
+    ∙ de_morgan (is_among (names_in h) fact.name) (is_retired (floor_after h) fact.name)
+is_fresh_in-account_of h (PageLimit limit) = refl
+is_fresh_in-account_of h (Retire boot) = refl
+is_fresh_in-account_of h (ModuleLimit limit) = refl

@@ -1,95 +1,159 @@
--- The numbers that entries bring an account to, counted with no memory.
-use Rattle.std.proofs.Common.{◌≡◌, ◌+◌, ◌<◌, ℕ, Bool, true, false, not, ◌||◌, ◌&&◌, if◌then◌else◌, min, List, [], ◌∷◌, length, take, get_or, refl, sym, ap, subst, ◌∙◌, arith, length-append, true≢false}
-use Rattle.std.specs.List.{list_any}
-use Rattle.std.proofs.lemmas.List.Folds.{list_any-append}
-use Rattle.std.proofs.lemmas.List.Sums.{fold_more}
-use Rattle.std.proofs.Math.Bool.{or-false}
-use Rattle.page_policy.specs.declared.buckets.Limit.{Limit}
+-- What a list of entries adds, and how far it brings an account.
+use Rattle.std.proofs.Common.{◌≡◌, ◌≤◌, ◌<◌, ◌+◌, ℕ, Bool, true, false, not, cond, nat_eq, nat_lt, ◌||◌, if◌then◌else◌, List, [], ◌∷◌, ◌++◌, length, map, filter_map, refl, sym, ap, subst, ◌∙◌, arith, append_assoc, append-nil, length-append, ◌↔◌}
+use Rattle.std.specs.List.{sum_by}
+use Rattle.std.specs.Map.{keys_of}
+use Rattle.std.proofs.lemmas.Bool.Decides.{nat_tests}
+use Rattle.std.proofs.lemmas.List.{map-append}
+use Rattle.std.proofs.lemmas.List.Elements.{filter_map-append}
+use Rattle.std.proofs.lemmas.List.Sums.{sum_by-append}
+use Rattle.dimm_topology.specs.Labels.{same_label}
+use Rattle.row_tables.specs.Tables.{added_keys}
+use Rattle.row_tables.proofs.TableLemmas.{added-append}
+use Rattle.ras_base.specs.ExactLemmas.{nat_exact, nat_own}
 use Rattle.ras_facts.specs.declared.name.Name.{Name}
-use Rattle.ras_facts.specs.declared.fact.Fact.{Fact as Report}
+use Rattle.ras_facts.specs.declared.items.Item.{Item}
 use Rattle.ras_facts.specs.declared.entry.Entry.{Entry}
-use Rattle.ras_facts.specs.declared.entry.Entry.TheVariants.{Fact, Limit as Settles}
-use Rattle.ras_account.specs.declared.reserve.Numbers.{Numbers}
-use Rattle.ras_facts.specs.Names.{same_name}
+use Rattle.ras_facts.specs.declared.entry.Entry.TheVariants.{Fact, Limit as PageLimit, Retire, ModuleLimit}
+use Rattle.ras_facts.specs.Entries.{items_in}
+use Rattle.ras_account.specs.History.{is_retired}
 use Rattle.ras_account.specs.Sightings.{sightings_in}
-use Rattle.ras_account.specs.Account.{State}
-use Rattle.ras_account.specs.Continued.{is_fresh_in, entry_taken, continued, continued_all}
-use Rattle.ras_account.specs.Reserving.{greatest, brings, Numbered, CountsFact}
-use Rattle.ras_facts.proofs.NameLemmas.{same_name-exact}
-use Rattle.ras_account.proofs.LawLemmas.{names-items_taken}
-use Rattle.ras_account.proofs.EntryLemmas.{named}
-use Rattle.ras_account.proofs.TakingLemmas.{total-items, entries-items, limit-items}
+use Rattle.ras_account.specs.Account.{State, names_of, kept_names}
+use Rattle.ras_account.specs.Continued.{is_fresh_in, account_after_fresh, account_with_count, account_after, account_after_all}
+use Rattle.ras_account.specs.Numbers.{Numbers, AreWithin, are_past, numbers_of, IsWithin, StaysWithin, fresh_entries_in, items_of, numbers_with}
+use Rattle.ras_account.specs.View.{View, Waiting, WaitsFirst, then_waits, nothing, labels_in, pages_in, added_by}
+use Rattle.ras_account.proofs.KeyLemmas.{same_label-exact, same_label-refl}
+use Rattle.ras_account.proofs.ItemLemmas.{names-items, entries-items, keys-modules, keys-pages, total-items}
 
-known_or : (b t r : Bool) → (t ≡ true → b ≡ true) → (b || r) ≡ (b || (t || r))
-known_or true t r known = refl
-known_or false true r known = absurd (true≢false (sym (known refl)))
-known_or false false r known = refl
+-- numbers are past what an account counts where they aren't within it
+pub past-within : (n : Numbers) → are_past n ≡ false ↔ AreWithin n
+past-within n = (λ past. record { names = grind (arith, nat_tests); entries = grind (arith, nat_tests); total = grind (arith, nat_tests) }, λ within. grind (arith, nat_tests))
 
-new_or : (b t r : Bool) → ((b || (t || false)) || r) ≡ (b || (t || r))
-new_or true t r = refl
-new_or false true r = refl
-new_or false false r = refl
-
--- a name is held after entries where it was held before or one of them brings it
-list_any-continued_all : (name : Name) (a : State) (entries : List Entry)
-    → list_any (same_name name) (continued_all a entries).names ≡ (list_any (same_name name) a.names || list_any (brings name) entries)
-list_any-continued_all name a [] = sym (or-false _)
-list_any-continued_all name a (Settles limit ∷ entries) =
-    list_any-continued_all name (continued a (Settles limit)) entries
-    ∙ ap (λ ns. list_any (same_name name) ns || list_any (brings name) entries) (by (is_fresh_in a (Settles limit)))
+pub fewer-kept : (floor : ℕ) (names : List Name) → length (kept_names floor names) ≤ length names
+fewer-kept floor [] = omega arith
+fewer-kept floor (n ∷ ns) = by (is_retired floor n) (fewer-kept floor ns)
   where
-    by : (b : Bool) → (if b then entry_taken a (Settles limit) else a).names ≡ a.names
-    by true = refl
+    by : (b : Bool) → length (kept_names floor ns) ≤ length ns → length (cond (not b) (n ∷ kept_names floor ns) (kept_names floor ns)) ≤ length (n ∷ ns)
+    by true ih = omega arith
+    by false ih = omega arith
+
+-- an account with a fresh entry more, by the keys and the numbers
+pub record Grows (a b : State) (e : Entry) : Type 0 where
+  pub labels : keys_of b.modules ≡ keys_of a.modules ++ added_keys same_label (keys_of a.modules) (labels_in (items_in e))
+  pub pages : keys_of b.pages ≡ keys_of a.pages ++ added_keys nat_eq (keys_of a.pages) (pages_in (items_in e))
+  pub names : length b.names ≤ length a.names + length (names_of (e ∷ []))
+  pub entries : b.entries ≡ a.entries + 1
+  pub total : b.total ≡ a.total + sum_by (λ (item : Item). item.weight) (items_in e)
+
+pub grows : (a : State) (e : Entry) → Grows a (account_after_fresh (account_with_count a) e) e
+grows a (Fact fact) = record {
+  labels = keys-modules a.limit a.module_limit fact.seconds b fact.items;
+  pages = keys-pages a.limit a.module_limit fact.seconds b fact.items;
+  names = omega (arith, ap length (names-items b (sightings_in a.limit a.module_limit (Fact fact))), length-append a.names (fact.name ∷ []));
+  entries = entries-items b (sightings_in a.limit a.module_limit (Fact fact));
+  total = total-items a.limit a.module_limit fact.seconds b fact.items;
+}
+  where
+    b : State
+    b = record a { names = a.names ++ fact.name ∷ []; entries = a.entries + 1 }
+grows a (PageLimit limit) = record { labels = sym (append-nil (keys_of a.modules)); pages = sym (append-nil (keys_of a.pages)); names = omega arith; entries = refl; total = omega arith }
+grows a (Retire boot) = record { labels = sym (append-nil (keys_of a.modules)); pages = sym (append-nil (keys_of a.pages)); names = omega (arith, fewer-kept boot a.names); entries = refl; total = omega arith }
+grows a (ModuleLimit limit) = record { labels = sym (append-nil (keys_of a.modules)); pages = sym (append-nil (keys_of a.pages)); names = omega arith; entries = refl; total = omega arith }
+
+names_of-cons : (e : Entry) (es : List Entry) → names_of (e ∷ es) ≡ names_of (e ∷ []) ++ names_of es
+names_of-cons (Fact fact) es = refl
+names_of-cons (PageLimit limit) es = refl
+names_of-cons (Retire boot) es = refl
+names_of-cons (ModuleLimit limit) es = refl
+
+-- what is added behind what one fresh entry adds
+added_behind : (a b : State) (e : Entry) (later : List Entry) → Grows a b e
+    → (record {
+      names = names_of (e ∷ later);
+      labels = added_keys same_label (keys_of a.modules) (labels_in (items_in e ++ items_of later));
+      pages = added_keys nat_eq (keys_of a.pages) (pages_in (items_in e ++ items_of later));
+    })
+    ≡ then_waits
+    (record {
+      names = names_of (e ∷ []);
+      labels = added_keys same_label (keys_of a.modules) (labels_in (items_in e ++ []));
+      pages = added_keys nat_eq (keys_of a.pages) (pages_in (items_in e ++ []));
+    })
+    (record {
+      names = names_of later;
+      labels = added_keys same_label (keys_of b.modules) (labels_in (items_of later));
+      pages = added_keys nat_eq (keys_of b.pages) (pages_in (items_of later));
+    })
+added_behind a b e later grown =
+    λ i. record {
+      names = names_of-cons e later i;
+      labels = (ap (added_keys same_label (keys_of a.modules)) (map-append (λ (item : Item). item.label) (items_in e) (items_of later))
+          ∙ added-append same_label same_label-exact same_label-refl (keys_of a.modules) (labels_in (items_in e)) (labels_in (items_of later))
+          ∙ (λ j. added_keys same_label (keys_of a.modules) (labels_in (sym (append-nil (items_in e)) j)) ++ added_keys same_label (sym grown.labels j) (labels_in (items_of later)))) i;
+      pages = (ap (added_keys nat_eq (keys_of a.pages)) (filter_map-append (λ (item : Item). item.page) (items_in e) (items_of later))
+          ∙ added-append nat_eq nat_exact nat_own (keys_of a.pages) (pages_in (items_in e)) (pages_in (items_of later))
+          ∙ (λ j. added_keys nat_eq (keys_of a.pages) (pages_in (sym (append-nil (items_in e)) j)) ++ added_keys nat_eq (sym grown.pages j) (pages_in (items_of later)))) i;
+    }
+
+-- what the entries that are fresh of a list add
+abbrev pub adds : State → List Entry → Waiting
+adds a entries = record {
+  names = names_of entries;
+  labels = added_keys same_label (keys_of a.modules) (labels_in (items_of entries));
+  pages = added_keys nat_eq (keys_of a.pages) (pages_in (items_of entries));
+}
+
+pub added_by-cons : (a : State) (e : Entry) (es : List Entry) → added_by a (e ∷ es) ≡ then_waits (added_by a (e ∷ [])) (added_by (account_after a e) es)
+added_by-cons a e es = by (is_fresh_in a e)
+  where
+    by : (b : Bool)
+        → adds a (if b then e ∷ fresh_entries_in (if b then account_after_fresh (account_with_count a) e else a) es else fresh_entries_in a es)
+        ≡ then_waits (adds a (if b then e ∷ [] else [])) (added_by (if b then account_after_fresh (account_with_count a) e else a) es)
+    by true = added_behind a (account_after_fresh (account_with_count a) e) e (fresh_entries_in (account_after_fresh (account_with_count a) e) es) (grows a e)
     by false = refl
-list_any-continued_all name a (Fact fact ∷ entries) =
-    list_any-continued_all name (continued a (Fact fact)) entries
-    ∙ by (list_any (same_name fact.name) a.names) refl
+
+-- the numbers with a list of entries are those behind its first entry with the others, or greater
+pub record AreAtMost (one other : Numbers) : Type 0 where
+  pub names : one.names ≤ other.names
+  pub entries : one.entries ≤ other.entries
+  pub total : one.total ≤ other.total
+
+abbrev pub with_fresh_ones : State → List Entry → Numbers
+with_fresh_ones a entries = record {
+  names = length a.names + length (names_of entries);
+  entries = a.entries + length entries;
+  total = a.total + sum_by (λ (item : Item). item.weight) (items_of entries);
+}
+
+pub numbers-cons : (a : State) (e : Entry) (es : List Entry) → AreAtMost (numbers_with (account_after a e) es) (numbers_with a (e ∷ es))
+numbers-cons a e es = by (is_fresh_in a e)
   where
-    by : (b : Bool) → list_any (same_name fact.name) a.names ≡ b
-        → (list_any (same_name name) (if not b then entry_taken a (Fact fact) else a).names || list_any (brings name) entries) ≡ (list_any (same_name name) a.names || (same_name name fact.name || list_any (brings name) entries))
-    by true is = known_or (list_any (same_name name) a.names) (same_name name fact.name) _
-        (λ same. subst (λ n. list_any (same_name n) a.names ≡ true) (sym (same_name-exact name fact.name same)) is)
-    by false is =
-        ap (λ ns. list_any (same_name name) ns || list_any (brings name) entries) (names-items_taken (named a fact) (sightings_in a.limit (Fact fact)))
-        ∙ ap (λ b. b || list_any (brings name) entries) (list_any-append (same_name name) a.names (fact.name ∷ []))
-        ∙ new_or (list_any (same_name name) a.names) (same_name name fact.name) _
+    by : (b : Bool)
+        → AreAtMost (numbers_with (if b then account_after_fresh (account_with_count a) e else a) es) (with_fresh_ones a (if b then e ∷ fresh_entries_in (if b then account_after_fresh (account_with_count a) e else a) es else fresh_entries_in a es))
+    by true =
+        let b : State = account_after_fresh (account_with_count a) e in
+        let grown : Grows a b e = grows a e in
+        record {
+          names = omega (arith, grown.names, ap length (names_of-cons e (fresh_entries_in b es)), length-append (names_of (e ∷ [])) (names_of (fresh_entries_in b es)));
+          entries = omega (arith, grown.entries);
+          total = omega (arith, grown.total, sum_by-append (λ (item : Item). item.weight) (items_in e) (items_of (fresh_entries_in b es)));
+        }
+    by false = record { names = omega arith; entries = omega arith; total = omega arith }
 
-not_or : (b r : Bool) → not (b || r) ≡ (not b && not r)
-not_or true r = refl
-not_or false r = refl
+pub now-within : (a : State) (es : List Entry) → AreWithin (numbers_with a es) → IsWithin a
+now-within a es within = record { names = omega (arith, within.names); entries = omega (arith, within.entries); total = omega (arith, within.total) }
 
-pub fresh_after : (a : State) (before : List Entry) (fact : Report)
-    → is_fresh_in (continued_all a before) (Fact fact) ≡ (not (list_any (same_name fact.name) a.names) && not (list_any (brings fact.name) before))
-fresh_after a before fact = ap not (list_any-continued_all fact.name a before) ∙ not_or _ _
+pub within-cons : (a : State) (e : Entry) (es : List Entry) → AreWithin (numbers_with a (e ∷ es)) → AreWithin (numbers_with (account_after a e) es)
+within-cons a e es within =
+    let less : AreAtMost (numbers_with (account_after a e) es) (numbers_with a (e ∷ es)) = numbers-cons a e es in
+    record { names = omega (arith, less.names, within.names); entries = omega (arith, less.entries, within.entries); total = omega (arith, less.total, within.total) }
 
--- one entry more
-pub numbered-fact : (a : State) (old new counted : Numbers) (fact : Report) → Numbered a old → is_fresh_in a (Fact fact) ≡ true
-    → old.names ≡ counted.names → old.limit ≡ counted.limit → old.total ≡ counted.total → min counted.entries greatest ≡ min (old.entries + 1) greatest
-    → CountsFact counted new fact → Numbered (continued a (Fact fact)) new
-numbered-fact a old new counted fact numbered fresh names limit total entries counts =
-    subst (λ b. Numbered (if b then entry_taken a (Fact fact) else a) new) (sym fresh) (record {
-      names_are = omega (arith, counts.names_are, names, numbered.names_are, ap length (names-items_taken (named a fact) (sightings_in a.limit (Fact fact))), length-append a.names (fact.name ∷ []));
-      limit = counts.limit ∙ sym limit ∙ numbered.limit ∙ sym (limit-items a.limit fact.seconds (named a fact) fact.items);
-      entries = omega (arith, counts.entries, entries, numbered.entries, entries-items a.limit fact.seconds (named a fact) fact.items);
-      total = omega (arith, counts.total, total, numbered.total, total-items a.limit fact.seconds (named a fact) fact.items);
-    })
+-- there is room after each entry of a list that was reserved
+pub stays-within : (a : State) (es : List Entry) → AreWithin (numbers_with a es) → StaysWithin a es
+stays-within a [] within = tt
+stays-within a (e ∷ es) within =
+    let later : AreWithin (numbers_with (account_after a e) es) = within-cons a e es within in
+    (now-within (account_after a e) es later, stays-within (account_after a e) es later)
 
-pub numbered-limit : (a : State) (old new : Numbers) (limit : Limit) → Numbered a old → is_fresh_in a (Settles limit) ≡ true
-    → new ≡ record old { limit = limit; entries = new.entries } → min new.entries greatest ≡ min (old.entries + 1) greatest → Numbered (continued a (Settles limit)) new
-numbered-limit a old new limit numbered fresh is entries =
-    subst (λ b. Numbered (if b then entry_taken a (Settles limit) else a) new) (sym fresh) (record {
-      names_are = ap (λ (n : Numbers). min n.names greatest) is ∙ numbered.names_are;
-      limit = ap (λ (n : Numbers). n.limit) is;
-      entries = omega (arith, entries, numbered.entries);
-      total = ap (λ (n : Numbers). min n.total greatest) is ∙ numbered.total;
-    })
-
--- an entry that isn't fresh leaves the numbers
-pub numbered-repeat : (a : State) (numbers : Numbers) (e : Entry) → Numbered a numbers → is_fresh_in a e ≡ false → Numbered (continued a e) numbers
-numbered-repeat a numbers e numbered repeat = subst (λ b. Numbered (if b then entry_taken a e else a) numbers) (sym repeat) numbered
-
--- the entries up to a place, and the one there
-pub continued_all-more : (a : State) (entries : List Entry) (i : ℕ) (e : Entry) → i < length entries → e ≡ get_or entries i e
-    → continued_all a (take (i + 1) entries) ≡ continued (continued_all a (take i entries)) e
-continued_all-more a entries i e within here =
-    fold_more continued a entries i e within ∙ ap (continued (continued_all a (take i entries))) (sym here)
+pub front-within : (a : State) (es more : List Entry) → AreWithin (numbers_with a (es ++ more)) → IsWithin (account_after_all a es)
+front-within a [] more within = now-within a more within
+front-within a (e ∷ es) more within = front-within (account_after a e) es more (within-cons a e (es ++ more) within)

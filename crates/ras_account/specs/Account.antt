@@ -1,86 +1,89 @@
--- What the account of a list of entries is. Each of its parts is a function of the fresh entries alone, and each row of
--- its items alone: the sums of a module are sums over the items that have its label, and the row of a page runs one
--- bucket along the items that name the page.
-use Rattle.std.specs.Prelude.{ℕ, ◌^◌, nat_eq, List, [], ◌∷◌, map, filter, length}
-use Rattle.std.specs.List.{sum_by, sum}
+-- What the account of a history is. Each of its parts is a function of the fresh entries alone, and
+-- each row of its items alone: the sums of a module are sums over the items that have its label,
+-- its bucket runs along its own corrected errors since the last mark, and the row of a page runs
+-- one bucket along the items that name the page.
+use Rattle.std.specs.Prelude.{ℕ, not, List, [], ◌∷◌, map, filter, length, sum}
+use Rattle.std.specs.List.{sum_by}
 use Rattle.mca_status.specs.declared.classes.ItemClass.{ItemClass}
-use Rattle.mca_status.specs.declared.classes.ItemClass.TheVariants.{Ce, Ucna, Srao, Srar, Uc, Odd, Corrected, Recoverable, Fatal, Informational}
-use Rattle.mca_status.specs.Classes.{class_number}
 use Rattle.dimm_topology.specs.Labels.{Bytes, same_label}
 use Rattle.page_policy.specs.declared.buckets.Limit.{Limit}
-use Rattle.page_policy.specs.declared.rows.PageRow.{PageRow as Row}
+use Rattle.page_policy.specs.declared.rows.PageRow.{PageRow}
 use Rattle.page_policy.specs.Rows.{Report}
-use Rattle.row_tables.specs.Tables.{table, of_key}
-use Rattle.page_policy.specs.Histories.{page_rows_of as rows_of, page_history as page_history_of}
+use Rattle.row_tables.specs.Tables.{distinct_keys}
+use Rattle.page_policy.specs.Histories.{page_rows_of, page_history as page_history_of}
 use Rattle.ras_facts.specs.declared.name.Name.{Name}
 use Rattle.ras_facts.specs.declared.entry.Entry.{Entry}
-use Rattle.ras_account.specs.Fresh.{names_in, fresh, limit_after}
-use Rattle.ras_account.specs.Sightings.{Sighting, sightings, label_of, weight_of, reports_of}
+use Rattle.ras_facts.specs.declared.entry.Entry.TheVariants.{Fact}
+use Rattle.ras_account.specs.History.{History, limit_after, module_limit_after, floor_after, is_retired}
+use Rattle.ras_account.specs.Fresh.{fresh_entries}
+use Rattle.ras_account.specs.Sightings.{Sighting, sightings, sightings_since_mark, label_of, sighting_weight, reports_of}
+use Rattle.ras_account.specs.Modules.{Module, class_weight, is_labeled, errors_of, module_of}
 
--- the ten classes of items, in the order of their numbers
-abbrev pub classes : List ItemClass
-classes = Ce ∷ Ucna ∷ Srao ∷ Srar ∷ Uc ∷ Odd ∷ Corrected ∷ Recoverable ∷ Fatal ∷ Informational ∷ []
+-- the names of the facts among entries, in order
+abbrev pub names_of : List Entry → List Name
+names_of [] = []
+names_of (Fact fact ∷ entries) = fact.name ∷ names_of entries
+names_of (other ∷ entries) = names_of entries
 
--- the sum of the weights of the items of a class
-abbrev pub class_weight : List Sighting → ItemClass → ℕ
-class_weight ss class = sum_by weight_of (filter (λ s. nat_eq (class_number class) (class_number s.item.class)) ss)
+-- the names of a list whose boots aren't retired
+abbrev pub kept_names : ℕ → List Name → List Name
+kept_names floor names = filter (λ name. not (is_retired floor name)) names
 
--- the row of a module, by the items that have its label: ten sums, in the order of the class numbers
-abbrev pub module_row : List Sighting → List ℕ
-module_row ss = map (class_weight ss) classes
+-- the items of a history's fresh entries that have a label, in order
+abbrev pub module_items : History → Bytes → List Sighting
+module_items history label = filter (is_labeled label) (sightings history)
 
--- the items of a list's fresh entries that have a label, in order
-abbrev pub module_history : List Entry → Bytes → List Sighting
-module_history history label = of_key same_label label_of (sightings history) label
+-- those of them that count towards the replacement of the module: the corrected errors since the
+-- last mark, each with its time and the limit in force for modules at it
+abbrev pub module_errors : History → Bytes → List Sighting
+module_errors history label = errors_of label (sightings_since_mark history)
 
--- what is counted of a module and a class: the weights of the items of fresh entries with that label and class
-abbrev pub module_count : List Entry → Bytes → ItemClass → ℕ
-module_count history label class = class_weight (module_history history label) class
+-- what is counted of a module and a class: the weights of its items of that class
+abbrev pub module_count : History → Bytes → ItemClass → ℕ
+module_count history label class = class_weight (module_items history label) class
 
--- the items of a list's fresh entries that name a page, in order, each with its time and the limit in force at it
-abbrev pub page_history : List Entry → ℕ → List Report
+-- the items of a history's fresh entries that name a page, in order, each with its time and the
+-- limit in force for pages at it
+abbrev pub page_history : History → ℕ → List Report
 page_history history page = page_history_of (reports_of (sightings history)) page
+
+-- the modules that all items and those since the last mark give: each label in first-seen order
+abbrev pub modules_of : List Sighting → List Sighting → List (Bytes × Module)
+modules_of all since_mark =
+    map {B = Bytes × Module} (λ label. (label, module_of all since_mark label)) (distinct_keys same_label (map label_of all))
 
 -- what is counted
 pub record State : Type 0 where
-  -- the names of facts
+  -- the names of facts, but for those of retired boots
   pub names : List Name
-  -- the limit in force
+  -- the boot below which all boots are retired
+  pub floor : ℕ
+  -- the limit in force for pages
   pub limit : Limit
+  -- the limit in force for modules
+  pub module_limit : Limit
   -- how many entries
   pub entries : ℕ
   -- the weights of all items together
   pub total : ℕ
-  -- the labels in first-seen order, each with its ten sums
-  pub modules : List (Bytes × List ℕ)
+  -- the labels in first-seen order, each with what is counted of its module
+  pub modules : List (Bytes × Module)
   -- the pages in first-seen order, each with its bucket and its state
-  pub pages : List (ℕ × Row)
+  pub pages : List (ℕ × PageRow)
 
--- the account of names, a limit in force, a number of entries, and items
-abbrev pub counted : List Name → Limit → ℕ → List Sighting → State
-counted names limit entries ss = record {
-  names = names;
-  limit = limit;
-  entries = entries;
-  total = sum_by weight_of ss;
-  modules = table same_label label_of module_row ss;
-  pages = rows_of (reports_of ss);
+-- the account of a history
+abbrev pub account_of : History → State
+account_of history = record {
+  names = kept_names (floor_after history) (names_of (fresh_entries history));
+  floor = floor_after history;
+  limit = limit_after history;
+  module_limit = module_limit_after history;
+  entries = length (fresh_entries history);
+  total = sum_by sighting_weight (sightings history);
+  modules = modules_of (sightings history) (sightings_since_mark history);
+  pages = page_rows_of (reports_of (sightings history));
 }
 
--- the account of a list of entries
-abbrev pub account_of : List Entry → State
-account_of history = counted (names_in (fresh history)) (limit_after history) (length (fresh history)) (sightings history)
-
--- all weights that rows of modules hold together
-abbrev pub weight_in : List (Bytes × List ℕ) → ℕ
-weight_in modules = sum_by (λ row. sum row.1) modules
-
--- how many names an account holds at most, and how many entries and how much weight it counts at most
-abbrev pub most_names : ℕ
-most_names = 200000
-
-abbrev pub most_entries : ℕ
-most_entries = 2 ^ 62
-
-abbrev pub most_weight : ℕ
-most_weight = 2 ^ 62
+-- all weights that modules hold together
+abbrev pub weight_in : List (Bytes × Module) → ℕ
+weight_in modules = sum_by (λ row. sum row.1.sums) modules

@@ -1,72 +1,105 @@
--- How one entry more continues an account, also one that no list of entries gives.
-use Rattle.std.specs.Prelude.{ℕ, ◌+◌, ◌<◌, ◌≤◌, ◌⊎◌, Bool, not, if◌then◌else◌, List, [], ◌∷◌, ◌++◌, length, fold, replicate, slice_index, slice_set}
-use Rattle.std.specs.List.{list_any}
+-- How one entry more, or a mark, continues an account, also one that no history gives.
+use Rattle.std.specs.Prelude.{ℕ, ◌+◌, Bool, false, ◌&&◌, ◌||◌, not, nat_lt, if◌then◌else◌, None, Some, List, [], ◌∷◌, ◌++◌, fold, map, replicate, slice_index, slice_set}
 use Rattle.std.specs.Option.{option_map_or}
 use Rattle.mca_status.specs.Classes.{class_number}
 use Rattle.dimm_topology.specs.Labels.{Bytes, same_label}
-use Rattle.page_policy.specs.declared.rows.PageRow.{PageRow as Row}
-use Rattle.row_tables.specs.Tables.{updated_rows as updated}
+use Rattle.page_policy.specs.declared.rows.PageRow.{PageRow}
+use Rattle.row_tables.specs.Tables.{updated_rows}
 use Rattle.page_policy.specs.Histories.{rows_after}
+use Rattle.ras_facts.specs.declared.name.Name.{Name}
 use Rattle.ras_facts.specs.declared.items.Item.{Item}
 use Rattle.ras_facts.specs.declared.entry.Entry.{Entry}
-use Rattle.ras_facts.specs.declared.entry.Entry.TheVariants.{Fact, Limit as Settles}
-use Rattle.ras_account.specs.Fresh.{same_limit}
-use Rattle.ras_facts.specs.Names.{same_name}
-use Rattle.ras_account.specs.Sightings.{Sighting, sightings_in, report_of}
-use Rattle.ras_account.specs.Account.{State, most_names, most_entries, most_weight}
+use Rattle.ras_facts.specs.declared.entry.Entry.TheVariants.{Fact, Limit as PageLimit, Retire, ModuleLimit}
+use Rattle.ras_account.specs.History.{History, empty, with_entry, with_mark, is_retired}
+use Rattle.ras_account.specs.Fresh.{same_limit, is_among}
+use Rattle.ras_account.specs.Sightings.{Sighting, sightings_in, label_of, report_of}
+use Rattle.ras_account.specs.Modules.{Module, fills_bucket, bucket_with, trips_at}
+use Rattle.ras_account.specs.Account.{State, kept_names}
 
--- whether an entry is fresh in an account: a fact whose name isn't held, or a limit other than the one in force
+-- whether an account knows a name: it holds it, or the name's boot is retired
+abbrev pub knows : State → Name → Bool
+knows a name = is_among a.names name || is_retired a.floor name
+
+-- whether an entry is fresh in an account: a fact whose name it doesn't know, a limit other than
+-- the one of its kind in force, or a retire above the floor
 abbrev pub is_fresh_in : State → Entry → Bool
-is_fresh_in a (Fact fact) = not (list_any (same_name fact.name) a.names)
-is_fresh_in a (Settles limit) = not (same_limit limit a.limit)
+is_fresh_in a (Fact fact) = not (knows a fact.name)
+is_fresh_in a (PageLimit limit) = not (same_limit limit a.limit)
+is_fresh_in a (Retire boot) = nat_lt a.floor boot
+is_fresh_in a (ModuleLimit limit) = not (same_limit limit a.module_limit)
 
--- the ten sums of a module of which nothing was seen
+-- a module of which nothing was seen
 abbrev pub no_sums : List ℕ
 no_sums = replicate 10 0
 
+abbrev pub new_module : Module
+new_module = record { sums = no_sums; bucket = None; replace = false }
+
 -- the sums of a module after an item: its weight is added to the sum of its class
 abbrev pub sums_after : List ℕ → Item → List ℕ
-sums_after sums item = slice_set sums (class_number item.class) (slice_index sums (class_number item.class) + item.weight)
+sums_after sums item =
+    slice_set sums (class_number item.class) (slice_index sums (class_number item.class) + item.weight)
 
--- the rows of modules after an item: it changes its label's row, or begins one behind the others
-abbrev pub modules_after : List (Bytes × List ℕ) → Item → List (Bytes × List ℕ)
-modules_after modules item = updated same_label item.label (sums_after no_sums item) (λ sums. sums_after sums item) modules
+-- a module after an item: one that fills the bucket steps it, and a trip asks for the replacement
+abbrev pub module_after : Module → Sighting → Module
+module_after m s = record {
+  sums = sums_after m.sums s.item;
+  bucket = if fills_bucket s then Some (bucket_with m.bucket s) else m.bucket;
+  replace = m.replace || (fills_bucket s && trips_at m.bucket s);
+}
+
+-- the modules after an item: it changes its label's row, or begins one behind the others
+abbrev pub modules_after : List (Bytes × Module) → Sighting → List (Bytes × Module)
+modules_after modules s =
+    updated_rows same_label (label_of s) (module_after new_module s) (λ m. module_after m s) modules
 
 -- the rows of pages after an item: it goes to its page, if it names one
-abbrev pub pages_after : List (ℕ × Row) → Sighting → List (ℕ × Row)
+abbrev pub pages_after : List (ℕ × PageRow) → Sighting → List (ℕ × PageRow)
 pages_after pages s = option_map_or (rows_after pages) (report_of s) pages
 
 -- an account with one item more
-abbrev pub item_taken : State → Sighting → State
-item_taken a s = record a {
+abbrev pub account_after_item : State → Sighting → State
+account_after_item a s = record a {
   total = a.total + s.item.weight;
-  modules = modules_after a.modules s.item;
+  modules = modules_after a.modules s;
   pages = pages_after a.pages s;
 }
 
 -- an account with items more, in order
-abbrev pub items_taken : State → List Sighting → State
-items_taken a ss = fold item_taken a ss
+abbrev pub account_after_items : State → List Sighting → State
+account_after_items a ss = fold account_after_item a ss
 
--- an account with one entry more, which is fresh: a fact's name and then its items, or a limit that is now in force
-abbrev pub entry_taken : State → Entry → State
-entry_taken a (Fact fact) = items_taken (record a { names = a.names ++ fact.name ∷ []; entries = a.entries + 1 }) (sightings_in a.limit (Fact fact))
-entry_taken a (Settles limit) = record a { limit = limit; entries = a.entries + 1 }
+-- an account with a fresh entry more, but for the number of entries: a fact's name and then its
+-- items, a limit that is in force from now on, or a floor below which names are dropped
+abbrev pub account_after_fresh : State → Entry → State
+account_after_fresh a (Fact fact) =
+    account_after_items (record a { names = a.names ++ fact.name ∷ [] }) (sightings_in a.limit a.module_limit (Fact fact))
+account_after_fresh a (PageLimit limit) = record a { limit = limit }
+account_after_fresh a (Retire boot) = record a { names = kept_names boot a.names; floor = boot }
+account_after_fresh a (ModuleLimit limit) = record a { module_limit = limit }
+
+-- an account with one entry counted more
+abbrev pub account_with_count : State → State
+account_with_count a = record a { entries = a.entries + 1 }
 
 -- an account continued by an entry: it counts the entry where it is fresh, and else stays
-abbrev pub continued : State → Entry → State
-continued a entry = if is_fresh_in a entry then entry_taken a entry else a
+abbrev pub account_after : State → Entry → State
+account_after a entry = if is_fresh_in a entry then account_after_fresh (account_with_count a) entry else a
 
 -- an account continued by each entry of a list in order
-abbrev pub continued_all : State → List Entry → State
-continued_all a entries = fold continued a entries
+abbrev pub account_after_all : State → List Entry → State
+account_after_all a entries = fold account_after a entries
 
--- an account within its three numbers
-pub record IsWithin (a : State) : Type 0 where
-  pub names : length a.names ≤ most_names
-  pub entries : a.entries ≤ most_entries
-  pub total : a.total ≤ most_weight
+-- a module without a bucket, which nothing asks to replace
+abbrev pub without_bucket : Module → Module
+without_bucket m = record m { bucket = None; replace = false }
 
--- an account past one of them
-abbrev pub IsPast : State → Type 0
-IsPast a = (most_names < length a.names) ⊎ (most_entries < a.entries) ⊎ (most_weight < a.total)
+-- an account with a mark more: no module has a bucket, and none is to be replaced
+abbrev pub account_after_mark : State → State
+account_after_mark a = record a { modules = map {B = Bytes × Module} (λ row. (row.0, without_bucket row.1)) a.modules }
+
+-- an account continued by all of a history
+abbrev pub account_after_history : State → History → State
+account_after_history a empty = a
+account_after_history a (with_entry history entry) = account_after (account_after_history a history) entry
+account_after_history a (with_mark history) = account_after_mark (account_after_history a history)

@@ -1,88 +1,93 @@
--- This file only carries proofs: what is noted of entries before any of them is taken.
-use Rattle.std.specs.Prelude.{◌≡◌, ℕ, ◌+◌, min, Bool, false, length, nat_eq, if◌then◌else◌, List, [], ◌∷◌, ◌++◌}
-use Rattle.std.specs.List.{list_any}
+-- Only for proofs: what is noted of entries before any of them is taken.
+use Rattle.std.specs.Prelude.{◌≡◌, ℕ, ◌+◌, min, ◌||◌, nat_eq, if◌then◌else◌, List, [], ◌∷◌, ◌++◌, length}
+use Rattle.std.specs.List.{sum_by}
 use Rattle.std.specs.Map.{keys_of}
-use Rattle.dimm_topology.specs.Labels.{Bytes, same_label}
-use Rattle.page_policy.specs.declared.buckets.Limit.{Limit}
-use Rattle.row_tables.specs.Tables.{added_keys as added}
-use Rattle.ras_account.specs.PageWords.{Held}
+use Rattle.dimm_topology.specs.Labels.{same_label}
+use Rattle.row_tables.specs.Tables.{added_keys}
 use Rattle.ras_facts.specs.declared.name.Name.{Name}
 use Rattle.ras_facts.specs.declared.items.Item.{Item}
-use Rattle.ras_facts.specs.declared.fact.Fact.{Fact as Report}
 use Rattle.ras_facts.specs.declared.entry.Entry.{Entry}
-use Rattle.ras_facts.specs.declared.entry.Entry.TheVariants.{Fact, Limit as Settles}
+use Rattle.ras_facts.specs.declared.entry.Entry.TheVariants.{Fact, Limit as PageLimit, Retire, ModuleLimit}
+use Rattle.ras_account.specs.declared.in_force.InForce.{InForce}
 use Rattle.ras_account.specs.declared.reserve.Tally.{Tally}
-use Rattle.ras_account.specs.declared.reserve.Numbers.{Numbers}
-use Rattle.ras_facts.specs.Names.{same_name}
-use Rattle.ras_account.specs.Account.{State}
-use Rattle.ras_account.specs.Continued.{continued_all}
-use Rattle.ras_account.specs.View.{View, Waiting}
-use Rattle.ras_account.specs.Kept.{IsKept}
-use Rattle.ras_account.specs.Parts.{NameList, ModuleList}
-use Rattle.ras_account.specs.Taking.{labels_in, pages_in, weights_in}
+use Rattle.ras_account.specs.History.{is_retired}
+use Rattle.ras_account.specs.Fresh.{is_among}
+use Rattle.ras_account.specs.Account.{State, names_of}
+use Rattle.ras_account.specs.Continued.{knows, is_fresh_in, account_after_all}
+use Rattle.ras_account.specs.Numbers.{fresh_entries_in, items_of}
+use Rattle.ras_account.specs.View.{View, Waiting, labels_in, pages_in}
+use Rattle.ras_account.specs.Accounts.{IsAccount}
+use Rattle.row_tables.specs.Held.{Held}
+use Rattle.page_policy.specs.declared.rows.PageRow.{PageRow}
+use Rattle.ras_account.specs.Parts.{NameList, ModuleList, all_names, all_labels}
+use Rattle.ras_account.specs.Taking.{weights_in}
 
--- the names and the labels that are held or wait
-abbrev pub all_names : NameList → List Name
-all_names names = names.held ++ names.waiting
+-- what is in force after an entry
+abbrev pub in_force_after : InForce → Entry → InForce
+in_force_after now (Fact fact) = now
+in_force_after now (PageLimit limit) = record now { limit = limit }
+in_force_after now (Retire boot) = record now { floor = boot }
+in_force_after now (ModuleLimit limit) = record now { module_limit = limit }
 
-abbrev pub all_labels : ModuleList → List Bytes
-all_labels modules = keys_of modules.rows ++ modules.waiting
-
--- keys with one behind them, if it isn't among them
-abbrev pub with_label : List Bytes → Bytes → List Bytes
-with_label labels label = if list_any (same_label label) labels then labels else labels ++ label ∷ []
-
--- the greatest number of 64 bits, at which a tally of weights stays
+-- the greatest number of 64 bits, at which a tally stays
 abbrev pub greatest : ℕ
 greatest = 18446744073709551615
 
 -- what is noted of items: their labels wait, and their pages and weights are in the tally
-pub record NotesItems (labels labels' : List Bytes) (tally tally' : Tally) (items : List Item) : Type 0 where
-  pub labels_are : labels' ≡ labels ++ added same_label labels (labels_in items)
+pub record NotesItems (modules modules' : ModuleList) (tally tally' : Tally) (items : List Item) : Type 0 where
+  pub rows : modules'.rows ≡ modules.rows
+  pub labels : modules'.waiting ≡ modules.waiting ++ added_keys same_label (all_labels modules) (labels_in items)
   pub pages : tally'.pages.items ≡ tally.pages.items ++ pages_in items
-  pub limit : tally'.limit ≡ tally.limit
+  pub in_force : tally'.in_force ≡ tally.in_force
   pub entries : tally'.entries ≡ tally.entries
   pub total : min tally'.total greatest ≡ min (tally.total + weights_in items) greatest
 
--- what is noted of the entries that bring an account a to an account b: b's keys and numbers
-pub record Shadows (a b : State) (names : NameList) (modules : ModuleList) (tally : Tally) : Type 0 where
-  pub names_are : all_names names ≡ b.names
-  pub labels : all_labels modules ≡ keys_of b.modules
-  pub pages : keys_of a.pages ++ added nat_eq (keys_of a.pages) tally.pages.items ≡ keys_of b.pages
-  pub limit : tally.limit ≡ b.limit
-  pub entries : min tally.entries greatest ≡ min b.entries greatest
-  pub total : min tally.total greatest ≡ min b.total greatest
+-- the fresh ones of some entries that bring an account to b, with one entry more
+abbrev pub with_fresh : State → List Entry → Entry → List Entry
+with_fresh b fresh entry = if is_fresh_in b entry then fresh ++ entry ∷ [] else fresh
 
--- what is noted of the entries that bring an account a to an account b, by what then waits behind a
-pub record Noted (a b : State) (waiting : Waiting) (tally : Tally) : Type 0 where
-  pub names_are : a.names ++ waiting.names ≡ b.names
-  pub labels : keys_of a.modules ++ waiting.labels ≡ keys_of b.modules
-  pub pages : keys_of a.pages ++ added nat_eq (keys_of a.pages) tally.pages.items ≡ keys_of b.pages
-  pub entries : min tally.entries greatest ≡ min b.entries greatest
-  pub total : min tally.total greatest ≡ min b.total greatest
+-- what is noted of the fresh ones of some entries that bring an account a to b
+pub record Shadows (a b : State) (fresh : List Entry) (names : NameList) (modules : ModuleList) (tally : Tally) : Type 0 where
+  pub keys : keys_of modules.rows ≡ keys_of a.modules
+  pub names_are : names.waiting ≡ names_of fresh
+  pub labels : modules.waiting ≡ added_keys same_label (keys_of a.modules) (labels_in (items_of fresh))
+  pub pages : tally.pages.items ≡ pages_in (items_of fresh)
+  pub knows_them : (name : Name) → knows b name ≡ (is_among (all_names names) name || is_retired tally.in_force.floor name)
+  pub floor : tally.in_force.floor ≡ b.floor
+  pub limit : tally.in_force.limit ≡ b.limit
+  pub module_limit : tally.in_force.module_limit ≡ b.module_limit
+  pub entries : min tally.entries greatest ≡ min (a.entries + length fresh) greatest
+  pub total : min tally.total greatest ≡ min (a.total + weights_in (items_of fresh)) greatest
+
+-- what is noted of entries behind an account, by what then waits behind it
+pub record Noted (a : State) (waiting : Waiting) (tally : Tally) (entries : List Entry) : Type 0 where
+  pub names_are : waiting.names ≡ names_of (fresh_entries_in a entries)
+  pub labels : waiting.labels ≡ added_keys same_label (keys_of a.modules) (labels_in (items_of (fresh_entries_in a entries)))
+  pub pages : tally.pages.items ≡ pages_in (items_of (fresh_entries_in a entries))
+  pub count : min tally.entries greatest ≡ min (a.entries + length (fresh_entries_in a entries)) greatest
+  pub total : min tally.total greatest ≡ min (a.total + weights_in (items_of (fresh_entries_in a entries))) greatest
 
 -- in the midst of noting entries: the account stays but for what waits, and what is noted is that of the entries so far
-pub record IsNoting (start : View) (names : NameList) (limit : Limit) (entries total : ℕ) (modules : ModuleList) (pages : Held) (tally : Tally) (done : List Entry) : Type 0 where
-  pub kept : IsKept names.held limit entries total modules.rows
-  pub state : record { names = names.held; limit = limit; entries = entries; total = total; modules = modules.rows; pages = pages.rows } ≡ start.state
+pub record IsNoting (start : View) (names : NameList) (in_force : InForce) (entries total : ℕ) (modules : ModuleList) (pages : Held ℕ PageRow) (tally : Tally) (done : List Entry) : Type 0 where
+  pub account : IsAccount (record {
+    names = names.held;
+    floor = in_force.floor;
+    limit = in_force.limit;
+    module_limit = in_force.module_limit;
+    entries = entries;
+    total = total;
+    modules = modules.rows;
+    pages = pages.rows;
+  })
+  pub state : record {
+    names = names.held;
+    floor = in_force.floor;
+    limit = in_force.limit;
+    module_limit = in_force.module_limit;
+    entries = entries;
+    total = total;
+    modules = modules.rows;
+    pages = pages.rows;
+  } ≡ start.state
   pub pages_wait : pages.waiting ≡ []
-  pub shadows : Shadows start.state (continued_all start.state done) names modules tally
-
--- whether an entry brings this name
-abbrev pub brings : Name → Entry → Bool
-brings name (Fact fact) = same_name name fact.name
-brings name (Settles limit) = false
-
--- the numbers of an account
-pub record Numbered (a : State) (numbers : Numbers) : Type 0 where
-  pub names_are : min numbers.names greatest ≡ min (length a.names) greatest
-  pub limit : numbers.limit ≡ a.limit
-  pub entries : min numbers.entries greatest ≡ min a.entries greatest
-  pub total : min numbers.total greatest ≡ min a.total greatest
-
--- the numbers with those of a fact
-pub record CountsFact (old new : Numbers) (fact : Report) : Type 0 where
-  pub names_are : min new.names greatest ≡ min (old.names + 1) greatest
-  pub limit : new.limit ≡ old.limit
-  pub entries : new.entries ≡ old.entries
-  pub total : min new.total greatest ≡ min (old.total + weights_in fact.items) greatest
+  pub shadows : Shadows start.state (account_after_all start.state done) (fresh_entries_in start.state done) names modules tally

@@ -1,37 +1,55 @@
--- The items of a list's fresh facts, each with what was known as it came.
-use Rattle.std.specs.Prelude.{ℕ, List, [], Option, Some, map, flat_map, filter_map, option_map}
+-- The items of a history's fresh facts, each with what was known as it came.
+use Rattle.std.specs.Prelude.{ℕ, Option, if◌then◌else◌, List, [], ◌++◌, map, filter_map, option_map}
+use Rattle.dimm_topology.specs.Labels.{Bytes}
 use Rattle.page_policy.specs.declared.buckets.Limit.{Limit}
 use Rattle.page_policy.specs.Rows.{Report, report}
-use Rattle.dimm_topology.specs.Labels.{Bytes}
 use Rattle.ras_facts.specs.declared.items.Item.{Item}
 use Rattle.ras_facts.specs.declared.entry.Entry.{Entry}
-use Rattle.ras_facts.specs.declared.entry.Entry.TheVariants.{Fact, Limit as Settles}
-use Rattle.ras_account.specs.Fresh.{limit_after, fresh_places}
+use Rattle.ras_facts.specs.declared.entry.Entry.TheVariants.{Fact}
+use Rattle.ras_account.specs.History.{History, empty, with_entry, with_mark, limit_after, module_limit_after}
+use Rattle.ras_account.specs.Fresh.{is_fresh_behind}
 
--- an item, with the time of its fact and the limit in force at it
+-- an item, with the time of its fact in seconds, and the limits in force at it for pages and
+-- modules
 pub record Sighting : Type 0 where
   pub item : Item
   pub seconds : ℕ
   pub limit : Limit
+  pub module_limit : Limit
 
--- the items of an entry, in order, where this limit is in force
-abbrev pub sightings_in : Limit → Entry → List Sighting
-sightings_in limit (Fact fact) = map (λ item. record { item = item; seconds = fact.seconds; limit = limit }) fact.items
-sightings_in limit (Settles other) = []
+-- the items of a fact that came at this time, in order, where these limits are in force
+abbrev pub sightings_of : Limit → Limit → ℕ → List Item → List Sighting
+sightings_of limit module_limit seconds items =
+    map (λ item. record { item = item; seconds = seconds; limit = limit; module_limit = module_limit }) items
 
--- the items of a list's fresh entries, in order
-abbrev pub sightings : List Entry → List Sighting
-sightings history = flat_map (λ p. sightings_in (limit_after p.0) p.1) (fresh_places history)
+-- the items of an entry: only a fact has some
+abbrev pub sightings_in : Limit → Limit → Entry → List Sighting
+sightings_in limit module_limit (Fact fact) = sightings_of limit module_limit fact.seconds fact.items
+sightings_in limit module_limit other = []
 
--- the label, the weight and the page of an item
-abbrev pub label_of : Sighting → Option Bytes
-label_of s = Some s.item.label
+-- the items that an entry brings behind a history: none, where it isn't fresh
+abbrev pub sightings_behind : History → Entry → List Sighting
+sightings_behind history entry =
+    if is_fresh_behind history entry then sightings_in (limit_after history) (module_limit_after history) entry else []
 
-abbrev pub weight_of : Sighting → ℕ
-weight_of s = s.item.weight
+-- the items of a history's fresh entries, in order
+abbrev pub sightings : History → List Sighting
+sightings empty = []
+sightings (with_entry history entry) = sightings history ++ sightings_behind history entry
+sightings (with_mark history) = sightings history
 
-abbrev pub page_of : Sighting → Option ℕ
-page_of s = s.item.page
+-- those of them that came after the last mark
+abbrev pub sightings_since_mark : History → List Sighting
+sightings_since_mark empty = []
+sightings_since_mark (with_entry history entry) = sightings_since_mark history ++ sightings_behind history entry
+sightings_since_mark (with_mark history) = []
+
+-- the label and the weight of an item
+abbrev pub label_of : Sighting → Bytes
+label_of s = s.item.label
+
+abbrev pub sighting_weight : Sighting → ℕ
+sighting_weight s = s.item.weight
 
 -- the report of a page that an item is, if it names a page
 abbrev pub report_of : Sighting → Option Report

@@ -1,12 +1,14 @@
 -- What contracts see of an account and of a list of orders.
-use Rattle.std.specs.Prelude.{◌≡◌, ℕ, List, [], ◌++◌, length, drop}
+use Rattle.std.specs.Prelude.{◌≡◌, ℕ, nat_eq, List, [], ◌++◌, map, filter_map}
 use Rattle.std.specs.Map.{keys_of}
-use Rattle.dimm_topology.specs.Labels.{Bytes}
+use Rattle.dimm_topology.specs.Labels.{Bytes, same_label}
 use Rattle.page_policy.specs.declared.rows.Order.{Order}
+use Rattle.row_tables.specs.Tables.{added_keys}
 use Rattle.ras_facts.specs.declared.name.Name.{Name}
+use Rattle.ras_facts.specs.declared.items.Item.{Item}
 use Rattle.ras_facts.specs.declared.entry.Entry.{Entry}
-use Rattle.ras_account.specs.Account.{State}
-use Rattle.ras_account.specs.Continued.{continued_all}
+use Rattle.ras_account.specs.Account.{State, names_of}
+use Rattle.ras_account.specs.Numbers.{fresh_entries_in, items_of}
 
 -- the names, labels and pages that wait for their entries to be taken
 pub record Waiting : Type 0 where
@@ -30,12 +32,20 @@ then_waits front rest = record {
 abbrev pub WaitsFirst : Waiting → Waiting → Type 0
 WaitsFirst front all = (rest : Waiting) × (then_waits front rest ≡ all)
 
--- what a list of entries adds to an account: the names, labels and pages of the rows that taking it in order begins
+-- the labels and the pages that items name, in order
+abbrev pub labels_in : List Item → List Bytes
+labels_in items = map (λ (item : Item). item.label) items
+
+abbrev pub pages_in : List Item → List ℕ
+pages_in items = filter_map (λ (item : Item). item.page) items
+
+-- what a list of entries adds to an account: the names of those that are fresh at their place, and
+-- the labels and pages of their items that have no row yet, in first-seen order
 abbrev pub added_by : State → List Entry → Waiting
 added_by a entries = record {
-  names = drop (length a.names) (continued_all a entries).names;
-  labels = drop (length a.modules) (keys_of (continued_all a entries).modules);
-  pages = drop (length a.pages) (keys_of (continued_all a entries).pages);
+  names = names_of (fresh_entries_in a entries);
+  labels = added_keys same_label (keys_of a.modules) (labels_in (items_of (fresh_entries_in a entries)));
+  pages = added_keys nat_eq (keys_of a.pages) (pages_in (items_of (fresh_entries_in a entries)));
 }
 
 -- what is counted, and what waits

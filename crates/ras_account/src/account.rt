@@ -1,69 +1,59 @@
-// The account.
-ghost use Rattle.std.specs.Prelude.{◌≡◌, ◌↔◌, ◌+◌, ◌<◌, ◌≤◌, ◌++◌, List, [], ◌∷◌, IsTrue, Some, Err, IfOk, OnOk, OnErr, length, slice_get, option_to_list};
+//! The account.
+ghost use Rattle.std.specs.Prelude.{◌≡◌, ◌+◌, ◌<◌, ◌≤◌, ◌*◌, ◌++◌, List, [], ◌∷◌, IsTrue, IfSome, Some, nat_eq, length, slice_get};
 ghost use Rattle.std.specs.Bool.{IsFalse};
-ghost use Rattle.ras_facts.specs.declared.entry.Entry.{Entry};
-ghost use Rattle.ras_account.specs.Fresh.{is_fresh_behind};
-ghost use Rattle.ras_account.specs.Account.{account_of, weight_in, most_entries, most_weight};
-ghost use Rattle.ras_account.specs.Continued.{is_fresh_in, entry_taken, continued, continued_all, IsWithin, IsPast};
-ghost use Rattle.ras_account.specs.Orders.{order_in, orders_along, orders_at, orders_behind};
 ghost use Rattle.page_policy.specs.Buckets.{IsLimit};
+ghost use Rattle.ras_facts.specs.Entries.{IsValidEntry, most_orders};
+ghost use Rattle.ras_account.specs.History.{History, empty, with_entry, with_mark};
+ghost use Rattle.ras_account.specs.Fresh.{is_fresh_behind};
+ghost use Rattle.ras_account.specs.Account.{account_of, weight_in};
+ghost use Rattle.ras_account.specs.Continued.{is_fresh_in, account_after, account_after_fresh, account_with_count, account_after_mark};
+ghost use Rattle.ras_account.specs.Sightings.{Sighting};
+ghost use Rattle.row_tables.specs.Held.{is_ready};
+ghost use Rattle.ras_facts.specs.declared.entry.Entry.{Entry};
+ghost use Rattle.ras_account.specs.Orders.{orders_along, orders_at, orders_behind, page_order_in};
+ghost use Rattle.ras_account.specs.Numbers.{IsWithin};
 ghost use Rattle.ras_account.specs.View.{Waiting, nothing, then_waits, WaitsFirst, added_by};
-ghost use Rattle.ras_facts.specs.Entries.{IsValidEntry, items_in};
-ghost use Rattle.ras_account.specs.Reserving.{Noted, Numbered};
-ghost use Rattle.ras_account.specs.Taking.{IsNext, item_seen, Gives, sighting, AreNext, TakesItems, sightings_of, CanTakeFact, TakesFact, Takes};
+ghost use Rattle.ras_account.specs.Accounts.{IsAccount};
+ghost use Rattle.ras_account.specs.Parts.{row_of};
+ghost use Rattle.ras_account.specs.Taking.{holds_name, IsNext, view_after_item, item_orders_in, sighting_in, Gives, AreNext, TakesItems, sightings_at, CanTakeFact, TakesFact, Takes, CanCountName, view_after_name, pages_after_item};
 
+use crate::in_force::InForce;
 use crate::modules::Modules;
 use crate::names::Names;
-use crate::reserve::{Numbers, Tally, some_brings};
-use crate::{Entry, ModuleRow, Orders, ReserveRefused};
-use page_policy::{Limit, Pages};
-use ras_base::NoMemory;
-use ras_facts::{Fact, Item, Name};
+use crate::{FIRST_LIMIT, FIRST_MODULE_LIMIT, MOST_ENTRIES, ModuleRow, Orders};
+use page_policy::{Limit, Order, Pages};
+use ras_facts::{Entry, Fact, Item, Name};
 use std::alloc::Global;
 use std::marker::Model;
 
-/// The most names that an account holds.
-pub const MOST_NAMES: usize = 200_000;
-
-/// The most entries that an account counts.
-pub const MOST_ENTRIES: u64 = 1 << 62;
-
-/// The most weight that an account counts.
-pub const MOST_WEIGHT: u64 = 1 << 62;
-
-/// The limit in force at first: ten errors a day.
-const FIRST_LIMIT: Limit = Limit {
-    capacity: 10,
-    period: 86_400,
-};
-
 /// What was counted so far: the names of the reports in the order in which they came, what they say of memory modules
-/// and of pages, and the limit in force.
+/// and of pages, and what is in force.
 ///
 /// Names, labels and pages can wait behind those that are counted, so that their entries can be taken with no memory. No
 /// call tells of what waits.
 #[derive(Drop)]
 pub struct Account {
-    names: Names,
-    limit: Limit,
-    entries: u64,
-    total: u64,
-    modules: Modules,
-    pages: Pages,
-    alloc: Global,
+    pub(crate) names: Names,
+    pub(crate) in_force: InForce,
+    pub(crate) entries: u64,
+    pub(crate) total: u64,
+    pub(crate) modules: Modules,
+    pub(crate) pages: Pages,
+    pub(crate) alloc: Global,
 }
 
 impl Model for Account {
-    ghost use Rattle.page_policy.specs.Buckets.{IsLimit};
     ghost use Rattle.ras_account.specs.View.{View};
-    ghost use Rattle.ras_account.specs.Kept.{IsKept};
+    ghost use Rattle.ras_account.specs.Accounts.{IsAccount};
 
     ghost Value = { View };
 
     ghost view = { λ a. record {
       state = record {
         names = a.names.held;
-        limit = a.limit;
+        floor = a.in_force.floor;
+        limit = a.in_force.limit;
+        module_limit = a.in_force.module_limit;
         entries = a.entries;
         total = a.total;
         modules = a.modules.rows;
@@ -72,18 +62,31 @@ impl Model for Account {
       waiting = record { names = a.names.waiting; labels = a.modules.waiting; pages = a.pages.waiting };
     } };
 
-    ghost invariant = { λ a. IsKept a.names.held a.limit a.entries a.total a.modules.rows };
+    ghost invariant = { λ a. IsAccount (record {
+      names = a.names.held;
+      floor = a.in_force.floor;
+      limit = a.in_force.limit;
+      module_limit = a.in_force.module_limit;
+      entries = a.entries;
+      total = a.total;
+      modules = a.modules.rows;
+      pages = a.pages.rows;
+    }) };
 }
 
 impl Account {
     /// An account that counts nothing.
     pub fn new(alloc: Global) -> Account
-        ensures state { result.state ≡ account_of [] }
+        ensures state { result.state ≡ account_of empty }
         ensures waiting { result.waiting ≡ nothing }
     {
         Account {
             names: Names::new(alloc),
-            limit: FIRST_LIMIT,
+            in_force: InForce {
+                floor: 0,
+                limit: FIRST_LIMIT,
+                module_limit: FIRST_MODULE_LIMIT,
+            },
             entries: 0,
             total: 0,
             modules: Modules::new(alloc),
@@ -92,62 +95,51 @@ impl Account {
         }
     }
 
-    /// Whether taking this entry would count it: a fact whose name isn't held, or a limit other than the one in force.
+    /// Whether taking this entry would count it: a fact whose name isn't held and whose boot isn't retired, a limit other
+    /// than the one of its kind in force, or a retire above the floor.
     pub fn is_fresh(&self, entry: &Entry) -> bool
         ensures fresh { result ≡ is_fresh_in self.now.state entry.now }
-        ensures history { (history : List Entry) → self.now.state ≡ account_of history → result ≡ is_fresh_behind history entry.now }
-        ensures repeat { (history : List Entry) → self.now.state ≡ account_of history → IsFalse result → self.now.state ≡ account_of (history ++ entry.now ∷ []) }
+        ensures history { (history : History) → self.now.state ≡ account_of history → result ≡ is_fresh_behind history entry.now }
+        ensures stale { (history : History) → self.now.state ≡ account_of history → IsFalse result → self.now.state ≡ account_of (with_entry history entry.now) }
     {
-        match entry {
-            Entry::Fact(fact) => !self.names.holds(&fact.name),
-            Entry::Limit(limit) => *limit != self.limit,
-        }
+        self.in_force.admits(entry) && !self.holds_name_of(entry)
     }
 
-    /// Lets what these entries add wait, so that each entry can be taken in turn with no memory: the names, the labels and
-    /// the pages that they bring first. What waited before is given up. What is counted stays, and after a refusal nothing
-    /// waits.
-    ///
-    /// `Full` comes exactly where with those of the entries that are fresh the account would pass `MOST_NAMES`,
-    /// `MOST_ENTRIES` or `MOST_WEIGHT`, also where memory runs out.
-    pub fn reserve(&mut self, entries: &[Entry]) -> Result<(), ReserveRefused>
-        ensures state { self.new.state ≡ self.old.state }
-        ensures ok { OnOk result (self.new.waiting ≡ added_by self.old.state entries.now) }
-        ensures err { OnErr result (self.new.waiting ≡ nothing) }
-        ensures full { (result ≡ Err ReserveRefused.Full) ↔ IsPast (continued_all self.old.state entries.now) }
-        ensures within { OnOk result (IsWithin (continued_all self.old.state entries.now)) }
+    // Whether an entry is a fact whose name is held.
+    fn holds_name_of(&self, entry: &Entry) -> bool
+        ensures { result ≡ holds_name self.now.state entry.now }
     {
-        self.give_up();
-        match self.let_wait(entries) {
-            Ok(()) => Ok(()),
-            Err(refused) => {
-                self.give_up();
-                Err(self.reason(refused, entries))
-            }
+        match entry {
+            Entry::Fact(fact) => self.names.holds(&fact.name),
+            Entry::Limit(_) | Entry::Retire(_) | Entry::ModuleLimit(_) => false,
         }
     }
 
     /// Counts the entry, if it is fresh, and puts the orders that it gives behind `orders`.
     ///
     /// The entry has to be valid. What it adds has to wait, before all else that waits, and it then waits no longer; the
-    /// orders need room for one of each item; and with the entry the account has to stay within `MOST_NAMES`,
+    /// orders need room for `Entry::most_orders`; and with the entry the account has to stay within `MOST_NAMES`,
     /// `MOST_ENTRIES` and `MOST_WEIGHT`.
     pub fn take(&mut self, entry: Entry, orders: &mut Orders)
         requires valid { IsValidEntry entry }
         requires waits { WaitsFirst (added_by self.old.state (entry ∷ [])) self.old.waiting }
-        requires room { length (items_in entry) ≤ orders.old.room }
-        requires within { IsWithin (continued self.old.state entry) }
-        ensures state { self.new.state ≡ continued self.old.state entry }
+        requires room { most_orders entry ≤ orders.old.room }
+        requires within { IsWithin (account_after self.old.state entry) }
+        ensures state { self.new.state ≡ account_after self.old.state entry }
         ensures waiting { self.old.waiting ≡ then_waits (added_by self.old.state (entry ∷ [])) self.new.waiting }
         ensures orders { orders.new.orders ≡ orders.old.orders ++ orders_at self.old.state entry }
         ensures room { orders.new.room + length (orders_at self.old.state entry) ≡ orders.old.room }
 
         // Where what a list of entries adds waits, the entries can be taken in turn.
-        ensures in_turn { (entries : List Entry) → self.old.waiting ≡ added_by self.old.state (entry ∷ entries) → self.new.waiting ≡ added_by self.new.state entries }
+        ensures in_turn { (entries : List Entry) → self.old.waiting ≡ added_by self.old.state (entry ∷ entries)
+            → self.new.waiting ≡ added_by self.new.state entries }
 
-        // The account of a list becomes that of the list with the entry behind it, and the orders are those of the list.
-        ensures history { (history : List Entry) → self.old.state ≡ account_of history → self.new.state ≡ account_of (history ++ entry ∷ []) }
-        ensures history_orders { (history : List Entry) → self.old.state ≡ account_of history → orders.new.orders ≡ orders.old.orders ++ orders_behind history entry }
+        // The account of a history becomes that of the history with the entry behind it, and the orders are those of the
+        // history.
+        ensures history { (history : History) → self.old.state ≡ account_of history
+            → self.new.state ≡ account_of (with_entry history entry) }
+        ensures history_orders { (history : History) → self.old.state ≡ account_of history
+            → orders.new.orders ≡ orders.old.orders ++ orders_behind history entry }
     {
         self.take_any(entry, orders);
     }
@@ -156,8 +148,8 @@ impl Account {
     fn take_any(&mut self, entry: Entry, orders: &mut Orders)
         requires valid { IsValidEntry entry }
         requires waits { WaitsFirst (added_by self.old.state (entry ∷ [])) self.old.waiting }
-        requires room { length (items_in entry) ≤ orders.old.room }
-        requires within { IsWithin (continued self.old.state entry) }
+        requires room { most_orders entry ≤ orders.old.room }
+        requires within { IsWithin (account_after self.old.state entry) }
         ensures { Takes self.old self.new orders.old orders.new entry }
     {
         if !self.is_fresh(&entry) {
@@ -165,74 +157,112 @@ impl Account {
         }
         match entry {
             Entry::Fact(fact) => self.take_fact(&fact, orders),
-            Entry::Limit(limit) => self.settle(limit),
-        }
-    }
-
-    // Counts an item of a fact that came at this time.
-    fn take_item(&mut self, item: &Item, seconds: u64, orders: &mut Orders)
-        requires next { IsNext self.old item.now }
-        requires total { self.old.state.total + item.now.weight ≤ most_weight }
-        requires room { 0 < orders.old.room }
-        ensures account { self.new ≡ item_seen self.old (sighting item.now seconds self.old.state.limit) }
-        ensures orders { Gives orders.old orders.new (option_to_list (order_in self.old.state.pages (sighting item.now seconds self.old.state.limit))) }
-    {
-        self.total += u64::from(item.weight);
-        self.modules.count(item);
-        if let Some(page) = item.page {
-            if let Some(order) = self
-                .pages
-                .account(page, item.class, seconds, item.weight, self.limit)
-            {
-                orders.push(order);
-            }
-        }
-    }
-
-    // Counts the items of a fact that came at this time, in order.
-    fn take_items(&mut self, items: &[Item], seconds: u64, orders: &mut Orders)
-        requires next { (rest : Waiting) × AreNext self.old items.now rest }
-        requires room { length items.now ≤ orders.old.room }
-        ensures account { TakesItems self.old self.new seconds items.now }
-        ensures orders { Gives orders.old orders.new (orders_along self.old.state.pages (sightings_of self.old.state.limit seconds items.now)) }
-    {
-        for item in items {
-            self.take_item(item, seconds, orders);
+            Entry::Limit(limit) => self.put_limit(limit),
+            Entry::Retire(boot) => self.retire(boot),
+            Entry::ModuleLimit(limit) => self.put_module_limit(limit),
         }
     }
 
     // Counts a fact that is fresh: its name, and then its items.
     fn take_fact(&mut self, fact: &Fact, orders: &mut Orders)
         requires ready { CanTakeFact self.old fact.now }
-        requires room { length fact.now.items ≤ orders.old.room }
+        requires room { 2 * length fact.now.items ≤ orders.old.room }
         ensures account { TakesFact self.old self.new fact.now }
-        ensures orders { Gives orders.old orders.new (orders_along self.old.state.pages (sightings_of self.old.state.limit fact.now.seconds fact.now.items)) }
+        ensures orders { Gives orders.old orders.new (orders_along self.old.state (sightings_at self.old.state fact.now.seconds fact.now.items)) }
     {
-        self.entries += 1;
-        self.names.count_next();
+        self.count_name();
         self.take_items(fact.items.as_slice(), fact.seconds, orders);
     }
 
-    // Counts a limit that is fresh: from now on it is in force.
-    fn settle(&mut self, limit: Limit)
+    // Counts the first name that waits, and one entry.
+    fn count_name(&mut self)
+        requires { CanCountName self.old }
+        ensures { self.new ≡ view_after_name self.old }
+    {
+        self.entries += 1;
+        self.names.count_next();
+    }
+
+    // Counts the items of a fact that came at this time, in order.
+    fn take_items(&mut self, items: &[Item], seconds: u64, orders: &mut Orders)
+        requires next { (rest : Waiting) × AreNext self.old items.now rest }
+        requires room { 2 * length items.now ≤ orders.old.room }
+        ensures account { TakesItems self.old self.new seconds items.now }
+        ensures orders { Gives orders.old orders.new (orders_along self.old.state (sightings_at self.old.state seconds items.now)) }
+    {
+        for item in items {
+            self.take_item(item, seconds, orders);
+        }
+    }
+
+    // Counts an item of a fact that came at this time.
+    fn take_item(&mut self, item: &Item, seconds: u64, orders: &mut Orders)
+        requires next { IsNext self.old item.now }
+        requires room { 2 ≤ orders.old.room }
+        ensures account { self.new ≡ view_after_item self.old (sighting_in self.old.state seconds item.now) }
+        ensures orders { Gives orders.old orders.new (item_orders_in self.old.state (sighting_in self.old.state seconds item.now)) }
+    {
+        self.total += u64::from(item.weight);
+        let replaced = self
+            .modules
+            .count(item, seconds, self.in_force.module_limit);
+        let ordered = order_for_page(&mut self.pages, item, seconds, self.in_force.limit);
+        orders.push_some(ordered);
+        orders.push_some(replaced);
+    }
+
+    // Puts a limit for pages in force.
+    fn put_limit(&mut self, limit: Limit)
         requires limit { IsLimit limit }
-        requires room { self.old.state.entries < most_entries }
-        ensures state { self.new.state ≡ entry_taken self.old.state (Entry.Limit limit) }
+        requires room { self.old.state.entries < MOST_ENTRIES }
+        ensures state { self.new.state ≡ account_after_fresh (account_with_count self.old.state) (Entry.Limit limit) }
         ensures waiting { self.new.waiting ≡ self.old.waiting }
     {
         self.entries += 1;
-        self.limit = limit;
+        self.in_force.limit = limit;
     }
 
-    /// How many names are counted.
+    // Puts a limit for modules in force.
+    fn put_module_limit(&mut self, limit: Limit)
+        requires limit { IsLimit limit }
+        requires room { self.old.state.entries < MOST_ENTRIES }
+        ensures state { self.new.state ≡ account_after_fresh (account_with_count self.old.state) (Entry.ModuleLimit limit) }
+        ensures waiting { self.new.waiting ≡ self.old.waiting }
+    {
+        self.entries += 1;
+        self.in_force.module_limit = limit;
+    }
+
+    // Retires the boots below a number: their names are dropped.
+    fn retire(&mut self, boot: u64)
+        requires { self.old.state.entries < MOST_ENTRIES }
+        ensures state { self.new.state ≡ account_after_fresh (account_with_count self.old.state) (Entry.Retire boot) }
+        ensures waiting { self.new.waiting ≡ self.old.waiting }
+    {
+        self.entries += 1;
+        self.in_force.floor = boot;
+        self.names.retire(boot);
+    }
+
+    /// Takes a mark: from now on no module has a bucket or is to be replaced, and all else stays. Nothing may wait.
+    pub fn mark(&mut self)
+        requires { self.old.waiting ≡ nothing }
+        ensures state { self.new.state ≡ account_after_mark self.old.state }
+        ensures waiting { self.new.waiting ≡ nothing }
+        ensures history { (history : History) → self.old.state ≡ account_of history → self.new.state ≡ account_of (with_mark history) }
+    {
+        self.modules.mark();
+    }
+
+    /// How many names are held.
     pub fn names_len(&self) -> usize
         ensures count { result ≡ length self.now.state.names }
-        ensures within { IsWithin self.now.state }
+        ensures account { IsAccount self.now.state }
     {
         self.names.len()
     }
 
-    /// The counted name at a place, from 0 in the order in which they came.
+    /// The name held at a place, from 0 in the order in which they came.
     pub fn name(&self, i: usize) -> &Name
         requires { i < length self.now.state.names }
         ensures { slice_get self.now.state.names i ≡ Some result.now }
@@ -243,7 +273,7 @@ impl Account {
     /// How many entries are counted.
     pub fn entries(&self) -> u64
         ensures count { result ≡ self.now.state.entries }
-        ensures within { IsWithin self.now.state }
+        ensures account { IsAccount self.now.state }
     {
         self.entries
     }
@@ -252,17 +282,32 @@ impl Account {
     pub fn total(&self) -> u64
         ensures total { result ≡ self.now.state.total }
         ensures rows { result ≡ weight_in self.now.state.modules }
-        ensures within { IsWithin self.now.state }
+        ensures account { IsAccount self.now.state }
     {
         self.total
     }
 
-    /// The limit in force.
+    /// The floor: all boots below it are retired.
+    pub fn floor(&self) -> u64
+        ensures { result ≡ self.now.state.floor }
+    {
+        self.in_force.floor
+    }
+
+    /// The limit in force for pages.
     pub fn limit(&self) -> Limit
         ensures limit { result ≡ self.now.state.limit }
         ensures valid { IsLimit result }
     {
-        self.limit
+        self.in_force.limit
+    }
+
+    /// The limit in force for modules.
+    pub fn module_limit(&self) -> Limit
+        ensures limit { result ≡ self.now.state.module_limit }
+        ensures valid { IsLimit result }
+    {
+        self.in_force.module_limit
     }
 
     /// How many modules have a row.
@@ -275,7 +320,7 @@ impl Account {
     /// The row of the module at a place, from 0 in the order in which they were first seen.
     pub fn module(&self, i: usize) -> &ModuleRow
         requires { i < length self.now.state.modules }
-        ensures { slice_get self.now.state.modules i ≡ Some (result.now.label, result.now.sums) }
+        ensures { slice_get self.now.state.modules i ≡ Some (row_of result.now) }
     {
         self.modules.row(i)
     }
@@ -286,105 +331,15 @@ impl Account {
     {
         &self.pages
     }
+}
 
-    // Lets nothing wait any longer.
-    fn give_up(&mut self)
-        ensures state { self.new.state ≡ self.old.state }
-        ensures waiting { self.new.waiting ≡ nothing }
-    {
-        self.names.give_up();
-        self.modules.give_up();
-        // Neither answer leaves a page that waits.
-        let _ = self.pages.reserve(&[]);
-    }
-
-    // Lets what these entries add wait, where nothing waits.
-    fn let_wait(&mut self, entries: &[Entry]) -> Result<(), ReserveRefused>
-        requires { self.old.waiting ≡ nothing }
-        ensures state { self.new.state ≡ self.old.state }
-        ensures ok { OnOk result (self.new.waiting ≡ added_by self.old.state entries.now) }
-        ensures full { result ≡ Err ReserveRefused.Full → IsPast (continued_all self.old.state entries.now) }
-        ensures within { OnOk result (IsWithin (continued_all self.old.state entries.now)) }
-    {
-        let tally = self.noted(entries)?;
-        if self.names.len_with_waiting() > MOST_NAMES
-            || tally.entries > MOST_ENTRIES
-            || tally.total > MOST_WEIGHT
-        {
-            return Err(ReserveRefused::Full);
-        }
-        self.pages.reserve(tally.pages.as_slice())?;
-        Ok(())
-    }
-
-    // Notes the entries in order: their names and labels wait, and the tally has the rest.
-    fn noted(&mut self, entries: &[Entry]) -> Result<Tally, NoMemory>
-        requires { self.old.waiting ≡ nothing }
-        ensures state { self.new.state ≡ self.old.state }
-        ensures pages { self.new.waiting.pages ≡ [] }
-        ensures noted { IfOk result (λ tally. Noted self.old.state (continued_all self.old.state entries.now) self.new.waiting tally) }
-    {
-        let mut tally = Tally {
-            limit: self.limit,
-            entries: self.entries,
-            total: self.total,
-            pages: Vec::new(self.alloc),
-        };
-        for entry in entries {
-            tally.note(self.alloc, &mut self.names, &mut self.modules, entry)?;
-        }
-        Ok(tally)
-    }
-
-    // Why these entries can't wait, where they were refused for this: a full account is known as such even where memory
-    // is out.
-    fn reason(&self, refused: ReserveRefused, entries: &[Entry]) -> ReserveRefused
-        requires { refused ≡ ReserveRefused.Full → IsPast (continued_all self.now.state entries.now) }
-        ensures { (result ≡ ReserveRefused.Full) ↔ IsPast (continued_all self.now.state entries.now) }
-    {
-        if refused == ReserveRefused::Full || self.would_pass(entries) {
-            ReserveRefused::Full
-        } else {
-            ReserveRefused::NoMemory
-        }
-    }
-
-    // Whether taking these entries in turn would pass what an account holds. It takes no memory, and costs more than noting
-    // them, since each name is looked for among those before it.
-    fn would_pass(&self, entries: &[Entry]) -> bool
-        ensures { IsTrue result ↔ IsPast (continued_all self.now.state entries.now) }
-    {
-        self.numbers_after(entries).are_past()
-    }
-
-    // The numbers after these entries are taken in turn.
-    fn numbers_after(&self, entries: &[Entry]) -> Numbers
-        ensures { Numbered (continued_all self.now.state entries.now) result }
-    {
-        let mut numbers = Numbers {
-            names: self.names.len() as u64,
-            limit: self.limit,
-            entries: self.entries,
-            total: self.total,
-        };
-        for (i, entry) in entries.iter().enumerate() {
-            if self.is_fresh_after(&entries[..i], entry, numbers.limit) {
-                numbers.count(entry);
-            }
-        }
-        numbers
-    }
-
-    // Whether an entry would be fresh if it were taken after these, which leave this limit in force.
-    fn is_fresh_after(&self, before: &[Entry], entry: &Entry, limit: Limit) -> bool
-        requires { limit ≡ (continued_all self.now.state before.now).limit }
-        ensures { result ≡ is_fresh_in (continued_all self.now.state before.now) entry.now }
-    {
-        match entry {
-            Entry::Fact(fact) => {
-                !self.names.holds(&fact.name) && !some_brings(before, &fact.name)
-            }
-            Entry::Limit(new) => *new != limit,
-        }
-    }
+// Takes an item of a fact that came at this time as a report of its page, if it names one.
+fn order_for_page(pages: &mut Pages, item: &Item, seconds: u64, limit: Limit) -> Option<Order>
+    requires ready { IfSome item.now.page (λ page. IsTrue (is_ready nat_eq pages.old page)) }
+    requires limit { IsLimit limit }
+    ensures pages { (s : Sighting) → s.item ≡ item.now → s.seconds ≡ seconds → s.limit ≡ limit → pages.new ≡ pages_after_item pages.old s }
+    ensures order { (s : Sighting) → s.item ≡ item.now → s.seconds ≡ seconds → s.limit ≡ limit → result ≡ page_order_in pages.old.rows s }
+{
+    let page = item.page?;
+    pages.account(page, item.class, seconds, item.weight, limit)
 }

@@ -1,23 +1,24 @@
 //! What was counted so far: each report once, by its name, with what it says of memory modules and of pages.
 //!
-//! An account is a function of the list of entries that were taken. The definitions in `specs/` say which one, and the
-//! contracts of `Account` say that each call keeps it.
+//! An account is a function of its history: the entries and the marks that it took. The definitions in `specs/` say which
+//! one, and the contracts of `Account` say that each call keeps it.
 #![tactic(auto)]
 
 mod account;
 mod again;
+mod in_force;
 mod laws;
+mod limits;
 mod modules;
 mod names;
 mod orders;
+mod rebuilding;
 mod reserve;
 
-pub use account::{Account, MOST_ENTRIES, MOST_NAMES, MOST_WEIGHT};
-pub use laws::{account_laws, reserve_laws};
+pub use account::Account;
+pub use laws::{account_laws, kept_laws, order_laws, reserve_laws, retire_laws};
+pub use limits::{FIRST_LIMIT, FIRST_MODULE_LIMIT, MOST_ENTRIES, MOST_NAMES, MOST_WEIGHT};
 pub use modules::ModuleRow;
 pub use orders::Orders;
-pub use ras_facts::Entry;
+pub use rebuilding::PushRefused;
 pub use reserve::ReserveRefused;
-
-#[cfg(test)]
-mod tests;

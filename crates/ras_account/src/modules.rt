@@ -1,52 +1,136 @@
-// The rows of memory modules, the held ones first and behind them those of labels that wait.
-ghost use Rattle.std.specs.Prelude.{◌≡◌, ◌+◌, ◌<◌, ◌≤◌, ◌^◌, ◌++◌, [], ◌∷◌, IsTrue, Some, OnOk, OnErr, length, slice_get, sum};
+//! The rows of memory modules, the held ones first and behind them those of labels that wait.
+ghost use Rattle.std.specs.Prelude.{◌≡◌, ◌↔◌, ◌+◌, ◌<◌, ◌≤◌, ◌++◌, [], ◌∷◌, IsTrue, None, Some, Err, OnOk, OnErr, ◌&&◌, not, false, if◌then◌else◌, length, map, sum, slice_get};
 ghost use Rattle.std.specs.List.{list_any};
 ghost use Rattle.std.specs.Map.{keys_of};
-ghost use Rattle.dimm_topology.specs.Labels.{same_label};
-ghost use Rattle.row_tables.specs.Tables.{added_keys as added};
-ghost use Rattle.ras_account.specs.Places.{IsPlace};
-ghost use Rattle.ras_account.specs.Account.{weight_in, most_weight};
-ghost use Rattle.ras_account.specs.Continued.{sums_after};
-ghost use Rattle.ras_account.specs.Parts.{is_next_label, with_item, sums_before};
-ghost use Rattle.ras_account.specs.Reserving.{all_labels, with_label};
+ghost use Rattle.dimm_topology.specs.Labels.{Bytes, same_label};
+ghost use Rattle.page_policy.specs.Buckets.{IsLimit};
+ghost use Rattle.row_tables.specs.Tables.{added_keys};
+ghost use Rattle.ras_account.specs.Sightings.{Sighting};
+ghost use Rattle.ras_account.specs.Modules.{Module};
+ghost use Rattle.ras_account.specs.Account.{weight_in};
+ghost use Rattle.ras_account.specs.Continued.{module_after, new_module, sums_after, without_bucket};
+ghost use Rattle.page_policy.specs.Rows.{is_corrected};
+ghost use Rattle.ras_account.specs.Orders.{module_order_in};
+ghost use Rattle.ras_account.specs.Parts.{all_labels, is_next_label, with_sighting, row_of, IsCounting};
 
+use crate::MOST_WEIGHT;
 use dimm_topology::Label;
-use indexmap::IndexMap;
+use mca_status::CLASS_COUNT;
+use page_policy::{Bucket, Limit, Order, RowRefused, is_corrected};
 use ras_base::NoMemory;
 use ras_facts::Item;
+use row_tables::RowTable;
 use std::alloc::Global;
 use std::marker::Model;
 
 /// What was counted of a memory module.
-#[derive(Debug, Drop, PartialEq, Eq)]
+#[derive(Clone, Copy, Debug, PartialEq, Eq)]
 pub struct ModuleRow {
     /// The module's label, or none.
     pub label: Label,
     /// The weights of its items by class, in the order of the class numbers.
-    pub sums: [u64; 10],
+    pub sums: [u64; CLASS_COUNT],
+    /// The bucket of its corrected errors since the last mark, if there is one.
+    pub bucket: Option<Bucket>,
+    /// Whether it is to be replaced: the bucket has tripped since the last mark.
+    pub replace: bool,
 }
 
-// The modules that items named, in first-seen order, each with its row. Labels can wait behind them, so that their items
-// can be counted with no memory.
+impl ModuleRow {
+    // A module of which nothing was seen.
+    fn new(label: Label) -> ModuleRow
+        ensures row { row_of result ≡ (label, new_module) }
+        ensures counting { IsCounting result }
+    {
+        ModuleRow {
+            label,
+            sums: [0; CLASS_COUNT],
+            bucket: None,
+            replace: false,
+        }
+    }
+
+    // The row after an item of the module that came at this time, where this limit is in force for
+    // modules.
+    fn after(self, item: &Item, seconds: u64, limit: Limit) -> ModuleRow
+        requires counting { IsCounting self }
+        requires limit { IsLimit limit }
+        requires total { sum self.sums + item.now.weight ≤ MOST_WEIGHT }
+        ensures row { (s : Sighting) → s.item ≡ item.now → s.seconds ≡ seconds → s.module_limit ≡ limit → row_of result ≡ (self.label, module_after (row_of self).1 s) }
+        ensures counting { IsCounting result }
+    {
+        let sums = sums_after(self.sums, item);
+        if !fills_bucket(item) {
+            return ModuleRow { sums, ..self };
+        }
+        let mut bucket = self.bucket.unwrap_or(Bucket {
+            count: 0,
+            stamp: seconds,
+        });
+        let trips = bucket.step(limit, seconds, item.weight);
+        ModuleRow {
+            sums,
+            bucket: Some(bucket),
+            replace: self.replace || trips,
+            ..self
+        }
+    }
+
+    // The row without its bucket, which nothing asks to replace.
+    fn without_bucket(&self) -> ModuleRow
+        ensures { result ≡ record self.now { bucket = None; replace = false } }
+    {
+        ModuleRow {
+            bucket: None,
+            replace: false,
+            ..*self
+        }
+    }
+}
+
+// The sums with an item's weight added to the sum of its class.
+fn sums_after(sums: [u64; CLASS_COUNT], item: &Item) -> [u64; CLASS_COUNT]
+    requires { sum sums + item.now.weight ≤ MOST_WEIGHT }
+    ensures { result ≡ sums_after sums item.now }
+{
+    let mut after = sums;
+    after[usize::from(item.class.number())] += u64::from(item.weight);
+    after
+}
+
+// Whether an item fills its module's bucket: a corrected error with a label.
+fn fills_bucket(item: &Item) -> bool
+    ensures { result ≡ (is_corrected item.now.class && not (same_label [] item.now.label)) }
+{
+    is_corrected(item.class) && Label::none() != item.label
+}
+
+// The order to replace the module at a place, where nothing asked for it before.
+fn order_for(place: usize, before: bool, after: bool) -> Option<Order>
+    ensures { result ≡ (if not before && after then Some (Order.Module place) else None) }
+{
+    if !before && after {
+        return Some(Order::Module(place));
+    }
+    None
+}
+
+// The modules that items named, in first-seen order, each with its row. Labels can wait behind
+// them, so that their items can be counted with no memory.
 #[derive(Drop)]
 pub(crate) struct Modules {
-    table: IndexMap<Label, ModuleRow>,
-    held: usize,
+    table: RowTable<Label, ModuleRow>,
 }
 
 impl Model for Modules {
-    ghost use Rattle.std.specs.Prelude.{map, take, drop};
-    ghost use Rattle.std.specs.Map.{keys_of};
-    ghost use Rattle.ras_account.specs.Parts.{ModuleList, row_of, AreModules};
+    ghost use Rattle.std.specs.Prelude.{map};
+    ghost use Rattle.ras_account.specs.Parts.{ModuleList, entry_of, AreModules};
 
     ghost Value = { ModuleList };
 
-    ghost view = { λ m. record {
-      rows = map row_of (take m.held m.table.entries);
-      waiting = drop m.held (keys_of m.table.entries);
-    } };
+    ghost view = { λ m. record { rows = map entry_of m.table.rows; waiting = m.table.waiting } };
 
-    ghost invariant = { λ m. AreModules m.held m.table.entries };
+    ghost invariant = { λ m. AreModules m.table.rows };
 }
 
 impl Modules {
@@ -56,22 +140,27 @@ impl Modules {
         ensures waiting { result.waiting ≡ [] }
     {
         Modules {
-            table: IndexMap::new(alloc),
-            held: 0,
+            table: RowTable::new(alloc),
         }
     }
 
-    // Counts an item in the row of its label, which has a row or is the first that waits.
-    pub(crate) fn count(&mut self, item: &Item)
+    // Counts an item that came at this time, where this limit is in force for modules. The answer
+    // is the order to replace its module, where the item is the one that asks for it.
+    pub(crate) fn count(&mut self, item: &Item, seconds: u64, limit: Limit) -> Option<Order>
         requires next { IsTrue (is_next_label self.old item.now.label) }
-        requires room { weight_in self.old.rows + item.now.weight ≤ most_weight }
-        ensures modules { self.new ≡ with_item self.old item.now }
-        ensures weight { weight_in self.new.rows ≡ weight_in self.old.rows + item.now.weight }
+        requires limit { IsLimit limit }
+        requires total { weight_in self.old.rows + item.now.weight ≤ MOST_WEIGHT }
+        ensures rows { (s : Sighting) → s.item ≡ item.now → s.seconds ≡ seconds → s.module_limit ≡ limit → self.new ≡ with_sighting self.old s }
+        ensures order { (s : Sighting) → s.item ≡ item.now → s.seconds ≡ seconds → s.module_limit ≡ limit → result ≡ module_order_in self.old.rows s }
     {
-        let place = place_of(&self.table, &item.label);
-        let sums = with_weight(known_sums(&self.table, self.held, place), item);
-        self.table[place].sums = sums;
-        self.held = self.held.max(place + 1);
+        let label = item.label;
+        let (place, known) = self.table.find(&label);
+        let before = known.unwrap_or(ModuleRow::new(label));
+        let was_asked = before.replace;
+        let after = before.after(item, seconds, limit);
+        let is_asked = after.replace;
+        self.table.put(place, after);
+        order_for(place, was_asked, is_asked)
     }
 
     // Lets no label wait any longer.
@@ -79,69 +168,60 @@ impl Modules {
         ensures rows { self.new.rows ≡ self.old.rows }
         ensures waiting { self.new.waiting ≡ [] }
     {
-        self.table.truncate(self.held);
+        self.table.give_up();
     }
 
     // Lets a label wait that neither has a row nor waits yet.
-    pub(crate) fn let_wait(&mut self, alloc: Global, label: &Label) -> Result<(), NoMemory>
+    pub(crate) fn let_wait(&mut self, label: &Label) -> Result<(), NoMemory>
         ensures rows { self.new.rows ≡ self.old.rows }
-        ensures ok { OnOk result (all_labels self.new ≡ with_label (all_labels self.old) label.now) }
+        ensures ok { OnOk result (self.new.waiting ≡ self.old.waiting ++ added_keys same_label (all_labels self.old) (label.now ∷ [])) }
     {
-        if self.table.contains_key(label) {
-            return Ok(());
-        }
-        let row = ModuleRow {
-            label: label.copy(alloc)?,
-            sums: [0; 10],
-        };
-        self.table.insert(label.copy(alloc)?, row)?;
+        self.table.let_wait(*label, ModuleRow::new(*label))?;
         Ok(())
+    }
+
+    // Takes each module's bucket away, and asks for none to be replaced.
+    pub(crate) fn mark(&mut self)
+        ensures rows { self.new.rows ≡ map {B = Bytes × Module} (λ row. (row.0, without_bucket row.1)) self.old.rows }
+        ensures waiting { self.new.waiting ≡ self.old.waiting }
+    {
+        for place in 0..self.table.len() {
+            let row = self.table.row(place).without_bucket();
+            self.table.set_row(place, row);
+        }
+    }
+
+    // Puts a row behind the others, where no label waits. After a refusal the rows stay.
+    pub(crate) fn push(&mut self, row: ModuleRow) -> Result<(), RowRefused>
+        requires waiting { self.old.waiting ≡ [] }
+        requires counting { IsCounting row }
+        ensures ok { OnOk result (self.new.rows ≡ self.old.rows ++ row_of row ∷ []) }
+        ensures err { OnErr result (self.new.rows ≡ self.old.rows) }
+        ensures waiting { self.new.waiting ≡ [] }
+        ensures repeated { (result ≡ Err RowRefused.Repeated) ↔ IsTrue (list_any (same_label row.label) (keys_of self.old.rows)) }
+    {
+        self.table.push_row(row.label, row)
     }
 
     // How many modules have a row.
     pub(crate) fn len(&self) -> usize
         ensures { result ≡ length self.now.rows }
     {
-        self.held
+        self.table.len()
+    }
+
+    // Whether a label has a row.
+    pub(crate) fn holds(&self, label: &Label) -> bool
+        ensures { result ≡ list_any (same_label label.now) (keys_of self.now.rows) }
+    {
+        self.table.holds(label)
     }
 
     // The row at a place.
     pub(crate) fn row(&self, i: usize) -> &ModuleRow
         requires { i < length self.now.rows }
-        ensures { slice_get self.now.rows i ≡ Some (result.now.label, result.now.sums) }
+        ensures { slice_get self.now.rows i ≡ Some (row_of result.now) }
     {
-        &self.table[i]
+        self.table.row(i)
     }
-}
-
-// The place of a label that is in the table.
-fn place_of(table: &IndexMap<Label, ModuleRow>, label: &Label) -> usize
-    requires { IsTrue (list_any (same_label label.now) (keys_of table.now.entries)) }
-    ensures place { IsPlace same_label label.now table.now.entries result }
-    ensures within { result < length table.now.entries }
-    ensures small { result < 2 ^ 63 }
-{
-    table.get_index_of(label).unwrap_or(table.len())
-}
-
-// The sums at a place, if it is one of the first `held`, or none counted yet.
-fn known_sums(table: &IndexMap<Label, ModuleRow>, held: usize, place: usize) -> [u64; 10]
-    requires { place < length table.now.entries }
-    ensures { result ≡ sums_before table.now.entries held place }
-{
-    if place < held {
-        table[place].sums
-    } else {
-        [0; 10]
-    }
-}
-
-// The sums with an item's weight added to the sum of its class.
-fn with_weight(sums: [u64; 10], item: &Item) -> [u64; 10]
-    requires { sum sums + item.now.weight ≤ most_weight }
-    ensures { result ≡ sums_after sums item.now }
-{
-    let mut after = sums;
-    after[usize::from(item.class.number())] += u64::from(item.weight);
-    after
 }

@@ -1,33 +1,52 @@
-// The names that are counted, and behind them those that wait.
-ghost use Rattle.std.specs.Prelude.{◌≡◌, ◌<◌, ◌++◌, [], ◌∷◌, not, Some, IfOk, OnOk, OnErr, length, take, drop, slice_get};
+//! The names that are counted, and behind them those that wait.
+ghost use Rattle.std.specs.Prelude.{◌≡◌, ◌↔◌, ◌<◌, ◌++◌, [], ◌∷◌, not, IsTrue, Some, Err, IfOk, OnOk, OnErr, length, take, drop, slice_get};
 ghost use Rattle.std.specs.List.{list_any};
-ghost use Rattle.indexmap.specs.IndexSet.{insert_key};
+ghost use Rattle.row_tables.specs.Tables.{added_keys};
 ghost use Rattle.ras_facts.specs.Names.{same_name};
-ghost use Rattle.ras_account.specs.Account.{most_names};
+ghost use Rattle.ras_account.specs.History.{is_retired};
+ghost use Rattle.ras_account.specs.Fresh.{is_among};
+ghost use Rattle.ras_account.specs.Account.{kept_names};
+ghost use Rattle.ras_account.specs.Rows.{has_retired};
+ghost use Rattle.ras_account.specs.Parts.{all_names};
 
-use indexmap::IndexSet;
+use page_policy::RowRefused;
 use ras_base::NoMemory;
 use ras_facts::Name;
+use row_tables::{KeyTest, RowTable};
 use std::alloc::Global;
 use std::marker::Model;
 
-// Names in the order in which they came. Names can wait behind those that are counted, so that they can be counted with
-// no memory.
+// Names in the order in which they came. Names can wait behind those that are counted, so that they
+// can be counted with no memory.
 #[derive(Drop)]
 pub(crate) struct Names {
-    all: IndexSet<Name>,
-    counted: usize,
+    table: RowTable<Name, ()>,
 }
 
 impl Model for Names {
-    ghost use Rattle.std.specs.Prelude.{◌≤◌, length, take, drop};
+    ghost use Rattle.std.specs.Map.{keys_of};
     ghost use Rattle.ras_account.specs.Parts.{NameList};
 
     ghost Value = { NameList };
 
-    ghost view = { λ n. record { held = take n.counted n.all.keys; waiting = drop n.counted n.all.keys } };
+    ghost view = { λ n. record { held = keys_of n.table.rows; waiting = n.table.waiting } };
+}
 
-    ghost invariant = { λ n. n.counted ≤ length n.all.keys };
+// The test of names whose boot isn't below a floor.
+#[derive(Drop)]
+struct NotRetired {
+    floor: u64,
+}
+
+impl KeyTest<Name> for NotRetired {
+    ghost passes = { λ test name. not (is_retired test.floor name) };
+
+    fn passes(&self, name: &Name) -> bool {
+        match name.boot() {
+            Some(boot) => boot >= self.floor,
+            None => true,
+        }
+    }
 }
 
 impl Names {
@@ -37,33 +56,36 @@ impl Names {
         ensures waiting { result.waiting ≡ [] }
     {
         Names {
-            all: IndexSet::new(alloc),
-            counted: 0,
+            table: RowTable::new(alloc),
         }
     }
 
     // Whether a name is counted.
     pub(crate) fn holds(&self, name: &Name) -> bool
-        ensures { result ≡ list_any (same_name name.now) self.now.held }
+        ensures { result ≡ is_among self.now.held name.now }
     {
-        match self.all.get_index_of(name) {
-            Some(place) => place < self.counted,
-            None => false,
-        }
+        self.table.holds(name)
+    }
+
+    // Whether a name is the first that waits.
+    pub(crate) fn waits_first(&self, name: &Name) -> bool
+        ensures { result ≡ is_among (take 1 self.now.waiting) name.now }
+    {
+        self.table.waits_first(name)
     }
 
     // How many names are counted.
     pub(crate) fn len(&self) -> usize
         ensures { result ≡ length self.now.held }
     {
-        self.counted
+        self.table.len()
     }
 
     // How many names are counted or wait.
     pub(crate) fn len_with_waiting(&self) -> usize
-        ensures { result ≡ length (self.now.held ++ self.now.waiting) }
+        ensures { result ≡ length (all_names self.now) }
     {
-        self.all.len()
+        self.table.len_with_waiting()
     }
 
     // The counted name at a place.
@@ -71,17 +93,16 @@ impl Names {
         requires { i < length self.now.held }
         ensures { slice_get self.now.held i ≡ Some result.now }
     {
-        &self.all.as_slice()[i]
+        self.table.key(i)
     }
 
     // Counts the first name that waits.
     pub(crate) fn count_next(&mut self)
-        requires next { 0 < length self.old.waiting }
-        requires room { length self.old.held < most_names }
+        requires { 0 < length self.old.waiting }
         ensures held { self.new.held ≡ self.old.held ++ take 1 self.old.waiting }
         ensures waiting { self.new.waiting ≡ drop 1 self.old.waiting }
     {
-        self.counted += 1;
+        self.table.begin_next(());
     }
 
     // Lets no name wait any longer.
@@ -89,16 +110,49 @@ impl Names {
         ensures held { self.new.held ≡ self.old.held }
         ensures waiting { self.new.waiting ≡ [] }
     {
-        self.all.truncate(self.counted);
+        self.table.give_up();
     }
 
-    // Lets a name wait that is neither counted nor waits yet. The answer is whether it is such a name.
+    // Lets a name wait that is neither counted nor waits yet. The answer is whether it is such a
+    // name.
     pub(crate) fn let_wait(&mut self, name: Name) -> Result<bool, NoMemory>
         ensures held { self.new.held ≡ self.old.held }
-        ensures ok { OnOk result (self.new.held ++ self.new.waiting ≡ insert_key same_name (self.old.held ++ self.old.waiting) name) }
-        ensures fresh { IfOk result (λ fresh. fresh ≡ not (list_any (same_name name) (self.old.held ++ self.old.waiting))) }
+        ensures ok { OnOk result (self.new.waiting ≡ self.old.waiting ++ added_keys same_name (all_names self.old) (name ∷ [])) }
+        ensures fresh { IfOk result (λ fresh. fresh ≡ not (list_any (same_name name) (all_names self.old))) }
         ensures err { OnErr result (self.new.waiting ≡ self.old.waiting) }
     {
-        Ok(self.all.insert(name)?)
+        self.table.let_wait(name, ())
+    }
+
+    // Whether a counted name is of a boot below a floor.
+    pub(crate) fn any_retired(&self, floor: u64) -> bool
+        ensures { result ≡ has_retired floor self.now.held }
+    {
+        let kept = NotRetired { floor };
+        for place in 0..self.table.len() {
+            if !kept.passes(self.table.key(place)) {
+                return true;
+            }
+        }
+        false
+    }
+
+    // Drops the counted names of boots below a floor. What waits stays.
+    pub(crate) fn retire(&mut self, floor: u64)
+        ensures held { self.new.held ≡ kept_names floor self.old.held }
+        ensures waiting { self.new.waiting ≡ self.old.waiting }
+    {
+        self.table.retain(&NotRetired { floor });
+    }
+
+    // Counts a name behind the others, where none waits. After a refusal the names stay.
+    pub(crate) fn push(&mut self, name: Name) -> Result<(), RowRefused>
+        requires { self.old.waiting ≡ [] }
+        ensures ok { OnOk result (self.new.held ≡ self.old.held ++ name ∷ []) }
+        ensures err { OnErr result (self.new.held ≡ self.old.held) }
+        ensures waiting { self.new.waiting ≡ [] }
+        ensures repeated { (result ≡ Err RowRefused.Repeated) ↔ IsTrue (is_among self.old.held name) }
+    {
+        self.table.push_row(name, ())
     }
 }

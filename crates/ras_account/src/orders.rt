@@ -1,5 +1,6 @@
-// The orders that entries give.
-ghost use Rattle.std.specs.Prelude.{◌≡◌, ◌+◌, ◌<◌, ◌↔◌, ◌++◌, [], ◌∷◌, IsTrue, Some, IfOk, length, slice_get};
+//! The orders that entries give.
+ghost use Rattle.std.specs.Prelude.{◌≡◌, ◌+◌, ◌<◌, ◌≤◌, ◌↔◌, ◌++◌, [], ◌∷◌, IsTrue, Some, IfOk, option_to_list, length, slice_get};
+ghost use Rattle.ras_account.specs.Taking.{Gives};
 
 use page_policy::Order;
 use ras_base::NoMemory;
@@ -69,5 +70,15 @@ impl Orders {
     {
         self.places[self.given] = order;
         self.given += 1;
+    }
+
+    // Puts an order behind the others, if there is one.
+    pub(crate) fn push_some(&mut self, order: Option<Order>)
+        requires { length (option_to_list order) ≤ self.old.room }
+        ensures { Gives self.old self.new (option_to_list order) }
+    {
+        if let Some(order) = order {
+            self.push(order);
+        }
     }
 }

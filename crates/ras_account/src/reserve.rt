@@ -1,27 +1,31 @@
-// What entries bring an account to, noted before any of them is taken.
-ghost use Rattle.std.specs.Prelude.{◌≡◌, ◌↔◌, [], ◌∷◌, true, min, IsTrue, OnOk};
+//! What a list of entries adds to an account, noted before any of them is taken.
+ghost use Rattle.std.specs.Prelude.{◌≡◌, List, [], ◌∷◌, IsTrue, Err, IfOk, OnOk, OnErr};
 ghost use Rattle.ras_account.specs.declared.reserve.ReserveRefused.TheVariants.{NoMemory as NoMemoryForEntries};
+ghost use Rattle.ras_facts.specs.declared.entry.Entry.{Entry};
+ghost use Rattle.std.specs.Bool.{IsFalse};
+ghost use Rattle.ras_account.specs.History.{is_retired};
 ghost use Rattle.ras_account.specs.Account.{State};
-ghost use Rattle.ras_account.specs.Continued.{is_fresh_in, continued, IsPast};
-ghost use Rattle.std.specs.List.{list_any};
-ghost use Rattle.ras_account.specs.Taking.{weights_in};
-ghost use Rattle.ras_account.specs.Parts.{NameList, ModuleList};
-ghost use Rattle.ras_account.specs.Reserving.{all_labels, NotesItems, Shadows, greatest, Numbered, CountsFact, brings};
+ghost use Rattle.ras_account.specs.Numbers.{AreWithin, are_past, numbers_with};
+ghost use Rattle.ras_account.specs.View.{nothing, added_by};
+ghost use Rattle.ras_account.specs.Continued.{account_after};
+ghost use Rattle.ras_account.specs.Reserving.{NotesItems, with_fresh, Shadows, Noted};
 
+use crate::in_force::InForce;
 use crate::modules::Modules;
 use crate::names::Names;
-use crate::{Entry, MOST_ENTRIES, MOST_NAMES, MOST_WEIGHT};
-use page_policy::Limit;
+use crate::{Account, MOST_ENTRIES, MOST_NAMES, MOST_WEIGHT};
 use ras_base::NoMemory;
-use ras_facts::{Fact, Item, Name};
-use std::alloc::Global;
+use ras_facts::{Entry, Fact, Item};
+use thiserror::Error;
 
 /// Why entries can't be let wait.
-#[derive(Clone, Copy, Debug, PartialEq, Eq)]
+#[derive(Clone, Copy, Debug, PartialEq, Eq, Drop, Error)]
 pub enum ReserveRefused {
     /// With those of the entries that are fresh the account would pass `MOST_NAMES`, `MOST_ENTRIES` or `MOST_WEIGHT`.
+    #[error("the account is full")]
     Full,
     /// Memory ran out.
+    #[error("memory ran out")]
     NoMemory,
 }
 
@@ -33,11 +37,85 @@ impl From<NoMemory> for ReserveRefused {
     }
 }
 
-// The limit and the numbers that entries bring an account to, and the pages that they name. A number stays at the greatest
-// of 64 bits, which is past all that an account counts.
+impl Account {
+    /// Lets what these entries add wait, so that each entry can be taken in turn with no memory: the names, the labels and
+    /// the pages that they bring first. What waited before is given up. What is counted stays, and after a refusal nothing
+    /// waits.
+    ///
+    /// `Full` comes exactly where the names held, the entries or the total weight, with all that is fresh of the list, pass
+    /// `MOST_NAMES`, `MOST_ENTRIES` or `MOST_WEIGHT`, unless memory runs out first.
+    pub fn reserve(&mut self, entries: &[Entry]) -> Result<(), ReserveRefused>
+        ensures state { self.new.state ≡ self.old.state }
+        ensures ok { OnOk result (self.new.waiting ≡ added_by self.old.state entries.now) }
+        ensures err { OnErr result (self.new.waiting ≡ nothing) }
+        ensures full { result ≡ Err ReserveRefused.Full → IsTrue (are_past (numbers_with self.old.state entries.now)) }
+        ensures within { OnOk result (AreWithin (numbers_with self.old.state entries.now)) }
+    {
+        self.give_up();
+        match self.let_wait(entries) {
+            Ok(()) => Ok(()),
+            Err(refused) => {
+                self.give_up();
+                Err(refused)
+            }
+        }
+    }
+
+    // Lets nothing wait any longer.
+    fn give_up(&mut self)
+        ensures state { self.new.state ≡ self.old.state }
+        ensures waiting { self.new.waiting ≡ nothing }
+    {
+        self.names.give_up();
+        self.modules.give_up();
+        // Neither answer leaves a page that waits.
+        let _ = self.pages.reserve(&[]);
+    }
+
+    // Lets what these entries add wait, where nothing waits.
+    fn let_wait(&mut self, entries: &[Entry]) -> Result<(), ReserveRefused>
+        requires { self.old.waiting ≡ nothing }
+        ensures state { self.new.state ≡ self.old.state }
+        ensures ok { OnOk result (self.new.waiting ≡ added_by self.old.state entries.now) }
+        ensures full { result ≡ Err ReserveRefused.Full → IsTrue (are_past (numbers_with self.old.state entries.now)) }
+        ensures within { OnOk result (AreWithin (numbers_with self.old.state entries.now)) }
+    {
+        let tally = self.tally_of(entries)?;
+        if self.names.len_with_waiting() > MOST_NAMES
+            || tally.entries > MOST_ENTRIES
+            || tally.total > MOST_WEIGHT
+        {
+            return Err(ReserveRefused::Full);
+        }
+        self.pages.reserve(tally.pages.as_slice())?;
+        Ok(())
+    }
+
+    // Notes the entries in order: their names and labels wait, and the tally has the rest.
+    fn tally_of(&mut self, entries: &[Entry]) -> Result<Tally, NoMemory>
+        requires { self.old.waiting ≡ nothing }
+        ensures state { self.new.state ≡ self.old.state }
+        ensures pages { self.new.waiting.pages ≡ [] }
+        ensures noted { IfOk result (λ tally. Noted self.old.state self.new.waiting tally entries.now) }
+    {
+        let mut tally = Tally {
+            in_force: self.in_force,
+            entries: self.entries,
+            total: self.total,
+            pages: Vec::new(self.alloc),
+        };
+        for entry in entries {
+            tally.note(&mut self.names, &mut self.modules, entry)?;
+        }
+        Ok(tally)
+    }
+}
+
+// What is in force after entries, the numbers that they bring an account to, and the pages that they name. A number stays
+// at the greatest of 64 bits, which is past all that an account counts.
 #[derive(Drop)]
 pub(crate) struct Tally {
-    pub(crate) limit: Limit,
+    pub(crate) in_force: InForce,
     pub(crate) entries: u64,
     pub(crate) total: u64,
     pub(crate) pages: Vec<u64>,
@@ -45,152 +123,71 @@ pub(crate) struct Tally {
 
 impl Tally {
     // Notes an entry where it is fresh. Its name and its labels then wait.
-    pub(crate) fn note(
+    fn note(
         &mut self,
-        alloc: Global,
         names: &mut Names,
         modules: &mut Modules,
         entry: &Entry,
     ) -> Result<(), NoMemory>
         ensures held { names.new.held ≡ names.old.held }
         ensures rows { modules.new.rows ≡ modules.old.rows }
-        ensures noted { (a b : State) → Shadows a b names.old modules.old self.old → OnOk result (Shadows a (continued b entry.now) names.new modules.new self.new) }
+        ensures noted { (a b : State) (fresh : List Entry) → Shadows a b fresh names.old modules.old self.old
+            → OnOk result (Shadows a (account_after b entry.now) (with_fresh b fresh entry.now) names.new modules.new self.new) }
     {
+        if !self.in_force.admits(entry) {
+            return Ok(());
+        }
         match entry {
-            Entry::Fact(fact) => self.note_fact(alloc, names, modules, fact),
-            Entry::Limit(limit) => {
-                self.note_limit(*limit);
+            Entry::Fact(fact) => self.note_fact(names, modules, fact),
+            Entry::Limit(_) | Entry::Retire(_) | Entry::ModuleLimit(_) => {
+                self.entries = self.entries.saturating_add(1);
+                self.in_force.put(entry);
                 Ok(())
             }
         }
     }
 
-    // Notes a fact where its name is new.
+    // Notes a fact whose boot isn't retired, where its name is new.
     fn note_fact(
         &mut self,
-        alloc: Global,
         names: &mut Names,
         modules: &mut Modules,
         fact: &Fact,
     ) -> Result<(), NoMemory>
+        requires { IsFalse (is_retired self.old.in_force.floor fact.now.name) }
         ensures held { names.new.held ≡ names.old.held }
         ensures rows { modules.new.rows ≡ modules.old.rows }
-        ensures noted { (a b : State) → Shadows a b names.old modules.old self.old → OnOk result (Shadows a (continued b (Entry.Fact fact.now)) names.new modules.new self.new) }
+        ensures noted { (a b : State) (fresh : List Entry) → Shadows a b fresh names.old modules.old self.old
+            → OnOk result (Shadows a (account_after b (Entry.Fact fact.now)) (with_fresh b fresh (Entry.Fact fact.now)) names.new modules.new self.new) }
     {
         if !names.let_wait(fact.name)? {
             return Ok(());
         }
         self.entries = self.entries.saturating_add(1);
-        self.note_items(alloc, modules, fact.items.as_slice())
-    }
-
-    // Notes a limit where it isn't the one in force.
-    fn note_limit(&mut self, limit: Limit)
-        ensures { (a b : State) (names : NameList) (modules : ModuleList) → Shadows a b names modules self.old → Shadows a (continued b (Entry.Limit limit)) names modules self.new }
-    {
-        if limit != self.limit {
-            self.limit = limit;
-            self.entries = self.entries.saturating_add(1);
-        }
+        self.note_items(modules, fact.items.as_slice())
     }
 
     // Notes items: their labels wait, and their pages and weights are in the tally.
-    fn note_items(
-        &mut self,
-        alloc: Global,
-        modules: &mut Modules,
-        items: &[Item],
-    ) -> Result<(), NoMemory>
+    fn note_items(&mut self, modules: &mut Modules, items: &[Item]) -> Result<(), NoMemory>
         ensures rows { modules.new.rows ≡ modules.old.rows }
-        ensures noted { OnOk result (NotesItems (all_labels modules.old) (all_labels modules.new) self.old self.new items.now) }
+        ensures noted { OnOk result (NotesItems modules.old modules.new self.old self.new items.now) }
     {
         for item in items {
-            self.note_item(alloc, modules, item)?;
+            self.note_item(modules, item)?;
         }
         Ok(())
     }
 
     // Notes an item.
-    fn note_item(
-        &mut self,
-        alloc: Global,
-        modules: &mut Modules,
-        item: &Item,
-    ) -> Result<(), NoMemory>
+    fn note_item(&mut self, modules: &mut Modules, item: &Item) -> Result<(), NoMemory>
         ensures rows { modules.new.rows ≡ modules.old.rows }
-        ensures noted { OnOk result (NotesItems (all_labels modules.old) (all_labels modules.new) self.old self.new (item.now ∷ [])) }
+        ensures noted { OnOk result (NotesItems modules.old modules.new self.old self.new (item.now ∷ [])) }
     {
-        modules.let_wait(alloc, &item.label)?;
+        modules.let_wait(&item.label)?;
         if let Some(page) = item.page {
             self.pages.push(page)?;
         }
         self.total = self.total.saturating_add(u64::from(item.weight));
         Ok(())
-    }
-}
-
-// The numbers that entries bring an account to, and the limit in force then. A number stays at the greatest of 64 bits,
-// which is past all that an account counts.
-#[derive(Clone, Copy)]
-pub(crate) struct Numbers {
-    pub(crate) names: u64,
-    pub(crate) limit: Limit,
-    pub(crate) entries: u64,
-    pub(crate) total: u64,
-}
-
-impl Numbers {
-    // Counts an entry that is fresh.
-    pub(crate) fn count(&mut self, entry: &Entry)
-        ensures { (a : State) → Numbered a self.old → is_fresh_in a entry.now ≡ true → Numbered (continued a entry.now) self.new }
-    {
-        self.entries = self.entries.saturating_add(1);
-        match entry {
-            Entry::Fact(fact) => self.count_fact(fact),
-            Entry::Limit(limit) => self.limit = *limit,
-        }
-    }
-
-    // Counts the name and the weights of a fact.
-    fn count_fact(&mut self, fact: &Fact)
-        ensures { CountsFact self.old self.new fact.now }
-    {
-        self.names = self.names.saturating_add(1);
-        self.total = self.total.saturating_add(weight_of(fact.items.as_slice()));
-    }
-
-    // Whether one of them is past what an account holds.
-    pub(crate) fn are_past(&self) -> bool
-        ensures { (a : State) → Numbered a self.now → IsTrue result ↔ IsPast a }
-    {
-        self.names > MOST_NAMES as u64 || self.entries > MOST_ENTRIES || self.total > MOST_WEIGHT
-    }
-}
-
-// The weights of items together, at most the greatest number of 64 bits.
-fn weight_of(items: &[Item]) -> u64
-    ensures { min result greatest ≡ min (weights_in items.now) greatest }
-{
-    let mut total: u64 = 0;
-    for item in items {
-        total = total.saturating_add(u64::from(item.weight));
-    }
-    total
-}
-
-// Whether one of the entries brings this name.
-pub(crate) fn some_brings(entries: &[Entry], name: &Name) -> bool
-    ensures { result ≡ list_any (brings name.now) entries.now }
-{
-    entries.iter().any(|entry| brings(entry, name))
-}
-
-// Whether an entry brings this name.
-fn brings(entry: &Entry, name: &Name) -> bool
-    ensures { result ≡ brings name.now entry.now }
-{
-    match entry {
-        Entry::Fact(fact) => *name == fact.name,
-        Entry::Limit(_) => false,
     }
 }

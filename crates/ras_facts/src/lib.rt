@@ -6,6 +6,7 @@
 mod bank;
 mod block;
 mod entry;
+mod exact;
 mod fact;
 mod items;
 mod laws;

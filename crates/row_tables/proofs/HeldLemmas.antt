@@ -77,6 +77,15 @@ module _ {K R : Type 0} where
   viewed-next row (suc held) (e ∷ es) within =
       ap (λ (v : Held K R). record { rows = e ∷ v.rows; waiting = v.waiting }) (viewed-next row held es (omega arith))
 
+  -- a row that is put at a place among those held
+  pub viewed-set : (row : R) (held : ℕ) (es : List (K × R)) (place : ℕ) → place < held
+      → viewed held (set_value_at es place row) ≡ record { rows = set_value_at (take held es) place row; waiting = drop held (keys_of es) }
+  viewed-set row zero es place below = absurd (omega arith)
+  viewed-set row (suc held) [] place below = refl
+  viewed-set row (suc held) (e ∷ es) zero below = refl
+  viewed-set row (suc held) (e ∷ es) (suc place) below =
+      ap (λ (v : Held K R). record { rows = e ∷ v.rows; waiting = v.waiting }) (viewed-set row held es place (omega arith))
+
   pub keys_of-waiting : (row : R) (ks : List K) → keys_of (waiting_rows row ks) ≡ ks
   keys_of-waiting row [] = refl
   keys_of-waiting row (k ∷ ks) = ap (λ rest. k ∷ rest) (keys_of-waiting row ks)
@@ -102,6 +111,16 @@ module _ {K R : Type 0} where
       let value : e.1 ≡ row = cc in
       λ i. Some (key i, value i)
   slice_get-pair (e ∷ es) (suc i) k row is row_is = slice_get-pair es i k row is row_is
+
+  -- the keys of the entries whose keys pass
+  pub keys-filter : (test : K → Bool) (es : List (K × R)) → keys_of (filter {X = K × R} (λ e. test e.0) es) ≡ filter test (keys_of es)
+  keys-filter test [] = refl
+  keys-filter test (e ∷ es) = by (test e.0) (keys-filter test es)
+    where
+      by : (b : Bool) → keys_of (filter {X = K × R} (λ e. test e.0) es) ≡ filter test (keys_of es)
+          → keys_of (cond b (e ∷ filter {X = K × R} (λ e. test e.0) es) (filter {X = K × R} (λ e. test e.0) es)) ≡ cond b (e.0 ∷ filter test (keys_of es)) (filter test (keys_of es))
+      by true ih = ap (λ ks. e.0 ∷ ks) ih
+      by false ih = ih
 
   -- entries that are kept: those held that pass, and all that wait
   kept-append : (test : K → Bool) (held : ℕ) (es : List (K × R)) → held ≤ length es

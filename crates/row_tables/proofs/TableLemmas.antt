@@ -106,16 +106,16 @@ module _ {K : Type 0} (same : K → K → Bool) (exact : (x y : K) → same x y 
       by false known new = new
 
   -- the keys of a list with one key more
-  distinct-known : (ks : List K) (k : K) → list_any (same k) ks ≡ true → distinct_keys same (ks ++ k ∷ []) ≡ distinct_keys same ks
+  pub distinct-known : (ks : List K) (k : K) → list_any (same k) ks ≡ true → distinct_keys same (ks ++ k ∷ []) ≡ distinct_keys same ks
   distinct-known ks k there =
       added-append [] ks (k ∷ []) ∙ ap (λ b. distinct_keys same ks ++ (if b then [] else k ∷ [])) (any-distinct k ks ∙ there) ∙ append-nil (distinct_keys same ks)
 
-  distinct-new : (ks : List K) (k : K) → list_any (same k) ks ≡ false → distinct_keys same (ks ++ k ∷ []) ≡ distinct_keys same ks ++ k ∷ []
+  pub distinct-new : (ks : List K) (k : K) → list_any (same k) ks ≡ false → distinct_keys same (ks ++ k ∷ []) ≡ distinct_keys same ks ++ k ∷ []
   distinct-new ks k fresh =
       added-append [] ks (k ∷ []) ∙ ap (λ b. distinct_keys same ks ++ (if b then [] else k ∷ [])) (any-distinct k ks ∙ fresh)
 
   -- the look-up of a key among keys with their rows
-  lookup-keyed : {R : Type 0} (f : K → R) (k : K) (ks : List K) → lookup (same k) (map {B = K × R} (λ j. (j, f j)) ks) ≡ cond (list_any (same k) ks) (Some (f k)) None
+  pub lookup-keyed : {R : Type 0} (f : K → R) (k : K) (ks : List K) → lookup (same k) (map {B = K × R} (λ j. (j, f j)) ks) ≡ cond (list_any (same k) ks) (Some (f k)) None
   lookup-keyed f k [] = refl
   lookup-keyed {R} f k (j ∷ js) = by (same k j) refl (lookup-keyed f k js)
     where
@@ -161,6 +161,27 @@ module _ {K : Type 0} (same : K → K → Bool) (exact : (x y : K) → same x y 
             → map {B = K × R} (λ j. (j, g j)) ((j ∷ js) ++ k ∷ []) ≡ (if b then (j, change (f j)) ∷ map {B = K × R} (λ j. (j, f j)) js else (j, f j) ∷ updated_rows same k new change (map {B = K × R} (λ j. (j, f j)) js))
         by true is h ih = absurd (true≢false h)
         by false is h ih = λ i. (j, elsewhere j is i) ∷ ih h i
+
+  -- keys with their rows, where a list has one key more and the rows differ at it alone
+  pub keyed-more : {R : Type 0} (f g : K → R) (k : K) (new : R) (change : R → R) (keys : List K)
+      → ((j : K) → same k j ≡ false → g j ≡ f j)
+      → (list_any (same k) keys ≡ true → g k ≡ change (f k))
+      → (list_any (same k) keys ≡ false → g k ≡ new)
+      → map {B = K × R} (λ j. (j, g j)) (distinct_keys same (keys ++ k ∷ [])) ≡ updated_rows same k new change (map {B = K × R} (λ j. (j, f j)) (distinct_keys same keys))
+  keyed-more {R} f g k new change keys elsewhere known fresh = by (list_any (same k) keys) refl
+    where
+      by : (b : Bool) → list_any (same k) keys ≡ b
+          → map {B = K × R} (λ j. (j, g j)) (distinct_keys same (keys ++ k ∷ [])) ≡ updated_rows same k new change (map {B = K × R} (λ j. (j, f j)) (distinct_keys same keys))
+      by true there =
+          ap (λ ks. map {B = K × R} (λ j. (j, g j)) ks) (distinct-known keys k there)
+          ∙ updated-known f g k elsewhere new change (known there) (distinct_keys same keys) (once-added [] keys) (any-distinct k keys ∙ there)
+      by false none =
+          ap (λ ks. map {B = K × R} (λ j. (j, g j)) ks) (distinct-new keys k none)
+          ∙ updated-new f g k elsewhere new change (fresh none) (distinct_keys same keys) (any-distinct k keys ∙ none)
+
+  pub keys-keyed : {R : Type 0} (f : K → R) (ks : List K) → keys_of (map {B = K × R} (λ k. (k, f k)) ks) ≡ ks
+  keys-keyed f [] = refl
+  keys-keyed f (k ∷ ks) = ap (λ rest. k ∷ rest) (keys-keyed f ks)
 
   -- the elements of a key in a list with one element more
   module _ {X : Type 0} (key : X → Option K) (xs : List X) (x : X) where

@@ -4,6 +4,7 @@ ghost use Rattle.std.specs.Prelude.{◌≡◌, ◌↔◌, ◌<◌, ◌≤◌, �
 ghost use Rattle.std.specs.Bool.{IsFalse};
 ghost use Rattle.std.specs.List.{list_any};
 ghost use Rattle.std.specs.Map.{keys_of, values_of, lookup};
+ghost use Rattle.indexmap.specs.IndexMap.{set_value_at};
 ghost use Rattle.row_tables.specs.Tables.{added_keys};
 ghost use Rattle.row_tables.specs.Held.{all_keys, is_held, is_ready, with_row, waiting_rows, kept_entries, IsPlace};
 
@@ -144,6 +145,15 @@ impl<K: Hash + ExactEq + Copy, R: Copy> RowTable<K, R> {
         let _len = self.table.len();
         self.table[place] = row;
         self.held = self.held.max(place + 1);
+    }
+
+    /// Puts a row at the place of a key that is held.
+    pub fn set_row(&mut self, place: usize, row: R)
+        requires { place < length self.old.rows }
+        ensures rows { self.new.rows ≡ set_value_at self.old.rows place row }
+        ensures waiting { self.new.waiting ≡ self.old.waiting }
+    {
+        self.table[place] = row;
     }
 
     /// Begins the row of the first key that waits, which is held now behind the others.

@@ -2,7 +2,7 @@ use Rattle.std.proofs.Common.{◌≡◌, Result, Err, length, sym, ◌∙◌, ap
 use Rattle.std.proofs.lemmas.List.Elements.{recursion_from_All}
 use Rattle.std.proofs.lemmas.Result.{err_from_is_err_and}
 use Rattle.ras_facts.specs.Entries.{IsValidEntry}
-use Rattle.ras_account.proofs.AgainLemmas.{first_valid, takes_more, within_first}
+use Rattle.ras_account.proofs.AgainLemmas.{takes_all, stays_all, first_valid, takes_more, within_first}
 use Rattle.ras_account.proofs.account.Account.of_entries.Goals as goal
 
 -- the same error where the values are of other types
@@ -32,5 +32,11 @@ loop-entry-init c =
       valid = rw items.0 (recursion_from_All IsValidEntry c.args.entries.items c.requires);
       state = c.new-account.ensures.state;
       waiting = c.new-account.ensures.waiting;
-      within = rw c.new-account.ensures.state (record { names = omega arith; entries = omega arith; total = omega arith });
+      stays = tt;
     }
+
+pub returns-clause-state : goal.returns-clause-state
+returns-clause-state c = takes_all _ _ _ _ _ c.loop-entry.invariant c.in-None.ensures.steps.0
+
+pub returns-clause-within : goal.returns-clause-within
+returns-clause-within c = stays_all _ _ _ _ _ c.loop-entry.invariant c.in-None.ensures.steps.0

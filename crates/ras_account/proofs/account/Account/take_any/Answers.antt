@@ -1,7 +1,9 @@
 use Rattle.std.proofs.Common.{◌≡◌, true, [], ◌∷◌, sym, ap, subst, ◌∙◌}
 use Rattle.ras_facts.specs.declared.entry.Entry.{Entry}
 use Rattle.ras_facts.specs.declared.entry.Entry.TheVariants.{Fact}
-use Rattle.ras_account.specs.Continued.{is_fresh_in, continued, IsWithin}
+use Rattle.ras_facts.specs.Entries.{IsValidEntry}
+use Rattle.ras_account.specs.Continued.{is_fresh_in, account_after}
+use Rattle.ras_account.specs.Numbers.{IsWithin}
 use Rattle.ras_account.specs.View.{WaitsFirst, added_by}
 use Rattle.ras_account.specs.Taking.{Takes}
 use Rattle.ras_account.proofs.EntryLemmas.{can_take, takes_fact}
@@ -12,8 +14,9 @@ take_fact-requires-clause-ready c =
     let is : c.args.entry ≡ Fact c.in-Fact.fact = c.in-Fact.is in
     let fresh : is_fresh_in c.args.self.now.state (Fact c.in-Fact.fact) ≡ true = ap (is_fresh_in c.args.self.now.state) (sym is) ∙ sym c.is_fresh.ensures.fresh ∙ c.if-not-is_fresh.false in
     can_take c.args.self.now c.in-Fact.fact fresh
+    (subst IsValidEntry is c.requires.valid)
     (subst (λ (e : Entry). WaitsFirst (added_by c.args.self.now.state (e ∷ [])) c.args.self.now.waiting) is c.requires.waits)
-    (subst (λ (e : Entry). IsWithin (continued c.args.self.now.state e)) is c.requires.within)
+    (subst (λ (e : Entry). IsWithin (account_after c.args.self.now.state e)) is c.requires.within)
 
 pub returns-in-Fact : goal.returns-in-Fact
 returns-in-Fact c =

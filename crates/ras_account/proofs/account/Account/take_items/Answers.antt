@@ -1,7 +1,7 @@
 use Rattle.std.proofs.Common.{◌≡◌, ◌+◌, ◌∷◌, List, drop, subst}
 use Rattle.ras_facts.specs.declared.items.Item.{Item}
 use Rattle.ras_account.specs.Taking.{IsAmid}
-use Rattle.ras_account.proofs.PlaceLemmas.{drop-at}
+use Rattle.ras_account.proofs.StateLemmas.{drop-at}
 use Rattle.ras_account.proofs.TakingLemmas.{amid-is_next, amid-more}
 use Rattle.ras_account.proofs.account.Account.take_items.Goals as goal
 

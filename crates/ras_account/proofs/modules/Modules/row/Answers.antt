@@ -1,10 +1,9 @@
-use Rattle.std.proofs.Common.{◌≡◌, ◌<◌, length, Some, slice_get, subst, sym}
+use Rattle.std.proofs.Common.{◌∙◌, sym, ap, slice_get}
 use Rattle.ras_account.specs.Parts.{ModuleList}
-use Rattle.ras_account.proofs.ModuleLemmas.{row-at}
+use Rattle.ras_account.proofs.ModuleRowLemmas.{row-at}
 use Rattle.ras_account.proofs.modules.Modules.row.Goals as goal
 
 pub returns : goal.returns
 returns c =
-    subst (λ (v : ModuleList). slice_get v.rows c.args.i ≡ Some (c.index.result.now.label, c.index.result.now.sums)) c.self.view_is
-    (row-at c.self.inside.table.entries c.self.inside.held c.args.i c.index.result.now c.self.invariant.each
-    (subst (λ (v : ModuleList). c.args.i < length v.rows) (sym c.self.view_is) c.requires) c.index.ensures)
+    ap (λ (v : ModuleList). slice_get v.rows c.args.i) (sym c.self.view_is)
+    ∙ row-at c.self.inside.table.rows c.args.i c.row.result.now c.row.ensures c.self.invariant

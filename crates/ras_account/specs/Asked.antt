@@ -1,0 +1,33 @@
+-- What the laws on orders speak of: the orders for one page, and those for one module.
+use Rattle.std.specs.Prelude.{ℕ, Bool, false, nat_eq, List, filter}
+use Rattle.std.specs.Map.{keys_of}
+use Rattle.dimm_topology.specs.Labels.{Bytes}
+use Rattle.page_policy.specs.declared.rows.Order.{Order}
+use Rattle.page_policy.specs.declared.rows.Order.TheVariants.{Soft, Hard, Module}
+use Rattle.ras_account.specs.History.{History}
+use Rattle.ras_account.specs.Account.{State, account_of}
+use Rattle.ras_account.specs.Orders.{place_of}
+
+-- whether an order is for a page
+abbrev pub is_for_page : ℕ → Order → Bool
+is_for_page page (Soft other) = nat_eq page other
+is_for_page page (Hard other) = nat_eq page other
+is_for_page page (Module place) = false
+
+-- whether it is for the module at a place
+abbrev pub is_for_module : ℕ → Order → Bool
+is_for_module place (Soft page) = false
+is_for_module place (Hard page) = false
+is_for_module place (Module other) = nat_eq place other
+
+-- the orders of a list for a page, in order
+abbrev pub orders_for_page : ℕ → List Order → List Order
+orders_for_page page orders = filter (is_for_page page) orders
+
+-- the orders of a list for the module at a place, in order
+abbrev pub orders_for_module : ℕ → List Order → List Order
+orders_for_module place orders = filter (is_for_module place) orders
+
+-- the place of a label's row in the account of a history
+abbrev pub module_place : History → Bytes → ℕ
+module_place history label = place_of label (keys_of (account_of history).modules)

@@ -1,0 +1,64 @@
+-- What is counted of a memory module: the sums of its items by class, and a leaky bucket of its
+-- corrected errors. The first time that the bucket trips, the module is to be replaced.
+use Rattle.std.specs.Prelude.{ℕ, Bool, ◌&&◌, not, nat_eq, Option, None, Some, List, [], ◌∷◌, map, filter, fold, unwrap_or}
+use Rattle.std.specs.List.{sum_by, list_any}
+use Rattle.mca_status.specs.declared.classes.ItemClass.{ItemClass}
+use Rattle.mca_status.specs.Classes.{class_number, classes}
+use Rattle.ras_base.specs.Places.{places}
+use Rattle.dimm_topology.specs.Labels.{Bytes, same_label}
+use Rattle.page_policy.specs.declared.buckets.Bucket.{Bucket}
+use Rattle.page_policy.specs.Buckets.{trips, bucket_after}
+use Rattle.page_policy.specs.Rows.{is_corrected}
+use Rattle.ras_account.specs.Sightings.{Sighting, label_of, sighting_weight}
+
+-- what is counted of a module
+pub record Module : Type 0 where
+  -- the weights of its items by class, in the order of the class numbers
+  pub sums : List ℕ
+  -- the bucket of its corrected errors since the last mark, if there is one
+  pub bucket : Option Bucket
+  -- whether it is to be replaced: the bucket has tripped since the last mark
+  pub replace : Bool
+
+-- the sum of the weights of the items of a class
+abbrev pub class_weight : List Sighting → ItemClass → ℕ
+class_weight ss class = sum_by sighting_weight (filter (λ s. nat_eq (class_number class) (class_number s.item.class)) ss)
+
+-- whether an item has a label, in a table of modules
+abbrev pub is_labeled : Bytes → Sighting → Bool
+is_labeled label s = same_label label (label_of s)
+
+-- whether an item fills its module's bucket: a corrected error with a label
+abbrev pub fills_bucket : Sighting → Bool
+fills_bucket s = is_corrected s.item.class && not (is_labeled [] s)
+
+-- the items of a list that fill the bucket of a label, in order; none, where the label is none
+abbrev pub errors_of : Bytes → List Sighting → List Sighting
+errors_of label ss = filter (λ s. fills_bucket s && is_labeled label s) ss
+
+-- the bucket that an error meets: one that begins at it, where there was none
+abbrev pub bucket_met : Option Bucket → Sighting → Bucket
+bucket_met bucket s = unwrap_or bucket (record { count = 0; stamp = s.seconds })
+
+-- the bucket after an error, and whether it trips at it
+abbrev pub bucket_with : Option Bucket → Sighting → Bucket
+bucket_with bucket s = bucket_after s.module_limit s.seconds s.item.weight (bucket_met bucket s)
+
+abbrev pub trips_at : Option Bucket → Sighting → Bool
+trips_at bucket s = trips s.module_limit s.seconds s.item.weight (bucket_met bucket s)
+
+-- the bucket after a list of errors: none, before the first
+abbrev pub bucket_over : List Sighting → Option Bucket
+bucket_over errors = fold (λ bucket s. Some (bucket_with bucket s)) None errors
+
+-- whether one of the errors made the bucket trip
+abbrev pub has_tripped : List Sighting → Bool
+has_tripped errors = list_any (λ p. trips_at (bucket_over p.0) p.1) (places errors)
+
+-- the module of a label, by all items and by those since the last mark
+abbrev pub module_of : List Sighting → List Sighting → Bytes → Module
+module_of all since_mark label = record {
+  sums = map (class_weight (filter (is_labeled label) all)) classes;
+  bucket = bucket_over (errors_of label since_mark);
+  replace = has_tripped (errors_of label since_mark);
+}

@@ -1,0 +1,56 @@
+-- The three numbers that an account keeps small, and those that a list of entries would bring it
+-- to.
+use Rattle.std.specs.Prelude.{ℕ, ◌+◌, ◌≤◌, Bool, ◌||◌, nat_lt, if◌then◌else◌, List, [], ◌∷◌, length}
+use Rattle.std.specs.List.{sum_by, flat_map}
+use Rattle.ras_facts.specs.declared.items.Item.{Item}
+use Rattle.ras_facts.specs.declared.entry.Entry.{Entry}
+use Rattle.ras_facts.specs.Entries.{items_in}
+use Rattle.ras_account.specs.declared.limits.TheConstants.{MOST_NAMES, MOST_ENTRIES, MOST_WEIGHT}
+use Rattle.ras_account.specs.Account.{State, names_of}
+use Rattle.ras_account.specs.Continued.{is_fresh_in, account_after}
+
+-- how many names, how many entries, and how much weight
+pub record Numbers : Type 0 where
+  pub names : ℕ
+  pub entries : ℕ
+  pub total : ℕ
+
+-- numbers within what an account counts, and whether they are past it
+pub record AreWithin (numbers : Numbers) : Type 0 where
+  pub names : numbers.names ≤ MOST_NAMES
+  pub entries : numbers.entries ≤ MOST_ENTRIES
+  pub total : numbers.total ≤ MOST_WEIGHT
+
+abbrev pub are_past : Numbers → Bool
+are_past numbers =
+    nat_lt MOST_NAMES numbers.names || (nat_lt MOST_ENTRIES numbers.entries || nat_lt MOST_WEIGHT numbers.total)
+
+-- those of an account
+abbrev pub numbers_of : State → Numbers
+numbers_of a = record { names = length a.names; entries = a.entries; total = a.total }
+
+-- an account within its numbers, and one that stays so after each entry of a list
+abbrev pub IsWithin : State → Type 0
+IsWithin a = AreWithin (numbers_of a)
+
+abbrev pub StaysWithin : State → List Entry → Type 0
+StaysWithin a [] = Unit {0}
+StaysWithin a (entry ∷ entries) = IsWithin (account_after a entry) × StaysWithin (account_after a entry) entries
+
+-- the entries of a list that are fresh at their place behind an account
+abbrev pub fresh_entries_in : State → List Entry → List Entry
+fresh_entries_in a [] = []
+fresh_entries_in a (entry ∷ entries) =
+    if is_fresh_in a entry then entry ∷ fresh_entries_in (account_after a entry) entries else fresh_entries_in a entries
+
+-- the items of entries, in order
+abbrev pub items_of : List Entry → List Item
+items_of entries = flat_map items_in entries
+
+-- the numbers of an account with all that is fresh of a list: a retire among it takes no name away
+abbrev pub numbers_with : State → List Entry → Numbers
+numbers_with a entries = record {
+  names = length a.names + length (names_of (fresh_entries_in a entries));
+  entries = a.entries + length (fresh_entries_in a entries);
+  total = a.total + sum_by (λ (item : Item). item.weight) (items_of (fresh_entries_in a entries));
+}

@@ -1,0 +1,31 @@
+-- An account made again from its numbers and rows, as they are read back one after the other.
+use Rattle.std.specs.Prelude.{ℕ, ◌+◌, Bool, List, [], ◌∷◌, ◌++◌, fold, sum}
+use Rattle.std.specs.List.{list_any}
+use Rattle.dimm_topology.specs.Labels.{Bytes}
+use Rattle.page_policy.specs.declared.rows.PageRow.{PageRow}
+use Rattle.ras_facts.specs.declared.name.Name.{Name}
+use Rattle.ras_account.specs.History.{empty, is_retired}
+use Rattle.ras_account.specs.Modules.{Module}
+use Rattle.ras_account.specs.Account.{State, account_of}
+
+-- whether one of the names is of a boot below a floor
+abbrev pub has_retired : ℕ → List Name → Bool
+has_retired floor names = list_any (is_retired floor) names
+
+-- an account with a name, a module or a page more; a module brings its weight
+abbrev pub with_name : State → Name → State
+with_name a name = record a { names = a.names ++ name ∷ [] }
+
+abbrev pub with_module : State → Bytes × Module → State
+with_module a row = record a { modules = a.modules ++ row ∷ []; total = a.total + sum row.1.sums }
+
+abbrev pub with_page : State → ℕ × PageRow → State
+with_page a row = record a { pages = a.pages ++ row ∷ [] }
+
+-- the empty account with the limits, the floor and the number of entries of another
+abbrev pub base_of : State → State
+base_of a = record (account_of empty) { limit = a.limit; module_limit = a.module_limit; floor = a.floor; entries = a.entries }
+
+-- and with each of its rows, in order
+abbrev pub account_from_rows : State → State
+account_from_rows a = fold with_page (fold with_module (fold with_name (base_of a) a.names) a.modules) a.pages

@@ -1,0 +1,56 @@
+//! What is in force: the floor, and the limits for pages and modules.
+ghost use Rattle.std.specs.Prelude.{◌≡◌};
+ghost use Rattle.ras_account.specs.History.{is_retired};
+ghost use Rattle.ras_account.specs.Taking.{is_news};
+ghost use Rattle.ras_account.specs.Reserving.{in_force_after};
+
+use page_policy::Limit;
+use ras_facts::{Entry, Name};
+
+// What is in force.
+#[derive(Clone, Copy)]
+pub(crate) struct InForce {
+    // The boot below which all boots are retired.
+    pub(crate) floor: u64,
+    // The limit for pages.
+    pub(crate) limit: Limit,
+    // The limit for modules.
+    pub(crate) module_limit: Limit,
+}
+
+impl InForce {
+    // Whether an entry is fresh, but for a name that is held: a name whose boot isn't retired, a retire above the floor,
+    // or another limit.
+    pub(crate) fn admits(&self, entry: &Entry) -> bool
+        ensures { result ≡ is_news self.now.floor self.now.limit self.now.module_limit entry.now }
+    {
+        match entry {
+            Entry::Fact(fact) => !self.retires(&fact.name),
+            Entry::Limit(limit) => *limit != self.limit,
+            Entry::Retire(boot) => self.floor < *boot,
+            Entry::ModuleLimit(limit) => *limit != self.module_limit,
+        }
+    }
+
+    // Puts in force what an entry sets. A fact sets nothing.
+    pub(crate) fn put(&mut self, entry: &Entry)
+        ensures { self.new ≡ in_force_after self.old entry.now }
+    {
+        match entry {
+            Entry::Fact(_) => {}
+            Entry::Limit(limit) => self.limit = *limit,
+            Entry::Retire(boot) => self.floor = *boot,
+            Entry::ModuleLimit(limit) => self.module_limit = *limit,
+        }
+    }
+
+    // Whether a name's boot is retired.
+    pub(crate) fn retires(&self, name: &Name) -> bool
+        ensures { result ≡ is_retired self.now.floor name.now }
+    {
+        match name.boot() {
+            Some(boot) => boot < self.floor,
+            None => false,
+        }
+    }
+}

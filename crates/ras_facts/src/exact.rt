@@ -1,0 +1,10 @@
+//! Names that are equal are the same name.
+
+ghost use Rattle.ras_facts.specs.NameLemmas.{name-exact};
+
+use crate::Name;
+use ras_base::ExactEq;
+
+impl ExactEq for Name {
+    ghost exact = { name-exact };
+}
