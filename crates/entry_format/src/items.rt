@@ -115,7 +115,10 @@ fn item_at(alloc: Global, bytes: &[u8]) -> Result<(Item, &[u8]), EntryRefused>
     ensures { Gives (λ x. (x.0, x.1.now)) result (item_at bytes.now) }
 {
     let (class, rest) = class_at(bytes)?;
-    let (label, rest) = label_at(alloc, rest)?;
+    let (label, rest) = match label_at(alloc, rest) {
+        Ok(found) => found,
+        Err(refused) => return Err(refused),
+    };
     let (page, rest) = page_at(rest)?;
     let (weight, rest) = weight_at(rest)?;
     let item = Item {
@@ -134,7 +137,10 @@ fn many_items_at(alloc: Global, count: u16, bytes: &[u8]) -> Result<(Items, &[u8
     let mut items = Items::new(alloc);
     let mut rest = bytes;
     for _ in 0..count {
-        let (item, after) = item_at(alloc, rest)?;
+        let (item, after) = match item_at(alloc, rest) {
+            Ok(found) => found,
+            Err(refused) => return Err(refused),
+        };
         items.push(item)?;
         rest = after;
     }
