@@ -1,5 +1,5 @@
 -- The lines that are printed of entries, of events and of runs, each with its line feed.
-use Rattle.std.specs.Prelude.{ℕ, ◌==◌, List, [], ◌∷◌, ◌++◌, codes, decimal, drop, length, Option, None, Some, if◌then◌else◌}
+use Rattle.std.specs.Prelude.{ℕ, ◌==◌, List, [], ◌∷◌, ◌++◌, codes, count_by, decimal, drop, length, Option, None, Some, if◌then◌else◌}
 use Rattle.std.specs.Int.{to_be_bytes, w64}
 use Rattle.std.specs.List.{flat_map}
 use Rattle.hex.specs.Hex.{encode_lower}
@@ -11,8 +11,9 @@ use Rattle.ras_facts.specs.declared.items.Item.{Item}
 use Rattle.ras_facts.specs.declared.name.Name.{Name}
 use Rattle.ras_facts.specs.declared.name.Name.TheVariants.{Bank, Record, Block, Boot}
 use Rattle.ras_facts.specs.declared.entry.Entry.{Entry}
-use Rattle.ras_facts.specs.declared.entry.Entry.TheVariants.{Fact as Report, Limit as Settles}
+use Rattle.ras_facts.specs.declared.entry.Entry.TheVariants.{Fact as FactEntry, Limit as PageLimit, Retire, ModuleLimit}
 use Rattle.ras_account.specs.Account.{State}
+use Rattle.ras_account.specs.History.{is_retired}
 
 -- a text as a line: a line feed ends it
 abbrev pub line_with : List ℕ → List ℕ
@@ -64,20 +65,37 @@ item_line fact detail item = line_with (
     item_head fact item ++ codes " label=" ++ label_text item.label
     ++ codes " page=" ++ page_text item.page ++ codes " " ++ detail)
 
--- the line of a fresh limit
+-- the line of a fresh limit, for pages or for modules
+abbrev pub limit_text : Limit → List ℕ
+limit_text limit = codes "capacity=" ++ decimal limit.capacity ++ codes " period=" ++ decimal limit.period
+
 abbrev pub limit_line : Limit → List ℕ
-limit_line limit = line_with (
-    codes "limit capacity=" ++ decimal limit.capacity ++ codes " period=" ++ decimal limit.period)
+limit_line limit = line_with (codes "limit " ++ limit_text limit)
 
--- the lines of a fresh entry: of a fact one for each item, of a limit one
-abbrev pub log_lines : List ℕ → Entry → List ℕ
-log_lines detail (Report fact) = flat_map (item_line fact detail) fact.items
-log_lines detail (Settles limit) = limit_line limit
+abbrev pub module_limit_line : Limit → List ℕ
+module_limit_line limit = line_with (codes "module-limit " ++ limit_text limit)
 
--- the line of a fact that isn't fresh; a limit that isn't has none
-abbrev pub repeat_line : Entry → List ℕ
-repeat_line (Report fact) = line_with (codes "repeat " ++ name_text fact.name)
-repeat_line (Settles limit) = []
+-- the line of a fresh retire, with how many names it drops
+abbrev pub retire_line : ℕ → ℕ → List ℕ
+retire_line boot dropped =
+    line_with (codes "retire boot=" ++ decimal boot ++ codes " names=" ++ decimal dropped)
+
+-- the lines of an entry that is fresh in an account: of a fact one for each item, of others one
+abbrev pub log_lines : List ℕ → State → Entry → List ℕ
+log_lines detail account (FactEntry fact) = flat_map (item_line fact detail) fact.items
+log_lines detail account (PageLimit limit) = limit_line limit
+log_lines detail account (Retire boot) =
+    retire_line boot (count_by (is_retired boot) account.names)
+log_lines detail account (ModuleLimit limit) = module_limit_line limit
+
+-- the line of an entry that isn't fresh in an account: a fact's name is stale where its boot is
+-- retired, and else a repeat; other entries have none
+abbrev pub repeat_line : State → Entry → List ℕ
+repeat_line account (FactEntry fact) =
+    line_with ((if is_retired account.floor fact.name then codes "stale " else codes "repeat ") ++ name_text fact.name)
+repeat_line account (PageLimit limit) = []
+repeat_line account (Retire boot) = []
+repeat_line account (ModuleLimit limit) = []
 
 -- the line that an event ends with, by the number of its line
 abbrev pub done_line : ℕ → List ℕ

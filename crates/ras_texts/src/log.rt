@@ -1,45 +1,86 @@
-//! The lines of an entry: those of a fresh one, and the one of a repeat.
+//! The lines of an entry: those of a fresh one, and the one of an entry that isn't.
 
-ghost use Rattle.std.specs.Prelude.{◌≡◌, ◌++◌, IfOk, OnOk};
+ghost use Rattle.std.specs.Prelude.{◌≡◌, ◌++◌, count_by, IfOk, OnOk};
 ghost use Rattle.std.specs.List.{flat_map};
-ghost use Rattle.ras_texts.specs.Text.{item_head, item_line, limit_line, log_lines, repeat_line};
+ghost use Rattle.ras_account.specs.History.{is_retired};
+ghost use Rattle.ras_texts.specs.Text.{item_head, item_line, limit_text, line_with, log_lines, repeat_line, retire_line};
 
 use crate::pieces::{class_word, push_label, push_name, push_number, push_page};
 use page_policy::Limit;
+use ras_account::Account;
 use ras_base::NoMemory;
-use ras_facts::{Entry, Fact, Item};
+use ras_facts::{Entry, Fact, Item, Name};
 use std::alloc::Global;
 
-/// Adds the lines of a fresh entry, with the detail that is told of each of its items.
+/// Adds the lines of an entry that is fresh in an account, with the detail that is told of each of
+/// its items.
 ///
 /// # Errors
 ///
 /// `NoMemory` comes for want of memory alone.
-pub fn push_fresh(text: &mut Vec<u8>, detail: &[u8], entry: &Entry) -> Result<(), NoMemory>
-    ensures { OnOk result (text.new.items ≡ text.old.items ++ log_lines detail.now entry.now) }
+pub fn push_fresh(
+    text: &mut Vec<u8>,
+    detail: &[u8],
+    account: &Account,
+    entry: &Entry,
+) -> Result<(), NoMemory>
+    ensures { OnOk result (text.new.items
+        ≡ text.old.items ++ log_lines detail.now account.now.state entry.now) }
 {
     match entry {
         Entry::Fact(fact) => push_items(text, fact, detail),
-        Entry::Limit(limit) => push_limit(text, *limit),
+        Entry::Limit(limit) => {
+            text.extend_from_slice(b"limit ")?;
+            push_limit(text, *limit)
+        }
+        Entry::Retire(boot) => push_retire(text, *boot, retired_names(account, *boot)),
+        Entry::ModuleLimit(limit) => {
+            text.extend_from_slice(b"module-limit ")?;
+            push_limit(text, *limit)
+        }
     }
 }
 
-/// The line of an entry that isn't fresh: that of a fact whose name was reported before. A limit
-/// has none.
+/// The line of an entry that isn't fresh in an account: that of a fact whose name it holds, or
+/// whose boot is retired. Other entries have none.
 ///
 /// # Errors
 ///
 /// `NoMemory` comes for want of memory alone.
-pub fn repeat_line(alloc: Global, entry: &Entry) -> Result<Vec<u8>, NoMemory>
-    ensures { IfOk result (λ text. text.items ≡ repeat_line entry.now) }
+pub fn repeat_line(alloc: Global, account: &Account, entry: &Entry) -> Result<Vec<u8>, NoMemory>
+    ensures { IfOk result (λ text. text.items ≡ repeat_line account.now.state entry.now) }
 {
     let mut text = Vec::new(alloc);
     if let Entry::Fact(fact) = entry {
-        text.extend_from_slice(b"repeat ")?;
+        let is_stale = is_retired(account.floor(), &fact.name);
+        text.extend_from_slice(if is_stale { b"stale " } else { b"repeat " })?;
         push_name(&mut text, &fact.name)?;
         text.extend_from_slice(b"\n")?;
     }
     Ok(text)
+}
+
+// Whether a name's boot is below a floor.
+fn is_retired(floor: u64, name: &Name) -> bool
+    ensures { result ≡ is_retired floor name.now }
+{
+    match name.boot() {
+        Some(boot) => boot < floor,
+        None => false,
+    }
+}
+
+// How many names an account holds of boots below one.
+fn retired_names(account: &Account, boot: u64) -> u64
+    ensures { result ≡ count_by (is_retired boot) account.now.state.names }
+{
+    let mut count = 0;
+    for i in 0..account.names_len() {
+        if is_retired(boot, account.name(i)) {
+            count += 1;
+        }
+    }
+    count
 }
 
 // Adds the line of each item of a fresh fact.
@@ -85,14 +126,26 @@ fn push_head(text: &mut Vec<u8>, fact: &Fact, item: &Item) -> Result<(), NoMemor
     push_number(text, u64::from(item.weight))
 }
 
-// Adds the line of a fresh limit.
+// Adds the numbers of a fresh limit, and ends its line.
 fn push_limit(text: &mut Vec<u8>, limit: Limit) -> Result<(), NoMemory>
-    ensures { OnOk result (text.new.items ≡ text.old.items ++ limit_line limit) }
+    ensures { OnOk result (text.new.items ≡ text.old.items ++ line_with (limit_text limit)) }
 {
-    text.extend_from_slice(b"limit capacity=")?;
+    text.extend_from_slice(b"capacity=")?;
     push_number(text, u64::from(limit.capacity))?;
     text.extend_from_slice(b" period=")?;
     push_number(text, u64::from(limit.period))?;
+    text.extend_from_slice(b"\n")?;
+    Ok(())
+}
+
+// Adds the line of a fresh retire.
+fn push_retire(text: &mut Vec<u8>, boot: u64, dropped: u64) -> Result<(), NoMemory>
+    ensures { OnOk result (text.new.items ≡ text.old.items ++ retire_line boot dropped) }
+{
+    text.extend_from_slice(b"retire boot=")?;
+    push_number(text, boot)?;
+    text.extend_from_slice(b" names=")?;
+    push_number(text, dropped)?;
     text.extend_from_slice(b"\n")?;
     Ok(())
 }

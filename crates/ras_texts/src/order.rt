@@ -1,33 +1,36 @@
-//! The lines of orders to take pages out of use.
+//! The lines of orders: to take pages out of use, and to replace modules.
 
-ghost use Rattle.std.specs.Prelude.{◌≡◌, ◌++◌, length, IfOk};
-ghost use Rattle.page_policy.specs.Rows.{order_to};
-ghost use Rattle.ras_texts.specs.OrderRoom.{HasRoomFor};
-ghost use Rattle.ras_texts.specs.Orders.{order_line, order_lines, standing_lines};
+ghost use Rattle.std.specs.Prelude.{◌≡◌, ◌++◌, ◌+◌, ◌≤◌, IfOk, OnOk, length, vec_capacity, vec_len};
+ghost use Rattle.std.specs.List.{flat_map};
+ghost use Rattle.ras_texts.specs.OrderRoom.{HasRoomFor, StaysWithin};
+ghost use Rattle.ras_texts.specs.Orders.{label_at, module_line, order_line, order_lines, page_line};
+ghost use Rattle.ras_texts.specs.Orders.{replaced_line, standing_lines, state_line};
+ghost use Rattle.ras_texts.specs.Text.{address_text, label_text, line_with};
 
 use crate::pieces::page_digits;
+use dimm_topology::Label;
 use page_policy::{Order, PageState};
 use ras_account::{Account, Orders};
 use ras_base::NoMemory;
 use std::alloc::Global;
 
-/// How many bytes the line of an order has.
-pub const ORDER_LENGTH: usize = 33;
+/// How many bytes the line of an order has at most: that of a module, with a label of 32 bytes.
+pub const ORDER_LENGTH: usize = 52;
 
-/// Adds the lines of orders to a text that has room for them. It takes no memory.
-pub fn push_orders(text: &mut Vec<u8>, orders: &Orders)
+/// Adds the lines of orders to a text that has room for them, with the labels of an account. It
+/// takes no memory.
+pub fn push_orders(text: &mut Vec<u8>, orders: &Orders, account: &Account)
     requires { HasRoomFor (length orders.now.orders) text.old }
-    ensures { text.new.items ≡ text.old.items ++ order_lines orders.now.orders }
+    ensures { text.new.items
+        ≡ text.old.items ++ order_lines account.now.state.modules orders.now.orders }
 {
     for i in 0..orders.len() {
-        match text.extend_from_slice(&order_line(orders.get(i))) {
-            Ok(()) => {}
-            Err(_) => unreachable!(),
-        }
+        push_order(text, orders.get(i), account);
     }
 }
 
-/// The lines of the pages that are ordered out of use, in the order in which they were first seen.
+/// The lines of the orders that an account's pages and modules stand under, each in the order in
+/// which they were first seen.
 ///
 /// # Errors
 ///
@@ -35,37 +38,127 @@ pub fn push_orders(text: &mut Vec<u8>, orders: &Orders)
 pub fn standing_lines(alloc: Global, account: &Account) -> Result<Vec<u8>, NoMemory>
     ensures { IfOk result (λ text. text.items ≡ standing_lines account.now.state) }
 {
-    let pages = account.pages();
     let mut text = Vec::new(alloc);
-    for i in 0..pages.len() {
-        let (page, _, state) = pages.row(i);
-        if let Some(order) = standing_order(page, state) {
-            text.extend_from_slice(&order_line(order))?;
-        }
-    }
+    push_standing_pages(&mut text, account)?;
+    push_standing_modules(&mut text, account)?;
     Ok(text)
 }
 
-// The line of an order to take a page out of use.
-fn order_line(order: Order) -> [u8; ORDER_LENGTH]
-    ensures line { result ≡ order_line order }
-    ensures length { length result ≡ ORDER_LENGTH }
+// Adds the lines of the pages that stand under an order.
+fn push_standing_pages(text: &mut Vec<u8>, account: &Account) -> Result<(), NoMemory>
+    ensures { OnOk result (text.new.items
+        ≡ text.old.items ++ flat_map page_line account.now.state.pages) }
 {
-    let (mut line, page) = match order {
-        Order::Soft(page) => (*b"order soft page=0000000000000000\n", page),
-        Order::Hard(page) => (*b"order hard page=0000000000000000\n", page),
-    };
-    line[16..29].copy_from_slice(&page_digits(page));
-    line
+    let pages = account.pages();
+    for i in 0..pages.len() {
+        let (page, _, state) = pages.row(i);
+        text.reserve(ORDER_LENGTH)?;
+        push_state(text, page, state);
+    }
+    Ok(())
 }
 
-// The order that a page in this state stands under.
-fn standing_order(page: u64, state: PageState) -> Option<Order>
-    ensures { result ≡ order_to page state }
+// Adds the lines of the modules that are to be replaced.
+fn push_standing_modules(text: &mut Vec<u8>, account: &Account) -> Result<(), NoMemory>
+    ensures { OnOk result (text.new.items
+        ≡ text.old.items ++ flat_map replaced_line account.now.state.modules) }
+{
+    for i in 0..account.modules_len() {
+        let row = account.module(i);
+        if row.replace {
+            text.reserve(ORDER_LENGTH)?;
+            push_module(text, &row.label);
+        }
+    }
+    Ok(())
+}
+
+// Adds the line of an order to a text that has room for it.
+fn push_order(text: &mut Vec<u8>, order: Order, account: &Account)
+    requires { HasRoomFor 1 text.old }
+    ensures line { text.new.items ≡ text.old.items ++ order_line account.now.state.modules order }
+    ensures room { StaysWithin text.old text.new }
+{
+    match order {
+        Order::Soft(page) => push_state(text, page, PageState::Soft),
+        Order::Hard(page) => push_state(text, page, PageState::Hard),
+        Order::Module(place) => push_module(text, &label_at(account, place)),
+    }
+}
+
+// The label of the module at a place.
+fn label_at(account: &Account, place: usize) -> Label
+    ensures { result ≡ label_at account.now.state.modules place }
+{
+    if place < account.modules_len() {
+        account.module(place).label
+    } else {
+        Label::none()
+    }
+}
+
+// Adds the line of a page in a state to a text that has room for it.
+fn push_state(text: &mut Vec<u8>, page: u64, state: PageState)
+    requires { HasRoomFor 1 text.old }
+    ensures line { text.new.items ≡ text.old.items ++ state_line page state }
+    ensures room { StaysWithin text.old text.new }
 {
     match state {
-        PageState::Kept => None,
-        PageState::Soft => Some(Order::Soft(page)),
-        PageState::Hard => Some(Order::Hard(page)),
+        PageState::Kept => {}
+        PageState::Soft => push_page_line(text, b"order soft page=", page),
+        PageState::Hard => push_page_line(text, b"order hard page=", page),
+    }
+}
+
+// Adds a line that ends with a page to a text that has room for it.
+fn push_page_line(text: &mut Vec<u8>, head: &[u8], page: u64)
+    requires head { length head.now ≤ 16 }
+    requires room { HasRoomFor 1 text.old }
+    ensures line { text.new.items ≡ text.old.items ++ line_with (head.now ++ address_text page) }
+    ensures room { StaysWithin text.old text.new }
+{
+    push_within(text, head);
+    push_within(text, &page_digits(page));
+    push_within(text, b"000");
+    push_within(text, b"\n");
+}
+
+// Adds the line of a module that is to be replaced to a text that has room for it.
+fn push_module(text: &mut Vec<u8>, label: &Label)
+    requires { HasRoomFor 1 text.old }
+    ensures line { text.new.items ≡ text.old.items ++ module_line label.now }
+    ensures room { StaysWithin text.old text.new }
+{
+    push_within(text, b"order module label=");
+    push_label_within(text, label);
+    push_within(text, b"\n");
+}
+
+// Adds a label, or `-` for none, to a text that has room for it.
+#[tactic(auto, using(crate::proofs::LabelLemmas::label_short))]
+fn push_label_within(text: &mut Vec<u8>, label: &Label)
+    requires { vec_len text.old + 32 ≤ vec_capacity text.old }
+    ensures label { text.new.items ≡ text.old.items ++ label_text label.now }
+    ensures length { vec_len text.new ≤ vec_len text.old + 32 }
+    ensures room { vec_capacity text.old ≤ vec_capacity text.new }
+{
+    let bytes = label.bytes();
+    if bytes.is_empty() {
+        push_within(text, b"-");
+    } else {
+        push_within(text, bytes);
+    }
+}
+
+// Adds a piece to a text that has room for it.
+fn push_within(text: &mut Vec<u8>, piece: &[u8])
+    requires { vec_len text.old + length piece.now ≤ vec_capacity text.old }
+    ensures piece { text.new.items ≡ text.old.items ++ piece.now }
+    ensures length { vec_len text.new ≡ vec_len text.old + length piece.now }
+    ensures room { vec_capacity text.old ≤ vec_capacity text.new }
+{
+    match text.extend_from_slice(piece) {
+        Ok(()) => {}
+        Err(_) => unreachable!(),
     }
 }

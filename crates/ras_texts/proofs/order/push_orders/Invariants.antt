@@ -6,6 +6,6 @@ use Rattle.ras_texts.proofs.order.push_orders.Given as goal
 
 abbrev pub invariant-loop-i : goal.invariant-loop-i
 invariant-loop-i l = record {
-  text : l.text.items ≡ l.fn.text.items ++ order_lines (take l.i l.fn.orders.orders);
+  text : l.text.items ≡ l.fn.text.items ++ order_lines l.account.state.modules (take l.i l.fn.orders.orders);
   room : vec_len l.text + ORDER_LENGTH * (length l.fn.orders.orders - l.i) ≤ vec_capacity l.text;
 }
