@@ -4,7 +4,8 @@ use Rattle.std.specs.List.{AllByRecursion}
 use Rattle.std.proofs.lemmas.Bool.Decides.{nat_tests}
 use Rattle.board_core.specs.Told.{Told}
 use Rattle.ras_base.specs.Places.{places_behind}
-use Rattle.ras_account.specs.Account.{account_of}
+use Rattle.ras_account.specs.Numbers.{are_past, numbers_with}
+use Rattle.ras_daemon.specs.Reported.{reported_account}
 use Rattle.ras_daemon.specs.declared.exit.Exit.{Exit}
 use Rattle.ras_daemon.specs.declared.exit.Exit.TheVariants.{Done, Usage, BadLine, SourceFault, DiskFault, PrintFault, Damaged, Full, NoMemory, TooLong}
 use Rattle.ras_daemon.specs.declared.word.Command.TheVariants.{Run}
@@ -13,7 +14,7 @@ use Rattle.ras_daemon.specs.Causes.{BoardCause, SourceCause}
 use Rattle.ras_daemon.specs.Command.{command_of}
 use Rattle.ras_daemon.specs.Ended.{IsAccepted, IsQuiet, IsQuietBoard, IsAcceptedScript, OnAnswer, OverTold, CanBeDone}
 use Rattle.ras_daemon.specs.Reports.{Event, Read, asks_nothing, reopens_account, adds_row, counts_entries, event_in, reads_of, reports, rows_told}
-use Rattle.ras_daemon.specs.Status.{event_refusal, is_past, refusal_at, refusal_among, exit_of}
+use Rattle.ras_daemon.specs.Status.{event_refusal, refusal_at, refusal_among, exit_of}
 use Rattle.ras_daemon.specs.declared.script.TheConstants.{LONGEST_SCRIPT}
 
 -- done, or without room
@@ -25,7 +26,7 @@ event-refusal : (before : List Read) (number : ℕ) (event : Event) → CanBeDon
 event-refusal before number asks_nothing ok = inl refl
 event-refusal before number reopens_account ok = inl refl
 event-refusal before number (adds_row row) ok = inl (rw ok refl)
-event-refusal before number (counts_entries detail entries) ok = by (is_past (account_of (reports before ++ entries)))
+event-refusal before number (counts_entries detail entries) ok = by (are_past (numbers_with (reported_account (reports before)) entries))
   where
     by : (b : Bool) → ((if b then Some Full else None) ≡ None) ⊎ ((if b then Some Full else None) ≡ Some Full)
     by true = inr refl

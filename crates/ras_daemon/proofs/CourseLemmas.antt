@@ -6,8 +6,8 @@ use Rattle.std.specs.List.{flat_map}
 use Rattle.board_core.specs.Told.{Told}
 use Rattle.ras_base.specs.Places.{places_behind}
 use Rattle.ras_facts.specs.declared.entry.Entry.{Entry}
-use Rattle.ras_account.specs.Account.{account_of}
-use Rattle.ras_account.specs.Fresh.{is_fresh_behind}
+use Rattle.ras_daemon.specs.Reported.{reported_account}
+use Rattle.ras_daemon.specs.Reported.{is_fresh_after}
 use Rattle.ras_daemon.specs.declared.exit.Exit.{Exit}
 use Rattle.ras_daemon.specs.declared.exit.Exit.TheVariants.{Done, Usage}
 use Rattle.ras_daemon.specs.declared.word.Command.{Command}
@@ -44,9 +44,9 @@ printed-append xs ys = flat_map-append step_text xs ys
 
 -- appending an entry prints nothing
 printed-entry : (before : List Entry) (entry : Entry) → printed_by (entry_steps before entry) ≡ []
-printed-entry before entry = by (is_fresh_behind before entry) refl
+printed-entry before entry = by (is_fresh_after before entry) refl
   where
-    by : (b : Bool) → is_fresh_behind before entry ≡ b → printed_by (entry_steps before entry) ≡ []
+    by : (b : Bool) → is_fresh_after before entry ≡ b → printed_by (entry_steps before entry) ≡ []
     by true is = rw is refl
     by false is = rw is refl
 
@@ -79,7 +79,7 @@ printed-count before number detail entries =
 
 printed-event : (before : List Read) (number : ℕ) (event : Event) → printed_by (event_steps before number event) ≡ event_output before number event
 printed-event before number asks_nothing = refl
-printed-event before number reopens_account = printed-say (standing_lines (account_of (reports before))) number
+printed-event before number reopens_account = printed-say (standing_lines (reported_account (reports before))) number
 printed-event before number (adds_row row) = append-nil (done_line number)
 printed-event before number (counts_entries detail entries) = printed-count (reports before) number detail entries
 
@@ -94,7 +94,7 @@ output_behind before reads =
     flat_map output_at (places_before_refusal (places_behind before reads)) ++ last_line (before ++ reads) (refusal_among (places_behind before reads))
 
 pub printed-lines : (before reads : List Read) → printed_by (lines_course before reads).steps ≡ output_behind before reads
-printed-lines before [] = append-nil (end_line (account_of (reports before))) ∙ ap (λ rs. end_line (account_of (reports rs))) (sym (append-nil before))
+printed-lines before [] = append-nil (end_line (reported_account (reports before))) ∙ ap (λ rs. end_line (reported_account (reports rs))) (sym (append-nil before))
 printed-lines before (read ∷ reads) = by (refusal_at (before, read)) refl (printed-lines (before ++ read ∷ []) reads)
   where
     by : (r : Option Exit) → refusal_at (before, read) ≡ r → printed_by (lines_course (before ++ read ∷ []) reads).steps ≡ output_behind (before ++ read ∷ []) reads

@@ -4,7 +4,7 @@ use Rattle.std.specs.List.{flat_map}
 use Rattle.board_core.specs.Told.{Told}
 use Rattle.ras_base.specs.Places.{places_behind}
 use Rattle.ras_base.specs.Prefix.{IsPrefixOf}
-use Rattle.ras_account.specs.Account.{account_of}
+use Rattle.ras_daemon.specs.Reported.{reported_account}
 use Rattle.ras_daemon.specs.declared.exit.Exit.{Exit}
 use Rattle.ras_daemon.specs.declared.exit.Exit.TheVariants.{Usage}
 use Rattle.ras_daemon.specs.declared.word.Command.{Command}
@@ -82,7 +82,7 @@ event_printed : (before : List Read) (number : ℕ) (event : Event) (done : List
     → done ++ step ∷ more ≡ event_steps before number event → printed_by done ≡ []
 event_printed before number asks_nothing done step more disk is = absurd (no_disk done step more [] is tt disk)
 event_printed before number reopens_account done step more disk is =
-    front_printed (reopen_steps (file_end (reports before))) (standing_lines (account_of (reports before))) number done step more refl disk is
+    front_printed (reopen_steps (file_end (reports before))) (standing_lines (reported_account (reports before))) number done step more refl disk is
 event_printed before number (adds_row row) done step more disk is = absurd (no_disk done step more (prints_text (done_line number) ∷ []) is (tt, tt) disk)
 event_printed before number (counts_entries detail entries) done step more disk is =
     front_printed (entries_steps (reports before) entries) (event_text (reports before) detail entries) number done step more (printed-entries (reports before) entries) disk is

@@ -11,8 +11,8 @@ use Rattle.board_core.specs.Told.{Told, overlay}
 use Rattle.entry_format.specs.Spelling.{entry_bytes}
 use Rattle.ras_base.specs.Places.{places_behind}
 use Rattle.ras_facts.specs.declared.entry.Entry.{Entry}
-use Rattle.ras_account.specs.Account.{account_of}
-use Rattle.ras_account.specs.Fresh.{is_fresh_behind}
+use Rattle.ras_daemon.specs.Reported.{reported_account}
+use Rattle.ras_daemon.specs.Reported.{is_fresh_after}
 use Rattle.ras_daemon.specs.declared.exit.Exit.{Exit}
 use Rattle.ras_daemon.specs.declared.exit.Exit.TheVariants.{Damaged}
 use Rattle.ras_daemon.specs.declared.word.Command.{Command}
@@ -84,9 +84,9 @@ overlaid-end place bytes old end =
     ∙ append-nil (old ++ bytes)
 
 entry-file : (before : List Entry) (entry : Entry) (told : Told) → told.here.file0 ≡ file_bytes before → (told_after_all (entry_steps before entry) told).here.file0 ≡ file_bytes (before ++ entry ∷ [])
-entry-file before entry told is = by (is_fresh_behind before entry) refl
+entry-file before entry told is = by (is_fresh_after before entry) refl
   where
-    by : (b : Bool) → is_fresh_behind before entry ≡ b → (told_after_all (entry_steps before entry) told).here.file0 ≡ file_bytes (before ++ entry ∷ [])
+    by : (b : Bool) → is_fresh_after before entry ≡ b → (told_after_all (entry_steps before entry) told).here.file0 ≡ file_bytes (before ++ entry ∷ [])
     by true new =
         let more : file_bytes (before ++ entry ∷ []) ≡ file_bytes before ++ entry_bytes entry = stored-new before entry new in
         rw (new, more)
@@ -96,9 +96,9 @@ entry-file before entry told is = by (is_fresh_behind before entry) refl
         rw (old, same) is
 
 calls-entry : (before : List Entry) (entry : Entry) → calls_by (entry_steps before entry) ≡ entry_calls before entry
-calls-entry before entry = by (is_fresh_behind before entry) refl
+calls-entry before entry = by (is_fresh_after before entry) refl
   where
-    by : (b : Bool) → is_fresh_behind before entry ≡ b → calls_by (entry_steps before entry) ≡ entry_calls before entry
+    by : (b : Bool) → is_fresh_after before entry ≡ b → calls_by (entry_steps before entry) ≡ entry_calls before entry
     by true new = rw new refl
     by false old = rw old refl
 
@@ -151,14 +151,14 @@ event-file before number event told is = by event
 
     by : (e : Event) → (told_after_all (event_steps before number e) told).here.file0 ≡ file_bytes (reports before ++ entries_in e)
     by asks_nothing = same
-    by reopens_account = say-file (standing_lines (account_of (reports before))) number (told_after_all (reopen_steps (file_end (reports before))) told) ∙ same
+    by reopens_account = say-file (standing_lines (reported_account (reports before))) number (told_after_all (reopen_steps (file_end (reports before))) told) ∙ same
     by (adds_row row) = same
     by (counts_entries detail entries) = count-file (reports before) number detail entries told is
 
 calls-event : (before : List Read) (number : ℕ) (event : Event) → calls_by (event_steps before number event) ≡ event_calls before event
 calls-event before number asks_nothing = refl
 calls-event before number reopens_account =
-    ap (λ calls. Size Zero ∷ ReadAt Zero 0 (file_end (reports before)) ∷ calls) (say-calls (standing_lines (account_of (reports before))) number)
+    ap (λ calls. Size Zero ∷ ReadAt Zero 0 (file_end (reports before)) ∷ calls) (say-calls (standing_lines (reported_account (reports before))) number)
 calls-event before number (adds_row row) = refl
 calls-event before number (counts_entries detail entries) = calls-count (reports before) number detail entries
 

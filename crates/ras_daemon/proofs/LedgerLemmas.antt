@@ -9,20 +9,19 @@ use Rattle.board_core.specs.declared.board.DiskCall.TheVariants.{Size, ReadAt}
 use Rattle.board_core.specs.declared.board.FileNo.TheVariants.{Zero}
 use Rattle.board_core.specs.Cause.{Faults}
 use Rattle.board_core.specs.Told.{Told, Relates, MayList, Reads, Steps, with_call}
+use Rattle.entry_format.specs.declared.version.Version.TheVariants.{Two}
 use Rattle.entry_format.specs.File.{AreEntriesOf}
 use Rattle.ras_facts.specs.Entries.{IsValidEntry}
 use Rattle.ras_facts.specs.declared.entry.Entry.{Entry}
-use Rattle.ras_account.specs.Account.{account_of}
-use Rattle.ras_account.specs.Continued.{IsWithin}
-use Rattle.ras_account.specs.Fresh.{fresh}
-use Rattle.ras_account.proofs.LawLemmas.{refreshed}
+use Rattle.ras_daemon.specs.Reported.{StaysSmall, reported_account}
+use Rattle.ras_daemon.specs.Reported.{fresh_reported}
 use Rattle.ras_daemon.specs.declared.ledger.Ledger.{Ledger}
 use Rattle.ras_daemon.specs.declared.ledger.OpenRefused.{OpenRefused}
 use Rattle.ras_daemon.specs.declared.ledger.OpenRefused.TheVariants.{Disk, Damaged, Full, NoMemory}
 use Rattle.ras_daemon.specs.Event.{AreValid, IsKept, IsRoomRefusal, OpenCause, Reopens}
 use Rattle.ras_daemon.specs.PlainFile.{file_bytes, file_end}
 use Rattle.ras_daemon.specs.Progress.{Cut, IsDisk, Paused, told_after_all, asks_size, reads_file, reopen_steps}
-use Rattle.ras_daemon.proofs.EventLemmas.{within-room}
+use Rattle.ras_daemon.proofs.ReportedLemmas.{reported-fresh}
 use Rattle.ras_daemon.proofs.StepLemmas.{cut_behind, cut_first, map_append, map_one}
 
 pub size_failed : (reported : List Entry) (old new : Option Told) → Relates (MayList (Size Zero)) old new → Cut IsDisk (reopen_steps (file_end reported)) old new
@@ -54,8 +53,11 @@ module _ (reported : List Entry) (old mid : Option Told) (size : ℕ) (went : St
       cut_behind (asks_size ∷ []) (reads_file (file_end reported) ∷ []) asked (cut_first (reads_file (file_end reported)) [] tt at)
 
 -- what is stored are the fresh entries
-stored-entries : (reported : List Entry) → AreValid (fresh reported) → AreEntriesOf (fresh reported) (file_bytes reported)
-stored-entries reported valid = record { valid = All-from_recursion IsValidEntry (fresh reported) valid; spelled = refl }
+stored-entries : (reported : List Entry) → AreValid (fresh_reported reported) → AreEntriesOf Two (fresh_reported reported) (file_bytes reported)
+stored-entries reported valid = record {
+  each = λ k d inside. record { valid = All-from_recursion IsValidEntry (fresh_reported reported) valid k d inside; held = tt };
+  spelled = refl;
+}
 
 -- what a whole read of a file gives
 whole-read : (count : ℕ) (buffer file : List ℕ) → length buffer ≡ length file → Reads 0 count buffer file → take count buffer ≡ file
@@ -69,15 +71,15 @@ read_back len buffer rest is = rw is (take-append_seam buffer rest)
 
 -- what the ledger of the bytes is, by what they hold
 pub record IsRead (bytes : List ℕ) (result : Result Ledger OpenRefused) : Type 0 where
-  pub entries : (entries : List Entry) → AreEntriesOf entries bytes → IfOk result (λ ledger. ledger.account.state ≡ account_of entries)
+  pub entries : (entries : List Entry) → AreEntriesOf Two entries bytes → IfOk result (λ ledger. ledger.account.state ≡ reported_account entries)
   pub end : IfOk result (λ ledger. ledger.end ≡ length bytes)
-  pub full : result ≡ Err Full → (entries : List Entry) → AreEntriesOf entries bytes → IsWithin (account_of entries) → ⊥
-  pub undamaged : IfErr result (λ refused. (entries : List Entry) → AreEntriesOf entries bytes → IsRoomRefusal refused)
+  pub full : result ≡ Err Full → (entries : List Entry) → AreEntriesOf Two entries bytes → StaysSmall entries → ⊥
+  pub undamaged : IfErr result (λ refused. (entries : List Entry) → AreEntriesOf Two entries bytes → IsRoomRefusal refused)
   pub disk : result ≢ Err Disk
 
 module _ (reported : List Entry) (old new : Option Told) (bytes : List ℕ) (kept : IsKept reported old) (same : bytes ≡ file_bytes reported)
     (went : new ≡ option_map (told_after_all (reopen_steps (file_end reported))) old) where
-  are : AreEntriesOf (fresh reported) bytes
+  are : AreEntriesOf Two (fresh_reported reported) bytes
   are = rw same (stored-entries reported kept.valid)
 
   told : IsSomeAnd new (λ t. t.here.file0 ≡ file_bytes reported)
@@ -87,15 +89,11 @@ module _ (reported : List Entry) (old new : Option Told) (bytes : List ℕ) (kep
       by None file is = absurd file
       by (Some t) file is = rw is file
 
-  -- and their account is within its limits
-  held : IsWithin (account_of (fresh reported))
-  held = subst IsWithin (sym (refreshed reported)) (within-room (account_of reported) kept.room)
-
   pub reopened : (result : Result Ledger OpenRefused) → IsRead bytes result → Reopens reported result old new
   reopened (Ok ledger) read = (
     went,
     record {
-      account = read.entries (fresh reported) are ∙ refreshed reported;
+      account = read.entries (fresh_reported reported) are ∙ reported-fresh reported;
       end = read.end ∙ ap length same;
       room = kept.room;
       valid = kept.valid;
@@ -103,8 +101,8 @@ module _ (reported : List Entry) (old new : Option Told) (bytes : List ℕ) (kep
     },
   )
   reopened (Err Disk) read = absurd (read.disk refl)
-  reopened (Err (Damaged file place)) read = read.undamaged (fresh reported) are
-  reopened (Err Full) read = read.full refl (fresh reported) are held
+  reopened (Err (Damaged file place)) read = read.undamaged (fresh_reported reported) are
+  reopened (Err Full) read = read.full refl (fresh_reported reported) are kept.room
   reopened (Err NoMemory) read = record { done = reopen_steps (file_end reported); rest = []; splits = refl; leaves = went }
 
 -- the whole of a file was read

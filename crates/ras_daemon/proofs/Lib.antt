@@ -1,3 +1,5 @@
+pub mod LogLemmas
+pub mod ReportedLemmas
 pub mod DeviceLemmas
 pub mod FaultLemmas
 pub mod ScriptLemmas

@@ -13,7 +13,7 @@ use Rattle.mca_status.proofs.RowLemmas.{class_by}
 use Rattle.ras_base.specs.Places.{places}
 use Rattle.ras_base.specs.PlacesLemmas.{places-snoc}
 use Rattle.ras_facts.specs.declared.name.Name.TheVariants.{Bank as BankName}
-use Rattle.ras_account.specs.Fresh.{names_in}
+use Rattle.ras_account.specs.Account.{names_of}
 use Rattle.ras_script.specs.declared.line.Line.TheVariants.{Bank}
 use Rattle.ras_daemon.specs.Reports.{Read, event_in, entries_at, entries_in, reports, row_by, rows_told}
 
@@ -37,7 +37,7 @@ class_invalid : (cap : Cap) (status : Status) → valid status ≡ false → cla
 class_invalid cap status is = rw is refl
 
 pub made-valid : (rows : List Row) (boot seconds cpu bank tsc cap mcg status addr misc : ℕ) → valid (record { 0 = status }) ≡ true
-    → names_in (entries_in (event_in rows (Bank boot seconds cpu bank tsc cap mcg status addr misc))) ≡ BankName boot cpu bank tsc ∷ []
+    → names_of (entries_in (event_in rows (Bank boot seconds cpu bank tsc cap mcg status addr misc))) ≡ BankName boot cpu bank tsc ∷ []
 made-valid rows boot seconds cpu bank tsc cap mcg status addr misc is =
     let class = class_valid (record { 0 = cap }) (record { 0 = status }) is in
     rw class.1 refl

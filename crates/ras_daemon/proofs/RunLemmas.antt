@@ -8,7 +8,8 @@ use Rattle.dimm_topology.specs.declared.row.Row.{Row}
 use Rattle.dimm_topology.specs.declared.topology.TopologyRefused.{TopologyRefused}
 use Rattle.dimm_topology.specs.Refusals.{Answers, refusal_of}
 use Rattle.ras_facts.specs.declared.entry.Entry.{Entry}
-use Rattle.ras_account.specs.Account.{State, account_of}
+use Rattle.ras_account.specs.Account.{State}
+use Rattle.ras_daemon.specs.Reported.{reported_account}
 use Rattle.ras_daemon.specs.declared.event.Prepared.{Prepared}
 use Rattle.ras_daemon.specs.declared.exit.Exit.{Exit}
 use Rattle.ras_daemon.specs.declared.exit.Exit.TheVariants.{Done, DiskFault, NoMemory}
@@ -34,10 +35,10 @@ use Rattle.ras_daemon.proofs.StepLemmas.{cut_before, map_none, map_append, pause
 use Rattle.ras_daemon.proofs.FileAndCallLemmas.{count-file, say-file}
 
 -- an event that was prepared and done, as far as its calls went well
-prepared-steps : (before : List Entry) (number : ℕ) (detail : List ℕ) (entries : List Entry) (event : Prepared) (place : ℕ) (state : State) → place ≡ file_end before → state ≡ account_of before
+prepared-steps : (before : List Entry) (number : ℕ) (detail : List ℕ) (entries : List Entry) (event : Prepared) (place : ℕ) (state : State) → place ≡ file_end before → state ≡ reported_account before
     → IsPrepared before number detail entries event → prepared_steps place state event ≡ count_steps before number detail entries
 prepared-steps before number detail entries event place state end is prepared =
-    rw (end, is, prepared.file_calls, prepared.texts, prepared.orders, prepared.ends) refl
+    rw (end, is, prepared.file_calls, prepared.texts, prepared.orders, prepared.account, prepared.ends) refl
 
 -- the file after calls that went well, where the board tells
 went-file : (before entries : List Entry) (number : ℕ) (detail : List ℕ) (old new : Option Told) → IsSomeAnd old (λ t. t.here.file0 ≡ file_bytes before)
@@ -58,7 +59,7 @@ event_taken before number detail entries event ledger more old new (Ok done) kee
       record {
         account = counted ∙ ap (state_after event.fresh) keeps.account ∙ prepared.account;
         end = ended ∙ ap (end_after event.fresh) keeps.end ∙ prepared.ends_at;
-        room = prepared.room;
+        room = prepared.stays keeps.room;
         valid = prepared.valid keeps.valid;
         file = went-file before entries number detail old new keeps.file went;
       },
@@ -181,11 +182,11 @@ run_ends reads old mid new state line exit took is takes =
     rw took.course (takes_behind old mid new took.steps (ends (end_line state) Done) exit took.goes last)
 
 -- what stands at the start, over an empty file
-pub started : (told : Option Told) (run : Run) (P : Type 0) → FileEndsAt told 0 → run.topology ≡ [] → run.ledger.account.state ≡ account_of [] → run.ledger.end ≡ 0 → (IsRunAfter [] run told → P) → IfSome told (λ _. P)
+pub started : (told : Option Told) (run : Run) (P : Type 0) → FileEndsAt told 0 → run.topology ≡ [] → run.ledger.account.state ≡ reported_account [] → run.ledger.end ≡ 0 → (IsRunAfter [] run told → P) → IfSome told (λ _. P)
 started None run P empty topology account end stands = tt
 started (Some t) run P empty topology account end stands = stands (record {
   rows = topology;
-  keeps = record { account = account; end = end; room = refl; valid = tt; file = none t.here.file0 empty };
+  keeps = record { account = account; end = end; room = tt; valid = tt; file = none t.here.file0 empty };
 })
   where
     none : (file : List ℕ) → length file ≡ 0 → file ≡ []
@@ -206,36 +207,36 @@ module _ (before : List Entry) (number : ℕ) where
   pub restart_said : (opened : Ledger) (old mid new : Option Told) (result : Result (Unit {0}) Exit) → Reopens before (Ok opened) old mid
       → Performs (say_steps (standing_lines opened.account.state) number) result mid new → Reopened before number result old new opened
   restart_said opened old mid new (Ok done) reopened said =
-      let same : new ≡ option_map (told_after_all (say_steps (standing_lines (account_of before)) number)) mid = said ∙ ap (λ (a : State). option_map (told_after_all (say_steps (standing_lines a) number)) mid) reopened.1.account in (
-        same ∙ ap (option_map (told_after_all (say_steps (standing_lines (account_of before)) number))) reopened.0
-            ∙ sym (map_append (reopen_steps (file_end before)) (say_steps (standing_lines (account_of before)) number) old),
+      let same : new ≡ option_map (told_after_all (say_steps (standing_lines (reported_account before)) number)) mid = said ∙ ap (λ (a : State). option_map (told_after_all (say_steps (standing_lines a) number)) mid) reopened.1.account in (
+        same ∙ ap (option_map (told_after_all (say_steps (standing_lines (reported_account before)) number))) reopened.0
+            ∙ sym (map_append (reopen_steps (file_end before)) (say_steps (standing_lines (reported_account before)) number) old),
         record {
           account = reopened.1.account;
           end = reopened.1.end;
           room = reopened.1.room;
           valid = reopened.1.valid;
-          file = said-file before (standing_lines (account_of before)) number mid new reopened.1.file same;
+          file = said-file before (standing_lines (reported_account before)) number mid new reopened.1.file same;
         },
       )
   restart_said opened old mid new (Err exit) reopened said = λ rest.
-      let same : Performs (say_steps (standing_lines (account_of before)) number) (Err exit) mid new =
+      let same : Performs (say_steps (standing_lines (reported_account before)) number) (Err exit) mid new =
       subst (λ (a : State). Performs (say_steps (standing_lines a) number) (Err exit) mid new) reopened.1.account said in
       takes_first old new (restart_steps before number) rest exit
-      (performs_then old mid new (reopen_steps (file_end before)) (say_steps (standing_lines (account_of before)) number) (Err exit) reopened.0 same)
+      (performs_then old mid new (reopen_steps (file_end before)) (say_steps (standing_lines (reported_account before)) number) (Err exit) reopened.0 same)
 
   pub restart_cut : (old new : Option Told) (more : Ledger) → Reopens before (Err Disk) old new → Reopened {T = Unit {0}} before number (Err DiskFault) old new more
   restart_cut old new more cut = λ rest.
-      cut_before (restart_steps before number) rest.steps (cut_before (reopen_steps (file_end before)) (say_steps (standing_lines (account_of before)) number) cut)
+      cut_before (restart_steps before number) rest.steps (cut_before (reopen_steps (file_end before)) (say_steps (standing_lines (reported_account before)) number) cut)
 
   pub restart_paused : (old new : Option Told) (more : Ledger) → Reopens before (Err OutOfMemory) old new → Reopened {T = Unit {0}} before number (Err NoMemory) old new more
   restart_paused old new more paused = λ rest.
-      paused_before (restart_steps before number) rest.steps (paused_before (reopen_steps (file_end before)) (say_steps (standing_lines (account_of before)) number) paused)
+      paused_before (restart_steps before number) rest.steps (paused_before (reopen_steps (file_end before)) (say_steps (standing_lines (reported_account before)) number) paused)
 
   -- memory ran out once the account was made again
   pub restart_silent : (opened more : Ledger) (old new : Option Told) → Reopens before (Ok opened) old new → Reopened {T = Unit {0}} before number (Err NoMemory) old new more
   restart_silent opened more old new reopened = λ rest.
       paused_before (restart_steps before number) rest.steps
-      (record { done = reopen_steps (file_end before); rest = say_steps (standing_lines (account_of before)) number; splits = refl; leaves = reopened.0 })
+      (record { done = reopen_steps (file_end before); rest = say_steps (standing_lines (reported_account before)) number; splits = refl; leaves = reopened.0 })
 
 -- a row that was taken, and its done line
 pub row_said : (number : ℕ) (refusal : Option TopologyRefused) (old new : Option Told) (result : Result (Unit {0}) Exit) → refusal ≡ None → Performs (prints_text (done_line number) ∷ []) result old new

@@ -9,12 +9,13 @@ use Rattle.dimm_topology.specs.declared.topology.TopologyRefused.{TopologyRefuse
 use Rattle.page_policy.specs.declared.rows.Order.{Order}
 use Rattle.ras_facts.specs.declared.items.Item.{Item}
 use Rattle.ras_facts.specs.declared.entry.Entry.{Entry}
-use Rattle.ras_facts.specs.declared.entry.Entry.TheVariants.{Fact as Report, Limit as Settles}
-use Rattle.ras_account.specs.Account.{State, account_of}
-use Rattle.ras_account.specs.Continued.{continued, continued_all, is_fresh_in, IsWithin, IsPast}
-use Rattle.ras_account.specs.Fresh.{fresh}
+use Rattle.ras_facts.specs.declared.entry.Entry.TheVariants.{Fact as Report, Limit as Settles, Retire, ModuleLimit}
+use Rattle.ras_account.specs.Account.{State}
+use Rattle.ras_daemon.specs.Reported.{StaysSmall, fresh_reported, reported_account}
+use Rattle.ras_account.specs.Numbers.{IsWithin, are_past, numbers_with}
+use Rattle.ras_account.specs.Continued.{account_after, is_fresh_in}
 use Rattle.ras_account.specs.Orders.{orders_at}
-use Rattle.ras_facts.specs.Entries.{IsValidEntry, items_in}
+use Rattle.ras_facts.specs.Entries.{IsValidEntry, most_orders}
 use Rattle.ras_account.specs.View.{View, WaitsFirst, added_by}
 use Rattle.ras_daemon.specs.declared.event.FreshEntry.{FreshEntry}
 use Rattle.ras_daemon.specs.declared.event.Prepared.{Prepared}
@@ -28,7 +29,7 @@ use Rattle.ras_daemon.specs.declared.exit.Reason.TheVariants.{Topology as Topolo
 use Rattle.ras_daemon.specs.PlainFile.{file_bytes, file_end}
 use Rattle.ras_daemon.specs.Progress.{Step, appends, prints_text, text_steps, entries_steps, reopen_steps, say_steps, told_after_all, behind, IsDisk, Cut, Paused, Course, Follows, line_course, count_steps, read_steps}
 use Rattle.ras_daemon.specs.Reports.{Read, reports, rows_told}
-use Rattle.ras_daemon.specs.Status.{is_past, room_refusal, refusal_at}
+use Rattle.ras_daemon.specs.Status.{room_refusal, refusal_at}
 use Rattle.ras_daemon.specs.EventText.{entries_text, event_orders}
 use Rattle.ras_texts.specs.Text.{done_line}
 use Rattle.ras_texts.specs.Orders.{standing_lines, order_lines}
@@ -48,22 +49,22 @@ abbrev pub orders_given : Option FreshEntry → State → List Order
 orders_given None state = []
 orders_given (Some fresh) state = orders_at state fresh.entry
 
+-- the account once a fresh entry is taken
+abbrev pub state_after : Option FreshEntry → State → State
+state_after None state = state
+state_after (Some fresh) state = account_after state fresh.entry
+
 -- the calls of an event that is prepared, whose entry is appended at a place and counted in an
 -- account
 abbrev pub prepared_steps : ℕ → State → Prepared → List Step
 prepared_steps place state event =
     fresh_steps place event.fresh
-    ++ (text_steps (event.text.items ++ order_lines (orders_given event.fresh state)) ++ prints_text event.done.items ∷ [])
+    ++ (text_steps (event.text.items ++ order_lines (state_after event.fresh state).modules (orders_given event.fresh state)) ++ prints_text event.done.items ∷ [])
 
 -- where the file ends once a fresh entry stands in it
 abbrev pub end_after : Option FreshEntry → ℕ → ℕ
 end_after None place = place
 end_after (Some fresh) place = place + length fresh.bytes.items
-
--- the account once a fresh entry is taken
-abbrev pub state_after : Option FreshEntry → State → State
-state_after None state = state
-state_after (Some fresh) state = continued state fresh.entry
 
 -- the entries are valid, so a file can hold them, and they can be read from it again
 abbrev pub AreValid : List Entry → Type 0
@@ -73,6 +74,8 @@ AreValid entries = AllByRecursion IsValidEntry entries
 abbrev pub HasOneItem : Entry → Type 0
 HasOneItem (Report fact) = (item : Item) × (fact.items ≡ item ∷ [])
 HasOneItem (Settles limit) = ⊤
+HasOneItem (Retire boot) = ⊥
+HasOneItem (ModuleLimit limit) = ⊥
 
 -- an entry is valid, and so short that an event can make it
 pub record IsFit (entry : Entry) : Type 0 where
@@ -88,22 +91,23 @@ pub record IsPrepared (before : List Entry) (number : ℕ) (detail : List ℕ) (
   pub file_calls : fresh_steps (file_end before) event.fresh ≡ entries_steps before entries
   pub ends_at : end_after event.fresh (file_end before) ≡ file_end (before ++ entries)
   pub texts : event.text.items ≡ entries_text before detail entries
-  pub orders : orders_given event.fresh (account_of before) ≡ event_orders before entries
+  pub orders : orders_given event.fresh (reported_account before) ≡ event_orders before entries
   pub ends : event.done.items ≡ done_line number
-  pub account : state_after event.fresh (account_of before) ≡ account_of (before ++ entries)
-  pub room : is_past (account_of (before ++ entries)) ≡ false
-  pub valid : AreValid (fresh before) → AreValid (fresh (before ++ entries))
+  pub account : state_after event.fresh (reported_account before) ≡ reported_account (before ++ entries)
+  pub room : are_past (numbers_with (reported_account before) entries) ≡ false
+  pub stays : StaysSmall (fresh_reported before) → StaysSmall (fresh_reported (before ++ entries))
+  pub valid : AreValid (fresh_reported before) → AreValid (fresh_reported (before ++ entries))
 
 -- The account can take the fresh entry with no memory, and its bytes are few. There is room for its
 -- orders.
 pub record CanTake (account : View) (fresh : FreshEntry) : Type 0 where
   pub waits : WaitsFirst (added_by account.state (fresh.entry ∷ [])) account.waiting
-  pub within : IsWithin (continued account.state fresh.entry)
+  pub within : IsWithin (account_after account.state fresh.entry)
   pub is_fresh : is_fresh_in account.state fresh.entry ≡ true
   pub valid : IsValidEntry fresh.entry
   pub short : length fresh.bytes.items ≤ longest_entry
   pub none : fresh.orders.orders ≡ []
-  pub room : length (items_in fresh.entry) ≤ fresh.orders.room
+  pub room : most_orders fresh.entry ≤ fresh.orders.room
 
 -- an event that is prepared can be done with no memory
 pub record CanDo (account : View) (event : Prepared) : Type 0 where
@@ -112,13 +116,13 @@ pub record CanDo (account : View) (event : Prepared) : Type 0 where
 
 -- how preparing an event may end
 abbrev pub PrepareExit : List Entry → List Entry → Exit → Type 0
-PrepareExit before entries Full = is_past (account_of (before ++ entries)) ≡ true
+PrepareExit before entries Full = are_past (numbers_with (reported_account before) entries) ≡ true
 PrepareExit before entries NoMemory = ⊤
 PrepareExit before entries exit = ⊥
 
 -- how making room for entries may end
 abbrev pub ReserveExit : State → List Entry → Exit → Type 0
-ReserveExit state entries Full = IsPast (continued_all state entries)
+ReserveExit state entries Full = are_past (numbers_with state entries) ≡ true
 ReserveExit state entries NoMemory = ⊤
 ReserveExit state entries exit = ⊥
 
@@ -128,10 +132,10 @@ FileEndsAt told end = IfSome told (λ t. length t.here.file0 ≡ end)
 
 -- These were reported: the account is theirs, and the board tells that the file holds it.
 pub record IsLedgerOf (reported : List Entry) (ledger : Ledger) (told : Option Told) : Type 0 where
-  pub account : ledger.account.state ≡ account_of reported
+  pub account : ledger.account.state ≡ reported_account reported
   pub end : ledger.end ≡ file_end reported
-  pub room : is_past (account_of reported) ≡ false
-  pub valid : AreValid (fresh reported)
+  pub room : StaysSmall (fresh_reported reported)
+  pub valid : AreValid (fresh_reported reported)
   pub file : IsSomeAnd told (λ t. t.here.file0 ≡ file_bytes reported)
 
 -- What a run has at hand behind these lines: the rows that they told, and the account of what they
@@ -156,8 +160,8 @@ TakesEntries before number detail entries (Err exit) old new ledger =
 -- What was reported stands in the file, as the board tells, and can be read from it and counted
 -- again.
 pub record IsKept (reported : List Entry) (told : Option Told) : Type 0 where
-  pub room : is_past (account_of reported) ≡ false
-  pub valid : AreValid (fresh reported)
+  pub room : StaysSmall (fresh_reported reported)
+  pub valid : AreValid (fresh_reported reported)
   pub file : IsSomeAnd told (λ t. t.here.file0 ≡ file_bytes reported)
 
 -- The account was made again from a file that holds it, or as far as a fault or want of memory let.
@@ -188,7 +192,7 @@ TakesRow number refusal (Err exit) old new =
 -- The account was made again at its place, and its pages told, or the run ends there, whatever
 -- would have followed.
 abbrev pub restart_steps : List Entry → ℕ → List Step
-restart_steps before number = reopen_steps (file_end before) ++ say_steps (standing_lines (account_of before)) number
+restart_steps before number = reopen_steps (file_end before) ++ say_steps (standing_lines (reported_account before)) number
 
 abbrev pub Reopened : {T : Type 0} → List Entry → ℕ → Result T Exit → Option Told → Option Told → Ledger → Type 0
 Reopened before number (Ok done) old new ledger = (new ≡ option_map (told_after_all (restart_steps before number)) old) × IsLedgerOf before ledger new

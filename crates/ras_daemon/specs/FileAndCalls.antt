@@ -7,7 +7,7 @@ use Rattle.board_core.specs.declared.board.FileNo.TheVariants.{Zero}
 use Rattle.entry_format.specs.Spelling.{entry_bytes}
 use Rattle.ras_base.specs.Places.{places, places_behind}
 use Rattle.ras_facts.specs.declared.entry.Entry.{Entry}
-use Rattle.ras_account.specs.Fresh.{fresh, is_fresh_behind}
+use Rattle.ras_daemon.specs.Reported.{is_fresh_after, fresh_reported}
 use Rattle.ras_daemon.specs.declared.exit.Exit.{Exit}
 use Rattle.ras_daemon.specs.declared.word.Command.{Command}
 use Rattle.ras_daemon.specs.declared.word.Command.TheVariants.{Run}
@@ -22,13 +22,13 @@ script_reports script = reports (lines_before_refusal (reads_of script))
 
 -- what of it is logged: each fact once, and each limit that differs from the one before it
 abbrev pub script_log : List ℕ → List Entry
-script_log script = fresh (script_reports script)
+script_log script = fresh_reported (script_reports script)
 
 -- the calls for an entry that an event makes: a fresh one is written behind those before it, and
 -- synced
 abbrev pub entry_calls : List Entry → Entry → List DiskCall
 entry_calls before entry =
-    if is_fresh_behind before entry then WriteAt Zero (file_end before) (length (entry_bytes entry)) ∷ Sync Zero ∷ []
+    if is_fresh_after before entry then WriteAt Zero (file_end before) (length (entry_bytes entry)) ∷ Sync Zero ∷ []
     else []
 
 abbrev pub entries_calls : List Entry → List Entry → List DiskCall

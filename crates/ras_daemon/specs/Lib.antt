@@ -1,3 +1,4 @@
+pub mod Reported
 pub mod Command
 pub mod ExitStatus
 pub mod Reports

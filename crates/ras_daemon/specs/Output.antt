@@ -2,7 +2,7 @@
 use Rattle.std.specs.Prelude.{ℕ, List, [], ◌++◌, take, Option, None, Some, Ok, Err}
 use Rattle.std.specs.List.{flat_map}
 use Rattle.ras_base.specs.Places.{places}
-use Rattle.ras_account.specs.Account.{account_of}
+use Rattle.ras_daemon.specs.Reported.{reported_account}
 use Rattle.ras_daemon.specs.declared.exit.Exit.{Exit}
 use Rattle.ras_daemon.specs.Command.{command_of}
 use Rattle.ras_daemon.specs.Reports.{Event, Read, asks_nothing, reopens_account, adds_row, counts_entries, event_in, reads_of, reports, rows_told}
@@ -16,7 +16,7 @@ use Rattle.ras_daemon.specs.StopLine.{stop_line}
 -- are ordered out of use.
 abbrev pub event_output : List Read → ℕ → Event → List ℕ
 event_output before number asks_nothing = []
-event_output before number reopens_account = standing_lines (account_of (reports before)) ++ done_line number
+event_output before number reopens_account = standing_lines (reported_account (reports before)) ++ done_line number
 event_output before number (adds_row row) = done_line number
 event_output before number (counts_entries detail entries) = event_text (reports before) detail entries ++ done_line number
 
@@ -27,7 +27,7 @@ output_at (before, (number, Err refused)) = []
 -- the last line: the stop line of the first refusal, or the end line of all that was reported
 abbrev pub last_line : List Read → Option Exit → List ℕ
 last_line reads (Some exit) = stop_line exit
-last_line reads None = end_line (account_of (reports reads))
+last_line reads None = end_line (reported_account (reports reads))
 
 -- what lines have printed up to the first refused one, and the last line
 abbrev pub lines_output : List Read → List ℕ

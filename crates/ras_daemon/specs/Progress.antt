@@ -9,8 +9,8 @@ use Rattle.board_core.specs.Told.{Told, Relates, with_call, after_write_through,
 use Rattle.entry_format.specs.Spelling.{entry_bytes}
 use Rattle.ras_base.specs.Places.{places_behind}
 use Rattle.ras_facts.specs.declared.entry.Entry.{Entry}
-use Rattle.ras_account.specs.Account.{account_of}
-use Rattle.ras_account.specs.Fresh.{is_fresh_behind}
+use Rattle.ras_daemon.specs.Reported.{reported_account}
+use Rattle.ras_daemon.specs.Reported.{is_fresh_after}
 use Rattle.ras_daemon.specs.declared.exit.Exit.{Exit}
 use Rattle.ras_daemon.specs.declared.exit.Exit.TheVariants.{Done, Usage, SourceFault, DiskFault, PrintFault, NoMemory}
 use Rattle.ras_daemon.specs.declared.word.Command.{Command}
@@ -107,7 +107,7 @@ FollowsCall course exit old new = Follows course exit old new
 -- synced
 abbrev pub entry_steps : List Entry → Entry → List Step
 entry_steps before entry =
-    if is_fresh_behind before entry then appends (file_end before) (entry_bytes entry) ∷ [] else []
+    if is_fresh_after before entry then appends (file_end before) (entry_bytes entry) ∷ [] else []
 
 abbrev pub entries_steps : List Entry → List Entry → List Step
 entries_steps before entries = flat_map (λ p. entry_steps p.0 p.1) (places_behind before entries)
@@ -132,7 +132,7 @@ reopen_steps size = asks_size ∷ reads_file size ∷ []
 -- the calls of an event
 abbrev pub event_steps : List Read → ℕ → Event → List Step
 event_steps before number asks_nothing = []
-event_steps before number reopens_account = reopen_steps (file_end (reports before)) ++ say_steps (standing_lines (account_of (reports before))) number
+event_steps before number reopens_account = reopen_steps (file_end (reports before)) ++ say_steps (standing_lines (reported_account (reports before))) number
 event_steps before number (adds_row row) = prints_text (done_line number) ∷ []
 event_steps before number (counts_entries detail entries) = count_steps (reports before) number detail entries
 
@@ -155,7 +155,7 @@ line_course None steps course = behind steps course
 
 -- the course of lines that follow others
 abbrev pub lines_course : List Read → List Read → Course
-lines_course before [] = ends (end_line (account_of (reports before))) Done
+lines_course before [] = ends (end_line (reported_account (reports before))) Done
 lines_course before (read ∷ reads) =
     line_course (refusal_at (before, read)) (read_steps before read) (lines_course (before ++ read ∷ []) reads)
 

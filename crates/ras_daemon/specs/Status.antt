@@ -1,12 +1,13 @@
 -- How a run ends: with its first refusal in order, or at its script's end.
-use Rattle.std.specs.Prelude.{ℕ, ◌||◌, ◌++◌, Bool, List, [], ◌∷◌, length, map, nat_lt, Option, None, Some, Ok, Err, is_some, unwrap_or, if◌then◌else◌}
+use Rattle.std.specs.Prelude.{ℕ, List, [], ◌∷◌, length, map, nat_lt, Option, None, Some, Ok, Err, is_some, unwrap_or, if◌then◌else◌}
 use Rattle.std.specs.List.{filter_map}
 use Rattle.std.specs.Option.{option_map}
 use Rattle.dimm_topology.specs.declared.row.Row.{Row}
 use Rattle.dimm_topology.specs.Refusals.{refusal_of}
 use Rattle.ras_base.specs.Places.{places}
 use Rattle.ras_facts.specs.declared.entry.Entry.{Entry}
-use Rattle.ras_account.specs.Account.{State, account_of, most_names, most_entries, most_weight}
+use Rattle.ras_account.specs.Numbers.{are_past, numbers_with}
+use Rattle.ras_daemon.specs.Reported.{reported_account}
 use Rattle.ras_daemon.specs.declared.exit.Exit.{Exit}
 use Rattle.ras_daemon.specs.declared.exit.Exit.TheVariants.{Done, Usage, BadLine, Damaged, Full, TooLong}
 use Rattle.ras_daemon.specs.declared.exit.Reason.TheVariants.{Line as LineReason, Topology as TopologyReason}
@@ -20,15 +21,10 @@ use Rattle.ras_daemon.specs.Reports.{Event, Read, asks_nothing, reopens_account,
 abbrev pub Place : Type 0
 Place = List Read × Read
 
--- whether an account is past its limits
-abbrev pub is_past : State → Bool
-is_past account =
-    nat_lt most_names (length account.names)
-    || (nat_lt most_entries account.entries || nat_lt most_weight account.total)
-
--- entries are refused where there is no room in the account for them
+-- entries are refused where there is no room in the account for all that is fresh of them
 abbrev pub room_refusal : List Entry → List Entry → Option Exit
-room_refusal before entries = if is_past (account_of (before ++ entries)) then Some Full else None
+room_refusal before entries =
+    if are_past (numbers_with (reported_account before) entries) then Some Full else None
 
 -- a row is refused where the rows before it can't take it
 abbrev pub row_refusal : ℕ → List Row → Row → Option Exit

@@ -3,8 +3,9 @@
 ghost use Rattle.std.specs.Prelude.{◌≡◌, ◌≤◌, ◌<◌, ◌+◌, ◌++◌, ◌^◌, ℕ, List, [], ◌∷◌, length, IfSome, IfOk, IfErr, OnOk, IsOkUnless};
 ghost use Rattle.std.specs.Option.{option_to_list};
 ghost use Rattle.ras_facts.specs.declared.entry.Entry.{Entry};
-ghost use Rattle.ras_account.specs.Account.{account_of};
-ghost use Rattle.ras_account.specs.Continued.{continued, continued_all, IsWithin};
+ghost use Rattle.ras_daemon.specs.Reported.{reported_account};
+ghost use Rattle.ras_account.specs.Numbers.{AreWithin, numbers_with};
+ghost use Rattle.ras_account.specs.Continued.{account_after};
 ghost use Rattle.ras_account.specs.Orders.{orders_at};
 ghost use Rattle.ras_account.specs.View.{added_by};
 ghost use Rattle.ras_texts.specs.OrderRoom.{HasRoomFor};
@@ -60,12 +61,12 @@ pub fn prepare(
 ) -> Result<Prepared, Exit>
     requires { AreFit (option_to_list made) }
     ensures prepared { IfOk result (λ event. (before : List Entry)
-        → account.old.state ≡ account_of before
+        → account.old.state ≡ reported_account before
         → IsPrepared before number detail.now (option_to_list made) event) }
     ensures can_do { IfOk result (CanDo account.new) }
     ensures state { account.new.state ≡ account.old.state }
     ensures exits { IfErr result (λ exit. (before : List Entry)
-        → account.old.state ≡ account_of before → PrepareExit before (option_to_list made) exit) }
+        → account.old.state ≡ reported_account before → PrepareExit before (option_to_list made) exit) }
     ensures refused { IfErr result IsRefusal }
 {
     let done = done_line(alloc, number)?;
@@ -84,7 +85,7 @@ pub fn prepare(
 fn reserve(account: &mut Account, entries: &[Entry]) -> Result<(), Exit>
     ensures state { account.new.state ≡ account.old.state }
     ensures waits { OnOk result (account.new.waiting ≡ added_by account.new.state entries.now) }
-    ensures within { OnOk result (IsWithin (continued_all account.new.state entries.now)) }
+    ensures within { OnOk result (AreWithin (numbers_with account.new.state entries.now)) }
     ensures exits { IfErr result (ReserveExit account.old.state entries.now) }
     ensures refused { IfErr result IsRefusal }
 {
@@ -105,23 +106,23 @@ fn prepare_entry(
 ) -> Result<Prepared, Exit>
     requires fit { IsFit entry }
     requires waits { account.now.waiting ≡ added_by account.now.state (entry ∷ []) }
-    requires within { IsWithin (continued account.now.state entry) }
+    requires within { AreWithin (numbers_with account.now.state (entry ∷ [])) }
     ensures prepared { IfOk result (λ event. (before : List Entry) (number : ℕ)
-        → account.now.state ≡ account_of before → done.items ≡ done_line number
+        → account.now.state ≡ reported_account before → done.items ≡ done_line number
         → IsPrepared before number detail.now (entry ∷ []) event) }
     ensures can_do { IfOk result (CanDo account.now) }
     ensures exits { IsOkUnless result Exit.NoMemory }
 {
     if !account.is_fresh(&entry) {
-        let text = repeat_line(alloc, &entry)?;
+        let text = repeat_line(alloc, account, &entry)?;
         return Ok(Prepared {
             fresh: None,
             text,
             done,
         });
     }
-    let count = entry.item_count();
-    let text = fresh_text(alloc, detail, &entry, count)?;
+    let count = entry.most_orders();
+    let text = fresh_text(alloc, detail, account, &entry, count)?;
     let bytes = entry_bytes(alloc, &entry)?;
     let orders = Orders::new(alloc, count)?;
     Ok(Prepared {
@@ -139,15 +140,16 @@ fn prepare_entry(
 fn fresh_text(
     alloc: Global,
     detail: &[u8],
+    account: &Account,
     entry: &Entry,
     orders: usize,
 ) -> Result<Vec<u8>, NoMemory>
-    requires { orders ≤ 65535 }
-    ensures text { IfOk result (λ text. text.items ≡ log_lines detail.now entry.now) }
+    requires { orders ≤ 2 }
+    ensures text { IfOk result (λ text. text.items ≡ log_lines detail.now account.now.state entry.now) }
     ensures room { IfOk result (HasRoomFor orders) }
 {
     let mut text = Vec::new(alloc);
-    push_fresh(&mut text, detail, entry)?;
+    push_fresh(&mut text, detail, account, entry)?;
     text.reserve(ORDER_LENGTH * orders)?;
     Ok(text)
 }
@@ -196,9 +198,10 @@ fn count<B: Board>(
     ensures performs { Performs (appends ledger.old.end fresh.bytes.items ∷ []) result
         (B.told board.old) (B.told board.new) }
     ensures text { OnOk result (text.new.items ≡ text.old.items
-        ++ order_lines (orders_at ledger.old.account.state fresh.entry)) }
+        ++ order_lines (account_after ledger.old.account.state fresh.entry).modules
+        (orders_at ledger.old.account.state fresh.entry)) }
     ensures account { OnOk result (ledger.new.account.state
-        ≡ continued ledger.old.account.state fresh.entry) }
+        ≡ account_after ledger.old.account.state fresh.entry) }
     ensures end { OnOk result (ledger.new.end ≡ ledger.old.end + length fresh.bytes.items) }
     ensures fits { OnOk result (FileEndsAt (B.told board.new) ledger.new.end) }
     ensures faults { Causes BoardCause result (B.faults board.old) (B.faults board.new) }
@@ -213,6 +216,6 @@ fn count<B: Board>(
     } = fresh;
     ledger.end += bytes.len() as u64;
     ledger.account.take(entry, &mut orders);
-    push_orders(text, &orders);
+    push_orders(text, &orders, &ledger.account);
     Ok(())
 }

@@ -1,15 +1,15 @@
 //! The account, and the file that keeps it.
 
 ghost use Rattle.std.specs.Prelude.{◌≡◌, ◌≢◌, ◌<◌, ◌^◌, ℕ, List, [], length, Err, IfErr, IfOk};
+ghost use Rattle.entry_format.specs.declared.version.Version.TheVariants.{Two};
 ghost use Rattle.entry_format.specs.File.{AreEntriesOf, BreaksOffAt};
 ghost use Rattle.ras_facts.specs.declared.entry.Entry.{Entry};
-ghost use Rattle.ras_account.specs.Account.{account_of};
-ghost use Rattle.ras_account.specs.Continued.{IsWithin};
+ghost use Rattle.ras_daemon.specs.Reported.{StaysSmall, reported_account};
 ghost use Rattle.ras_daemon.specs.Ended.{LeavesDevice};
 ghost use Rattle.ras_daemon.specs.Event.{FileEndsAt, IsKept, IsRoomRefusal, OpenCause, Reopens};
 
 use board_core::{Board, Failed, FileNo};
-use entry_format::{EntriesRefused, read_entries};
+use entry_format::{EntriesRefused, Version, read_entries};
 use ras_account::{Account, ReserveRefused};
 use ras_base::NoMemory;
 use std::alloc::Global;
@@ -25,7 +25,7 @@ pub struct Ledger {
 impl Ledger {
     /// The ledger of an empty file.
     pub fn new(alloc: Global) -> Ledger
-        ensures account { result.account.state ≡ account_of [] }
+        ensures account { result.account.state ≡ reported_account [] }
         ensures end { result.end ≡ 0 }
     {
         Ledger {
@@ -94,19 +94,19 @@ fn buffer(alloc: Global, size: u64) -> Result<Vec<u8>, NoMemory>
 
 // The ledger of a file of these bytes.
 fn ledger_of(alloc: Global, bytes: &[u8]) -> Result<Ledger, OpenRefused>
-    ensures entries { (entries : List Entry) → AreEntriesOf entries bytes.now
-        → IfOk result (λ ledger. ledger.account.state ≡ account_of entries) }
+    ensures entries { (entries : List Entry) → AreEntriesOf Two entries bytes.now
+        → IfOk result (λ ledger. ledger.account.state ≡ reported_account entries) }
     ensures end { IfOk result (λ ledger. ledger.end ≡ length bytes.now) }
     ensures small { length bytes.now < 2 ^ 63 }
     ensures damaged { (file place : ℕ) → result ≡ Err (OpenRefused.Damaged file place)
-        → (file ≡ 0) × BreaksOffAt bytes.now place }
+        → (file ≡ 0) × BreaksOffAt Two bytes.now place }
     ensures full { result ≡ Err OpenRefused.Full → (entries : List Entry)
-        → AreEntriesOf entries bytes.now → IsWithin (account_of entries) → ⊥ }
+        → AreEntriesOf Two entries bytes.now → StaysSmall entries → ⊥ }
     ensures undamaged { IfErr result (λ refused. (entries : List Entry)
-        → AreEntriesOf entries bytes.now → IsRoomRefusal refused) }
+        → AreEntriesOf Two entries bytes.now → IsRoomRefusal refused) }
     ensures disk { result ≢ Err OpenRefused.Disk }
 {
-    let entries = match read_entries(alloc, bytes) {
+    let entries = match read_entries(alloc, Version::Two, bytes) {
         Ok(entries) => entries,
         Err(EntriesRefused::Bad { place }) => return Err(OpenRefused::Damaged { file: 0, place }),
         Err(EntriesRefused::NoMemory) => return Err(OpenRefused::NoMemory),

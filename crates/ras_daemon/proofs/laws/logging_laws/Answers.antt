@@ -1,12 +1,12 @@
-use Rattle.ras_daemon.specs.FileAndCalls.{script_reports}
+use Rattle.ras_daemon.proofs.LogLemmas.{logged-all, logged-once}
 use Rattle.ras_daemon.proofs.ReportLemmas.{made-valid, made-invalid}
 use Rattle.ras_daemon.proofs.laws.logging_laws.Goals as goal
 
 pub returns-clause-once : goal.returns-clause-once
-returns-clause-once c = λ script. c.account_laws.ensures.names_once (script_reports script)
+returns-clause-once c = logged-once
 
 pub returns-clause-all : goal.returns-clause-all
-returns-clause-all c = λ script name. c.account_laws.ensures.held (script_reports script) name
+returns-clause-all c = logged-all
 
 pub returns-clause-reported : goal.returns-clause-reported
 returns-clause-reported c = made-valid
