@@ -1,11 +1,12 @@
--- Why a call ends with a fault: the count of its kind of faults rose. Where a count didn't rise, it is
--- as it was.
+-- Why a call ends with a fault: the count of its kind of faults rose. Where a count didn't rise, it
+-- is as it was.
 use Rattle.std.specs.Prelude.{◌≡◌, ℕ, Result, MatchResult}
 use Rattle.board_core.specs.Cause.{Rose, Faults, Kind, disk_call, print_call, count_of, with_count}
 use Rattle.ras_daemon.specs.declared.exit.Exit.{Exit}
 use Rattle.ras_daemon.specs.declared.exit.Exit.TheVariants.{SourceFault, DiskFault, PrintFault}
 
--- where the exit is a fault of the source its count rose, and with any other exit the count is as it was
+-- where the exit is a fault of the source its count rose, and with any other exit the count is as
+-- it was
 abbrev pub SourceCause : Exit → ℕ → ℕ → Type 0
 SourceCause SourceFault before now = Rose before now
 SourceCause exit before now = now ≡ before
@@ -15,8 +16,8 @@ pub record Raises (kind : Kind) (before now : Faults) : Type 0 where
   pub own : Rose (count_of kind before) (count_of kind now)
   pub others : now ≡ with_count kind (count_of kind now) before
 
--- where the exit is a fault of the board the count of its kind rose, and with any other exit all counts
--- are as they were
+-- where the exit is a fault of the board the count of its kind rose, and with any other exit all
+-- counts are as they were
 abbrev pub BoardCause : Exit → Faults → Faults → Type 0
 BoardCause DiskFault before now = Raises disk_call before now
 BoardCause PrintFault before now = Raises print_call before now

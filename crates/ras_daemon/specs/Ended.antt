@@ -27,8 +27,8 @@ pub record KeepsDevice (before now : Told) : Type 0 where
   pub volatile : now.volatile ≡ before.volatile
   pub accesses : now.accesses ≡ before.accesses
 
--- The device stays as it is told, and whatever a stop of the machine since then leaves has the record
--- store that was told. Of a board that tells nothing this says nothing.
+-- The device stays as it is told, and whatever a stop of the machine since then leaves has the
+-- record store that was told. Of a board that tells nothing this says nothing.
 abbrev pub LeavesDevice : Option Told → Option Told → Clock → Clock → Type 0
 LeavesDevice None told old new = ⊤
 LeavesDevice (Some before) told old new =

@@ -12,9 +12,9 @@ use ras_daemon::{Exit, RasWord, rasd};
 use std::alloc::Global;
 use std::test::Fail;
 
-// A board that tells nothing, as one over real files does, and whose device fails at each call. At its first sync its disk is exchanged
-// for another one, whose files are empty: every later disk call goes there. All is printed to the
-// first.
+// A board that tells nothing, as one over real files does, and whose device fails at each call. At
+// its first sync its disk is exchanged for another one, whose files are empty: every later disk
+// call goes there. All is printed to the first.
 #[derive(Drop)]
 struct ExchangedDisk {
     disks: Disks,
