@@ -1,24 +1,21 @@
 -- The law of the account: a history with one entry or one mark more continues the account.
-use Rattle.std.proofs.Common.{◌≡◌, ◌+◌, ◌≤◌, ◌<◌, ℕ, Bool, true, false, ◌&&◌, ◌||◌, not, cond, if◌then◌else◌, max, nat_eq, nat_lt, List, [], ◌∷◌, ◌++◌, length, filter, map, fold, refl, sym, ap, subst, ◌∙◌, length-append, append_assoc, append-nil, zero-add, add-zero, true≢false, Option, Some, None, arith}
-use Rattle.std.specs.List.{sum_by, list_any, filter_map}
-use Rattle.std.specs.Map.{keys_of}
+use Rattle.std.proofs.Common.{◌≡◌, ◌+◌, ◌≤◌, ◌<◌, ℕ, Bool, true, false, ◌&&◌, ◌||◌, not, cond, if◌then◌else◌, max, nat_eq, nat_lt, List, [], ◌∷◌, ◌++◌, length, filter, map, refl, sym, ap, ◌∙◌, length-append, append_assoc, append-nil, zero-add, add-zero, true≢false, Option, Some, None, arith}
+use Rattle.std.specs.List.{sum_by, list_any}
 use Rattle.std.proofs.lemmas.Bool.Decides.{nat_tests}
 use Rattle.std.proofs.lemmas.List.{map-append}
-use Rattle.std.proofs.lemmas.Simd.{map-map}
 use Rattle.std.proofs.lemmas.List.Elements.{filter-append, filter_map-append}
 use Rattle.std.proofs.lemmas.List.Folds.{list_any-append}
 use Rattle.std.proofs.lemmas.List.Sums.{sum_by-append, fold-append}
-use Rattle.ras_base.specs.Places.{places, places_behind}
+use Rattle.ras_base.specs.Places.{places}
 use Rattle.ras_base.specs.PlacesLemmas.{places-snoc}
 use Rattle.mca_status.specs.declared.classes.ItemClass.{ItemClass}
 use Rattle.mca_status.specs.declared.classes.ItemClass.TheVariants.{Ce, Ucna, Srao, Srar, Uc, Odd, Corrected, Recoverable, Fatal, Informational}
 use Rattle.mca_status.specs.Classes.{class_number, classes}
 use Rattle.dimm_topology.specs.Labels.{Bytes, same_label}
-use Rattle.page_policy.specs.declared.buckets.Bucket.{Bucket}
 use Rattle.page_policy.specs.declared.buckets.Limit.{Limit}
 use Rattle.page_policy.specs.Histories.{page_rows_of}
 use Rattle.row_tables.specs.Tables.{distinct_keys}
-use Rattle.row_tables.proofs.TableLemmas.{keyed-more, keys-keyed, lookup-keyed, any-distinct}
+use Rattle.row_tables.proofs.TableLemmas.{keyed-more}
 use Rattle.page_policy.proofs.HistoryLemmas.{page_rows_of-more}
 use Rattle.ras_facts.specs.declared.name.Name.{Name}
 use Rattle.ras_facts.specs.declared.entry.Entry.{Entry}
@@ -28,7 +25,7 @@ use Rattle.ras_account.specs.Fresh.{is_fresh_behind, fresh_entries}
 use Rattle.ras_account.specs.Sightings.{Sighting, sightings, sightings_since_mark, sightings_behind, sightings_in, label_of, sighting_weight, report_of, reports_of}
 use Rattle.ras_account.specs.Modules.{Module, class_weight, is_labeled, fills_bucket, errors_of, bucket_over, bucket_with, trips_at, has_tripped, module_of}
 use Rattle.ras_account.specs.Account.{State, account_of, names_of, kept_names, modules_of}
-use Rattle.ras_account.specs.Continued.{is_fresh_in, no_sums, new_module, sums_after, module_after, modules_after, pages_after, account_after_item, account_after_items, account_after_fresh, account_with_count, account_after, account_after_all, account_after_history, without_bucket, account_after_mark}
+use Rattle.ras_account.specs.Continued.{new_module, sums_after, module_after, modules_after, pages_after, account_after_item, account_after_items, account_after_fresh, account_with_count, account_after, account_after_all, account_after_history, without_bucket, account_after_mark}
 use Rattle.ras_account.proofs.KeyLemmas.{same_label-exact, same_label-refl, same_limit-exact}
 use Rattle.ras_account.proofs.FreshLemmas.{not_false, names_of-append, is_fresh_in-account_of, is_retired-max}
 

@@ -1,5 +1,5 @@
 -- How entries are taken one by one into a new account.
-use Rattle.std.proofs.Common.{◌≡◌, ◌≤◌, ℕ, ◌+◌, Bool, true, false, if◌then◌else◌, List, [], ◌∷◌, ◌++◌, length, refl, sym, ap, subst, ◌∙◌, append_assoc, append-nil, length-append, true≢false, arith}
+use Rattle.std.proofs.Common.{◌≡◌, ℕ, ◌+◌, Bool, true, false, if◌then◌else◌, List, [], ◌∷◌, ◌++◌, length, refl, sym, ap, subst, ◌∙◌, append_assoc, append-nil, length-append, true≢false, arith}
 use Rattle.std.specs.List.{AllByRecursion, sum_by}
 use Rattle.ras_facts.specs.declared.items.Item.{Item}
 use Rattle.ras_facts.specs.declared.entry.Entry.{Entry}
@@ -48,7 +48,8 @@ stays-at : (a : State) (taken rest : List Entry) (e : Entry) → StaysWithin a (
 stays-at a [] rest e stays = stays.0
 stays-at a (d ∷ taken) rest e stays = stays-at (account_after a d) taken rest e stays.1
 
--- the entries taken so far and those that are left, and the account of the former, where nothing waits
+-- the entries taken so far and those that are left, and the account of the former, where nothing
+-- waits
 pub record TakesAll (all taken left : List Entry) (number : ℕ) (account : View) : Type 0 where
   pub entries : taken ++ left ≡ all
   pub count : number ≡ length left

@@ -1,18 +1,18 @@
 -- What an entry adds to an account, and when it can be taken.
-use Rattle.std.proofs.Common.{◌≡◌, ◌≤◌, ◌+◌, Bool, true, false, not, nat_eq, if◌then◌else◌, List, [], ◌∷◌, ◌++◌, length, refl, sym, ap, subst, ◌∙◌, arith, append-nil, length-append, true≢false}
+use Rattle.std.proofs.Common.{◌≡◌, ◌+◌, Bool, true, false, not, nat_eq, if◌then◌else◌, [], ◌∷◌, ◌++◌, length, refl, sym, ap, subst, ◌∙◌, arith, append-nil, length-append, true≢false}
 use Rattle.std.specs.Map.{keys_of}
 use Rattle.std.proofs.lemmas.List.{append_cancel_left}
 use Rattle.dimm_topology.specs.Labels.{same_label}
 use Rattle.row_tables.specs.Tables.{added_keys}
 use Rattle.ras_facts.specs.declared.fact.Fact.{Fact as Told}
 use Rattle.ras_facts.specs.declared.entry.Entry.{Entry}
-use Rattle.ras_facts.specs.declared.entry.Entry.TheVariants.{Fact, Limit as PageLimit, Retire, ModuleLimit}
+use Rattle.ras_facts.specs.declared.entry.Entry.TheVariants.{Fact}
 use Rattle.ras_facts.specs.Valid.{IsValidFact}
 use Rattle.ras_account.specs.Sightings.{sightings_in}
 use Rattle.ras_account.specs.Account.{State, names_of}
 use Rattle.ras_account.specs.Continued.{knows, is_fresh_in, account_after, account_after_fresh, account_with_count}
 use Rattle.ras_account.specs.Orders.{orders_along, orders_at}
-use Rattle.ras_account.specs.Numbers.{IsWithin, items_of}
+use Rattle.ras_account.specs.Numbers.{IsWithin}
 use Rattle.ras_account.specs.View.{View, OrderList, Waiting, WaitsFirst, then_waits, nothing, labels_in, pages_in, added_by}
 use Rattle.ras_account.specs.Taking.{adds_fact, CanTakeFact, TakesFact, Takes, Gives, sightings_at}
 use Rattle.ras_account.proofs.ItemLemmas.{names-items, entries-items, total-items}

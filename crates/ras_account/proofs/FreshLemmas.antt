@@ -1,13 +1,10 @@
 -- The names that an account knows are those that its history makes stale.
 use Rattle.std.proofs.Common.{◌≡◌, ℕ, ◌≤◌, Bool, true, false, not, nat_lt, max, cond, ◌||◌, ◌&&◌, if◌then◌else◌, Option, Some, None, List, [], ◌∷◌, ◌++◌, refl, sym, ap, ◌∙◌, true≢false, arith}
-use Rattle.std.specs.List.{list_any}
 use Rattle.std.specs.Option.{option_map_or}
 use Rattle.std.proofs.Math.Nat.{le-max_left, le-max_right}
 use Rattle.std.proofs.lemmas.Bool.Decides.{nat_tests}
 use Rattle.std.proofs.lemmas.List.Folds.{list_any-append}
-use Rattle.page_policy.specs.declared.buckets.Limit.{Limit}
 use Rattle.ras_facts.specs.declared.name.Name.{Name}
-use Rattle.ras_facts.specs.declared.fact.Fact.{Fact as Report}
 use Rattle.ras_facts.specs.declared.entry.Entry.{Entry}
 use Rattle.ras_facts.specs.declared.entry.Entry.TheVariants.{Fact, Limit as PageLimit, Retire, ModuleLimit}
 use Rattle.ras_facts.specs.Names.{same_name, boot_of}
@@ -72,7 +69,8 @@ names_of-append (PageLimit limit ∷ xs) ys = names_of-append xs ys
 names_of-append (Retire boot ∷ xs) ys = names_of-append xs ys
 names_of-append (ModuleLimit limit ∷ xs) ys = names_of-append xs ys
 
--- f and g: whether a name is among those of fresh facts and of all; r: whether it is retired; s: whether it is the last
+-- f and g: whether a name is among those of fresh facts and of all; r: whether it is retired; s:
+-- whether it is the last
 grown : (f g s r : Bool) → (f || r) ≡ (g || r) → ((f || (s || false)) || r) ≡ ((g || (s || false)) || r)
 grown true true s r ih = refl
 grown false false s r ih = refl

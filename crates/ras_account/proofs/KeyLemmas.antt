@@ -1,5 +1,5 @@
 -- Limits and labels that are the same are equal.
-use Rattle.std.proofs.Common.{◌≡◌, true, List, sym, arith}
+use Rattle.std.proofs.Common.{◌≡◌, true, sym, arith}
 use Rattle.std.specs.Cmp.Lexicographic.{same_text, nat_list_eq_equiv}
 use Rattle.std.proofs.lemmas.Bool.Decides.{nat_tests}
 use Rattle.dimm_topology.specs.Labels.{Bytes, same_label}

@@ -1,5 +1,5 @@
 -- Laws of the account of a history: what it holds, each key once, and what retires leave.
-use Rattle.std.proofs.Common.{◌≡◌, ◌≤◌, ◌<◌, ◌+◌, ℕ, Bool, true, false, not, cond, ◌&&◌, ◌||◌, if◌then◌else◌, max, nat_eq, nat_lt, List, [], ◌∷◌, ◌++◌, fold, map, filter, sum, Option, Some, None, All, Contains, ◌↔◌, refl, sym, ap, subst, ◌∙◌, append_assoc, append-nil, true≢false, arith, zero-add}
+use Rattle.std.proofs.Common.{◌≡◌, ◌≤◌, ◌+◌, ℕ, Bool, true, false, not, cond, ◌&&◌, ◌||◌, if◌then◌else◌, max, nat_eq, List, [], ◌∷◌, ◌++◌, fold, map, sum, Some, None, All, Contains, ◌↔◌, refl, sym, ap, subst, ◌∙◌, append_assoc, append-nil, arith, zero-add}
 use Rattle.std.specs.Bool.{IsFalse}
 use Rattle.std.specs.List.{list_any, sum_by, IsDistinct}
 use Rattle.std.specs.Map.{keys_of, lookup}
@@ -26,17 +26,17 @@ use Rattle.ras_account.specs.Fresh.{is_among, is_fresh_behind, fresh_entries}
 use Rattle.ras_account.specs.Sightings.{Sighting, sightings, sightings_since_mark, sightings_behind, sightings_in, label_of, sighting_weight, reports_of}
 use Rattle.ras_account.specs.Modules.{Module, module_of}
 use Rattle.ras_account.specs.Account.{State, account_of, names_of, kept_names, modules_of, weight_in}
-use Rattle.ras_account.specs.Continued.{is_fresh_in, knows, account_after_fresh, account_with_count, account_after, account_after_all, account_after_history, account_after_mark, account_after_item, account_after_items, without_bucket}
+use Rattle.ras_account.specs.Continued.{is_fresh_in, account_after_fresh, account_with_count, account_after, account_after_all, account_after_item, account_after_items, without_bucket}
 use Rattle.ras_account.specs.Orders.{orders_of_items, orders_behind}
-use Rattle.ras_account.specs.Numbers.{IsWithin, StaysWithin}
+use Rattle.ras_account.specs.Numbers.{StaysWithin}
 use Rattle.ras_account.specs.Rows.{with_name, with_module, with_page, base_of, account_from_rows}
 use Rattle.ras_account.specs.Accounts.{IsAccount}
 use Rattle.ras_account.proofs.KeyLemmas.{same_label-exact, same_label-refl}
-use Rattle.ras_account.proofs.FreshLemmas.{de_morgan, is_retired-max, among_kept, among_fresh, is_fresh_in-account_of}
-use Rattle.ras_account.proofs.AccountLemmas.{account_of-entry, account_of-mark, account_of-followed, account_of-entries, account_of-stale}
+use Rattle.ras_account.proofs.FreshLemmas.{is_retired-max, among_kept, among_fresh}
+use Rattle.ras_account.proofs.AccountLemmas.{account_of-entry, account_of-mark, account_of-stale}
 use Rattle.ras_account.proofs.ItemLemmas.{names-items}
 use Rattle.ras_account.proofs.OrderLemmas.{labels-modules}
-use Rattle.ras_account.proofs.SoundLemmas.{HasTen, ten-after, weight-after, weight-marked, distinct-filtered, continued-sound, empty-sound}
+use Rattle.ras_account.proofs.SoundLemmas.{HasTen, ten-after, weight-after, weight-marked, distinct-filtered, continued-sound}
 
 -- each key once
 

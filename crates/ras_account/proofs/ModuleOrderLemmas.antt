@@ -1,5 +1,6 @@
--- The orders of a history for one module: at most one since the last mark, and by its own errors alone.
-use Rattle.std.proofs.Common.{◌≡◌, ◌≤◌, ◌<◌, ◌+◌, ℕ, suc, Bool, true, false, not, cond, ◌&&◌, ◌||◌, if◌then◌else◌, nat_eq, nat_lt, List, [], ◌∷◌, ◌++◌, length, map, filter, Option, Some, None, refl, sym, ap, subst, ◌∙◌, append_assoc, append-nil, true≢false, arith, add-one, length-append}
+-- The orders of a history for one module: at most one since the last mark, and by its own errors
+-- alone.
+use Rattle.std.proofs.Common.{◌≡◌, ◌≤◌, ◌<◌, ℕ, suc, Bool, true, false, not, cond, ◌&&◌, ◌||◌, if◌then◌else◌, nat_eq, nat_lt, List, [], ◌∷◌, ◌++◌, length, map, Option, Some, None, refl, sym, ap, subst, ◌∙◌, append_assoc, append-nil, true≢false, arith, length-append}
 use Rattle.std.specs.Prelude.{option_to_list}
 use Rattle.std.specs.List.{list_any}
 use Rattle.std.specs.Map.{keys_of}
@@ -16,13 +17,12 @@ use Rattle.page_policy.specs.Rows.{report, height, order_to, order_between}
 use Rattle.row_tables.specs.Tables.{distinct_keys}
 use Rattle.page_policy.specs.Histories.{page_history, page_row}
 use Rattle.row_tables.proofs.TableLemmas.{distinct-known, distinct-new, any-distinct}
-use Rattle.ras_base.specs.ExactLemmas.{nat_exact, nat_own}
-use Rattle.ras_facts.specs.declared.entry.Entry.{Entry}
+use Rattle.ras_base.specs.ExactLemmas.{nat_own}
 use Rattle.ras_account.specs.History.{History, empty, with_entry, with_mark}
 use Rattle.ras_account.specs.Sightings.{Sighting, sightings, sightings_since_mark, sightings_behind, label_of, reports_of}
 use Rattle.ras_account.specs.Modules.{is_labeled, fills_bucket, errors_of, bucket_over, trips_at, has_tripped}
 use Rattle.ras_account.specs.Account.{account_of, module_errors}
-use Rattle.ras_account.specs.Orders.{place_of, page_order, module_order, trips_first, item_orders, orders_of_items, orders_behind, orders_since_mark}
+use Rattle.ras_account.specs.Orders.{place_of, page_order, module_order, trips_first, item_orders, orders_behind, orders_since_mark}
 use Rattle.ras_account.specs.Asked.{is_for_module, orders_for_module, module_place}
 use Rattle.ras_account.proofs.KeyLemmas.{same_label-exact, same_label-refl}
 use Rattle.ras_account.proofs.AccountLemmas.{AreLast, at_page, errors-own, errors-other, errors-none, none-last, last-more, since-last, has_tripped-more}
@@ -131,7 +131,8 @@ tripped-stays since s tripped = ap has_tripped (errors-own since s (label_of s) 
     by true = has_tripped-more (errors_of (label_of s) since) s ∙ ap (λ b. b || trips_at (bucket_over (errors_of (label_of s) since)) s) tripped
     by false = ap has_tripped (append-nil (errors_of (label_of s) since)) ∙ tripped
 
--- the orders that are asked for modules by items: one where a module's own errors have made its bucket trip
+-- the orders that are asked for modules by items: one where a module's own errors have made its
+-- bucket trip
 record AreAsked (ss since : List Sighting) (os : List Order) : Type 0 where
   known : (label : Bytes) → list_any (same_label label) (map label_of ss) ≡ true
       → orders_for_module (place_of label (labels ss)) os ≡ (if has_tripped (errors_of label since) then Module (place_of label (labels ss)) ∷ [] else [])

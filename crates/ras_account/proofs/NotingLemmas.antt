@@ -1,13 +1,11 @@
--- The whole pass over the entries that are noted: at its beginning, after one entry more, and at its end.
-use Rattle.std.proofs.Common.{◌≡◌, ◌<◌, ◌≤◌, ◌+◌, ℕ, Bool, true, false, ◌||◌, min, nat_lt, List, [], ◌∷◌, ◌++◌, length, take, get_or, refl, sym, ap, subst, ◌∙◌, arith, append-nil, length-append}
+-- The whole pass over the entries that are noted: at its beginning, after one entry more, and at
+-- its end.
+use Rattle.std.proofs.Common.{◌≡◌, ◌<◌, ◌≤◌, ◌+◌, ℕ, true, ◌||◌, List, [], ◌∷◌, ◌++◌, length, take, get_or, sym, ap, subst, ◌∙◌, arith, append-nil, length-append}
 use Rattle.std.specs.Map.{keys_of}
 use Rattle.std.proofs.lemmas.Bool.Decides.{nat_tests}
 use Rattle.std.proofs.lemmas.List.{take_more}
-use Rattle.dimm_topology.specs.Labels.{same_label}
 use Rattle.row_tables.specs.Held.{Held}
-use Rattle.row_tables.specs.Tables.{added_keys}
 use Rattle.page_policy.specs.declared.rows.PageRow.{PageRow}
-use Rattle.ras_facts.specs.declared.name.Name.{Name}
 use Rattle.ras_facts.specs.declared.entry.Entry.{Entry}
 use Rattle.ras_account.specs.declared.limits.TheConstants.{MOST_NAMES, MOST_ENTRIES, MOST_WEIGHT}
 use Rattle.ras_account.specs.declared.in_force.InForce.{InForce}
@@ -20,7 +18,7 @@ use Rattle.ras_account.specs.Numbers.{fresh_entries_in, numbers_with, AreWithin,
 use Rattle.ras_account.specs.View.{View, Waiting, nothing}
 use Rattle.ras_account.specs.Accounts.{IsAccount}
 use Rattle.ras_account.specs.Parts.{NameList, ModuleList}
-use Rattle.ras_account.specs.Reserving.{greatest, with_fresh, Shadows, Noted, IsNoting}
+use Rattle.ras_account.specs.Reserving.{with_fresh, Shadows, Noted, IsNoting}
 use Rattle.ras_account.proofs.StateLemmas.{of_parts, view_of_parts}
 use Rattle.ras_account.proofs.ReserveLemmas.{fresh-snoc, after-snoc}
 

@@ -1,5 +1,5 @@
 -- What a list of entries adds, and how far it brings an account.
-use Rattle.std.proofs.Common.{◌≡◌, ◌≤◌, ◌<◌, ◌+◌, ℕ, Bool, true, false, not, cond, nat_eq, nat_lt, ◌||◌, if◌then◌else◌, List, [], ◌∷◌, ◌++◌, length, map, filter_map, refl, sym, ap, subst, ◌∙◌, arith, append_assoc, append-nil, length-append, ◌↔◌}
+use Rattle.std.proofs.Common.{◌≡◌, ◌≤◌, ◌+◌, ℕ, Bool, true, false, not, cond, nat_eq, if◌then◌else◌, List, [], ◌∷◌, ◌++◌, length, refl, sym, ap, ◌∙◌, arith, append-nil, length-append, ◌↔◌}
 use Rattle.std.specs.List.{sum_by}
 use Rattle.std.specs.Map.{keys_of}
 use Rattle.std.proofs.lemmas.Bool.Decides.{nat_tests}
@@ -19,8 +19,8 @@ use Rattle.ras_account.specs.History.{is_retired}
 use Rattle.ras_account.specs.Sightings.{sightings_in}
 use Rattle.ras_account.specs.Account.{State, names_of, kept_names}
 use Rattle.ras_account.specs.Continued.{is_fresh_in, account_after_fresh, account_with_count, account_after, account_after_all}
-use Rattle.ras_account.specs.Numbers.{Numbers, AreWithin, are_past, numbers_of, IsWithin, StaysWithin, fresh_entries_in, items_of, numbers_with}
-use Rattle.ras_account.specs.View.{View, Waiting, WaitsFirst, then_waits, nothing, labels_in, pages_in, added_by}
+use Rattle.ras_account.specs.Numbers.{Numbers, AreWithin, are_past, IsWithin, StaysWithin, fresh_entries_in, items_of, numbers_with}
+use Rattle.ras_account.specs.View.{Waiting, then_waits, labels_in, pages_in, added_by}
 use Rattle.ras_account.proofs.KeyLemmas.{same_label-exact, same_label-refl}
 use Rattle.ras_account.proofs.ItemLemmas.{names-items, entries-items, keys-modules, keys-pages, total-items}
 

@@ -2,7 +2,7 @@
 use Rattle.std.proofs.Common.{◌≡◌, ℕ, Bool, true, false, ◌&&◌, not, cond, if◌then◌else◌, List, [], ◌∷◌, ◌++◌, map, Option, Some, None, refl, sym, ap, ◌∙◌, append_assoc, append-nil}
 use Rattle.std.specs.Prelude.{flat_map, option_to_list}
 use Rattle.std.specs.List.{list_any}
-use Rattle.std.specs.Map.{keys_of, lookup}
+use Rattle.std.specs.Map.{keys_of}
 use Rattle.std.specs.Option.{option_map_or}
 use Rattle.ras_base.specs.Places.{places_behind}
 use Rattle.dimm_topology.specs.Labels.{Bytes, same_label}
@@ -21,8 +21,8 @@ use Rattle.ras_account.specs.Fresh.{is_fresh_behind}
 use Rattle.ras_account.specs.Sightings.{Sighting, sightings, sightings_since_mark, sightings_in, label_of, reports_of}
 use Rattle.ras_account.specs.Modules.{Module, errors_of, has_tripped, module_of}
 use Rattle.ras_account.specs.Account.{State, account_of, modules_of}
-use Rattle.ras_account.specs.Continued.{is_fresh_in, modules_after, pages_after, account_after_item}
-use Rattle.ras_account.specs.Orders.{place_of, page_order, module_order, trips_first, item_orders, orders_of_items, orders_behind, is_replaced, page_order_in, module_order_in, orders_along, orders_at}
+use Rattle.ras_account.specs.Continued.{modules_after, account_after_item}
+use Rattle.ras_account.specs.Orders.{place_of, page_order, module_order, item_orders, orders_of_items, orders_behind, is_replaced, page_order_in, module_order_in, orders_along, orders_at}
 use Rattle.ras_account.proofs.KeyLemmas.{same_label-exact, same_label-refl}
 use Rattle.ras_account.proofs.FreshLemmas.{is_fresh_in-account_of}
 use Rattle.ras_account.proofs.AccountLemmas.{AreLast, at_page, errors-none, none-last, last-more, since-last, modules-more, counted, counted-more}

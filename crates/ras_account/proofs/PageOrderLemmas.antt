@@ -1,5 +1,5 @@
 -- The orders of a history for one page are those that the page's own reports give.
-use Rattle.std.proofs.Common.{◌≡◌, ℕ, Bool, true, false, cond, if◌then◌else◌, nat_eq, nat_lt, List, [], ◌∷◌, ◌++◌, map, filter, Option, Some, None, refl, sym, ap, ◌∙◌, append_assoc, append-nil, true≢false}
+use Rattle.std.proofs.Common.{◌≡◌, ℕ, Bool, true, false, cond, if◌then◌else◌, nat_eq, nat_lt, List, [], ◌∷◌, ◌++◌, map, Option, Some, None, refl, sym, ap, ◌∙◌, append_assoc, append-nil}
 use Rattle.std.specs.Prelude.{option_to_list}
 use Rattle.std.specs.List.{filter_map, cons_option}
 use Rattle.std.proofs.lemmas.List.Elements.{filter-append, filter_map-append}
@@ -15,10 +15,9 @@ use Rattle.dimm_topology.specs.Labels.{same_label}
 use Rattle.page_policy.specs.Histories.{page_in, page_history, page_row, order_behind, orders_of}
 use Rattle.row_tables.proofs.TableLemmas.{of_key-own}
 use Rattle.ras_base.specs.ExactLemmas.{nat_exact, nat_own}
-use Rattle.ras_facts.specs.declared.entry.Entry.{Entry}
 use Rattle.ras_account.specs.History.{History, empty, with_entry, with_mark}
 use Rattle.ras_account.specs.Sightings.{Sighting, sightings, sightings_since_mark, sightings_behind, label_of, report_of, reports_of}
-use Rattle.ras_account.specs.Orders.{page_order, module_order, trips_first, item_orders, orders_of_items, orders_behind, orders, place_of}
+use Rattle.ras_account.specs.Orders.{page_order, module_order, trips_first, item_orders, orders_behind, orders, place_of}
 use Rattle.ras_account.specs.Asked.{is_for_page, orders_for_page}
 use Rattle.ras_account.proofs.AccountLemmas.{at_page}
 use Rattle.ras_account.proofs.OrderLemmas.{orders_from}

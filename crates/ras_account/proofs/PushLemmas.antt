@@ -1,5 +1,5 @@
 -- An account with a row more stays one, where its table took the row.
-use Rattle.std.proofs.Common.{◌≡◌, ◌≤◌, ◌<◌, ◌+◌, ◌^◌, ℕ, Bool, true, false, nat_eq, List, [], ◌∷◌, ◌++◌, length, sum, Result, Ok, Err, Option, Some, None, ◌↔◌, IsTrue, IfSome, OnOk, OnErr, ◌||◌, refl, sym, ap, subst, ◌∙◌, arith, length-append}
+use Rattle.std.proofs.Common.{◌≡◌, ◌≤◌, ◌<◌, ◌+◌, ◌^◌, ℕ, Bool, true, false, nat_eq, List, [], ◌∷◌, ◌++◌, length, sum, Result, Ok, Err, Option, Some, None, ◌↔◌, IsTrue, IfSome, OnOk, OnErr, ◌||◌, refl, sym, subst, arith, length-append}
 use Rattle.std.specs.Bool.{IsFalse}
 use Rattle.std.specs.List.{list_any}
 use Rattle.std.specs.Map.{keys_of}
@@ -17,8 +17,6 @@ use Rattle.ras_account.specs.History.{is_retired}
 use Rattle.ras_account.specs.Fresh.{is_among}
 use Rattle.ras_account.specs.Modules.{Module}
 use Rattle.ras_account.specs.Account.{State}
-use Rattle.ras_account.specs.Continued.{knows}
-use Rattle.ras_account.specs.Rows.{with_module}
 use Rattle.ras_account.specs.Accounts.{IsBucket, IsModuleRow, IsPageRow, IsAccount}
 use Rattle.ras_account.specs.Parts.{row_of}
 use Rattle.ras_account.proofs.SoundLemmas.{name-sound, module-pushed, page-pushed}

@@ -1,6 +1,6 @@
 -- Noting entries: what one item and one entry more does to what is noted.
-use Rattle.std.proofs.Common.{◌≡◌, ◌<◌, ◌≤◌, ◌+◌, ◌⊎◌, inl, inr, ℕ, Bool, true, false, not, ◌||◌, ◌&&◌, min, max, nat_eq, nat_lt, if◌then◌else◌, List, [], ◌∷◌, ◌++◌, length, take, get_or, refl, sym, ap, subst, ◌∙◌, arith, append_assoc, append-nil, length-append, true≢false}
-use Rattle.std.specs.List.{list_any, sum_by}
+use Rattle.std.proofs.Common.{◌≡◌, ◌<◌, ◌+◌, ◌⊎◌, inl, inr, ℕ, Bool, true, false, not, ◌||◌, min, max, nat_lt, if◌then◌else◌, List, [], ◌∷◌, ◌++◌, refl, sym, ap, subst, ◌∙◌, arith, append_assoc, append-nil, length-append, true≢false}
+use Rattle.std.specs.List.{list_any}
 use Rattle.std.specs.Map.{keys_of}
 use Rattle.std.proofs.lemmas.Bool.Decides.{nat_tests}
 use Rattle.std.proofs.lemmas.List.{map-append}
@@ -8,7 +8,7 @@ use Rattle.std.proofs.lemmas.List.Concat.{flat_map-append}
 use Rattle.std.proofs.lemmas.List.Elements.{filter_map-append}
 use Rattle.std.proofs.lemmas.List.Folds.{list_any-append}
 use Rattle.std.proofs.lemmas.List.Sums.{sum_by-append, fold-append}
-use Rattle.dimm_topology.specs.Labels.{Bytes, same_label}
+use Rattle.dimm_topology.specs.Labels.{same_label}
 use Rattle.row_tables.specs.Tables.{added_keys}
 use Rattle.row_tables.proofs.TableLemmas.{added-append}
 use Rattle.page_policy.specs.declared.buckets.Limit.{Limit}
@@ -87,8 +87,8 @@ module _ (a : State) (fresh : List Entry) (e : Entry) where
   weights-are : weights_in (items_of (fresh ++ e ∷ [])) ≡ weights_in (items_of fresh) + weights_in (items_in e)
   weights-are = ap weights_in (items-more fresh e) ∙ sum_by-append (λ (i : Item). i.weight) (items_of fresh) (items_in e)
 
--- f and g: whether a name is among two lists; r: whether it is retired; s: whether it is the last; q: whether it is
--- retired by a higher floor
+-- f and g: whether a name is among two lists; r: whether it is retired; s: whether it is the last;
+-- q: whether it is retired by a higher floor
 either-more : (f g s r : Bool) → (f || r) ≡ (g || r) → ((f || (s || false)) || r) ≡ ((g || (s || false)) || r)
 either-more true true s r ih = refl
 either-more false false s r ih = refl

@@ -1,11 +1,9 @@
 -- Every account stays one: an entry, a mark or a row more keeps what holds of it.
-use Rattle.std.proofs.Common.{◌≡◌, ◌≤◌, ◌<◌, ◌+◌, ◌-◌, ◌^◌, ℕ, Bool, true, false, ◌&&◌, ◌||◌, not, cond, if◌then◌else◌, nat_eq, nat_le, List, [], ◌∷◌, ◌++◌, length, map, filter, sum, Option, None, Some, unwrap_or, All, IfSome, IsTrue, refl, sym, ap, subst, ◌∙◌, arith, true≢false, get_or, length-set}
-use Rattle.std.specs.Bool.{IsFalse}
+use Rattle.std.proofs.Common.{◌≡◌, ◌≤◌, ◌<◌, ◌+◌, ◌-◌, ◌^◌, ℕ, Bool, true, false, ◌&&◌, ◌||◌, not, cond, if◌then◌else◌, nat_eq, nat_le, List, [], ◌∷◌, ◌++◌, length, map, filter, sum, Option, None, Some, All, IfSome, refl, sym, ap, subst, ◌∙◌, arith, true≢false, get_or, length-set}
 use Rattle.std.specs.Cmp.{nat_eq_equiv, IsEquivalence}
 use Rattle.std.specs.Cmp.Lexicographic.{nat_list_eq_equiv}
-use Rattle.std.specs.List.{list_any, sum_by, IsDistinct, AllByRecursion}
+use Rattle.std.specs.List.{list_any, IsDistinct, AllByRecursion}
 use Rattle.std.specs.Map.{keys_of}
-use Rattle.std.specs.Option.{option_map_or}
 use Rattle.std.proofs.lemmas.Bool.Decides.{nat_tests}
 use Rattle.std.proofs.lemmas.List.Elements.{All-nil, All-cons, All-head, All-tail, All-push, All-weaker}
 use Rattle.std.proofs.lemmas.List.Sums.{sum_by-cons, sum_by-set, sum_by_push}
@@ -13,12 +11,12 @@ use Rattle.std.proofs.lemmas.Map.Keys.{IsDistinct-push, IsDistinct-head, IsDisti
 use Rattle.mca_status.specs.declared.classes.ItemClass.{ItemClass}
 use Rattle.mca_status.specs.declared.classes.ItemClass.TheVariants.{Ce, Ucna, Srao, Srar, Uc, Odd, Corrected, Recoverable, Fatal, Informational}
 use Rattle.mca_status.specs.Classes.{class_number}
-use Rattle.dimm_topology.specs.Labels.{Bytes, same_label, is_label_or_none}
+use Rattle.dimm_topology.specs.Labels.{Bytes, same_label}
 use Rattle.page_policy.specs.declared.buckets.TheConstants.{MOST_COUNT}
 use Rattle.page_policy.specs.declared.buckets.Bucket.{Bucket}
 use Rattle.page_policy.specs.declared.buckets.Limit.{Limit}
 use Rattle.page_policy.specs.declared.rows.PageRow.{PageRow}
-use Rattle.page_policy.specs.Buckets.{IsLimit, leak, aged_bucket, count_with, trips, bucket_after}
+use Rattle.page_policy.specs.Buckets.{IsLimit, leak, count_with, trips, bucket_after}
 use Rattle.page_policy.specs.Rows.{Report, report, new_row, row_after, is_corrected}
 use Rattle.row_tables.specs.Tables.{updated_rows}
 use Rattle.page_policy.specs.Histories.{rows_after}
@@ -34,7 +32,7 @@ use Rattle.ras_facts.specs.NameLemmas.{same_name-laws}
 use Rattle.ras_account.specs.declared.limits.TheConstants.{MOST_ENTRIES, MOST_WEIGHT}
 use Rattle.ras_account.specs.History.{empty, is_retired}
 use Rattle.ras_account.specs.Fresh.{is_among}
-use Rattle.ras_account.specs.Sightings.{Sighting, sightings_of, label_of, report_of}
+use Rattle.ras_account.specs.Sightings.{Sighting, sightings_of, label_of}
 use Rattle.ras_account.specs.Modules.{Module, is_labeled, fills_bucket, bucket_met, bucket_with, trips_at}
 use Rattle.ras_account.specs.Account.{State, account_of, kept_names, weight_in}
 use Rattle.ras_account.specs.Continued.{knows, is_fresh_in, no_sums, new_module, sums_after, module_after, modules_after, pages_after, account_after_item, account_after_items, account_after_fresh, account_with_count, account_after, without_bucket, account_after_mark}

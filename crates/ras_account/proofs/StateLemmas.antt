@@ -1,5 +1,5 @@
 -- The account of its parts, and what stays where one of them changes.
-use Rattle.std.proofs.Common.{◌≡◌, ◌<◌, ◌≤◌, ◌+◌, ◌^◌, ℕ, Bool, true, false, not, ◌&&◌, ◌||◌, if◌then◌else◌, List, [], ◌∷◌, ◌++◌, length, take, drop, map, IfSome, IsTrue, option_map, Option, Some, None, option_to_list, refl, sym, ap, subst, ◌∙◌, arith, append_assoc, length-append, suc, add-one, get_or, zero, slice_get}
+use Rattle.std.proofs.Common.{◌≡◌, ◌<◌, ◌≤◌, ◌+◌, ℕ, Bool, true, false, not, ◌&&◌, ◌||◌, if◌then◌else◌, List, [], ◌∷◌, ◌++◌, length, take, drop, Option, Some, None, option_to_list, refl, sym, ap, subst, ◌∙◌, arith, append_assoc, length-append, suc, add-one, get_or, zero, slice_get}
 use Rattle.std.specs.List.{list_any}
 use Rattle.std.proofs.lemmas.List.Folds.{list_any-append}
 use Rattle.std.proofs.Math.Seq.{drop-cons}
@@ -8,25 +8,22 @@ use Rattle.dimm_topology.specs.Labels.{Bytes}
 use Rattle.page_policy.specs.declared.buckets.Limit.{Limit}
 use Rattle.page_policy.specs.declared.rows.PageRow.{PageRow}
 use Rattle.ras_facts.specs.declared.name.Name.{Name}
-use Rattle.ras_facts.specs.declared.items.Item.{Item}
 use Rattle.ras_facts.specs.declared.entry.Entry.{Entry}
 use Rattle.ras_facts.specs.declared.entry.Entry.TheVariants.{Fact, Limit as PageLimit, Retire, ModuleLimit}
-use Rattle.ras_account.specs.declared.limits.TheConstants.{MOST_NAMES, MOST_ENTRIES, MOST_WEIGHT}
-use Rattle.ras_account.specs.History.{History, with_entry, with_mark, is_retired}
+use Rattle.ras_account.specs.History.{History, with_entry, is_retired}
 use Rattle.ras_account.specs.Fresh.{is_among, is_fresh_behind}
 use Rattle.ras_account.specs.Sightings.{Sighting}
 use Rattle.ras_account.specs.Modules.{Module}
-use Rattle.ras_account.specs.Account.{State, account_of, kept_names}
-use Rattle.ras_account.specs.Continued.{knows, is_fresh_in, account_after, account_after_fresh, account_with_count, account_after_mark, account_after_item, without_bucket}
+use Rattle.ras_account.specs.Account.{State, account_of}
+use Rattle.ras_account.specs.Continued.{knows, is_fresh_in, account_after, account_after_fresh, account_with_count, account_after_item}
 use Rattle.ras_account.specs.Orders.{page_order_in, module_order_in, orders_along}
-use Rattle.ras_account.specs.Numbers.{IsWithin}
 use Rattle.ras_account.specs.View.{View, OrderList}
 use Rattle.page_policy.specs.declared.rows.Order.{Order}
 use Rattle.ras_account.specs.Accounts.{IsAccount}
 use Rattle.ras_account.specs.Taking.{is_news, holds_name, CanCountName, Gives}
-use Rattle.ras_account.proofs.AccountLemmas.{account_of-entry, account_of-mark}
-use Rattle.ras_account.proofs.FreshLemmas.{de_morgan, is_fresh_in-account_of}
-use Rattle.ras_account.proofs.SoundLemmas.{name-sound, retired-sound, marked-sound}
+use Rattle.ras_account.proofs.AccountLemmas.{account_of-entry}
+use Rattle.ras_account.proofs.FreshLemmas.{is_fresh_in-account_of}
+use Rattle.ras_account.proofs.SoundLemmas.{name-sound}
 
 -- the account of these parts
 abbrev pub of_parts : List Name → ℕ → Limit → Limit → ℕ → ℕ → List (Bytes × Module) → List (ℕ × PageRow) → State

@@ -1,13 +1,12 @@
 -- Taking the items of a fact: what each takes of what waits, and what all come to.
-use Rattle.std.proofs.Common.{◌≡◌, ◌≤◌, ◌+◌, ◌*◌, ℕ, Bool, true, false, nat_eq, if◌then◌else◌, ◌||◌, List, [], ◌∷◌, ◌++◌, length, take, drop, Option, None, Some, option_to_list, All, IfSome, IsTrue, refl, sym, ap, subst, ◌∙◌, arith, append_assoc, append-nil, length-append}
+use Rattle.std.proofs.Common.{◌≡◌, ◌≤◌, ◌*◌, ℕ, Bool, true, false, nat_eq, if◌then◌else◌, ◌||◌, List, [], ◌∷◌, ◌++◌, length, take, drop, Option, None, Some, option_to_list, IfSome, IsTrue, refl, sym, ap, subst, ◌∙◌, arith, append_assoc, append-nil, length-append}
 use Rattle.std.specs.List.{list_any, cons_option}
 use Rattle.std.specs.Map.{keys_of}
 use Rattle.std.specs.Option.{option_map_or}
 use Rattle.std.proofs.lemmas.List.Elements.{All-head, All-tail}
 use Rattle.std.proofs.lemmas.List.Folds.{list_any-append}
 use Rattle.std.proofs.lemmas.List.Sums.{sum_by-cons}
-use Rattle.dimm_topology.specs.Labels.{Bytes, same_label}
-use Rattle.page_policy.specs.declared.buckets.Limit.{Limit}
+use Rattle.dimm_topology.specs.Labels.{same_label}
 use Rattle.page_policy.specs.declared.rows.PageRow.{PageRow}
 use Rattle.page_policy.specs.Rows.{report}
 use Rattle.row_tables.specs.Tables.{added_keys}
@@ -16,13 +15,11 @@ use Rattle.page_policy.proofs.HistoryLemmas.{keys-rows_after}
 use Rattle.ras_base.specs.ExactLemmas.{nat_own}
 use Rattle.ras_facts.specs.declared.items.Item.{Item}
 use Rattle.ras_facts.specs.Valid.{IsValidItem}
-use Rattle.ras_account.specs.declared.limits.TheConstants.{MOST_WEIGHT}
 use Rattle.ras_account.specs.Sightings.{Sighting}
-use Rattle.ras_account.specs.Account.{State}
 use Rattle.ras_account.specs.Continued.{pages_after, account_after_item, account_after_items}
 use Rattle.ras_account.specs.Orders.{page_order_in, module_order_in, orders_along}
 use Rattle.ras_account.specs.View.{View, Waiting, OrderList, labels_in, pages_in}
-use Rattle.ras_account.specs.Taking.{weights_in, left_pages, sighting_in, view_after_item, item_orders_in, IsNext, Gives, AreNext, sightings_at, TakesItems, IsAmid}
+use Rattle.ras_account.specs.Taking.{left_pages, sighting_in, view_after_item, item_orders_in, IsNext, Gives, AreNext, sightings_at, TakesItems, IsAmid}
 use Rattle.ras_account.proofs.KeyLemmas.{same_label-refl}
 use Rattle.ras_account.proofs.AccountLemmas.{at_page}
 use Rattle.ras_account.proofs.ItemLemmas.{with_key, labels-after}

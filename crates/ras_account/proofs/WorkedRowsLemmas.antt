@@ -55,7 +55,8 @@ repeated = refl
 repeated_once : (account_of (history_of (everyday 1000 100 ∷ everyday 1000 100 ∷ everyday 1000 100 ∷ []))).entries ≡ 1
 repeated_once = refl
 
--- the tenth error of a page within a day orders it away softly, and after a whole day nine have leaked out
+-- the tenth error of a page within a day orders it away softly, and after a whole day nine have
+-- leaked out
 abbrev nine : History
 nine =
     history_of
@@ -171,7 +172,8 @@ whole_ordered : orders whole ≡ OrderSoft 7 ∷ OrderSoft 8 ∷ OrderHard 9 ∷
 whole_ordered = refl
 
 -- Two retires, three modules, a module limit that is lowered in mid-run, and a mark. Boots 1 to 3
--- report; A has 3 errors and B 2 under ten a day. An uncorrected error of A counts in its sums alone.
+-- report; A has 3 errors and B 2 under ten a day. An uncorrected error of A counts in its sums
+-- alone.
 abbrev first_part : History
 first_part =
     history_of

@@ -5,7 +5,7 @@ use Rattle.dimm_topology.specs.Labels.{Bytes}
 use Rattle.page_policy.specs.declared.rows.Order.{Order}
 use Rattle.page_policy.specs.declared.rows.Order.TheVariants.{Soft, Hard, Module}
 use Rattle.ras_account.specs.History.{History}
-use Rattle.ras_account.specs.Account.{State, account_of}
+use Rattle.ras_account.specs.Account.{account_of}
 use Rattle.ras_account.specs.Orders.{place_of}
 
 -- whether an order is for a page

@@ -1,6 +1,6 @@
 -- What is counted of a memory module: the sums of its items by class, and a leaky bucket of its
 -- corrected errors. The first time that the bucket trips, the module is to be replaced.
-use Rattle.std.specs.Prelude.{ℕ, Bool, ◌&&◌, not, nat_eq, Option, None, Some, List, [], ◌∷◌, map, filter, fold, unwrap_or}
+use Rattle.std.specs.Prelude.{ℕ, Bool, ◌&&◌, not, nat_eq, Option, None, Some, List, [], map, filter, fold, unwrap_or}
 use Rattle.std.specs.List.{sum_by, list_any}
 use Rattle.mca_status.specs.declared.classes.ItemClass.{ItemClass}
 use Rattle.mca_status.specs.Classes.{class_number, classes}

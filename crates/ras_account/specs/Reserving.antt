@@ -1,6 +1,5 @@
 -- Only for proofs: what is noted of entries before any of them is taken.
-use Rattle.std.specs.Prelude.{◌≡◌, ℕ, ◌+◌, min, ◌||◌, nat_eq, if◌then◌else◌, List, [], ◌∷◌, ◌++◌, length}
-use Rattle.std.specs.List.{sum_by}
+use Rattle.std.specs.Prelude.{◌≡◌, ℕ, ◌+◌, min, ◌||◌, if◌then◌else◌, List, [], ◌∷◌, ◌++◌, length}
 use Rattle.std.specs.Map.{keys_of}
 use Rattle.dimm_topology.specs.Labels.{same_label}
 use Rattle.row_tables.specs.Tables.{added_keys}
@@ -67,7 +66,8 @@ pub record Noted (a : State) (waiting : Waiting) (tally : Tally) (entries : List
   pub count : min tally.entries greatest ≡ min (a.entries + length (fresh_entries_in a entries)) greatest
   pub total : min tally.total greatest ≡ min (a.total + weights_in (items_of (fresh_entries_in a entries))) greatest
 
--- in the midst of noting entries: the account stays but for what waits, and what is noted is that of the entries so far
+-- in the midst of noting entries: the account stays but for what waits, and what is noted is that
+-- of the entries so far
 pub record IsNoting (start : View) (names : NameList) (in_force : InForce) (entries total : ℕ) (modules : ModuleList) (pages : Held ℕ PageRow) (tally : Tally) (done : List Entry) : Type 0 where
   pub account : IsAccount (record {
     names = names.held;

@@ -24,7 +24,8 @@ use Rattle.ras_account.specs.Continued.{knows, pages_after, account_after_item, 
 use Rattle.ras_account.specs.Orders.{page_order_in, module_order_in, orders_along, orders_at}
 use Rattle.ras_account.specs.View.{View, Waiting, OrderList, labels_in, pages_in, then_waits, added_by}
 
--- whether an entry is fresh where this floor and these limits are in force, but for a name that is held
+-- whether an entry is fresh where this floor and these limits are in force, but for a name that is
+-- held
 abbrev pub is_news : ℕ → Limit → Limit → Entry → Bool
 is_news floor limit module_limit (FactEntry fact) = not (is_retired floor fact.name)
 is_news floor limit module_limit (PageLimit other) = not (same_limit other limit)
@@ -97,7 +98,8 @@ pub record TakesItems (old new : View) (seconds : ℕ) (items : List Item) : Typ
   pub labels : old.waiting.labels ≡ added_keys same_label (keys_of old.state.modules) (labels_in items) ++ new.waiting.labels
   pub pages : old.waiting.pages ≡ added_keys nat_eq (keys_of old.state.pages) (pages_in items) ++ new.waiting.pages
 
--- in the midst of taking items: what was taken so far, and what is left to take, come to the same as all
+-- in the midst of taking items: what was taken so far, and what is left to take, come to the same
+-- as all
 pub record IsAmid (start now : View) (old new : OrderList) (seconds : ℕ) (items left : List Item) : Type 0 where
   pub rest : Waiting
   pub first : AreNext start items rest

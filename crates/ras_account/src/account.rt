@@ -26,11 +26,11 @@ use ras_facts::{Entry, Fact, Item, Name};
 use std::alloc::Global;
 use std::marker::Model;
 
-/// What was counted so far: the names of the reports in the order in which they came, what they say of memory modules
-/// and of pages, and what is in force.
+/// What was counted so far: the names of the reports in the order in which they came, what they say
+/// of memory modules and of pages, and what is in force.
 ///
-/// Names, labels and pages can wait behind those that are counted, so that their entries can be taken with no memory. No
-/// call tells of what waits.
+/// Names, labels and pages can wait behind those that are counted, so that their entries can be
+/// taken with no memory. No call tells of what waits.
 #[derive(Drop)]
 pub struct Account {
     pub(crate) names: Names,
@@ -95,8 +95,8 @@ impl Account {
         }
     }
 
-    /// Whether taking this entry would count it: a fact whose name isn't held and whose boot isn't retired, a limit other
-    /// than the one of its kind in force, or a retire above the floor.
+    /// Whether taking this entry would count it: a fact whose name isn't held and whose boot isn't
+    /// retired, a limit other than the one of its kind in force, or a retire above the floor.
     pub fn is_fresh(&self, entry: &Entry) -> bool
         ensures fresh { result ≡ is_fresh_in self.now.state entry.now }
         ensures history { (history : History) → self.now.state ≡ account_of history → result ≡ is_fresh_behind history entry.now }
@@ -117,9 +117,9 @@ impl Account {
 
     /// Counts the entry, if it is fresh, and puts the orders that it gives behind `orders`.
     ///
-    /// The entry has to be valid. What it adds has to wait, before all else that waits, and it then waits no longer; the
-    /// orders need room for `Entry::most_orders`; and with the entry the account has to stay within `MOST_NAMES`,
-    /// `MOST_ENTRIES` and `MOST_WEIGHT`.
+    /// The entry has to be valid. What it adds has to wait, before all else that waits, and it then
+    /// waits no longer; the orders need room for `Entry::most_orders`; and with the entry the
+    /// account has to stay within `MOST_NAMES`, `MOST_ENTRIES` and `MOST_WEIGHT`.
     pub fn take(&mut self, entry: Entry, orders: &mut Orders)
         requires valid { IsValidEntry entry }
         requires waits { WaitsFirst (added_by self.old.state (entry ∷ [])) self.old.waiting }
@@ -134,8 +134,8 @@ impl Account {
         ensures in_turn { (entries : List Entry) → self.old.waiting ≡ added_by self.old.state (entry ∷ entries)
             → self.new.waiting ≡ added_by self.new.state entries }
 
-        // The account of a history becomes that of the history with the entry behind it, and the orders are those of the
-        // history.
+        // The account of a history becomes that of the history with the entry behind it, and the
+        // orders are those of the history.
         ensures history { (history : History) → self.old.state ≡ account_of history
             → self.new.state ≡ account_of (with_entry history entry) }
         ensures history_orders { (history : History) → self.old.state ≡ account_of history
@@ -244,7 +244,8 @@ impl Account {
         self.names.retire(boot);
     }
 
-    /// Takes a mark: from now on no module has a bucket or is to be replaced, and all else stays. Nothing may wait.
+    /// Takes a mark: from now on no module has a bucket or is to be replaced, and all else stays.
+    /// Nothing may wait.
     pub fn mark(&mut self)
         requires { self.old.waiting ≡ nothing }
         ensures state { self.new.state ≡ account_after_mark self.old.state }

@@ -14,10 +14,12 @@ use std::alloc::Global;
 use std::slice;
 
 impl Account {
-    /// The account of these entries, each taken in order. Nothing waits in it, and the orders that they give are given up.
+    /// The account of these entries, each taken in order. Nothing waits in it, and the orders that
+    /// they give are given up.
     ///
-    /// The entries have to be valid. `Full` comes only where the account doesn't stay within `MOST_NAMES`, `MOST_ENTRIES`
-    /// and `MOST_WEIGHT` after each of them, and the account comes only where it does.
+    /// The entries have to be valid. `Full` comes only where the account doesn't stay within
+    /// `MOST_NAMES`, `MOST_ENTRIES` and `MOST_WEIGHT` after each of them, and the account comes
+    /// only where it does.
     pub fn of_entries(alloc: Global, entries: Vec<Entry>) -> Result<Account, ReserveRefused>
         requires { All IsValidEntry entries.items }
         ensures state { IfOk result (λ a. a.state ≡ account_of (history_of entries.items)) }

@@ -28,7 +28,8 @@ ghost use Rattle.ras_account.specs.Accounts.{IsAccount};
 
 /// The laws of the account of a history. The function does nothing: its clauses are what it is for.
 pub fn account_laws()
-    // The account of a history with an entry or a mark behind it is that of the history, continued by it.
+    // The account of a history with an entry or a mark behind it is that of the history, continued
+    // by it.
     ensures entry { (history : History) (entry : Entry) → account_of (with_entry history entry) ≡ account_after (account_of history) entry }
     ensures mark { (history : History) → account_of (with_mark history) ≡ account_after_mark (account_of history) }
     ensures entries { (history : History) (entries : List Entry) → account_of (with_entries history entries) ≡ account_after_all (account_of history) entries }
@@ -46,8 +47,8 @@ pub fn account_laws()
     ensures refreshed { (history : History) → IsUnmarked history → account_of (history_of (fresh_entries history)) ≡ account_of history }
     ensures unmarked { (entries : List Entry) → IsUnmarked (history_of entries) }
 
-    // An account holds exactly the names of the history's facts whose boots aren't retired, and each of them once, as each
-    // label and each page.
+    // An account holds exactly the names of the history's facts whose boots aren't retired, and
+    // each of them once, as each label and each page.
     ensures held { (history : History) (name : Name) → Contains (account_of history).names name ↔ (Contains (names_in history) name × IsFalse (is_retired (floor_after history) name)) }
     ensures names_once { (history : History) → IsDistinct same_name (account_of history).names }
     ensures labels_once { (history : History) → IsDistinct same_label (keys_of (account_of history).modules) }
@@ -70,7 +71,8 @@ pub fn retire_laws()
     ensures unordered { (history more : History) (fact : Fact) → IsTrue (is_retired (floor_after history) fact.name)
         → orders_behind (followed_by history more) (Entry.Fact fact) ≡ [] }
 
-    // A retire changes the names, the floor and the number of entries alone: counts, modules and pages stay.
+    // A retire changes the names, the floor and the number of entries alone: counts, modules and
+    // pages stay.
     ensures keeps { (history : History) (boot : ℕ) → record (account_of (with_entry history (Entry.Retire boot))) {
       names = (account_of history).names;
       floor = (account_of history).floor;
@@ -87,19 +89,20 @@ pub fn order_laws()
     // The orders that an entry gives behind a history are those by which its account is continued.
     ensures ordered { (history : History) (entry : Entry) → orders_behind history entry ≡ orders_at (account_of history) entry }
 
-    // Of all orders of a history those for a page are what the page's own reports give: at most one soft and one hard, and
-    // never a soft one after a hard one.
+    // Of all orders of a history those for a page are what the page's own reports give: at most one
+    // soft and one hard, and never a soft one after a hard one.
     ensures page { (history : History) (page : ℕ) → orders_for_page page (orders history) ≡ orders_of (reports_of (sightings history)) page }
     ensures page_once { (history : History) (page : ℕ) → AreOnceInOrder page (orders_for_page page (orders history)) }
 
-    // Since the last mark a module was asked to be replaced once where its own corrected errors have made its bucket trip,
-    // and else not at all, whatever other modules do.
+    // Since the last mark a module was asked to be replaced once where its own corrected errors
+    // have made its bucket trip, and else not at all, whatever other modules do.
     ensures module { (history : History) (label : Bytes) → IsTrue (list_any (same_label label) (keys_of (account_of history).modules))
         → orders_for_module (module_place history label) (orders_since_mark history)
         ≡ (if has_tripped (module_errors history label) then Order.Module (module_place history label) ∷ [] else []) }
 {}
 
-/// The laws of accounts that no history needs to give. The function does nothing: its clauses are what it is for.
+/// The laws of accounts that no history needs to give. The function does nothing: its clauses are
+/// what it is for.
 pub fn kept_laws()
     // The empty account is one, and a valid entry or a mark keeps it so, within the three numbers.
     ensures empty { IsAccount (account_of empty) }
@@ -111,10 +114,11 @@ pub fn kept_laws()
     ensures rows { (a : State) → IsAccount a → account_from_rows a ≡ a }
 {}
 
-/// The laws by which each entry of a list can be taken in turn once the list was reserved. The function does nothing: its
-/// clauses are what it is for.
+/// The laws by which each entry of a list can be taken in turn once the list was reserved. The
+/// function does nothing: its clauses are what it is for.
 pub fn reserve_laws()
-    // What a list adds begins with what its first entry adds, and goes on with what the others then add.
+    // What a list adds begins with what its first entry adds, and goes on with what the others then
+    // add.
     ensures in_turn { (a : State) (entry : Entry) (entries : List Entry) → added_by a (entry ∷ entries) ≡ then_waits (added_by a (entry ∷ [])) (added_by (account_after a entry) entries) }
 
     // Where what a list adds waits, what its first entry adds waits first.
@@ -124,8 +128,8 @@ pub fn reserve_laws()
     ensures past { (a : State) (entries : List Entry) → IsFalse (are_past (numbers_with a entries)) ↔ AreWithin (numbers_with a entries) }
     ensures now_past { (a : State) → IsFalse (are_past (numbers_of a)) ↔ IsWithin a }
 
-    // Where there is room for all that a list adds, the account stays within its numbers at every front of the list, and
-    // then there is room for what the others add.
+    // Where there is room for all that a list adds, the account stays within its numbers at every
+    // front of the list, and then there is room for what the others add.
     ensures stays { (a : State) (entries : List Entry) → AreWithin (numbers_with a entries) → StaysWithin a entries }
     ensures front { (a : State) (front more : List Entry) → AreWithin (numbers_with a (front ++ more)) → IsWithin (account_after_all a front) }
     ensures others { (a : State) (entry : Entry) (entries : List Entry) → AreWithin (numbers_with a (entry ∷ entries)) → AreWithin (numbers_with (account_after a entry) entries) }

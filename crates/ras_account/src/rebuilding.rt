@@ -45,7 +45,8 @@ impl From<RowRefused> for PushRefused {
 }
 
 impl Account {
-    /// Puts a limit for pages in force, and sets the number of entries, at most `MOST_ENTRIES`. Nothing may wait.
+    /// Puts a limit for pages in force, and sets the number of entries, at most `MOST_ENTRIES`.
+    /// Nothing may wait.
     pub fn set_base(&mut self, limit: Limit, entries: u64)
         requires waiting { self.old.waiting ≡ nothing }
         requires limit { IsLimit limit }
@@ -67,8 +68,8 @@ impl Account {
         self.in_force.module_limit = limit;
     }
 
-    /// Sets the floor, where no name is held that it retires. The answer is whether it was set; else all stays. Nothing may
-    /// wait.
+    /// Sets the floor, where no name is held that it retires. The answer is whether it was set;
+    /// else all stays. Nothing may wait.
     pub fn set_floor(&mut self, floor: u64) -> bool
         requires { self.old.waiting ≡ nothing }
         ensures exact { result ≡ not (has_retired floor self.old.state.names) }
@@ -83,9 +84,11 @@ impl Account {
         true
     }
 
-    /// Puts a name behind the others, whose boot isn't retired. Nothing may wait, and after a refusal all stays.
+    /// Puts a name behind the others, whose boot isn't retired. Nothing may wait, and after a
+    /// refusal all stays.
     ///
-    /// `Repeated` comes exactly where the name is held, and else `Full` exactly where `MOST_NAMES` names are.
+    /// `Repeated` comes exactly where the name is held, and else `Full` exactly where `MOST_NAMES`
+    /// names are.
     pub fn push_name(&mut self, name: Name) -> Result<(), PushRefused>
         requires waiting { self.old.waiting ≡ nothing }
         requires kept { IsFalse (is_retired self.old.state.floor name) }
@@ -108,12 +111,12 @@ impl Account {
         }
     }
 
-    /// Puts the row of a module behind the others, and adds its ten sums to the total weight. The bucket has to hold at most
-    /// 999,999 errors; a row without a bucket can't be to be replaced, and a row without a label has no bucket. Nothing may
-    /// wait, and after a refusal all stays.
+    /// Puts the row of a module behind the others, and adds its ten sums to the total weight. The
+    /// bucket has to hold at most 999,999 errors; a row without a bucket can't be to be replaced,
+    /// and a row without a label has no bucket. Nothing may wait, and after a refusal all stays.
     ///
-    /// `Repeated` comes exactly where the label has a row, and else `Full` exactly where the total weight would pass
-    /// `MOST_WEIGHT`.
+    /// `Repeated` comes exactly where the label has a row, and else `Full` exactly where the total
+    /// weight would pass `MOST_WEIGHT`.
     pub fn push_module(&mut self, row: ModuleRow) -> Result<(), PushRefused>
         requires waiting { self.old.waiting ≡ nothing }
         requires count { IfSome row.bucket (λ bucket. bucket.count ≤ most_count) }
@@ -139,8 +142,8 @@ impl Account {
         }
     }
 
-    /// Puts the row of a page behind the others: a page below 2^52, with a bucket of at most 999,999 errors. Nothing may
-    /// wait, and after a refusal all stays.
+    /// Puts the row of a page behind the others: a page below 2^52, with a bucket of at most
+    /// 999,999 errors. Nothing may wait, and after a refusal all stays.
     ///
     /// `Repeated` comes exactly where the page has a row.
     pub fn push_page(

@@ -21,7 +21,8 @@ use thiserror::Error;
 /// Why entries can't be let wait.
 #[derive(Clone, Copy, Debug, PartialEq, Eq, Drop, Error)]
 pub enum ReserveRefused {
-    /// With those of the entries that are fresh the account would pass `MOST_NAMES`, `MOST_ENTRIES` or `MOST_WEIGHT`.
+    /// With those of the entries that are fresh the account would pass `MOST_NAMES`, `MOST_ENTRIES`
+    /// or `MOST_WEIGHT`.
     #[error("the account is full")]
     Full,
     /// Memory ran out.
@@ -38,12 +39,13 @@ impl From<NoMemory> for ReserveRefused {
 }
 
 impl Account {
-    /// Lets what these entries add wait, so that each entry can be taken in turn with no memory: the names, the labels and
-    /// the pages that they bring first. What waited before is given up. What is counted stays, and after a refusal nothing
-    /// waits.
+    /// Lets what these entries add wait, so that each entry can be taken in turn with no memory:
+    /// the names, the labels and the pages that they bring first. What waited before is given up.
+    /// What is counted stays, and after a refusal nothing waits.
     ///
-    /// `Full` comes exactly where the names held, the entries or the total weight, with all that is fresh of the list, pass
-    /// `MOST_NAMES`, `MOST_ENTRIES` or `MOST_WEIGHT`, unless memory runs out first.
+    /// `Full` comes exactly where the names held, the entries or the total weight, with all that is
+    /// fresh of the list, pass `MOST_NAMES`, `MOST_ENTRIES` or `MOST_WEIGHT`, unless memory runs
+    /// out first.
     pub fn reserve(&mut self, entries: &[Entry]) -> Result<(), ReserveRefused>
         ensures state { self.new.state ≡ self.old.state }
         ensures ok { OnOk result (self.new.waiting ≡ added_by self.old.state entries.now) }
@@ -111,8 +113,8 @@ impl Account {
     }
 }
 
-// What is in force after entries, the numbers that they bring an account to, and the pages that they name. A number stays
-// at the greatest of 64 bits, which is past all that an account counts.
+// What is in force after entries, the numbers that they bring an account to, and the pages that
+// they name. A number stays at the greatest of 64 bits, which is past all that an account counts.
 #[derive(Drop)]
 pub(crate) struct Tally {
     pub(crate) in_force: InForce,

@@ -1,4 +1,4 @@
-use Rattle.std.proofs.Common.{sym, ap, ◌∙◌, subst, [], ◌∷◌, true, IsTrue, Result, Err}
+use Rattle.std.proofs.Common.{sym, ap, ◌∙◌, subst, [], ◌∷◌, Err}
 use Rattle.std.proofs.lemmas.Result.{err_from_is_err_and}
 use Rattle.ras_account.specs.Numbers.{IsWithin, AreWithin, are_past, numbers_with}
 use Rattle.ras_account.specs.Continued.{account_after}
@@ -24,9 +24,9 @@ pub returns-in_err-reserve-clause-full : goal.returns-in_err-reserve-clause-full
 returns-in_err-reserve-clause-full c =
     let refusal = err_from_is_err_and c.from_residual.result c.from_residual.ensures.1 in
     λ full within.
-        single-past c.args.self.now.state c.args.entry c.entries.ensures.account.within
-        (ap (λ es. are_past (numbers_with c.args.self.now.state es)) (sym c.from_ref.ensures.value) ∙ c.in_err-reserve.ensures.full (ap Err (sym refusal.2) ∙ sym refusal.1 ∙ full))
-        within
+    single-past c.args.self.now.state c.args.entry c.entries.ensures.account.within
+    (ap (λ es. are_past (numbers_with c.args.self.now.state es)) (sym c.from_ref.ensures.value) ∙ c.in_err-reserve.ensures.full (ap Err (sym refusal.2) ∙ sym refusal.1 ∙ full))
+    within
 
 pub returns-clause-waiting : goal.returns-clause-waiting
 returns-clause-waiting c =

@@ -1,5 +1,4 @@
-use Rattle.std.proofs.Common.{◌≡◌, not, ◌&&◌, sym, ap, ◌∙◌, rules}
-use Rattle.ras_account.specs.Continued.{is_fresh_in}
+use Rattle.std.proofs.Common.{rules}
 use Rattle.ras_account.proofs.StateLemmas.{fresh-news, fresh-history, stale-history}
 use Rattle.ras_account.proofs.account.Account.is_fresh.Goals as goal
 

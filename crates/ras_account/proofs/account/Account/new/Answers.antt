@@ -1,7 +1,7 @@
 use Rattle.std.proofs.Common.{◌≡◌, sym, subst}
 use Rattle.ras_account.specs.declared.limits.TheConstants.{FIRST_LIMIT, FIRST_MODULE_LIMIT}
 use Rattle.ras_account.specs.History.{empty}
-use Rattle.ras_account.specs.Account.{State, account_of}
+use Rattle.ras_account.specs.Account.{account_of}
 use Rattle.ras_account.specs.Accounts.{IsAccount}
 use Rattle.ras_account.proofs.SoundLemmas.{empty-sound}
 use Rattle.ras_account.proofs.account.Account.new.Goals as goal

@@ -2,7 +2,7 @@ use Rattle.std.proofs.Common.{◌≡◌, ◌+◌, ◌++◌, ◌<◌, ◌^◌, op
 use Rattle.ras_account.specs.Sightings.{Sighting}
 use Rattle.ras_account.specs.Account.{State}
 use Rattle.ras_account.specs.Continued.{account_after_item}
-use Rattle.ras_account.specs.View.{View, OrderList}
+use Rattle.ras_account.specs.View.{View}
 use Rattle.ras_account.specs.Accounts.{IsAccount}
 use Rattle.ras_account.specs.Taking.{sighting_in, view_after_item, item_orders_in, Gives}
 use Rattle.ras_account.proofs.SoundLemmas.{item-sound}

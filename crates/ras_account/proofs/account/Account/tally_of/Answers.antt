@@ -1,5 +1,4 @@
 use Rattle.std.proofs.Common.{refl, take}
-use Rattle.ras_facts.specs.declared.entry.Entry.{Entry}
 use Rattle.ras_account.specs.Continued.{account_after_all}
 use Rattle.ras_account.specs.Numbers.{fresh_entries_in}
 use Rattle.ras_account.proofs.NotingLemmas.{noting-start, noting-more}
