@@ -19,8 +19,8 @@ mod rules;
 // An item: its class, the letter of its module or 0 for none, its page, and its weight.
 type Part = (ItemClass, u8, Option<u64>, u16);
 
-// What comes: a fact of bank 7 of processor 0 in a boot, at a time stamp and a second; a record of a
-// store; a limit for pages or for modules; the retirement of the boots below one; or a mark.
+// What comes: a fact of bank 7 of processor 0 in a boot, at a time stamp and a second; a record of
+// a store; a limit for pages or for modules; the retirement of the boots below one; or a mark.
 #[derive(Clone, Copy)]
 enum Step<'a> {
     Bank(u64, u64, u64, &'a [Part]),

@@ -23,7 +23,7 @@ use Rattle.ras_facts.specs.declared.entry.Entry.TheVariants.{Fact, Limit as Page
 use Rattle.ras_account.specs.History.{History, empty, with_entry, with_mark, with_entries, followed_by, limit_after, module_limit_after, floor_after, is_retired}
 use Rattle.ras_account.specs.Fresh.{is_fresh_behind, fresh_entries}
 use Rattle.ras_account.specs.Sightings.{Sighting, sightings, sightings_since_mark, sightings_behind, sightings_in, label_of, sighting_weight, report_of, reports_of}
-use Rattle.ras_account.specs.Modules.{Module, class_weight, is_labeled, fills_bucket, errors_of, bucket_over, bucket_with, trips_at, has_tripped, module_of}
+use Rattle.ras_account.specs.Modules.{Module, class_weight, is_labeled, fills_bucket, errors_of, bucket_over, bucket_with, trips_at, has_tripped, module_by_items}
 use Rattle.ras_account.specs.Account.{State, account_of, names_of, kept_names, modules_of}
 use Rattle.ras_account.specs.Continued.{new_module, sums_after, module_after, modules_after, pages_after, account_after_item, account_after_items, account_after_fresh, account_with_count, account_after, account_after_all, account_after_history, without_bucket, account_after_mark}
 use Rattle.ras_account.proofs.KeyLemmas.{same_label-exact, same_label-refl, same_limit-exact}
@@ -111,8 +111,8 @@ module _ (ss : List Sighting) (s : Sighting) (label : Bytes) where
       by false l is = refl
 
 -- the module of an item's label, with the item
-module_of-own : (ss since : List Sighting) (s : Sighting) → module_of (ss ++ s ∷ []) (since ++ s ∷ []) (label_of s) ≡ module_after (module_of ss since (label_of s)) s
-module_of-own ss since s = λ i. record { sums = sums i; bucket = bucket i; replace = replace i }
+module_by_items-own : (ss since : List Sighting) (s : Sighting) → module_by_items (ss ++ s ∷ []) (since ++ s ∷ []) (label_of s) ≡ module_after (module_by_items ss since (label_of s)) s
+module_by_items-own ss since s = λ i. record { sums = sums i; bucket = bucket i; replace = replace i }
   where
     label : Bytes
     label = label_of s
@@ -142,9 +142,9 @@ module_of-own ss since s = λ i. record { sums = sums i; bucket = bucket i; repl
         by false = ap has_tripped (append-nil (errors_of label since)) ∙ no_more (has_tripped (errors_of label since))
 
 -- the module of another label
-module_of-other : (ss since : List Sighting) (s : Sighting) (label : Bytes) → is_labeled label s ≡ false
-    → module_of (ss ++ s ∷ []) (since ++ s ∷ []) label ≡ module_of ss since label
-module_of-other ss since s label is =
+module_by_items-other : (ss since : List Sighting) (s : Sighting) (label : Bytes) → is_labeled label s ≡ false
+    → module_by_items (ss ++ s ∷ []) (since ++ s ∷ []) label ≡ module_by_items ss since label
+module_by_items-other ss since s label is =
     λ i. record {
       sums = map (class_weight (labeled-other ss s label is i)) classes;
       bucket = bucket_over (errors-other since s label is i);
@@ -194,15 +194,15 @@ pub modules-more : (ss since : List Sighting) (s : Sighting) → AreLast since s
 modules-more ss since s last =
     ap (λ labels. map {B = Bytes × Module} (λ label. (label, after label)) (distinct_keys same_label labels)) (map-append label_of ss (s ∷ []))
     ∙ keyed-more same_label same_label-exact same_label-refl before after (label_of s) (module_after new_module s) (λ m. module_after m s) (map label_of ss)
-    (λ label apart. module_of-other ss since s label (turned label apart))
-    (λ there. module_of-own ss since s)
-    (λ none. module_of-own ss since s ∙ ap (λ m. module_after m s) (unseen none))
+    (λ label apart. module_by_items-other ss since s label (turned label apart))
+    (λ there. module_by_items-own ss since s)
+    (λ none. module_by_items-own ss since s ∙ ap (λ m. module_after m s) (unseen none))
   where
     before : Bytes → Module
-    before label = module_of ss since label
+    before label = module_by_items ss since label
 
     after : Bytes → Module
-    after label = module_of (ss ++ s ∷ []) (since ++ s ∷ []) label
+    after label = module_by_items (ss ++ s ∷ []) (since ++ s ∷ []) label
 
     turned : (label : Bytes) → same_label (label_of s) label ≡ false → is_labeled label s ≡ false
     turned label apart = by (is_labeled label s) refl
@@ -380,10 +380,10 @@ account_of-entry h e = by (is_fresh_behind h e) refl
 
 -- and a mark
 modules-marked : (labels : List Bytes) (ss since : List Sighting)
-    → map {B = Bytes × Module} (λ label. (label, module_of ss [] label)) labels
-    ≡ map {B = Bytes × Module} (λ row. (row.0, without_bucket row.1)) (map {B = Bytes × Module} (λ label. (label, module_of ss since label)) labels)
+    → map {B = Bytes × Module} (λ label. (label, module_by_items ss [] label)) labels
+    ≡ map {B = Bytes × Module} (λ row. (row.0, without_bucket row.1)) (map {B = Bytes × Module} (λ label. (label, module_by_items ss since label)) labels)
 modules-marked [] ss since = refl
-modules-marked (label ∷ labels) ss since = ap (λ rows. (label, without_bucket (module_of ss since label)) ∷ rows) (modules-marked labels ss since)
+modules-marked (label ∷ labels) ss since = ap (λ rows. (label, without_bucket (module_by_items ss since label)) ∷ rows) (modules-marked labels ss since)
 
 pub account_of-mark : (h : History) → account_of (with_mark h) ≡ account_after_mark (account_of h)
 account_of-mark h =

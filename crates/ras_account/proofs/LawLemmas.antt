@@ -24,7 +24,7 @@ use Rattle.ras_facts.specs.NameLemmas.{same_name-exact, same_name-laws}
 use Rattle.ras_account.specs.History.{History, empty, with_entry, with_mark, with_entries, history_of, followed_by, IsUnmarked, names_in, floor_after, limit_after, module_limit_after, is_retired}
 use Rattle.ras_account.specs.Fresh.{is_among, is_fresh_behind, fresh_entries}
 use Rattle.ras_account.specs.Sightings.{Sighting, sightings, sightings_since_mark, sightings_behind, sightings_in, label_of, sighting_weight, reports_of}
-use Rattle.ras_account.specs.Modules.{Module, module_of}
+use Rattle.ras_account.specs.Modules.{Module, module_by_items}
 use Rattle.ras_account.specs.Account.{State, account_of, names_of, kept_names, modules_of, weight_in}
 use Rattle.ras_account.specs.Continued.{is_fresh_in, account_after_fresh, account_with_count, account_after, account_after_all, account_after_item, account_after_items, without_bucket}
 use Rattle.ras_account.specs.Orders.{orders_of_items, orders_behind}
@@ -85,10 +85,10 @@ pages-once h = page_rows_of-once (reports_of (sightings h))
 -- what is there
 
 pub module-row : (h : History) (label : Bytes) → lookup (same_label label) (account_of h).modules
-    ≡ (if list_any (same_label label) (map label_of (sightings h)) then Some (module_of (sightings h) (sightings_since_mark h) label) else None)
+    ≡ (if list_any (same_label label) (map label_of (sightings h)) then Some (module_by_items (sightings h) (sightings_since_mark h) label) else None)
 module-row h label =
-    lookup-keyed same_label same_label-exact same_label-refl (λ l. module_of (sightings h) (sightings_since_mark h) l) label (distinct_keys same_label (map label_of (sightings h)))
-    ∙ ap (λ b. cond b (Some (module_of (sightings h) (sightings_since_mark h) label)) None) (any-distinct same_label same_label-exact same_label-refl label (map label_of (sightings h)))
+    lookup-keyed same_label same_label-exact same_label-refl (λ l. module_by_items (sightings h) (sightings_since_mark h) l) label (distinct_keys same_label (map label_of (sightings h)))
+    ∙ ap (λ b. cond b (Some (module_by_items (sightings h) (sightings_since_mark h) label)) None) (any-distinct same_label same_label-exact same_label-refl label (map label_of (sightings h)))
 
 -- a name is in a list where the test finds it
 found : (names : List Name) (name : Name) → Contains names name ↔ (is_among names name ≡ true)

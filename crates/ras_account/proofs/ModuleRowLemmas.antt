@@ -18,7 +18,8 @@ use Rattle.ras_account.specs.Modules.{Module}
 use Rattle.ras_account.specs.Account.{weight_in}
 use Rattle.ras_account.specs.Continued.{new_module, module_after, modules_after, without_bucket}
 use Rattle.ras_account.specs.Orders.{place_of, is_replaced, module_order_in}
-use Rattle.ras_account.specs.Parts.{ModuleList, with_sighting, row_of, entry_of, IsCounting, AreModules}
+use Rattle.ras_account.specs.Parts.{ModuleList, with_sighting, entry_of, IsCounting, AreModules}
+use Rattle.ras_account.specs.Rows.{row_of}
 
 abbrev Rows : Type 0
 Rows = List (Bytes × ModuleRow)

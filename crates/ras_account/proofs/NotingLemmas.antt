@@ -7,7 +7,7 @@ use Rattle.std.proofs.lemmas.List.{take_more}
 use Rattle.row_tables.specs.Held.{Held}
 use Rattle.page_policy.specs.declared.rows.PageRow.{PageRow}
 use Rattle.ras_facts.specs.declared.entry.Entry.{Entry}
-use Rattle.ras_account.specs.declared.limits.TheConstants.{MOST_NAMES, MOST_ENTRIES, MOST_WEIGHT}
+use Rattle.ras_account.specs.declared.limits.TheConstants.{MOST_NAMES, MOST_ENTRIES, MOST_TOTAL}
 use Rattle.ras_account.specs.declared.in_force.InForce.{InForce}
 use Rattle.ras_account.specs.declared.reserve.Tally.{Tally}
 use Rattle.ras_account.specs.History.{is_retired}
@@ -83,7 +83,7 @@ module _ (a : State) (waiting : Waiting) (tally : Tally) (all : List Entry) (not
   names-length : length (a.names ++ waiting.names) ≡ length a.names + length (names_of (fresh_entries_in a all))
   names-length = length-append a.names waiting.names ∙ ap (λ ns. length a.names + length ns) noted.names_are
 
-  pub noted-within : (n : ℕ) → n ≡ length (a.names ++ waiting.names) → n ≤ MOST_NAMES → tally.entries ≤ MOST_ENTRIES → tally.total ≤ MOST_WEIGHT → AreWithin (numbers_with a all)
+  pub noted-within : (n : ℕ) → n ≡ length (a.names ++ waiting.names) → n ≤ MOST_NAMES → tally.entries ≤ MOST_ENTRIES → tally.total ≤ MOST_TOTAL → AreWithin (numbers_with a all)
   noted-within n count few some light = record {
     names = omega (arith, count, names-length, few);
     entries = omega (arith, noted.count, some);

@@ -19,7 +19,7 @@ use Rattle.page_policy.specs.declared.buckets.Limit.{Limit}
 use Rattle.ras_account.specs.History.{History, limit_after, module_limit_after}
 use Rattle.ras_account.specs.Fresh.{is_fresh_behind}
 use Rattle.ras_account.specs.Sightings.{Sighting, sightings, sightings_since_mark, sightings_in, label_of, reports_of}
-use Rattle.ras_account.specs.Modules.{Module, errors_of, has_tripped, module_of}
+use Rattle.ras_account.specs.Modules.{Module, errors_of, has_tripped, module_by_items}
 use Rattle.ras_account.specs.Account.{State, account_of, modules_of}
 use Rattle.ras_account.specs.Continued.{modules_after, account_after_item}
 use Rattle.ras_account.specs.Orders.{place_of, page_order, module_order, item_orders, orders_of_items, orders_behind, is_replaced, page_order_in, module_order_in, orders_along, orders_at}
@@ -41,17 +41,17 @@ page_order_in-rows ss s = by s.item.page
 -- a module is to be replaced where its own errors since the last mark made its bucket trip
 pub is_replaced-modules : (ss since : List Sighting) (label : Bytes) → AreLast since ss → is_replaced (modules_of ss since) label ≡ has_tripped (errors_of label since)
 is_replaced-modules ss since label last =
-    ap (λ o. option_map_or (λ (m : Module). m.replace) o false) (lookup-keyed same_label same_label-exact same_label-refl (λ l. module_of ss since l) label (distinct_keys same_label (map label_of ss)))
-    ∙ ap (λ b. option_map_or (λ (m : Module). m.replace) (cond b (Some (module_of ss since label)) None) false) (any-distinct same_label same_label-exact same_label-refl label (map label_of ss))
+    ap (λ o. option_map_or (λ (m : Module). m.replace) o false) (lookup-keyed same_label same_label-exact same_label-refl (λ l. module_by_items ss since l) label (distinct_keys same_label (map label_of ss)))
+    ∙ ap (λ b. option_map_or (λ (m : Module). m.replace) (cond b (Some (module_by_items ss since label)) None) false) (any-distinct same_label same_label-exact same_label-refl label (map label_of ss))
     ∙ by (list_any (same_label label) (map label_of ss)) refl
   where
     by : (b : Bool) → list_any (same_label label) (map label_of ss) ≡ b
-        → option_map_or (λ (m : Module). m.replace) (cond b (Some (module_of ss since label)) None) false ≡ has_tripped (errors_of label since)
+        → option_map_or (λ (m : Module). m.replace) (cond b (Some (module_by_items ss since label)) None) false ≡ has_tripped (errors_of label since)
     by true there = refl
     by false none = ap has_tripped (sym (errors-none since label (none-last ss since label last none)))
 
 pub labels-modules : (ss since : List Sighting) → keys_of (modules_of ss since) ≡ distinct_keys same_label (map label_of ss)
-labels-modules ss since = keys-keyed same_label same_label-exact same_label-refl (λ label. module_of ss since label) (distinct_keys same_label (map label_of ss))
+labels-modules ss since = keys-keyed same_label same_label-exact same_label-refl (λ label. module_by_items ss since label) (distinct_keys same_label (map label_of ss))
 
 -- an item's order for its module
 module_order_in-modules : (ss since : List Sighting) (s : Sighting) → AreLast since ss → module_order_in (modules_of ss since) s ≡ module_order ss since s

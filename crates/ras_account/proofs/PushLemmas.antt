@@ -12,13 +12,13 @@ use Rattle.page_policy.specs.Buckets.{most_count}
 use Rattle.ras_facts.specs.declared.name.Name.{Name}
 use Rattle.ras_facts.specs.Valid.{IsValidName}
 use Rattle.ras_account.specs.declared.modules.ModuleRow.{ModuleRow}
-use Rattle.ras_account.specs.declared.limits.TheConstants.{MOST_NAMES, MOST_WEIGHT}
+use Rattle.ras_account.specs.declared.limits.TheConstants.{MOST_NAMES, MOST_TOTAL}
 use Rattle.ras_account.specs.History.{is_retired}
 use Rattle.ras_account.specs.Fresh.{is_among}
 use Rattle.ras_account.specs.Modules.{Module}
 use Rattle.ras_account.specs.Account.{State}
 use Rattle.ras_account.specs.Accounts.{IsBucket, IsModuleRow, IsPageRow, IsAccount}
-use Rattle.ras_account.specs.Parts.{row_of}
+use Rattle.ras_account.specs.Rows.{row_of}
 use Rattle.ras_account.proofs.SoundLemmas.{name-sound, module-pushed, page-pushed}
 
 -- what was taken wasn't there
@@ -54,7 +54,7 @@ module_row-sound row label ten count stamp unlabeled replace = record { label = 
 pub module-taken : (a : State) (rows : List (Bytes × Module)) (total : ℕ) (row : ModuleRow) → IsAccount a
     → IsTrue (is_label_or_none row.label) → length row.sums ≡ 10 → IfSome row.bucket (λ bucket. bucket.count ≤ most_count)
     → IfSome row.bucket (λ bucket. bucket.stamp < 2 ^ 64) → (row.label ≡ [] → row.bucket ≡ None) → (row.bucket ≡ None → IsFalse row.replace)
-    → list_any (same_label row.label) (keys_of a.modules) ≡ false → total ≡ a.total + sum row.sums → total ≤ MOST_WEIGHT
+    → list_any (same_label row.label) (keys_of a.modules) ≡ false → total ≡ a.total + sum row.sums → total ≤ MOST_TOTAL
     → rows ≡ a.modules ++ row_of row ∷ [] → IsAccount (record a { modules = rows; total = total })
 module-taken a rows total row account label ten count stamp unlabeled replace new sums within is =
     subst IsAccount (λ i. record a { modules = sym is i; total = sym sums i })

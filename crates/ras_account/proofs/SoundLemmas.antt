@@ -29,7 +29,7 @@ use Rattle.ras_facts.specs.Names.{same_name}
 use Rattle.ras_facts.specs.Valid.{IsValidName, IsValidItem, IsPage}
 use Rattle.ras_facts.specs.Entries.{IsValidEntry}
 use Rattle.ras_facts.specs.NameLemmas.{same_name-laws}
-use Rattle.ras_account.specs.declared.limits.TheConstants.{MOST_ENTRIES, MOST_WEIGHT}
+use Rattle.ras_account.specs.declared.limits.TheConstants.{MOST_ENTRIES, MOST_TOTAL}
 use Rattle.ras_account.specs.History.{empty, is_retired}
 use Rattle.ras_account.specs.Fresh.{is_among}
 use Rattle.ras_account.specs.Sightings.{Sighting, sightings_of, label_of}
@@ -426,7 +426,7 @@ weight-push : (rows : List (Bytes × Module)) (row : Bytes × Module) → weight
 weight-push rows row = sum_by_push (λ (r : Bytes × Module). sum r.1.sums) rows row
 
 pub module-pushed : (a : State) (row : Bytes × Module) → IsAccount a → IsModuleRow row → list_any (same_label row.0) (keys_of a.modules) ≡ false
-    → a.total + sum row.1.sums ≤ MOST_WEIGHT → IsAccount (with_module a row)
+    → a.total + sum row.1.sums ≤ MOST_TOTAL → IsAccount (with_module a row)
 module-pushed a row account sound none within = record {
   within = record { names = account.within.names; entries = account.within.entries; total = within };
   limit = account.limit;

@@ -17,7 +17,7 @@ use Rattle.ras_facts.specs.declared.entry.Entry.TheVariants.{Fact}
 use Rattle.ras_account.specs.History.{History, limit_after, module_limit_after, floor_after, is_retired}
 use Rattle.ras_account.specs.Fresh.{fresh_entries}
 use Rattle.ras_account.specs.Sightings.{Sighting, sightings, sightings_since_mark, label_of, sighting_weight, reports_of}
-use Rattle.ras_account.specs.Modules.{Module, class_weight, is_labeled, errors_of, module_of}
+use Rattle.ras_account.specs.Modules.{Module, class_weight, is_labeled, errors_of, module_by_items}
 
 -- the names of the facts among entries, in order
 abbrev pub names_of : List Entry → List Name
@@ -50,7 +50,7 @@ page_history history page = page_history_of (reports_of (sightings history)) pag
 -- the modules that all items and those since the last mark give: each label in first-seen order
 abbrev pub modules_of : List Sighting → List Sighting → List (Bytes × Module)
 modules_of all since_mark =
-    map {B = Bytes × Module} (λ label. (label, module_of all since_mark label)) (distinct_keys same_label (map label_of all))
+    map {B = Bytes × Module} (λ label. (label, module_by_items all since_mark label)) (distinct_keys same_label (map label_of all))
 
 -- what is counted
 pub record State : Type 0 where

@@ -56,8 +56,8 @@ abbrev pub has_tripped : List Sighting → Bool
 has_tripped errors = list_any (λ p. trips_at (bucket_over p.0) p.1) (places errors)
 
 -- the module of a label, by all items and by those since the last mark
-abbrev pub module_of : List Sighting → List Sighting → Bytes → Module
-module_of all since_mark label = record {
+abbrev pub module_by_items : List Sighting → List Sighting → Bytes → Module
+module_by_items all since_mark label = record {
   sums = map (class_weight (filter (is_labeled label) all)) classes;
   bucket = bucket_over (errors_of label since_mark);
   replace = has_tripped (errors_of label since_mark);

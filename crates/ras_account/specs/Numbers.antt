@@ -5,7 +5,7 @@ use Rattle.std.specs.List.{sum_by, flat_map}
 use Rattle.ras_facts.specs.declared.items.Item.{Item}
 use Rattle.ras_facts.specs.declared.entry.Entry.{Entry}
 use Rattle.ras_facts.specs.Entries.{items_in}
-use Rattle.ras_account.specs.declared.limits.TheConstants.{MOST_NAMES, MOST_ENTRIES, MOST_WEIGHT}
+use Rattle.ras_account.specs.declared.limits.TheConstants.{MOST_NAMES, MOST_ENTRIES, MOST_TOTAL}
 use Rattle.ras_account.specs.Account.{State, names_of}
 use Rattle.ras_account.specs.Continued.{is_fresh_in, account_after}
 
@@ -19,11 +19,11 @@ pub record Numbers : Type 0 where
 pub record AreWithin (numbers : Numbers) : Type 0 where
   pub names : numbers.names ≤ MOST_NAMES
   pub entries : numbers.entries ≤ MOST_ENTRIES
-  pub total : numbers.total ≤ MOST_WEIGHT
+  pub total : numbers.total ≤ MOST_TOTAL
 
 abbrev pub are_past : Numbers → Bool
 are_past numbers =
-    nat_lt MOST_NAMES numbers.names || (nat_lt MOST_ENTRIES numbers.entries || nat_lt MOST_WEIGHT numbers.total)
+    nat_lt MOST_NAMES numbers.names || (nat_lt MOST_ENTRIES numbers.entries || nat_lt MOST_TOTAL numbers.total)
 
 -- those of an account
 abbrev pub numbers_of : State → Numbers

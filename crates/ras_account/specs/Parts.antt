@@ -10,6 +10,7 @@ use Rattle.ras_account.specs.declared.modules.ModuleRow.{ModuleRow}
 use Rattle.ras_account.specs.Sightings.{Sighting, label_of}
 use Rattle.ras_account.specs.Modules.{Module}
 use Rattle.ras_account.specs.Continued.{modules_after}
+use Rattle.ras_account.specs.Rows.{row_of}
 
 -- names that are counted, and names that wait to be counted
 pub record NameList : Type 0 where
@@ -39,10 +40,6 @@ with_sighting modules s = record {
   rows = modules_after modules.rows s;
   waiting = if list_any (same_label (label_of s)) (keys_of modules.rows) then modules.waiting else drop 1 modules.waiting;
 }
-
--- a row as contracts see it
-abbrev pub row_of : ModuleRow → Bytes × Module
-row_of row = (row.label, record { sums = row.sums; bucket = row.bucket; replace = row.replace })
 
 -- an entry of the table as contracts see it
 abbrev pub entry_of : Bytes × ModuleRow → Bytes × Module

@@ -4,9 +4,14 @@ use Rattle.std.specs.List.{list_any}
 use Rattle.dimm_topology.specs.Labels.{Bytes}
 use Rattle.page_policy.specs.declared.rows.PageRow.{PageRow}
 use Rattle.ras_facts.specs.declared.name.Name.{Name}
+use Rattle.ras_account.specs.declared.modules.ModuleRow.{ModuleRow}
 use Rattle.ras_account.specs.History.{empty, is_retired}
 use Rattle.ras_account.specs.Modules.{Module}
 use Rattle.ras_account.specs.Account.{State, account_of}
+
+-- a module's row as contracts see it: its label, and what is counted of it
+abbrev pub row_of : ModuleRow → Bytes × Module
+row_of row = (row.label, record { sums = row.sums; bucket = row.bucket; replace = row.replace })
 
 -- whether one of the names is of a boot below a floor
 abbrev pub has_retired : ℕ → List Name → Bool

@@ -15,7 +15,7 @@ use Rattle.ras_facts.specs.declared.entry.Entry.{Entry}
 use Rattle.ras_facts.specs.declared.entry.Entry.TheVariants.{Fact as FactEntry, Limit as PageLimit, Retire, ModuleLimit}
 use Rattle.ras_facts.specs.Valid.{IsValidName, IsValidItem, IsValidFact}
 use Rattle.ras_facts.specs.declared.name.Name.{Name}
-use Rattle.ras_account.specs.declared.limits.TheConstants.{MOST_NAMES, MOST_ENTRIES, MOST_WEIGHT}
+use Rattle.ras_account.specs.declared.limits.TheConstants.{MOST_NAMES, MOST_ENTRIES, MOST_TOTAL}
 use Rattle.ras_account.specs.History.{is_retired}
 use Rattle.ras_account.specs.Fresh.{same_limit, is_among}
 use Rattle.ras_account.specs.Sightings.{Sighting, sightings_of}
@@ -73,7 +73,7 @@ pub record IsNext (v : View) (item : Item) : Type 0 where
   pub valid : IsValidItem item
   pub label : IsTrue (list_any (same_label item.label) (keys_of v.state.modules ++ take 1 v.waiting.labels))
   pub page : IfSome item.page (λ page. IsTrue (is_ready nat_eq (record { rows = v.state.pages; waiting = v.waiting.pages }) page))
-  pub total : v.state.total + item.weight ≤ MOST_WEIGHT
+  pub total : v.state.total + item.weight ≤ MOST_TOTAL
 
 -- orders with some behind them, which take as much of the room
 pub record Gives (old new : OrderList) (more : List Order) : Type 0 where
@@ -85,7 +85,7 @@ pub record AreNext (v : View) (items : List Item) (rest : Waiting) : Type 0 wher
   pub valid : All IsValidItem items
   pub labels : v.waiting.labels ≡ added_keys same_label (keys_of v.state.modules) (labels_in items) ++ rest.labels
   pub pages : v.waiting.pages ≡ added_keys nat_eq (keys_of v.state.pages) (pages_in items) ++ rest.pages
-  pub total : v.state.total + weights_in items ≤ MOST_WEIGHT
+  pub total : v.state.total + weights_in items ≤ MOST_TOTAL
 
 -- the items of a fact that came at this time, with what an account has in force
 abbrev pub sightings_at : State → ℕ → List Item → List Sighting

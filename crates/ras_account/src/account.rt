@@ -14,7 +14,7 @@ ghost use Rattle.ras_account.specs.Orders.{orders_along, orders_at, orders_behin
 ghost use Rattle.ras_account.specs.Numbers.{IsWithin};
 ghost use Rattle.ras_account.specs.View.{Waiting, nothing, then_waits, WaitsFirst, added_by};
 ghost use Rattle.ras_account.specs.Accounts.{IsAccount};
-ghost use Rattle.ras_account.specs.Parts.{row_of};
+ghost use Rattle.ras_account.specs.Rows.{row_of};
 ghost use Rattle.ras_account.specs.Taking.{holds_name, IsNext, view_after_item, item_orders_in, sighting_in, Gives, AreNext, TakesItems, sightings_at, CanTakeFact, TakesFact, Takes, CanCountName, view_after_name, pages_after_item};
 
 use crate::in_force::InForce;
@@ -119,7 +119,7 @@ impl Account {
     ///
     /// The entry has to be valid. What it adds has to wait, before all else that waits, and it then
     /// waits no longer; the orders need room for `Entry::most_orders`; and with the entry the
-    /// account has to stay within `MOST_NAMES`, `MOST_ENTRIES` and `MOST_WEIGHT`.
+    /// account has to stay within `MOST_NAMES`, `MOST_ENTRIES` and `MOST_TOTAL`.
     pub fn take(&mut self, entry: Entry, orders: &mut Orders)
         requires valid { IsValidEntry entry }
         requires waits { WaitsFirst (added_by self.old.state (entry ∷ [])) self.old.waiting }

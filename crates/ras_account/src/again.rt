@@ -18,7 +18,7 @@ impl Account {
     /// they give are given up.
     ///
     /// The entries have to be valid. `Full` comes only where the account doesn't stay within
-    /// `MOST_NAMES`, `MOST_ENTRIES` and `MOST_WEIGHT` after each of them, and the account comes
+    /// `MOST_NAMES`, `MOST_ENTRIES` and `MOST_TOTAL` after each of them, and the account comes
     /// only where it does.
     pub fn of_entries(alloc: Global, entries: Vec<Entry>) -> Result<Account, ReserveRefused>
         requires { All IsValidEntry entries.items }

@@ -16,7 +16,7 @@ ghost use Rattle.ras_facts.specs.Entries.{IsValidEntry};
 ghost use Rattle.ras_account.specs.History.{History, empty, with_entry, with_mark, with_entries, history_of, followed_by, IsUnmarked, names_in, floor_after, is_retired};
 ghost use Rattle.ras_account.specs.Fresh.{is_fresh_behind, fresh_entries};
 ghost use Rattle.ras_account.specs.Sightings.{sightings, sightings_since_mark, label_of, reports_of};
-ghost use Rattle.ras_account.specs.Modules.{module_of, has_tripped};
+ghost use Rattle.ras_account.specs.Modules.{module_by_items, has_tripped};
 ghost use Rattle.ras_account.specs.Account.{State, account_of, module_errors, weight_in};
 ghost use Rattle.ras_account.specs.Continued.{is_fresh_in, account_after, account_after_all, account_after_history, account_after_mark};
 ghost use Rattle.ras_account.specs.Orders.{orders_at, orders_behind, orders, orders_since_mark};
@@ -56,7 +56,7 @@ pub fn account_laws()
 
     // The row of a label says what is counted of it, and the rows together are the total weight.
     ensures counts { (history : History) (label : Bytes) → lookup (same_label label) (account_of history).modules
-        ≡ (if list_any (same_label label) (map label_of (sightings history)) then Some (module_of (sightings history) (sightings_since_mark history) label) else None) }
+        ≡ (if list_any (same_label label) (map label_of (sightings history)) then Some (module_by_items (sightings history) (sightings_since_mark history) label) else None) }
     ensures total { (history : History) → weight_in (account_of history).modules ≡ (account_of history).total }
 {}
 

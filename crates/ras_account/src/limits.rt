@@ -9,7 +9,7 @@ pub const MOST_NAMES: usize = 200_000;
 pub const MOST_ENTRIES: u64 = 1 << 62;
 
 /// The most weight that an account counts.
-pub const MOST_WEIGHT: u64 = 1 << 62;
+pub const MOST_TOTAL: u64 = 1 << 62;
 
 /// The limit in force for pages at first: ten errors a day.
 pub const FIRST_LIMIT: Limit = Limit {

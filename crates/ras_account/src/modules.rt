@@ -11,9 +11,10 @@ ghost use Rattle.ras_account.specs.Account.{weight_in};
 ghost use Rattle.ras_account.specs.Continued.{module_after, new_module, sums_after, without_bucket};
 ghost use Rattle.page_policy.specs.Rows.{is_corrected};
 ghost use Rattle.ras_account.specs.Orders.{module_order_in};
-ghost use Rattle.ras_account.specs.Parts.{all_labels, is_next_label, with_sighting, row_of, IsCounting};
+ghost use Rattle.ras_account.specs.Parts.{all_labels, is_next_label, with_sighting, IsCounting};
+ghost use Rattle.ras_account.specs.Rows.{row_of};
 
-use crate::MOST_WEIGHT;
+use crate::MOST_TOTAL;
 use dimm_topology::Label;
 use mca_status::CLASS_COUNT;
 use page_policy::{Bucket, Limit, Order, RowRefused, is_corrected};
@@ -55,7 +56,7 @@ impl ModuleRow {
     fn after(self, item: &Item, seconds: u64, limit: Limit) -> ModuleRow
         requires counting { IsCounting self }
         requires limit { IsLimit limit }
-        requires total { sum self.sums + item.now.weight ≤ MOST_WEIGHT }
+        requires total { sum self.sums + item.now.weight ≤ MOST_TOTAL }
         ensures row { (s : Sighting) → s.item ≡ item.now → s.seconds ≡ seconds → s.module_limit ≡ limit → row_of result ≡ (self.label, module_after (row_of self).1 s) }
         ensures counting { IsCounting result }
     {
@@ -90,7 +91,7 @@ impl ModuleRow {
 
 // The sums with an item's weight added to the sum of its class.
 fn sums_after(sums: [u64; CLASS_COUNT], item: &Item) -> [u64; CLASS_COUNT]
-    requires { sum sums + item.now.weight ≤ MOST_WEIGHT }
+    requires { sum sums + item.now.weight ≤ MOST_TOTAL }
     ensures { result ≡ sums_after sums item.now }
 {
     let mut after = sums;
@@ -149,7 +150,7 @@ impl Modules {
     pub(crate) fn count(&mut self, item: &Item, seconds: u64, limit: Limit) -> Option<Order>
         requires next { IsTrue (is_next_label self.old item.now.label) }
         requires limit { IsLimit limit }
-        requires total { weight_in self.old.rows + item.now.weight ≤ MOST_WEIGHT }
+        requires total { weight_in self.old.rows + item.now.weight ≤ MOST_TOTAL }
         ensures rows { (s : Sighting) → s.item ≡ item.now → s.seconds ≡ seconds → s.module_limit ≡ limit → self.new ≡ with_sighting self.old s }
         ensures order { (s : Sighting) → s.item ≡ item.now → s.seconds ≡ seconds → s.module_limit ≡ limit → result ≡ module_order_in self.old.rows s }
     {

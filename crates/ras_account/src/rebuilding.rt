@@ -9,9 +9,9 @@ ghost use Rattle.ras_account.specs.History.{is_retired};
 ghost use Rattle.ras_account.specs.Fresh.{is_among};
 ghost use Rattle.ras_account.specs.Rows.{has_retired, with_name, with_module, with_page};
 ghost use Rattle.ras_account.specs.View.{nothing};
-ghost use Rattle.ras_account.specs.Parts.{row_of};
+ghost use Rattle.ras_account.specs.Rows.{row_of};
 
-use crate::{Account, MOST_ENTRIES, MOST_NAMES, MOST_WEIGHT, ModuleRow};
+use crate::{Account, MOST_ENTRIES, MOST_NAMES, MOST_TOTAL, ModuleRow};
 use page_policy::{Bucket, Limit, PageState};
 use ras_facts::Name;
 use row_tables::RowRefused;
@@ -23,7 +23,7 @@ pub enum PushRefused {
     /// The name is held, or the label has a row.
     #[error("the account holds this already")]
     Repeated,
-    /// The account would pass `MOST_NAMES` or `MOST_WEIGHT`.
+    /// The account would pass `MOST_NAMES` or `MOST_TOTAL`.
     #[error("the account is full")]
     Full,
     /// Memory ran out.
@@ -116,7 +116,7 @@ impl Account {
     /// and a row without a label has no bucket. Nothing may wait, and after a refusal all stays.
     ///
     /// `Repeated` comes exactly where the label has a row, and else `Full` exactly where the total
-    /// weight would pass `MOST_WEIGHT`.
+    /// weight would pass `MOST_TOTAL`.
     pub fn push_module(&mut self, row: ModuleRow) -> Result<(), PushRefused>
         requires waiting { self.old.waiting ≡ nothing }
         requires count { IfSome row.bucket (λ bucket. bucket.count ≤ most_count) }
@@ -126,8 +126,8 @@ impl Account {
         ensures err { OnErr result (self.new.state ≡ self.old.state) }
         ensures waiting { self.new.waiting ≡ nothing }
         ensures repeated { (result ≡ Err PushRefused.Repeated) ↔ IsTrue (is_held same_label self.old.state.modules row.label) }
-        ensures full { (result ≡ Err PushRefused.Full) → MOST_WEIGHT < self.old.state.total + sum row.sums }
-        ensures within { OnOk result (self.old.state.total + sum row.sums ≤ MOST_WEIGHT) }
+        ensures full { (result ≡ Err PushRefused.Full) → MOST_TOTAL < self.old.state.total + sum row.sums }
+        ensures within { OnOk result (self.old.state.total + sum row.sums ≤ MOST_TOTAL) }
     {
         tell_valid_row(&row);
         if let Some(total) = weight_with(self.total, &row.sums) {
@@ -216,16 +216,16 @@ fn tell_valid_row(row: &ModuleRow)
     }
 }
 
-// The total weight with ten sums more; None where it passes `MOST_WEIGHT`.
+// The total weight with ten sums more; None where it passes `MOST_TOTAL`.
 fn weight_with(total: u64, sums: &[u64; 10]) -> Option<u64>
-    requires { total ≤ MOST_WEIGHT }
+    requires { total ≤ MOST_TOTAL }
     ensures some { IfSome result (λ more. more ≡ total + sum sums.now) }
-    ensures within { IfSome result (λ more. more ≤ MOST_WEIGHT) }
-    ensures none { IfNone result (MOST_WEIGHT < total + sum sums.now) }
+    ensures within { IfSome result (λ more. more ≤ MOST_TOTAL) }
+    ensures none { IfNone result (MOST_TOTAL < total + sum sums.now) }
 {
     let mut more = total;
     for weight in sums {
-        if *weight > MOST_WEIGHT - more {
+        if *weight > MOST_TOTAL - more {
             return None;
         }
         more += *weight;

@@ -13,7 +13,7 @@ ghost use Rattle.ras_account.specs.Reserving.{NotesItems, with_fresh, Shadows, N
 use crate::in_force::InForce;
 use crate::modules::Modules;
 use crate::names::Names;
-use crate::{Account, MOST_ENTRIES, MOST_NAMES, MOST_WEIGHT};
+use crate::{Account, MOST_ENTRIES, MOST_NAMES, MOST_TOTAL};
 use ras_base::NoMemory;
 use ras_facts::{Entry, Fact, Item};
 use thiserror::Error;
@@ -22,7 +22,7 @@ use thiserror::Error;
 #[derive(Clone, Copy, Debug, PartialEq, Eq, Drop, Error)]
 pub enum ReserveRefused {
     /// With those of the entries that are fresh the account would pass `MOST_NAMES`, `MOST_ENTRIES`
-    /// or `MOST_WEIGHT`.
+    /// or `MOST_TOTAL`.
     #[error("the account is full")]
     Full,
     /// Memory ran out.
@@ -44,7 +44,7 @@ impl Account {
     /// What is counted stays, and after a refusal nothing waits.
     ///
     /// `Full` comes exactly where the names held, the entries or the total weight, with all that is
-    /// fresh of the list, pass `MOST_NAMES`, `MOST_ENTRIES` or `MOST_WEIGHT`, unless memory runs
+    /// fresh of the list, pass `MOST_NAMES`, `MOST_ENTRIES` or `MOST_TOTAL`, unless memory runs
     /// out first.
     pub fn reserve(&mut self, entries: &[Entry]) -> Result<(), ReserveRefused>
         ensures state { self.new.state ≡ self.old.state }
@@ -85,7 +85,7 @@ impl Account {
         let tally = self.tally_of(entries)?;
         if self.names.len_with_waiting() > MOST_NAMES
             || tally.entries > MOST_ENTRIES
-            || tally.total > MOST_WEIGHT
+            || tally.total > MOST_TOTAL
         {
             return Err(ReserveRefused::Full);
         }

@@ -5,10 +5,10 @@ use std::test::*;
 
 // Modules A and B and pages 7, 8 and 9. Under ten errors a day page 7 has 4 of them at 100 seconds,
 // and page 8 has 9 at 110. Then five errors a minute are too many. One error more of page 7, 30
-// seconds after its stamp, makes 5: soft. At 171 seconds, 61 after its stamp, 61 * 5 / 60 = 5 of the
-// 9 of page 8 have leaked out, and two more make 6: soft. An uncorrected error takes page 9 at once.
-// Six entries are fresh: five facts and one limit. A has 4 + 2 corrected errors and one of each of
-// two other classes, B has 9 + 1: 18 in all. Under a hundred a day no module trips.
+// seconds after its stamp, makes 5: soft. At 171 seconds, 61 after its stamp, 61 * 5 / 60 = 5 of
+// the 9 of page 8 have leaked out, and two more make 6: soft. An uncorrected error takes page 9 at
+// once. Six entries are fresh: five facts and one limit. A has 4 + 2 corrected errors and one of
+// each of two other classes, B has 9 + 1: 18 in all. Under a hundred a day no module trips.
 #[test]
 fn two_modules_and_three_pages(rt: HostRuntime) -> Result<(), Fail> {
     let mut account = Account::new(rt.alloc());
@@ -46,16 +46,17 @@ fn two_modules_and_three_pages(rt: HostRuntime) -> Result<(), Fail> {
     Ok(())
 }
 
-// Boots 1 to 3 report, and a store's record 9, whose name no retire drops. Under ten errors a day
-// A has 3 at 100 seconds, together with page 7, and B has 2 + 1. 50 uncorrected errors of A and 60
-// errors of no module fill no bucket. After the first retire 40 errors of A in boot 1 count nothing.
-// The limits fall to 4 a minute: at 140 seconds, 40 after their stamps, one error more makes 4 of
-// page 7 and of A, and both orders come, the page's first. At 150 seconds A has 9 at once, which
-// trips it again and asks for nothing, and C has 3. The second retire drops the names of boot 2. At
-// 160 seconds, 10 after its stamp, C has a fourth error and trips; its row is the fourth, behind that
-// of no module. After a mark buckets begin anew: A has 3 errors at 1,000 seconds and a fourth at
-// 1,001, and is asked for again; B has none since. 11 entries were fresh before the mark: six facts,
-// three limits and two retires. 3 + 2 + 50 + 60 + 1 + 1 + 9 + 3 + 1 is 130, and with 3 + 1 it is 134.
+// Boots 1 to 3 report, and a store's record 9, whose name no retire drops. Under ten errors a day A
+// has 3 at 100 seconds, together with page 7, and B has 2 + 1. 50 uncorrected errors of A and 60
+// errors of no module fill no bucket. After the first retire 40 errors of A in boot 1 count
+// nothing. The limits fall to 4 a minute: at 140 seconds, 40 after their stamps, one error more
+// makes 4 of page 7 and of A, and both orders come, the page's first. At 150 seconds A has 9 at
+// once, which trips it again and asks for nothing, and C has 3. The second retire drops the names
+// of boot 2. At 160 seconds, 10 after its stamp, C has a fourth error and trips; its row is the
+// fourth, behind that of no module. After a mark buckets begin anew: A has 3 errors at 1,000
+// seconds and a fourth at 1,001, and is asked for again; B has none since. 11 entries were fresh
+// before the mark: six facts, three limits and two retires. 3 + 2 + 50 + 60 + 1 + 1 + 9 + 3 + 1 is
+// 130, and with 3 + 1 it is 134.
 #[test]
 fn two_retires_three_modules_and_a_mark(rt: HostRuntime) -> Result<(), Fail> {
     let mut account = Account::new(rt.alloc());

@@ -2,7 +2,7 @@
 use super::*;
 use mca_status::ItemClass::{Ce, Ucna};
 use page_policy::MOST_CAPACITY;
-use ras_account::{MOST_WEIGHT as MOST_TOTAL, PushRefused};
+use ras_account::{MOST_TOTAL, PushRefused};
 use std::test::*;
 
 // Puts a name behind the others; nothing waits after nothing is reserved.
