@@ -1,4 +1,5 @@
--- The files, the device and the output of a board in memory stand for its changes, and for one more.
+-- The files, the device and the output of a board in memory stand for its changes, and for one
+-- more.
 use Rattle.std.proofs.Common.{◌≡◌, ℕ, List, [], ◌∷◌, ◌++◌, Result, Ok, Err, OnOk, OnErr, ap, sym, ◌∙◌}
 use Rattle.std.proofs.lemmas.List.{map_push}
 use Rattle.std.specs.declared.alloc.AllocError.{AllocError}

@@ -210,8 +210,8 @@ impl Topology {
     /// Takes a row of any kind, where it can. A range needs a first address that isn't above its
     /// last.
     ///
-    /// The first of these is answered: `Label` exactly where a range or a place names a label that no
-    /// module row has, `Overlap` exactly where a range has an address in common with a held one,
+    /// The first of these is answered: `Label` exactly where a range or a place names a label that
+    /// no module row has, `Overlap` exactly where a range has an address in common with a held one,
     /// `Full` exactly where `MOST_ROWS` rows are held. The rows stay after a refusal.
     pub fn add(&mut self, row: Row) -> Result<(), TopologyRefused>
         requires { IsTrue (is_upright row) }

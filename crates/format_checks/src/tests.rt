@@ -137,8 +137,8 @@ fn writes_each_entry(rt: HostRuntime) -> Result<(), Fail> {
 
 #[test]
 fn refuses_what_is_no_entry(rt: HostRuntime) {
-    // The kind, the name's kind, the class, the labels of no byte, of 33 bytes and with a space, the
-    // flag, the page 2 ^ 52, and the weights 0 and 32,769.
+    // The kind, the name's kind, the class, the labels of no byte, of 33 bytes and with a space,
+    // the flag, the page 2 ^ 52, and the weights 0 and 32,769.
     for (place, byte) in [
         (0, 5),
         (1, 0),

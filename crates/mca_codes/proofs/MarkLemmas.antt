@@ -3,7 +3,7 @@ use Rattle.std.proofs.Common.{ℕ, ◌≡◌, ◌<◌, ◌^◌, ◌+◌, ◌*◌
 use Rattle.std.specs.List.{find}
 use Rattle.std.specs.Option.{option_map_or}
 use Rattle.ras_base.specs.Bits.{bits}
-use Rattle.mca_codes.specs.Codes.{CodeRow, plain, numbers, pattern, fits_code, read_by, reading, code_of_rows, code_rows, generic_cache_of, tlb_of, memory_of, cache_of, bus_of}
+use Rattle.mca_codes.specs.Codes.{CodeRow, plain, numbers, pattern, fits_code, read_by, reading, code_of_rows, code_rows, generic_cache_of, tlb_of, memory_code, cache_of, bus_of}
 use Rattle.mca_codes.specs.Marks.{mark_of_kind, mark_of_number, unfiltered_code, is_srao_code, is_srar_code}
 use Rattle.mca_codes.specs.declared.codes.Code.TheVariants.{Other, InternalUnclassified}
 use Rattle.mca_codes.specs.declared.marks.Mark.TheVariants.{Neither}
@@ -35,7 +35,7 @@ tlb_mark code small fit = grind (arith, tlb_bits code small, unfiltered_bits cod
 bus_mark : (code : ℕ) → code < 2 ^ 16 → fits_code code (pattern 0xe800 0x0800 bus_of) ≡ true → Neither ≡ mark_of_number code
 bus_mark code small fit = grind (arith, bus_bits code small, unfiltered_bits code small)
 
-memory_mark : (code : ℕ) → code < 2 ^ 16 → fits_code code (pattern 0xef80 0x0080 memory_of) ≡ true → mark_of_kind (memory_of code) ≡ mark_of_number code
+memory_mark : (code : ℕ) → code < 2 ^ 16 → fits_code code (pattern 0xef80 0x0080 memory_code) ≡ true → mark_of_kind (memory_code code) ≡ mark_of_number code
 memory_mark code small fit = grind (arith, memory_bits code small, unfiltered_bits code small)
 
 srao_test : (u r t l : ℕ) → u ≡ 256 + 16 * r + 4 * t + l → r < 16 → t < 4 → l < 4 → (r == 7 && t == 2 && l == 2) ≡ is_srao_code u
@@ -55,7 +55,7 @@ cache_mark code small fit =
       srar_test (unfiltered_code code) (bits 4 4 code) (bits 2 2 code) (bits 0 2 code) (cache_sum code small fit) (omega arith) (omega arith) (omega arith),
     ) refl
 
-other_mark : (code : ℕ) → code < 2 ^ 16 → fits_code code (pattern 0xef80 0x0080 memory_of) ≡ false → fits_code code (pattern 0xef00 0x0100 cache_of) ≡ false → Neither ≡ mark_of_number code
+other_mark : (code : ℕ) → code < 2 ^ 16 → fits_code code (pattern 0xef80 0x0080 memory_code) ≡ false → fits_code code (pattern 0xef00 0x0100 cache_of) ≡ false → Neither ≡ mark_of_number code
 other_mark code small no_memory no_cache = grind (arith, memory_bits code small, cache_bits code small, unfiltered_bits code small)
 
 agrees : (code : ℕ) → code < 2 ^ 16 → Agrees code code_rows

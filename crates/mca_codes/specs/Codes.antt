@@ -43,8 +43,8 @@ abbrev pub tlb_of : ℕ → Code
 tlb_of code = Tlb (bits 2 2 code) (bits 0 2 code) (is_filtered code)
 
 -- 000F 0000 1MMM CCCC: memory controller errors
-abbrev pub memory_of : ℕ → Code
-memory_of code = Memory (bits 4 3 code) (bits 0 4 code) (is_filtered code)
+abbrev pub memory_code : ℕ → Code
+memory_code code = Memory (bits 4 3 code) (bits 0 4 code) (is_filtered code)
 
 -- 000F 0001 RRRR TTLL: cache hierarchy errors
 abbrev pub cache_of : ℕ → Code
@@ -73,7 +73,7 @@ abbrev pub compound_rows : List CodeRow
 compound_rows =
     pattern 0xeffc 0x000c generic_cache_of
     ∷ pattern 0xeff0 0x0010 tlb_of
-    ∷ pattern 0xef80 0x0080 memory_of
+    ∷ pattern 0xef80 0x0080 memory_code
     ∷ pattern 0xef00 0x0100 cache_of
     ∷ pattern 0xe800 0x0800 bus_of
     ∷ []

@@ -58,7 +58,7 @@ fn read_input(input: Option<Stdin>, buf: &mut [u8]) -> io::Result<usize>
     read_retrying(&mut input, buf)
 }
 
-// One read. Where a signal interrupted it, it has taken nothing and is made again.
+/// One read. Where a signal interrupted it, it has taken nothing and is made again.
 pub fn read_retrying<R: Read>(reader: &mut R, buf: &mut [u8]) -> io::Result<usize>
     ensures within { ReadsAtMost result buf.new }
     ensures taken { ReadConsumes (R.remaining reader.old) (R.remaining reader.new) result buf.new }

@@ -189,12 +189,14 @@ fn within_limit(limit: u64, place: u64, bytes: &[u8]) -> io::Result<&[u8]>
     Ok(&bytes[..room as usize])
 }
 
-/// The limit on the size of the files that the program writes, which is the greatest number where none is known.
+/// The limit on the size of the files that the program writes, which is the greatest number where
+/// none is known.
 pub fn size_limit(rt: &HostRuntime) -> u64 {
     number_told(rt, "/proc/self/limits", "Max file size").unwrap_or(u64::MAX)
 }
 
-/// How many bytes standard output takes before it comes to a limit on the size of files. Only a file has one.
+/// How many bytes standard output takes before it comes to a limit on the size of files. Only a
+/// file has one.
 pub fn room_of_output(rt: &HostRuntime, limit: u64) -> u64 {
     if limit == u64::MAX {
         return u64::MAX;

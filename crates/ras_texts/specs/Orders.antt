@@ -23,14 +23,14 @@ abbrev pub module_line : Bytes → List ℕ
 module_line label = line_with (codes "order module label=" ++ label_text label)
 
 -- the label of the module at a place
-abbrev pub label_at : List (Bytes × Module) → ℕ → Bytes
-label_at modules place = option_map_or (λ (row : Bytes × Module). row.0) (slice_get modules place) []
+abbrev pub module_label : List (Bytes × Module) → ℕ → Bytes
+module_label modules place = option_map_or (λ (row : Bytes × Module). row.0) (slice_get modules place) []
 
 -- the line of an order, where these modules have rows
 abbrev pub order_line : List (Bytes × Module) → Order → List ℕ
 order_line modules (Ordered.TheVariants.Soft page) = state_line page Soft
 order_line modules (Ordered.TheVariants.Hard page) = state_line page Hard
-order_line modules (Ordered.TheVariants.Module place) = module_line (label_at modules place)
+order_line modules (Ordered.TheVariants.Module place) = module_line (module_label modules place)
 
 abbrev pub order_lines : List (Bytes × Module) → List Order → List ℕ
 order_lines modules orders = flat_map (order_line modules) orders

@@ -3,7 +3,7 @@
 ghost use Rattle.std.specs.Prelude.{◌≡◌, ◌++◌, ◌+◌, ◌≤◌, IfOk, OnOk, length, vec_capacity, vec_len};
 ghost use Rattle.std.specs.List.{flat_map};
 ghost use Rattle.ras_texts.specs.OrderRoom.{HasRoomFor, StaysWithin};
-ghost use Rattle.ras_texts.specs.Orders.{label_at, module_line, order_line, order_lines, page_line};
+ghost use Rattle.ras_texts.specs.Orders.{module_label, module_line, order_line, order_lines, page_line};
 ghost use Rattle.ras_texts.specs.Orders.{replaced_line, standing_lines, state_line};
 ghost use Rattle.ras_texts.specs.Text.{address_text, label_text, line_with};
 
@@ -82,13 +82,13 @@ fn push_order(text: &mut Vec<u8>, order: Order, account: &Account)
     match order {
         Order::Soft(page) => push_state(text, page, PageState::Soft),
         Order::Hard(page) => push_state(text, page, PageState::Hard),
-        Order::Module(place) => push_module(text, &label_at(account, place)),
+        Order::Module(place) => push_module(text, &module_label(account, place)),
     }
 }
 
 // The label of the module at a place.
-fn label_at(account: &Account, place: usize) -> Label
-    ensures { result ≡ label_at account.now.state.modules place }
+fn module_label(account: &Account, place: usize) -> Label
+    ensures { result ≡ module_label account.now.state.modules place }
 {
     if place < account.modules_len() {
         account.module(place).label

@@ -165,7 +165,8 @@ module _ {K R : Type 0} where
       let all : after ≡ filter {X = K × R} (λ e. test e.0) (take held es) ++ drop held es = kept ∙ kept-append test held es within in
       omega (arith, within, ap length all, length-append (filter {X = K × R} (λ e. test e.0) (take held es)) (drop held es), length-drop held es)
 
-  -- what a map's `retain` leaves, where the closure counts down and passes all once it has come to 0
+  -- what a map's `retain` leaves, where the closure counts down and passes all once it has come to
+  -- 0
   pub kept-RetainsPairs : {F : Type 0} (T : F → K → R → Bool → R → F → Type 0) (test : F → K → Bool) (left : F → ℕ)
       → ((f : F) (k : K) (row : R) (b : Bool) (row' : R) (g : F) → T f k row b row' g → (b ≡ (nat_eq (left f) 0 || test f k)) × (row' ≡ row) × (left g ≡ left f - 1) × (test g ≡ test f))
       → (es : List (K × R)) (f : F) (held : ℕ) → left f ≡ held → (kept : List (K × R)) → RetainsPairs T f es kept → kept ≡ kept_entries (test f) held es

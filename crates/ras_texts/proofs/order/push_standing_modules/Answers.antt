@@ -1,5 +1,5 @@
 use Rattle.std.proofs.Common.{◌≡◌, ◌∙◌, ◌++◌, [], ap, refl, List, ℕ}
-use Rattle.ras_account.specs.Parts.{row_of}
+use Rattle.ras_account.specs.Rows.{row_of}
 use Rattle.ras_texts.specs.Orders.{module_line, replaced_line}
 use Rattle.ras_texts.proofs.TextLemmas.{line_more, no_line_more}
 use Rattle.ras_texts.proofs.order.push_standing_modules.Goals.{then-row+in_ok-reserve, else-row}
