@@ -1,8 +1,7 @@
 //! Calls of every kind, numbered together: the chosen one fails, and so do all past a stop.
-use super::steps::{Step, left, make, new_board, print, set_file, size, sync, write};
+use super::steps::{Step, board_with, left, make, new_board, print, size, sync, write};
 use crate::write_sync_print;
 use board_core::{Access, DiskCall, Failed, FileNo, MemBoard, MemSource, Pick, Reg, Source};
-use std::alloc::Global;
 use std::test::Fail;
 
 // One call of each kind.
@@ -19,17 +18,11 @@ const STEPS: [Step; 10] = [
     Step::Print(b"e"),
 ];
 
-fn board_with_file(alloc: Global) -> Result<MemBoard, Fail> {
-    let mut board = new_board(alloc, 0)?;
-    set_file(alloc, &mut board, FileNo::One, b"abc")?;
-    Ok(board)
-}
-
 // The call that fails changes neither files nor device nor output, and all are listed.
 #[test]
 fn fails_at_the_chosen_call(rt: HostRuntime) -> Result<(), Fail> {
     for chosen in 1..=10 {
-        let mut board = board_with_file(rt.alloc())?;
+        let mut board = board_with(rt.alloc(), FileNo::One, b"abc")?;
         board.fail_at(chosen)?;
         for (call, step) in (1..).zip(STEPS) {
             assert_eq!(rt;
@@ -65,7 +58,7 @@ fn fails_at_the_chosen_call(rt: HostRuntime) -> Result<(), Fail> {
 #[test]
 fn stops_after_each_call(rt: HostRuntime) -> Result<(), Fail> {
     for calls in 0..=10 {
-        let mut board = board_with_file(rt.alloc())?;
+        let mut board = board_with(rt.alloc(), FileNo::One, b"abc")?;
         board.stop_after(calls);
         for (call, step) in (1..).zip(STEPS) {
             assert_eq!(rt;

@@ -1,5 +1,5 @@
 //! The two files of a board in memory: what reads give, and what a stop leaves.
-use super::steps::{left, new_board, print, read, set_file, size, sync, write};
+use super::steps::{board_with, left, new_board, print, read, size, sync, write};
 use board_core::{DiskCall, FileNo, MemBoard, Pick, write_through};
 use std::alloc::Global;
 use std::process::Abort;
@@ -7,8 +7,7 @@ use std::test::Fail;
 
 #[test]
 fn reads_and_writes(rt: HostRuntime) -> Result<(), Fail> {
-    let mut board = new_board(rt.alloc(), 0)?;
-    set_file(rt.alloc(), &mut board, FileNo::Zero, b"abc")?;
+    let mut board = board_with(rt.alloc(), FileNo::Zero, b"abc")?;
     assert_eq!(rt; size(&mut board, FileNo::Zero), Some(3));
 
     // In the middle, across the end, and at the end.

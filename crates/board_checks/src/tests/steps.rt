@@ -1,7 +1,5 @@
 //! Calls of a board in memory, made through functions that state nothing, so that each test stays
 //! short to prove.
-ghost use Rattle.std.specs.Prelude.{◌≡◌};
-
 use board_core::{Board, BoardPut, FileNo, MemBoard, Pick, Reg};
 use erst_store::Store;
 use std::alloc::Global;
@@ -50,12 +48,11 @@ pub fn left(board: MemBoard, alloc: Global, pick: Pick) -> Result<MemBoard, Fail
     Ok(board.left(alloc, pick)?)
 }
 
-/// Puts bytes into a file of a new board.
-pub fn set_file(alloc: Global, board: &mut MemBoard, file: FileNo, bytes: &[u8]) -> Result<(), Fail>
-    requires { board.old.made ≡ 0 }
-{
+/// A new board over an empty store with these bytes in a file.
+pub fn board_with(alloc: Global, file: FileNo, bytes: &[u8]) -> Result<MemBoard, Fail> {
+    let mut board = MemBoard::new(alloc, Store::new(alloc), 0)?;
     board.set_file(file, bytes.to_vec(alloc)?);
-    Ok(())
+    Ok(board)
 }
 
 pub fn size(board: &mut MemBoard, file: FileNo) -> Option<u64> {
