@@ -1,5 +1,5 @@
 -- A list of items that grows.
-use Rattle.std.proofs.Common.{◌≡◌, ℕ, ◌+◌, ◌<◌, ◌∙◌, List, [], ◌∷◌, ◌++◌, map, length, take, get_or, Option, Some, Ok, sym, ap, subst, arith}
+use Rattle.std.proofs.Common.{◌≡◌, ℕ, ◌+◌, ◌<◌, ◌∙◌, List, [], ◌∷◌, ◌++◌, map, length, take, get_or, Option, Some, Result, Ok, Err, IfOk, sym, ap, subst, arith}
 use Rattle.std.specs.Prelude.{All}
 use Rattle.std.specs.List.{range_with_len}
 use Rattle.std.proofs.lemmas.List.{take_more, map-append}
@@ -62,3 +62,8 @@ record_label rows seconds bytes i below =
     let long : i < length (map f (range_with_len 0 n)) = omega (arith, length-map-range_with_len f 0 n) in
     ap (λ (found : Option Item). option_map (λ (item : Item). item.label) found)
     (slice_get-get_or (map f (range_with_len 0 n)) i (f i) long ∙ ap (λ x. Some x) (get_or-map-range_with_len f 0 n i i (f i) below (omega arith)))
+
+-- what an answer is equal to may be said in other words
+pub ok_is : {T E : Type 0} (answer : Result T E) (a b : T) → IfOk answer (λ x. x ≡ a) → a ≡ b → IfOk answer (λ x. x ≡ b)
+ok_is (Ok value) a b is same = is ∙ same
+ok_is (Err error) a b is same = tt

@@ -1,23 +1,15 @@
 -- One section more, and a fact that is valid.
 use Rattle.std.proofs.Common.{ℕ, ◌≡◌, length, arith, ap, ◌∙◌}
 use Rattle.std.proofs.lemmas.List.FromFn.{length-map-range_with_len}
-use Rattle.cper_records.specs.Descriptors.{section_severity, section_guid, section_bytes}
 use Rattle.ras_facts.specs.Reported.{record_item}
 use Rattle.ras_facts.specs.declared.items.Item.{Item}
-use Rattle.ras_facts.proofs.ItemLemmas.{numbered_more, item_of_read}
+use Rattle.ras_facts.proofs.ItemLemmas.{numbered_more}
 use Rattle.ras_facts.proofs.record.fact_of_record.Goals as goal
 
 pub loop-i-preserved : goal.loop-i-preserved
 loop-i-preserved c =
-    let rows = c.args.topology.now in
-    let bytes = c.args.rec.now in
-    let i = c.loop-i.i in
-    let read = c.section.result in
-    numbered_more (record_item rows bytes) i c.loop-i.items _ c.in_ok-section_item.field-0 c.loop-i.invariant c.in_ok-push.ensures.ok
-    (c.in_ok-section_item.ensures.item
-    ∙ item_of_read rows read.severity (section_severity bytes i) read.guid (section_guid bytes i) read.bytes.now (section_bytes bytes i)
-    read.section c.section.ensures.severity c.section.ensures.guid c.section.ensures.bytes c.section.ensures.section)
-    c.in_ok-section_item.ensures.valid
+    numbered_more (record_item c.args.topology.now c.args.rec.now) c.loop-i.i c.loop-i.items _ c.in_ok-record_item.field-0
+    c.loop-i.invariant c.in_ok-push.ensures.ok c.in_ok-record_item.ensures.item c.in_ok-record_item.ensures.valid
 
 pub returns-clause-valid : goal.returns-clause-valid
 returns-clause-valid c =

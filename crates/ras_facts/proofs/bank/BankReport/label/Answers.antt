@@ -1,14 +1,10 @@
-use Rattle.std.proofs.Common.{◌≡◌, [], ◌∙◌, ap, unwrap_or, Result, Ok, Err, IfOk}
+use Rattle.std.proofs.Common.{◌≡◌, [], ◌∙◌, ap, unwrap_or}
 use Rattle.mca_codes.specs.Codes.{code_of_rows}
 use Rattle.mca_status.specs.Registers.{error_code}
 use Rattle.dimm_topology.specs.Owners.{owner_by_rows, bank_location}
 use Rattle.ras_facts.specs.Facts.{status_in}
+use Rattle.ras_facts.proofs.ItemLemmas.{ok_is}
 use Rattle.ras_facts.proofs.bank.BankReport.label.Goals as goal
-
--- what an answer is equal to may be said in other words
-ok_is : {T E : Type 0} (r : Result T E) (a b : T) → IfOk r (λ x. x ≡ a) → a ≡ b → IfOk r (λ x. x ≡ b)
-ok_is (Ok value) a b is same = is ∙ same
-ok_is (Err error) a b is same = tt
 
 pub returns-in-Some : goal.returns-in-Some
 returns-in-Some c =

@@ -1,0 +1,15 @@
+//! Panic records: the report of a machine-check bank as a record that a dying machine can leave in
+//! its record store.
+//!
+//! A panic record's fact is the bank's own, so that an error that is reported by its bank and by
+//! such a record has one name.
+#![tactic(auto)]
+
+mod making;
+mod places;
+mod reading;
+mod stored;
+
+pub use making::{PanicRefused, panic_record};
+pub use reading::panic_of;
+pub use stored::fact_of_stored;

@@ -1,0 +1,31 @@
+//! The facts of the records of a store.
+
+ghost use Rattle.std.specs.Prelude.{◌≡◌, IfOk};
+ghost use Rattle.ras_facts.specs.Valid.{IsValidFact};
+ghost use Rattle.ras_panic.specs.Reading.{stored_fact};
+
+use crate::reading::panic_of;
+use cper_records::Record;
+use dimm_topology::Topology;
+use ras_base::NoMemory;
+use ras_facts::{Fact, fact_of_bank, fact_of_record};
+use std::alloc::Global;
+
+/// The fact that a record of the store gives, read at this time: the bank's own of a panic record,
+/// with the seconds of the report, and that of `fact_of_record` of every other record.
+pub fn fact_of_stored(
+    alloc: Global,
+    seconds: u64,
+    rec: &Record<'_>,
+    topology: &Topology,
+) -> Result<Fact, NoMemory>
+    ensures fact { IfOk result (λ fact. fact ≡ stored_fact topology.now seconds rec.now) }
+    ensures valid { IfOk result IsValidFact }
+{
+    if let Some(report) = panic_of(rec) {
+        if let Some(fact) = fact_of_bank(alloc, &report, topology)? {
+            return Ok(fact);
+        }
+    }
+    fact_of_record(alloc, seconds, rec, topology)
+}
