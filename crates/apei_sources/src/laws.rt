@@ -37,13 +37,19 @@ pub fn entries_fill_the_data()
 /// its header and its data alone; of a block of status 0 on its status alone. Other bytes change
 /// nothing.
 pub fn only_own_bytes()
-    ensures hest { (bytes others : List ℕ) → HEST_FIXED_LENGTH ≤ table_length bytes → table_length bytes ≤ length bytes
-        → take (table_length bytes) others ≡ take (table_length bytes) bytes → hest_of others ≡ hest_of bytes }
-    ensures bert { (bytes others : List ℕ) → BERT_FIXED_LENGTH ≤ table_length bytes → table_length bytes ≤ length bytes
-        → take (table_length bytes) others ≡ take (table_length bytes) bytes → bert_of others ≡ bert_of bytes }
+    ensures hest { (bytes others : List ℕ) → HEST_FIXED_LENGTH ≤ table_length bytes
+        → table_length bytes ≤ length bytes
+        → take (table_length bytes) others ≡ take (table_length bytes) bytes
+        → hest_of others ≡ hest_of bytes }
+    ensures bert { (bytes others : List ℕ) → BERT_FIXED_LENGTH ≤ table_length bytes
+        → table_length bytes ≤ length bytes
+        → take (table_length bytes) others ≡ take (table_length bytes) bytes
+        → bert_of others ≡ bert_of bytes }
     ensures block { (bytes others : List ℕ) → BLOCK_HEADER_LENGTH + data_length bytes ≤ length bytes
-        → take (BLOCK_HEADER_LENGTH + data_length bytes) others ≡ take (BLOCK_HEADER_LENGTH + data_length bytes) bytes
+        → take (BLOCK_HEADER_LENGTH + data_length bytes) others
+        ≡ take (BLOCK_HEADER_LENGTH + data_length bytes) bytes
         → block_of others ≡ block_of bytes }
-    ensures silent { (bytes others : List ℕ) → BLOCK_HEADER_LENGTH ≤ length bytes → BLOCK_HEADER_LENGTH ≤ length others
+    ensures silent { (bytes others : List ℕ) → BLOCK_HEADER_LENGTH ≤ length bytes
+        → BLOCK_HEADER_LENGTH ≤ length others
         → block_status bytes ≡ 0 → block_status others ≡ 0 → block_of others ≡ block_of bytes }
 {}

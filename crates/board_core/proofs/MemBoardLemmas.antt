@@ -4,7 +4,7 @@ use Rattle.std.specs.Prelude.{IfOk, Option, None}
 use Rattle.ras_base.specs.LittleEndian.{AreBytes}
 use Rattle.erst_store.specs.declared.store.PutRefused.{PutRefused}
 use Rattle.erst_store.specs.Actions.{range_length}
-use Rattle.erst_store.specs.ActionLemmas.{IsDevice-act, IsDevice-value, IsDevice-range, IsDevice-put}
+use Rattle.erst_store.specs.KeptLemmas.{IsDevice-act, IsDevice-value, IsDevice-range, IsDevice-put}
 use Rattle.erst_store.specs.DeviceLaws.{IsDevice}
 use Rattle.std.proofs.lemmas.Bool.{cases_lt}
 use Rattle.erst_store.specs.Store.{Stored, refusal_of}

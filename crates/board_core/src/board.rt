@@ -78,9 +78,11 @@ pub trait Board {
 
     /// The file's length in bytes.
     fn size(&mut self, file: FileNo) -> Result<u64, Failed>
-        ensures length { IfOk result (λ n. IfSome (told self.old) (λ t. n ≡ length (file_of file t))) }
+        ensures length { IfOk result (λ n. IfSome (told self.old) (λ t. n
+            ≡ length (file_of file t))) }
         ensures told { OnOk result (Steps (with_call (Size file)) (told self.old) (told self.new)) }
-        ensures failed { OnErr result (Relates (MayList (Size file)) (told self.old) (told self.new)) }
+        ensures failed { OnErr result
+            (Relates (MayList (Size file)) (told self.old) (told self.new)) }
         ensures stops { Passes Same (clock self.old) (clock self.new) }
         ensures cause { FailsAs disk_call (faults self.old) (faults self.new) result };
 
@@ -88,10 +90,13 @@ pub trait Board {
     /// `buf` has room for only where the file ends.
     fn read_at(&mut self, file: FileNo, place: u64, buf: &mut [u8]) -> Result<usize, Failed>
         ensures within { IfOk result (λ n. n ≤ length buf.old) }
-        ensures read { IfOk result (λ n. IfSome (told self.old) (λ t. Reads place n buf.new (file_of file t))) }
-        ensures told { OnOk result (Steps (with_call (ReadAt file place (length buf.old))) (told self.old)
+        ensures read { IfOk result
+            (λ n. IfSome (told self.old) (λ t. Reads place n buf.new (file_of file t))) }
+        ensures told { OnOk result
+            (Steps (with_call (ReadAt file place (length buf.old))) (told self.old)
             (told self.new)) }
-        ensures failed { OnErr result (Relates (MayList (ReadAt file place (length buf.old))) (told self.old)
+        ensures failed { OnErr result
+            (Relates (MayList (ReadAt file place (length buf.old))) (told self.old)
             (told self.new)) }
         ensures stops { Passes Same (clock self.old) (clock self.new) }
         ensures cause { FailsAs disk_call (faults self.old) (faults self.new) result };
@@ -104,17 +109,21 @@ pub trait Board {
     /// between the old one and the new one.
     fn write_at(&mut self, file: FileNo, place: u64, bytes: &[u8]) -> Result<(), Failed>
         requires { IfSome (told self.old) (λ t. place ≤ length (file_of file t)) }
-        ensures told { OnOk result (Steps (after_write file place bytes.now) (told self.old) (told self.new)) }
-        ensures failed { OnErr result (Relates (FailsWrite file place (length bytes.now)) (told self.old)
+        ensures told { OnOk result
+            (Steps (after_write file place bytes.now) (told self.old) (told self.new)) }
+        ensures failed { OnErr result
+            (Relates (FailsWrite file place (length bytes.now)) (told self.old)
             (told self.new)) }
-        ensures stops { Passes (InFile file (Torn place (length bytes.now))) (clock self.old) (clock self.new) }
+        ensures stops { Passes (InFile file (Torn place (length bytes.now))) (clock self.old)
+            (clock self.new) }
         ensures cause { FailsAs disk_call (faults self.old) (faults self.new) result };
 
     /// Makes the file durable: from then on, and until its next write, a stop leaves it as a read
     /// gives it. After `Failed` it is not known to be.
     fn sync(&mut self, file: FileNo) -> Result<(), Failed>
         ensures told { OnOk result (Steps (with_call (Sync file)) (told self.old) (told self.new)) }
-        ensures failed { OnErr result (Relates (MayList (Sync file)) (told self.old) (told self.new)) }
+        ensures failed { OnErr result
+            (Relates (MayList (Sync file)) (told self.old) (told self.new)) }
         ensures stops { Passes Same (clock self.old) (clock self.new) }
         ensures synced { OnOk result (IfSome (told self.old)
             (λ t. IsSynced file (file_of file t) (clock self.new))) }
@@ -122,9 +131,12 @@ pub trait Board {
 
     /// Reads a register of the device.
     fn reg_read(&mut self, reg: Reg) -> Result<u64, Failed>
-        ensures value { IfOk result (λ n. IfSome (told self.old) (λ t. n ≡ register_in reg (device_of t))) }
-        ensures told { IfOk result (λ n. Steps (with_access (Read reg n)) (told self.old) (told self.new)) }
-        ensures failed { OnErr result (Relates (MayListAccess (Read reg 0)) (told self.old) (told self.new)) }
+        ensures value { IfOk result (λ n. IfSome (told self.old) (λ t. n
+            ≡ register_in reg (device_of t))) }
+        ensures told { IfOk result
+            (λ n. Steps (with_access (Read reg n)) (told self.old) (told self.new)) }
+        ensures failed { OnErr result
+            (Relates (MayListAccess (Read reg 0)) (told self.old) (told self.new)) }
         ensures stops { Passes Same (clock self.old) (clock self.new) }
         ensures cause { FailsAs device_call (faults self.old) (faults self.new) result }
         ensures device { IfSome (told self.old) (λ t. IsDevice (device_of t)) };
@@ -137,9 +149,11 @@ pub trait Board {
     fn reg_write(&mut self, reg: Reg, value: u64) -> Result<(), Failed>
         ensures told { OnOk result (Steps (λ t. with_access (Write reg value)
             (on_device (after_reg_write reg value) t)) (told self.old) (told self.new)) }
-        ensures failed { OnErr result (Relates (FailsAccess (Write reg value) (after_reg_write reg value))
+        ensures failed { OnErr result
+            (Relates (FailsAccess (Write reg value) (after_reg_write reg value))
             (told self.old) (told self.new)) }
-        ensures stops { Passes (InStore (StoreBy (after_reg_write reg value) (told self.old))) (clock self.old)
+        ensures stops { Passes (InStore (StoreBy (after_reg_write reg value) (told self.old)))
+            (clock self.old)
             (clock self.new) }
         ensures cause { FailsAs device_call (faults self.old) (faults self.new) result }
         ensures device { IfSome (told self.old) (λ t. IsDevice (device_of t)) };
@@ -149,9 +163,11 @@ pub trait Board {
         requires { place + length buf.old ≤ range_length }
         ensures read { OnOk result (IfSome (told self.old)
             (λ t. buf.new ≡ take (length buf.old) (drop place (device_of t).range))) }
-        ensures told { OnOk result (Steps (with_access (RangeRead place (length buf.old))) (told self.old)
+        ensures told { OnOk result
+            (Steps (with_access (RangeRead place (length buf.old))) (told self.old)
             (told self.new)) }
-        ensures failed { OnErr result (Relates (MayListAccess (RangeRead place (length buf.old))) (told self.old)
+        ensures failed { OnErr result
+            (Relates (MayListAccess (RangeRead place (length buf.old))) (told self.old)
             (told self.new)) }
         ensures stops { Passes Same (clock self.old) (clock self.new) }
         ensures cause { FailsAs device_call (faults self.old) (faults self.new) result }
@@ -176,33 +192,44 @@ pub trait Board {
     /// was. After `Failed` the record was put or wasn't, and a stop during the call leaves the
     /// store as before it or as after it.
     fn put(&mut self, id: u64, bytes: &[u8]) -> Result<(), BoardPut>
-        ensures told { OnOk result (Steps (on_device (after_put id bytes.now)) (told self.old) (told self.new)) }
-        ensures answers { IfSome (told self.old) (λ t. AnswersPut result (refusal_of id bytes.now t.here.store)) }
+        ensures told { OnOk result
+            (Steps (on_device (after_put id bytes.now)) (told self.old) (told self.new)) }
+        ensures answers { IfSome (told self.old)
+            (λ t. AnswersPut result (refusal_of id bytes.now t.here.store)) }
         ensures refused { KeepsAtRefusal result (told self.old) (told self.new) }
-        ensures failed { OnErr result (Relates (MayAct (after_put id bytes.now)) (told self.old) (told self.new)) }
-        ensures stops { Passes (InStore (StoreBy (after_put id bytes.now) (told self.old))) (clock self.old)
+        ensures failed { OnErr result
+            (Relates (MayAct (after_put id bytes.now)) (told self.old) (told self.new)) }
+        ensures stops { Passes (InStore (StoreBy (after_put id bytes.now) (told self.old)))
+            (clock self.old)
             (clock self.new) }
-        ensures cause { FailsAs device_call (faults self.old) (faults self.new) (put_failure result) }
+        ensures cause { FailsAs device_call (faults self.old) (faults self.new)
+            (put_failure result) }
         ensures device { IfSome (told self.old) (λ t. IsDevice (device_of t)) };
 
     /// Appends `bytes` to the output. After `Failed` a beginning of them, maybe nothing, was
     /// appended, and a stop during the call leaves such a beginning too.
     fn print(&mut self, bytes: &[u8]) -> Result<(), Failed>
         ensures told { OnOk result (Steps (after_print bytes.now) (told self.old) (told self.new)) }
-        ensures failed { OnErr result (Relates (FailsPrint bytes.now) (told self.old) (told self.new)) }
+        ensures failed { OnErr result
+            (Relates (FailsPrint bytes.now) (told self.old) (told self.new)) }
         ensures stops { Passes (InOut (Begins bytes.now)) (clock self.old) (clock self.new) }
-        ensures printed { OnOk result (Leads (InOut (Appends bytes.now)) (clock self.old) (clock self.new)) }
+        ensures printed { OnOk result
+            (Leads (InOut (Appends bytes.now)) (clock self.old) (clock self.new)) }
         ensures cause { FailsAs print_call (faults self.old) (faults self.new) result };
 
     /// What the board tells is among what a stop now may leave.
-    ghost told_may_be_left: { (board : Self) (t : Told) → told board ≡ Some t → LeftNow (clock board) t.here };
+    ghost told_may_be_left: { (board : Self) (t : Told) → told board ≡ Some t
+        → LeftNow (clock board) t.here };
 
     /// Between calls a stop leaves the text that was printed, no less and no more.
-    ghost text_is_left: { (board : Self) (t : Told) (left : Left) → told board ≡ Some t → LeftNow (clock board) left → left.out ≡ t.here.out };
+    ghost text_is_left: { (board : Self) (t : Told) (left : Left) → told board ≡ Some t
+        → LeftNow (clock board) left → left.out ≡ t.here.out };
 
     /// Between calls a stop leaves the record store that is told.
-    ghost store_is_left: { (board : Self) (t : Told) (left : Left) → told board ≡ Some t → LeftNow (clock board) left → left.store ≡ t.here.store };
+    ghost store_is_left: { (board : Self) (t : Told) (left : Left) → told board ≡ Some t
+        → LeftNow (clock board) left → left.store ≡ t.here.store };
 
     /// What may be left from a moment on may be left from every earlier one on.
-    ghost counts_earlier: { (board : Self) (s t : ℕ) (left : Left) → s ≤ t → (clock board).may_leave_since t left → (clock board).may_leave_since s left };
+    ghost counts_earlier: { (board : Self) (s t : ℕ) (left : Left) → s ≤ t
+        → (clock board).may_leave_since t left → (clock board).may_leave_since s left };
 }

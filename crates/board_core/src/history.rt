@@ -71,7 +71,8 @@ impl Model for History {
     } };
 
     ghost invariant = { λ h.
-        after_changes (changes_of h.events.items) (new_held (first_bytes h.zero) (first_bytes h.one) h.first_store h.slow)
+        after_changes (changes_of h.events.items)
+        (new_held (first_bytes h.zero) (first_bytes h.one) h.first_store h.slow)
         ≡ held_with h.zero.bytes.items h.one.bytes.items h.device h.out.items };
 }
 
@@ -84,7 +85,8 @@ impl History {
         store: Store,
         slow: u64,
     ) -> Result<History, NoMemory>
-        ensures new { IfOk result (λ history. history ≡ new_past (new_held file0.items file1.items store slow)) }
+        ensures new { IfOk result (λ history. history
+            ≡ new_past (new_held file0.items file1.items store slow)) }
         ensures device { IfOk result (λ history. IsDevice (device_in (held_of history))) }
     {
         let first_store = store.copy(alloc)?;
@@ -157,7 +159,8 @@ impl History {
     /// Copies bytes of the device's range from a place on into a buffer, all of it.
     pub fn range_read(&self, place: u32, buf: &mut [u8])
         requires { place + length buf.old ≤ range_length }
-        ensures { buf.new ≡ take (length buf.old) (drop place (device_in (held_of self.now)).range) }
+        ensures { buf.new
+            ≡ take (length buf.old) (drop place (device_in (held_of self.now)).range) }
     {
         self.device.range_read(place, buf);
     }
@@ -199,7 +202,8 @@ impl History {
 
     /// Writes a number to a register of the device.
     pub fn write_register(&mut self, reg: Reg, value: u64) -> Result<(), AllocError>
-        ensures ok { OnOk result (self.new ≡ with_change (acted (wrote_register reg value)) self.old) }
+        ensures ok { OnOk result (self.new
+            ≡ with_change (acted (wrote_register reg value)) self.old) }
         ensures err { OnErr result (self.new ≡ self.old) }
     {
         self.events.reserve(1)?;
@@ -211,7 +215,8 @@ impl History {
     /// Writes bytes into the device's range from a place on.
     pub fn range_write(&mut self, place: u32, bytes: &[u8]) -> Result<(), AllocError>
         requires { place + length bytes.now ≤ range_length }
-        ensures ok { OnOk result (self.new ≡ with_change (acted (wrote_range place bytes.now)) self.old) }
+        ensures ok { OnOk result (self.new
+            ≡ with_change (acted (wrote_range place bytes.now)) self.old) }
         ensures err { OnErr result (self.new ≡ self.old) }
     {
         let kept = Vec::from_slice(self.alloc, bytes)?;
@@ -223,8 +228,10 @@ impl History {
     /// Puts a record into the store, and answers what the store answers, unless the record of the
     /// put can't be kept.
     pub fn put(&mut self, id: u64, bytes: &[u8]) -> Result<Result<(), PutRefused>, AllocError>
-        ensures past { IfOk result (λ put. self.new ≡ past_after put (acted (put_record id bytes.now)) self.old) }
-        ensures answers { IfOk result (λ put. Answers put (refusal_of id bytes.now (held_of self.old).here.store)) }
+        ensures past { IfOk result (λ put. self.new
+            ≡ past_after put (acted (put_record id bytes.now)) self.old) }
+        ensures answers { IfOk result
+            (λ put. Answers put (refusal_of id bytes.now (held_of self.old).here.store)) }
         ensures kept { OnErr result (self.new ≡ self.old) }
     {
         let kept = Vec::from_slice(self.alloc, bytes)?;
@@ -248,8 +255,10 @@ impl History {
 
     /// Both files as they are picked, and the store.
     pub fn into_left(self, pick: Pick) -> Result<(Vec<u8>, Vec<u8>, Store, u64), AllocError>
-        ensures zero { IfOk result (λ left. IsPicked pick (disk_of self).zero (held_of self).here.file0 left.0.items) }
-        ensures one { IfOk result (λ left. IsPicked pick (disk_of self).one (held_of self).here.file1 left.1.items) }
+        ensures zero { IfOk result
+            (λ left. IsPicked pick (disk_of self).zero (held_of self).here.file0 left.0.items) }
+        ensures one { IfOk result
+            (λ left. IsPicked pick (disk_of self).one (held_of self).here.file1 left.1.items) }
         ensures store { IfOk result (λ left. left.2 ≡ (held_of self).here.store) }
         ensures slow { IfOk result (λ left. left.3 ≡ self.first.volatile.slow) }
     {

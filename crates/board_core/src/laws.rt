@@ -17,38 +17,48 @@ pub fn disk_model<B: Board>()
     // Whatever calls are made after a sync of a file, a stop during them or after them leaves of
     // that file what the disk model says of the bytes as of that sync and of the ranges written
     // since.
-    ensures file { (file : FileNo) (bytes : List ℕ) (calls : List Call) (first last : B) → IsSynced file bytes (B.clock first) → AreMade B.clock calls first last
+    ensures file { (file : FileNo) (bytes : List ℕ) (calls : List Call) (first last : B)
+        → IsSynced file bytes (B.clock first) → AreMade B.clock calls first last
         → (left : Left) → (B.clock last).may_leave_since (B.clock first).now left
-        → MayLeaveFile (record { synced = bytes; written = ranges_in file calls }) (file_in file left) }
+        → MayLeaveFile (record { synced = bytes; written = ranges_in file calls })
+        (file_in file left) }
 
     // Both files, the record store and the printed text together: a stop leaves what the disk model
     // says of one and the same moment.
-    ensures together { (disk : Disk) (calls : List Call) (first last : B) → Keeps disk (B.clock first) → AreMade B.clock calls first last
-        → (left : Left) → (B.clock last).may_leave_since (B.clock first).now left → MayLeaveSince disk calls 0 left }
-    ensures after { (disk : Disk) (calls : List Call) (first last : B) → Keeps disk (B.clock first) → AreMade B.clock calls first last
+    ensures together { (disk : Disk) (calls : List Call) (first last : B)
+        → Keeps disk (B.clock first) → AreMade B.clock calls first last
+        → (left : Left) → (B.clock last).may_leave_since (B.clock first).now left
+        → MayLeaveSince disk calls 0 left }
+    ensures after { (disk : Disk) (calls : List Call) (first last : B) → Keeps disk (B.clock first)
+        → AreMade B.clock calls first last
         → Keeps (after_all calls disk) (B.clock last) }
 {}
 
 /// What the words of the disk model come to.
 pub fn disk_model_words()
     // A file that wasn't written since its last sync is left as it was then.
-    ensures unwritten { (bytes left : List ℕ) → MayLeaveFile (record { synced = bytes; written = [] }) left ↔
+    ensures unwritten { (bytes left : List ℕ)
+        → MayLeaveFile (record { synced = bytes; written = [] }) left ↔
         (left ≡ bytes) }
 
     // The new length is that of the file with the bytes written over it.
     ensures grows { (place : ℕ) (bytes old : List ℕ) → place ≤ length old
-        → length (overlay place bytes old) ≡ greatest_length (length old) (record { place = place; count = length bytes } ∷ []) }
+        → length (overlay place bytes old)
+        ≡ greatest_length (length old) (record { place = place; count = length bytes } ∷ []) }
 
     // A board in memory leaves all that the disk model says, and nothing else. While it prints it
     // leaves each beginning of the piece.
-    ensures memory { (past : Past) (left : Left) → LeftNow (clock_of past) left ↔ MayLeave (disk_of past) rests
+    ensures memory { (past : Past) (left : Left)
+        → LeftNow (clock_of past) left ↔ MayLeave (disk_of past) rests
         left }
     ensures printing { (past : Past) (part missing : List ℕ)
-        → (clock_of (with_change (printed (part ++ missing)) past)).may_leave_since (clock_of past).now (record (held_of past).here { out = (held_of past).here.out ++ part }) }
+        → (clock_of (with_change (printed (part ++ missing)) past)).may_leave_since
+        (clock_of past).now (record (held_of past).here { out = (held_of past).here.out ++ part }) }
 
     // While its device acts it leaves the store as before the call and as after it.
     ensures acting { (past : Past) (change : DeviceChange) (store : List Stored)
-        → Becomes (device_step change (device_in (held_of past))).store (held_of past).here.store store
+        → Becomes (device_step change (device_in (held_of past))).store
+        (held_of past).here.store store
         → (clock_of (with_change (acted change) past)).may_leave_since (clock_of past).now
         (record (held_of past).here { store = store }) }
 {}

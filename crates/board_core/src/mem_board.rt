@@ -1,26 +1,25 @@
 //! A board in memory.
-ghost use Rattle.std.specs.Prelude.{◌≡◌, ℕ, ◌+◌, ◌<◌, ◌≤◌, ◌++◌, [], ◌∷◌, List, length, min, take, drop, Some, IfOk, OnOk, OnErr};
-ghost use Rattle.std.specs.Result.{result_unwrap_or};
+ghost use Rattle.std.specs.Prelude.{◌≡◌, ◌+◌, ◌<◌, ◌≤◌, ◌++◌, [], ◌∷◌, length, min, IfOk, OnOk, OnErr};
 ghost use Rattle.erst_store.specs.Actions.{range_length};
 ghost use Rattle.erst_store.specs.DeviceLaws.{IsDevice};
 ghost use Rattle.erst_store.specs.Store.{refusal_of};
 ghost use Rattle.board_core.specs.declared.board.Access.TheVariants.{Read, Write, RangeRead, RangeWrite};
-ghost use Rattle.board_core.specs.declared.board.DiskCall.TheVariants.{Size, ReadAt, WriteAt, Sync};
-ghost use Rattle.board_core.specs.Cause.{disk_call, device_call, print_call, FailsAs, put_failure};
-ghost use Rattle.board_core.specs.ChangeLemmas.{told_left, text_left, store_left};
-ghost use Rattle.board_core.specs.Clock.{LeftNow, Passes, Leads, IsSynced};
+ghost use Rattle.board_core.specs.declared.board.DiskCall.TheVariants.{WriteAt, Sync};
+ghost use Rattle.board_core.specs.Cause.{disk_call, device_call, print_call, put_failure};
+ghost use Rattle.board_core.specs.Clock.{LeftNow};
 ghost use Rattle.board_core.specs.MemSource.{next_count};
-ghost use Rattle.board_core.specs.MomentLemmas.{since_earlier};
-ghost use Rattle.board_core.specs.MemBoard.{State, Change, new_board, new_past, told_of, held_of, device_in, disk_of, clock_of, settled_disk, calls_of, wrote, synced, acted, printed, wrote_register, wrote_range, put_record, past_after};
+ghost use Rattle.board_core.specs.MemBoard.{State, new_board, new_past, told_of, held_of, device_in, disk_of, clock_of, wrote, synced, acted, printed, wrote_register, wrote_range, put_record, past_after};
 ghost use Rattle.board_core.specs.MemBoard.{fails_next, Does, ListsCall, ListsAccess, ListsNone, failed_access};
 ghost use Rattle.board_core.specs.MemBoardCalls.{Starves, Ends, EndsPut};
 ghost use Rattle.board_core.specs.Pick.{IsPicked};
-ghost use Rattle.board_core.specs.Stop.{Same, InFile, InStore, InOut, Begins, Appends, file_in, with_file_in};
-ghost use Rattle.board_core.specs.Told.{Told, Steps, Reads, Torn, MayList, FailsWrite, FailsPrint, file_of, with_call, after_write, after_print};
-ghost use Rattle.board_core.specs.Told.{device_of, on_device, with_access, register_in, after_reg_write, after_range_write, after_put, AnswersPut, KeepsAtRefusal, StoreBy, MayListAccess, MayAct, FailsAccess};
+ghost use Rattle.board_core.specs.Stop.{file_in, with_file_in};
+ghost use Rattle.board_core.specs.Told.{file_of};
+ghost use Rattle.board_core.specs.Told.{AnswersPut};
+
+mod calls;
 
 use crate::history::History;
-use crate::{Access, Board, BoardPut, DiskCall, Failed, FileNo, Pick, Reg};
+use crate::{Access, BoardPut, DiskCall, Failed, FileNo, Pick, Reg};
 use erst_store::Store;
 use ras_base::NoMemory;
 use std::alloc::{AllocError, Global};
@@ -112,7 +111,8 @@ impl MemBoard {
 
     /// Makes the call of this number fail. All calls of the trait are numbered from 1.
     pub fn fail_at(&mut self, call: u64) -> Result<(), NoMemory>
-        ensures ok { OnOk result (self.new ≡ record self.old { fails = self.old.fails ++ call ∷ [] }) }
+        ensures ok { OnOk result (self.new
+            ≡ record self.old { fails = self.old.fails ++ call ∷ [] }) }
         ensures err { OnErr result (self.new ≡ self.old) }
     {
         self.fails.push(call)?;
@@ -173,11 +173,14 @@ impl MemBoard {
     ///
     /// After `NoMemory` this board is given up.
     pub fn left(self, alloc: Global, pick: Pick) -> Result<MemBoard, NoMemory>
-        ensures fresh { IfOk result (λ board. board ≡ new_board (told_of board).here.file0 (told_of board).here.file1
+        ensures fresh { IfOk result (λ board. board
+            ≡ new_board (told_of board).here.file0 (told_of board).here.file1
             (told_of self).here.store self.past.first.volatile.slow) }
-        ensures zero { IfOk result (λ board. IsPicked pick (disk_of self.past).zero (told_of self).here.file0
+        ensures zero { IfOk result
+            (λ board. IsPicked pick (disk_of self.past).zero (told_of self).here.file0
             (told_of board).here.file0) }
-        ensures one { IfOk result (λ board. IsPicked pick (disk_of self.past).one (told_of self).here.file1
+        ensures one { IfOk result
+            (λ board. IsPicked pick (disk_of self.past).one (told_of self).here.file1
             (told_of board).here.file1) }
         ensures left { IfOk result (λ board. LeftNow (clock_of self.past)
             (record (told_of board).here { out = (told_of self).here.out })) }
@@ -337,7 +340,8 @@ impl MemBoard {
     fn end_put(&mut self, id: u64, bytes: &[u8]) -> Result<(), BoardPut>
         requires { 0 < self.old.made }
         ensures ends { EndsPut (acted (put_record id bytes.now)) self.old self.new result }
-        ensures answers { AnswersPut result (refusal_of id bytes.now (held_of self.old.past).here.store) }
+        ensures answers { AnswersPut result
+            (refusal_of id bytes.now (held_of self.old.past).here.store) }
     {
         match self.history.put(id, bytes) {
             Ok(Ok(())) => Ok(()),
@@ -363,9 +367,11 @@ impl MemBoard {
     // A write: counted, listed and made.
     fn make_write(&mut self, file: FileNo, place: u64, bytes: &[u8]) -> Result<(), Failed>
         requires { place ≤ length (file_in file (held_of self.old.past).here) }
-        ensures does { Does disk_call (past_after result (wrote file place bytes.now) self.old.past) self.old self.new
+        ensures does { Does disk_call
+            (past_after result (wrote file place bytes.now) self.old.past) self.old self.new
             result }
-        ensures listed { ListsCall (WriteAt file place (length bytes.now)) self.old self.new result }
+        ensures listed { ListsCall
+            (WriteAt file place (length bytes.now)) self.old self.new result }
     {
         self.begin(DiskCall::WriteAt(file, place, bytes.len() as u64))?;
         self.end_write(file, place, bytes)
@@ -373,7 +379,8 @@ impl MemBoard {
 
     // A sync: counted, listed and made.
     fn make_sync(&mut self, file: FileNo) -> Result<(), Failed>
-        ensures does { Does disk_call (past_after result (synced file) self.old.past) self.old self.new result }
+        ensures does { Does disk_call
+            (past_after result (synced file) self.old.past) self.old self.new result }
         ensures listed { ListsCall (Sync file) self.old self.new result }
     {
         self.begin(DiskCall::Sync(file))?;
@@ -382,7 +389,8 @@ impl MemBoard {
 
     // A write to a register: counted, listed and made.
     fn make_reg_write(&mut self, reg: Reg, value: u64) -> Result<(), Failed>
-        ensures does { Does device_call (past_after result (acted (wrote_register reg value)) self.old.past) self.old
+        ensures does { Does device_call
+            (past_after result (acted (wrote_register reg value)) self.old.past) self.old
             self.new result }
         ensures listed { ListsAccess (Write reg value) self.old self.new result }
         ensures device { IsDevice (device_in (held_of self.old.past)) }
@@ -394,9 +402,11 @@ impl MemBoard {
     // A write into the range: counted, listed and made.
     fn make_range_write(&mut self, place: u32, bytes: &[u8]) -> Result<(), Failed>
         requires { place + length bytes.now ≤ range_length }
-        ensures does { Does device_call (past_after result (acted (wrote_range place bytes.now)) self.old.past)
+        ensures does { Does device_call
+            (past_after result (acted (wrote_range place bytes.now)) self.old.past)
             self.old self.new result }
-        ensures listed { ListsAccess (RangeWrite place (length bytes.now)) self.old self.new result }
+        ensures listed { ListsAccess
+            (RangeWrite place (length bytes.now)) self.old self.new result }
         ensures device { IsDevice (device_in (held_of self.old.past)) }
     {
         self.begin_access(Access::RangeWrite(place, bytes.len() as u32))?;
@@ -405,10 +415,12 @@ impl MemBoard {
 
     // A put: counted, and made unless the store refuses it.
     fn make_put(&mut self, id: u64, bytes: &[u8]) -> Result<(), BoardPut>
-        ensures does { Does device_call (past_after result (acted (put_record id bytes.now)) self.old.past) self.old
+        ensures does { Does device_call
+            (past_after result (acted (put_record id bytes.now)) self.old.past) self.old
             self.new (put_failure result) }
         ensures listed { ListsNone self.old self.new }
-        ensures answers { AnswersPut result (refusal_of id bytes.now (held_of self.old.past).here.store) }
+        ensures answers { AnswersPut result
+            (refusal_of id bytes.now (held_of self.old.past).here.store) }
         ensures device { IsDevice (device_in (held_of self.old.past)) }
     {
         match self.begin_put() {
@@ -419,187 +431,12 @@ impl MemBoard {
 
     // A print: counted and made.
     fn make_print(&mut self, bytes: &[u8]) -> Result<(), Failed>
-        ensures does { Does print_call (past_after result (printed bytes.now) self.old.past) self.old self.new result }
+        ensures does { Does print_call
+            (past_after result (printed bytes.now) self.old.past) self.old self.new result }
         ensures listed { ListsNone self.old self.new }
     {
         self.begin_print()?;
         self.end_print(bytes)
-    }
-}
-
-impl Board for MemBoard {
-    ghost told = { λ b. Some (told_of b) };
-
-    ghost clock = { λ b. clock_of b.past };
-
-    ghost faults = { λ b. b.faults };
-
-    ghost told_may_be_left = { λ b t is. told_left b t is };
-
-    ghost text_is_left = { λ b t left is now. text_left b t left is now };
-
-    ghost store_is_left = { λ b t left is now. store_left b t left is now };
-
-    ghost counts_earlier = { λ b s t left within may.
-        since_earlier (settled_disk b.past.first.here) (calls_of b.past.changes b.past.first) s t left within may };
-
-    fn size(&mut self, file: FileNo) -> Result<u64, Failed>
-        ensures length { IfOk result (λ n. n ≡ length (file_of file (told_of self.old))) }
-        ensures told { OnOk result (Some (told_of self.new) ≡ Some (with_call (Size file) (told_of self.old))) }
-        ensures failed { OnErr result (MayList (Size file) (told_of self.old) (told_of self.new)) }
-        ensures stops { Passes Same (clock_of self.old.past) (clock_of self.new.past) }
-        ensures cause { FailsAs disk_call self.old.faults self.new.faults result }
-        ensures does { Does disk_call self.old.past self.old self.new result }
-        ensures listed { ListsCall (Size file) self.old self.new result }
-    {
-        self.begin(DiskCall::Size(file))?;
-        Ok(self.file(file).len() as u64)
-    }
-
-    fn read_at(&mut self, file: FileNo, place: u64, buf: &mut [u8]) -> Result<usize, Failed>
-        ensures within { IfOk result (λ n. n ≤ length buf.old) }
-        ensures read { IfOk result (λ n. Reads place n buf.new (file_of file (told_of self.old))) }
-        ensures told { OnOk result (Some (told_of self.new)
-            ≡ Some (with_call (ReadAt file place (length buf.old)) (told_of self.old))) }
-        ensures failed { OnErr result (MayList (ReadAt file place (length buf.old)) (told_of self.old) (told_of self.new)) }
-        ensures stops { Passes Same (clock_of self.old.past) (clock_of self.new.past) }
-        ensures cause { FailsAs disk_call self.old.faults self.new.faults result }
-        ensures does { Does disk_call self.old.past self.old self.new result }
-        ensures listed { ListsCall (ReadAt file place (length buf.old)) self.old self.new result }
-    {
-        self.begin(DiskCall::ReadAt(file, place, buf.len() as u64))?;
-        Ok(copy_from(self.file(file), place as usize, buf))
-    }
-
-    fn write_at(&mut self, file: FileNo, place: u64, bytes: &[u8]) -> Result<(), Failed>
-        requires { place ≤ length (file_of file (told_of self.old)) }
-        ensures told { OnOk result (Some (told_of self.new)
-            ≡ Some (after_write file place bytes.now (told_of self.old))) }
-        ensures failed { OnErr result (FailsWrite file place (length bytes.now) (told_of self.old) (told_of self.new)) }
-        ensures stops { Passes (InFile file (Torn place (length bytes.now))) (clock_of self.old.past)
-            (clock_of self.new.past) }
-        ensures cause { FailsAs disk_call self.old.faults self.new.faults result }
-        // Where it failed it has written nothing.
-        ensures does { Does disk_call (past_after result (wrote file place bytes.now) self.old.past) self.old self.new
-            result }
-        ensures listed { ListsCall (WriteAt file place (length bytes.now)) self.old self.new result }
-    {
-        self.make_write(file, place, bytes)
-    }
-
-    fn sync(&mut self, file: FileNo) -> Result<(), Failed>
-        ensures told { OnOk result (Some (told_of self.new) ≡ Some (with_call (Sync file) (told_of self.old))) }
-        ensures failed { OnErr result (MayList (Sync file) (told_of self.old) (told_of self.new)) }
-        ensures stops { Passes Same (clock_of self.old.past) (clock_of self.new.past) }
-        ensures synced { OnOk result (IsSynced file (file_of file (told_of self.old)) (clock_of self.new.past)) }
-        ensures cause { FailsAs disk_call self.old.faults self.new.faults result }
-        // Where it failed it has settled nothing.
-        ensures does { Does disk_call (past_after result (synced file) self.old.past) self.old self.new result }
-        ensures listed { ListsCall (Sync file) self.old self.new result }
-    {
-        self.make_sync(file)
-    }
-
-    fn reg_read(&mut self, reg: Reg) -> Result<u64, Failed>
-        ensures value { IfOk result (λ n. n ≡ register_in reg (device_of (told_of self.old))) }
-        ensures told { IfOk result (λ n. Some (told_of self.new)
-            ≡ Some (with_access (Read reg n) (told_of self.old))) }
-        ensures failed { OnErr result (MayListAccess (Read reg 0) (told_of self.old) (told_of self.new)) }
-        ensures stops { Passes Same (clock_of self.old.past) (clock_of self.new.past) }
-        ensures cause { FailsAs device_call self.old.faults self.new.faults result }
-        ensures device { IsDevice (device_of (told_of self.old)) }
-        ensures does { Does device_call self.old.past self.old self.new result }
-        // A read that failed is listed with the number 0.
-        ensures listed { ListsAccess (Read reg (result_unwrap_or result 0)) self.old self.new result }
-    {
-        let value = self.history.register(reg);
-        self.begin_access(Access::Read(reg, value))?;
-        Ok(value)
-    }
-
-    fn reg_write(&mut self, reg: Reg, value: u64) -> Result<(), Failed>
-        ensures told { OnOk result (Some (told_of self.new)
-            ≡ Some (with_access (Write reg value) (on_device (after_reg_write reg value) (told_of self.old)))) }
-        ensures failed { OnErr result (FailsAccess (Write reg value) (after_reg_write reg value) (told_of self.old)
-            (told_of self.new)) }
-        ensures stops { Passes (InStore (StoreBy (after_reg_write reg value) (Some (told_of self.old))))
-            (clock_of self.old.past) (clock_of self.new.past) }
-        ensures cause { FailsAs device_call self.old.faults self.new.faults result }
-        ensures device { IsDevice (device_of (told_of self.old)) }
-        // Where it failed the device has done nothing.
-        ensures does { Does device_call (past_after result (acted (wrote_register reg value)) self.old.past) self.old
-            self.new result }
-        ensures listed { ListsAccess (Write reg value) self.old self.new result }
-    {
-        self.make_reg_write(reg, value)
-    }
-
-    fn range_read(&mut self, place: u32, buf: &mut [u8]) -> Result<(), Failed>
-        requires { place + length buf.old ≤ range_length }
-        ensures read { OnOk result (buf.new ≡ take (length buf.old) (drop place (device_of (told_of self.old)).range)) }
-        ensures told { OnOk result (Some (told_of self.new)
-            ≡ Some (with_access (RangeRead place (length buf.old)) (told_of self.old))) }
-        ensures failed { OnErr result (MayListAccess (RangeRead place (length buf.old)) (told_of self.old)
-            (told_of self.new)) }
-        ensures stops { Passes Same (clock_of self.old.past) (clock_of self.new.past) }
-        ensures cause { FailsAs device_call self.old.faults self.new.faults result }
-        ensures device { IsDevice (device_of (told_of self.old)) }
-        ensures does { Does device_call self.old.past self.old self.new result }
-        ensures listed { ListsAccess (RangeRead place (length buf.old)) self.old self.new result }
-    {
-        self.begin_access(Access::RangeRead(place, buf.len() as u32))?;
-        self.history.range_read(place, buf);
-        Ok(())
-    }
-
-    fn range_write(&mut self, place: u32, bytes: &[u8]) -> Result<(), Failed>
-        requires { place + length bytes.now ≤ range_length }
-        ensures told { OnOk result (Some (told_of self.new)
-            ≡ Some (with_access (RangeWrite place (length bytes.now))
-            (on_device (after_range_write place bytes.now) (told_of self.old)))) }
-        ensures failed { OnErr result (FailsAccess (RangeWrite place (length bytes.now)) (after_range_write place bytes.now)
-            (told_of self.old) (told_of self.new)) }
-        ensures stops { Passes Same (clock_of self.old.past) (clock_of self.new.past) }
-        ensures cause { FailsAs device_call self.old.faults self.new.faults result }
-        ensures device { IsDevice (device_of (told_of self.old)) }
-        // Where it failed it has written nothing.
-        ensures does { Does device_call (past_after result (acted (wrote_range place bytes.now)) self.old.past)
-            self.old self.new result }
-        ensures listed { ListsAccess (RangeWrite place (length bytes.now)) self.old self.new result }
-    {
-        self.make_range_write(place, bytes)
-    }
-
-    fn put(&mut self, id: u64, bytes: &[u8]) -> Result<(), BoardPut>
-        ensures told { OnOk result (Some (told_of self.new)
-            ≡ Some (on_device (after_put id bytes.now) (told_of self.old))) }
-        ensures answers { AnswersPut result (refusal_of id bytes.now (told_of self.old).here.store) }
-        ensures refused { KeepsAtRefusal result (Some (told_of self.old)) (Some (told_of self.new)) }
-        ensures failed { OnErr result (MayAct (after_put id bytes.now) (told_of self.old) (told_of self.new)) }
-        ensures stops { Passes (InStore (StoreBy (after_put id bytes.now) (Some (told_of self.old))))
-            (clock_of self.old.past) (clock_of self.new.past) }
-        ensures cause { FailsAs device_call self.old.faults self.new.faults (put_failure result) }
-        ensures device { IsDevice (device_of (told_of self.old)) }
-        // Where it failed nothing was put.
-        ensures does { Does device_call (past_after result (acted (put_record id bytes.now)) self.old.past) self.old
-            self.new (put_failure result) }
-        ensures listed { ListsNone self.old self.new }
-    {
-        self.make_put(id, bytes)
-    }
-
-    fn print(&mut self, bytes: &[u8]) -> Result<(), Failed>
-        ensures told { OnOk result (Some (told_of self.new) ≡ Some (after_print bytes.now (told_of self.old))) }
-        ensures failed { OnErr result (FailsPrint bytes.now (told_of self.old) (told_of self.new)) }
-        ensures stops { Passes (InOut (Begins bytes.now)) (clock_of self.old.past) (clock_of self.new.past) }
-        ensures printed { OnOk result (Leads (InOut (Appends bytes.now)) (clock_of self.old.past)
-            (clock_of self.new.past)) }
-        ensures cause { FailsAs print_call self.old.faults self.new.faults result }
-        // Where it failed it has printed nothing.
-        ensures does { Does print_call (past_after result (printed bytes.now) self.old.past) self.old self.new result }
-        ensures listed { ListsNone self.old self.new }
-    {
-        self.make_print(bytes)
     }
 }
 
@@ -611,15 +448,4 @@ fn failed(access: Access) -> Access
         Access::Read(reg, _) => Access::Read(reg, 0),
         Access::Write(..) | Access::RangeRead(..) | Access::RangeWrite(..) => access,
     }
-}
-
-// Copies a file's bytes from a place on into the front of a buffer, and says how many.
-fn copy_from(file: &[u8], place: usize, buf: &mut [u8]) -> usize
-    ensures within { result ≤ length buf.old }
-    ensures read { Reads place result buf.new file.now }
-{
-    let rest = &file[place.min(file.len())..];
-    let count = rest.len().min(buf.len());
-    buf[..count].copy_from_slice(&rest[..count]);
-    count
 }

@@ -29,9 +29,11 @@ pub fn write_through<B: Board>(
     ensures stops { Adds (After (B.clock board.old) (InFile file (Torn place (length bytes.now))))
         (B.clock board.old) (B.clock board.new) }
     ensures at_rest { (t : Told) → Rests t (B.told board.old) (B.clock board.old)
-        → Adds (InFile file (Torn place (length bytes.now)) t.here) (B.clock board.old) (B.clock board.new) }
+        → Adds (InFile file (Torn place (length bytes.now)) t.here) (B.clock board.old)
+        (B.clock board.new) }
     ensures rests { OnOk result ((t : Told) → Rests t (B.told board.old) (B.clock board.old)
-        → Rests (after_write_through file place bytes.now t) (B.told board.new) (B.clock board.new)) }
+        → Rests (after_write_through file place bytes.now t) (B.told board.new)
+        (B.clock board.new)) }
 
     ensures cause { FailsAs disk_call (B.faults board.old) (B.faults board.new) result }
 {

@@ -21,6 +21,7 @@ pub fn records_are_laid_out()
 /// The answer on a record whose length lies inside the bytes depends on as many bytes as that
 /// length says: bytes after them change nothing.
 pub fn only_own_bytes()
-    ensures { (bytes : List ℕ) → HEADER_LENGTH ≤ record_length bytes → record_length bytes ≤ length bytes
+    ensures { (bytes : List ℕ) → HEADER_LENGTH ≤ record_length bytes
+        → record_length bytes ≤ length bytes
         → record_of (take (record_length bytes) bytes) ≡ record_of bytes }
 {}

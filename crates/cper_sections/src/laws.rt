@@ -12,7 +12,9 @@ pub fn contexts_are_the_first_that_fit()
         → contexts_at bytes + sum_by bytes_taken (contexts_of bytes) ≤ length bytes }
     ensures begins { (bytes : List ℕ) (i : ℕ) → i < length (contexts_of bytes)
         → slice_get (contexts_of bytes) i ≡ Some (context_of (context_bytes bytes i)) }
-    ensures stated { (bytes : List ℕ) → length (contexts_of bytes) ≤ stated_contexts (x64_validation bytes) }
-    ensures ended { (bytes : List ℕ) → length (contexts_of bytes) < stated_contexts (x64_validation bytes)
+    ensures stated { (bytes : List ℕ)
+        → length (contexts_of bytes) ≤ stated_contexts (x64_validation bytes) }
+    ensures ended { (bytes : List ℕ)
+        → length (contexts_of bytes) < stated_contexts (x64_validation bytes)
         → has_context (context_bytes bytes (length (contexts_of bytes))) ≡ false }
 {}

@@ -6,10 +6,10 @@ use Rattle.ras_base.specs.LittleEndian.{number_at}
 use Rattle.ras_base.specs.LittleEndianLemmas.{number_at-drop}
 use Rattle.erst_store.specs.declared.store.PutRefused.{PutRefused}
 use Rattle.erst_store.specs.declared.store.PutRefused.TheVariants.{ReservedId, TooLong, StoreFull}
-use Rattle.erst_store.specs.declared.device.Status.TheVariants.{Success, NotEnoughSpace, NotFound}
+use Rattle.erst_store.specs.declared.device.CommandStatus.TheVariants.{Success, NotEnoughSpace, NotFound}
 use Rattle.erst_store.specs.Store.{Stored, most_bytes, is_reserved, is_full_for, refusal_of, with_record, holds}
 use Rattle.erst_store.specs.Actions.{range_length}
-use Rattle.erst_store.specs.Device.{Device, length_at, id_at, record_at, is_record_out, is_write_refused, after_write, after_clear}
+use Rattle.erst_store.specs.Device.{Device, length_at, id_at, record_at, is_record_out, is_write_refused, after_write_command, after_clear}
 use Rattle.erst_store.specs.DeviceView.{FoundRecord}
 
 -- ---- the record in the range
@@ -78,20 +78,20 @@ module _ (d : Device) (id : ℕ) (bytes : List ℕ) (there : FoundRecord d.range
   at_id : is_write_refused d ≡ (is_record_out d.range d.offset || (is_reserved id || is_full_for id d.store))
   at_id = ap (λ (k : ℕ). is_record_out d.range d.offset || (is_reserved k || is_full_for k d.store)) there.id_is
 
-  pub written_put : (store : List Stored) → refusal_of id bytes d.store ≡ None → store ≡ with_record id bytes d.store → record d { store = store; cursor = 0; status = Success } ≡ after_write d
+  pub written_put : (store : List Stored) → refusal_of id bytes d.store ≡ None → store ≡ with_record id bytes d.store → record d { store = store; cursor = 0; status = Success } ≡ after_write_command d
   written_put store free is =
       let no : is_write_refused d ≡ false = at_id ∙ unrefused _ (is_reserved id) (nat_lt most_bytes (length bytes)) (is_full_for id d.store) there.inside free in
       ap (λ (s : List Stored). record d { store = s; cursor = 0; status = Success })
       (is ∙ ap (λ (k : ℕ). with_record k bytes d.store) (sym there.id_is) ∙ ap (λ (bs : List ℕ). with_record (id_at d.range d.offset) bs d.store) (sym there.bytes_are))
       ∙ sym (ap (λ b. if b then record d { status = NotEnoughSpace } else record d { store = with_record (id_at d.range d.offset) (record_at d.range d.offset) d.store; cursor = 0; status = Success }) no)
 
-  pub not_written : (store : List Stored) (e : PutRefused) → refusal_of id bytes d.store ≡ Some e → store ≡ d.store → record d { store = store; status = NotEnoughSpace } ≡ after_write d
+  pub not_written : (store : List Stored) (e : PutRefused) → refusal_of id bytes d.store ≡ Some e → store ≡ d.store → record d { store = store; status = NotEnoughSpace } ≡ after_write_command d
   not_written store e cause is =
       let yes_so : is_write_refused d ≡ true = at_id ∙ refused _ (is_reserved id) (nat_lt most_bytes (length bytes)) (is_full_for id d.store) e long_is cause in
       ap (λ (s : List Stored). record d { store = s; status = NotEnoughSpace }) is
       ∙ sym (ap (λ b. if b then record d { status = NotEnoughSpace } else record d { store = with_record (id_at d.range d.offset) (record_at d.range d.offset) d.store; cursor = 0; status = Success }) yes_so)
 
-pub out_written : (d : Device) → is_record_out d.range d.offset ≡ true → record d { status = NotEnoughSpace } ≡ after_write d
+pub out_written : (d : Device) → is_record_out d.range d.offset ≡ true → record d { status = NotEnoughSpace } ≡ after_write_command d
 out_written d out =
     sym (ap (λ b. if (b || (is_reserved (id_at d.range d.offset) || is_full_for (id_at d.range d.offset) d.store)) then record d { status = NotEnoughSpace } else record d { store = with_record (id_at d.range d.offset) (record_at d.range d.offset) d.store; cursor = 0; status = Success }) out)
 

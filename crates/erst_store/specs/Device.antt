@@ -7,8 +7,8 @@ use Rattle.std.specs.Prelude.{ℕ, ◌+◌, ◌-◌, Bool, ◌||◌, nat_eq, nat
 use Rattle.ras_base.specs.LittleEndian.{number_at}
 use Rattle.erst_store.specs.declared.device.Command.{Command}
 use Rattle.erst_store.specs.declared.device.Command.TheVariants.{Write, Read, Clear, Dummy}
-use Rattle.erst_store.specs.declared.device.Status.{Status}
-use Rattle.erst_store.specs.declared.device.Status.TheVariants.{Success, NotEnoughSpace, StoreEmpty, NotFound}
+use Rattle.erst_store.specs.declared.device.CommandStatus.{CommandStatus}
+use Rattle.erst_store.specs.declared.device.CommandStatus.TheVariants.{Success, NotEnoughSpace, StoreEmpty, NotFound}
 use Rattle.erst_store.specs.Actions.{begin_write_operation, begin_read_operation, begin_clear_operation, end_operation, set_record_offset, execute_operation, check_busy_status, get_command_status, get_record_identifier, set_record_identifier, get_record_count, begin_dummy_write_operation, get_error_log_address_range, get_error_log_address_range_length, get_error_log_address_range_attributes, range_address, range_length, range_attributes}
 use Rattle.erst_store.specs.Store.{Stored, all_ones, is_reserved, ids, holds, bytes_under, with_record, without, is_full_for}
 
@@ -23,7 +23,7 @@ pub record Device : Type 0 where
   pub command : Option Command
   pub id : ℕ
   pub offset : ℕ
-  pub status : Status
+  pub status : CommandStatus
   pub busy : ℕ
   pub cursor : ℕ
   pub range : List ℕ
@@ -36,7 +36,7 @@ pub record Volatile : Type 0 where
   pub command : Option Command
   pub id : ℕ
   pub offset : ℕ
-  pub status : Status
+  pub status : CommandStatus
   pub busy : ℕ
   pub cursor : ℕ
   pub range : List ℕ
@@ -93,7 +93,7 @@ new_device store slow = record {
 }
 
 -- the numbers of the statuses
-abbrev pub status_number : Status → ℕ
+abbrev pub status_number : CommandStatus → ℕ
 status_number Success = 0
 status_number NotEnoughSpace = 1
 status_number StoreEmpty = 4
@@ -136,8 +136,8 @@ is_write_refused d =
     || is_full_for (id_at d.range d.offset) d.store)
 
 -- a write: the record at the offset is put under its identifier
-abbrev pub after_write : Device → Device
-after_write d =
+abbrev pub after_write_command : Device → Device
+after_write_command d =
     if is_write_refused d then record d { status = NotEnoughSpace }
     else record d {
       store = with_record (id_at d.range d.offset) (record_at d.range d.offset) d.store;
@@ -170,7 +170,7 @@ after_clear d =
     else record d { status = NotFound })
 
 abbrev pub after_command : Option Command → Device → Device
-after_command (Some Write) d = after_write d
+after_command (Some Write) d = after_write_command d
 after_command (Some Read) d = after_read d
 after_command (Some Clear) d = after_clear d
 after_command (Some Dummy) d = record d { status = Success }

@@ -8,3 +8,4 @@ pub mod DeviceLaws
 pub mod DeviceView
 pub mod StoreLemmas
 pub mod ActionLemmas
+pub mod KeptLemmas

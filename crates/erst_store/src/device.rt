@@ -4,7 +4,7 @@ ghost use Rattle.std.specs.Option.{option_map};
 ghost use Rattle.erst_store.specs.declared.device.Command.TheVariants.{Write};
 ghost use Rattle.erst_store.specs.Actions.{execute_operation, range_length};
 ghost use Rattle.erst_store.specs.Store.{refusal_of, Answers};
-ghost use Rattle.erst_store.specs.Device.{new_device, act, after_check, after_listing, after_write, after_read, after_clear, after_command, range_with_record, range_with, with_put, status_number};
+ghost use Rattle.erst_store.specs.Device.{new_device, act, after_check, after_listing, after_write_command, after_read, after_clear, after_command, range_with_record, range_with, with_put, status_number};
 ghost use Rattle.erst_store.specs.DeviceLaws.{IsDevice, MayChange};
 ghost use Rattle.erst_store.specs.DeviceView.{FindsRecord};
 
@@ -47,7 +47,7 @@ pub enum Command {
 
 /// How the last command went (ACPI 6.5, 18.5.1.1).
 #[derive(Clone, Copy, Debug, PartialEq, Eq)]
-pub enum Status {
+pub enum CommandStatus {
     /// 0: it was carried out.
     Success,
     /// 1: the record doesn't fit into the range or the store, or it is no record.
@@ -58,16 +58,16 @@ pub enum Status {
     NotFound,
 }
 
-impl Status {
+impl CommandStatus {
     // The number of a status.
     fn number(self) -> u64
         ensures { result ≡ status_number self }
     {
         match self {
-            Status::Success => 0,
-            Status::NotEnoughSpace => 1,
-            Status::StoreEmpty => 4,
-            Status::NotFound => 5,
+            CommandStatus::Success => 0,
+            CommandStatus::NotEnoughSpace => 1,
+            CommandStatus::StoreEmpty => 4,
+            CommandStatus::NotFound => 5,
         }
     }
 }
@@ -82,7 +82,7 @@ pub struct Dev {
     command: Option<Command>,
     id: u64,
     offset: u64,
-    status: Status,
+    status: CommandStatus,
     busy: u64,
     cursor: usize,
     range: Vec<u8>,
@@ -140,7 +140,7 @@ impl Dev {
             command: None,
             id: 0,
             offset: 0,
-            status: Status::Success,
+            status: CommandStatus::Success,
             busy: 0,
             cursor: 0,
             range,
@@ -156,7 +156,8 @@ impl Dev {
     pub fn write_action(&mut self, action: u64) -> Result<(), NoMemory>
         ensures ok { OnOk result (self.new ≡ act action self.old) }
         ensures err { OnErr result (self.new ≡ self.old) }
-        ensures memory { OnErr result ((action ≡ execute_operation) × (self.old.command ≡ Some Write)) }
+        ensures memory { OnErr result ((action ≡ execute_operation)
+            × (self.old.command ≡ Some Write)) }
         ensures kept { IsDevice self.new }
     {
         if action == EXECUTE_OPERATION {
@@ -211,7 +212,8 @@ impl Dev {
     #[tactic(auto, unfolding(crate::specs::Device::range_with))]
     pub fn range_write(&mut self, place: u32, bytes: &[u8])
         requires { place + length bytes.now ≤ range_length }
-        ensures range { self.new ≡ record self.old { range = range_with place bytes.now self.old.range } }
+        ensures range { self.new
+            ≡ record self.old { range = range_with place bytes.now self.old.range } }
         ensures kept { IsDevice self.new }
     {
         let start = place as usize;
@@ -320,7 +322,7 @@ impl Dev {
     }
 
     // Carries out a command, and answers its status.
-    fn carry_out(&mut self, command: Option<Command>) -> Result<Status, NoMemory>
+    fn carry_out(&mut self, command: Option<Command>) -> Result<CommandStatus, NoMemory>
         ensures ok { IfOk result (λ status.
             record self.new { status = status } ≡ after_command command self.old) }
         ensures err { OnErr result (self.new ≡ self.old) }
@@ -330,58 +332,58 @@ impl Dev {
             Some(Command::Write) => self.write_record(),
             Some(Command::Read) => Ok(self.read_record()),
             Some(Command::Clear) => Ok(self.clear_record()),
-            Some(Command::Dummy) => Ok(Status::Success),
-            None => Ok(Status::NotFound),
+            Some(Command::Dummy) => Ok(CommandStatus::Success),
+            None => Ok(CommandStatus::NotFound),
         }
     }
 
     // Puts the record in the range into the store.
-    fn write_record(&mut self) -> Result<Status, NoMemory>
-        ensures ok { IfOk result (λ status. record self.new { status = status } ≡ after_write self.old) }
+    fn write_record(&mut self) -> Result<CommandStatus, NoMemory>
+        ensures ok { IfOk result (λ status. record self.new { status = status } ≡ after_write_command self.old) }
         ensures err { OnErr result (self.new ≡ self.old) }
     {
         let Some((id, bytes)) = record_in(&self.range, self.offset) else {
-            return Ok(Status::NotEnoughSpace);
+            return Ok(CommandStatus::NotEnoughSpace);
         };
         match self.store.put(id, bytes) {
             Ok(()) => {
                 self.cursor = 0;
-                Ok(Status::Success)
+                Ok(CommandStatus::Success)
             }
             Err(PutRefused::NoMemory) => Err(NoMemory),
-            Err(_) => Ok(Status::NotEnoughSpace),
+            Err(_) => Ok(CommandStatus::NotEnoughSpace),
         }
     }
 
     // Copies the record under the identifier into the range, with zeros behind it.
-    fn read_record(&mut self) -> Status
+    fn read_record(&mut self) -> CommandStatus
         ensures { record self.new { status = result } ≡ after_read self.old }
     {
         if self.store.is_empty() {
-            return Status::StoreEmpty;
+            return CommandStatus::StoreEmpty;
         }
         let Some(bytes) = self.store.find(self.id) else {
-            return Status::NotFound;
+            return CommandStatus::NotFound;
         };
         if self.offset > (RANGE_LENGTH - bytes.len()) as u64 {
-            return Status::NotEnoughSpace;
+            return CommandStatus::NotEnoughSpace;
         }
         fill_range(&mut self.range, self.offset as usize, bytes);
-        Status::Success
+        CommandStatus::Success
     }
 
     // Removes the record under the identifier.
-    fn clear_record(&mut self) -> Status
+    fn clear_record(&mut self) -> CommandStatus
         ensures { record self.new { status = result } ≡ after_clear self.old }
     {
         if self.store.is_empty() {
-            return Status::StoreEmpty;
+            return CommandStatus::StoreEmpty;
         }
         if self.store.remove(self.id) {
             self.cursor = 0;
-            Status::Success
+            CommandStatus::Success
         } else {
-            Status::NotFound
+            CommandStatus::NotFound
         }
     }
 }

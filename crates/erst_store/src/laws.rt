@@ -9,9 +9,11 @@ ghost use Rattle.erst_store.specs.DeviceLaws.{IsDevice, MayChange, id_changed, l
 /// The laws of the device's actions. The function does nothing: its clauses are what it is for.
 pub fn action_laws()
     // The store changes only by EXECUTE under a write or a clear.
-    ensures kept { (action : ℕ) (d : Device) → ¬ MayChange action d → (act action d).store ≡ d.store }
+    ensures kept { (action : ℕ) (d : Device) → ¬ MayChange action d
+        → (act action d).store ≡ d.store }
     // It changes only at one identifier: all other records keep their bytes and their order.
-    ensures one { (action : ℕ) (d : Device) → SameBut (id_changed d.command d) d.store (act action d).store }
+    ensures one { (action : ℕ) (d : Device)
+        → SameBut (id_changed d.command d) d.store (act action d).store }
 
     // EXECUTE forgets the Value register.
     ensures forgets { (value : ℕ) (d : Device)
@@ -25,7 +27,8 @@ pub fn action_laws()
 
     // From any cursor a listing gives the identifiers from there on in the store's order, and then
     // all ones. It begins anew after that, and changes nothing else.
-    ensures listed { (d : Device) → listing (left_to_list d) d ≡ drop d.cursor (ids d.store) ++ all_ones ∷ [] }
+    ensures listed { (d : Device)
+        → listing (left_to_list d) d ≡ drop d.cursor (ids d.store) ++ all_ones ∷ [] }
     ensures anew { (d : Device) → after_listings (left_to_list d) d ≡ listed_to_end d }
     ensures all { (d : Device) → d.cursor ≡ 0 → left_to_list d ≡ length d.store + 1 }
 
@@ -40,9 +43,12 @@ pub fn action_laws()
 /// What is done to a device leaves it a device. The function does nothing: its clauses are what it
 /// is for.
 pub fn device_laws()
-    ensures new { (store : List Stored) (slow : ℕ) → IsStore store → slow < 2 ^ 64 → IsDevice (new_device store slow) }
-    ensures action { (action : ℕ) (d : Device) → IsDevice d → action < 2 ^ 64 → IsDevice (act action d) }
-    ensures value { (value : ℕ) (d : Device) → IsDevice d → value < 2 ^ 64 → IsDevice (record d { value = value }) }
+    ensures new { (store : List Stored) (slow : ℕ) → IsStore store → slow < 2 ^ 64
+        → IsDevice (new_device store slow) }
+    ensures action { (action : ℕ) (d : Device) → IsDevice d → action < 2 ^ 64
+        → IsDevice (act action d) }
+    ensures value { (value : ℕ) (d : Device) → IsDevice d → value < 2 ^ 64
+        → IsDevice (record d { value = value }) }
     ensures range { (place : ℕ) (bytes : List ℕ) (d : Device) → IsDevice d → AreBytes bytes
         → place + length bytes ≤ range_length
         → IsDevice (record d { range = range_with place bytes d.range }) }

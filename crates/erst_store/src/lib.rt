@@ -12,7 +12,7 @@ mod reading;
 mod store;
 
 pub use actions::RANGE_LENGTH;
-pub use device::{Command, Dev, Status};
+pub use device::{Command, CommandStatus, Dev};
 pub use laws::{action_laws, device_laws};
 pub use reading::StoreRefused;
 pub use store::{MOST_BYTES, MOST_RECORDS, PutRefused, Store};

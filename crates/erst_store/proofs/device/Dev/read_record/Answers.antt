@@ -1,6 +1,6 @@
 use Rattle.std.proofs.Common.{◌≡◌, ◌∙◌, length, ap, sym, arith}
 use Rattle.erst_store.specs.Actions.{range_length}
-use Rattle.erst_store.specs.ActionLemmas.{IsDevice-filled, AreBytes-range_with_record, length-range_with_record}
+use Rattle.erst_store.specs.KeptLemmas.{IsDevice-filled, AreBytes-range_with_record, length-range_with_record}
 use Rattle.erst_store.specs.StoreLemmas.{bytes_at}
 use Rattle.erst_store.proofs.device.Dev.read_record.Goals as goal
 

@@ -1,5 +1,5 @@
 use Rattle.board_core.proofs.MemBoardLemmas.{told_printed, failed_printed, stops_printed, printed_printed}
-use Rattle.board_core.proofs.mem_board.MemBoardBoard.print.Goals as goal
+use Rattle.board_core.proofs.mem_board.calls.MemBoardBoard.print.Goals as goal
 
 pub returns-clause-told : goal.returns-clause-told
 returns-clause-told c = told_printed c.make_print.result c.args.self.now c.make_print.new.self c.args.bytes.now c.make_print.ensures.does.past_is c.make_print.ensures.listed

@@ -1,7 +1,7 @@
 use Rattle.board_core.specs.MemBoard.{acted, put_record}
 use Rattle.board_core.specs.Told.{after_put}
 use Rattle.board_core.proofs.MemBoardLemmas.{told_put, refused_put, failed_put, stops_acted}
-use Rattle.board_core.proofs.mem_board.MemBoardBoard.put.Goals as goal
+use Rattle.board_core.proofs.mem_board.calls.MemBoardBoard.put.Goals as goal
 
 pub returns-clause-told : goal.returns-clause-told
 returns-clause-told c = told_put c.make_put.result c.args.self.now c.make_put.new.self c.args.id c.args.bytes.now c.make_put.ensures.does.past_is c.make_put.ensures.listed

@@ -2,7 +2,7 @@ use Rattle.board_core.specs.declared.board.Access.TheVariants.{Write}
 use Rattle.board_core.specs.MemBoard.{wrote_register}
 use Rattle.board_core.specs.Told.{after_reg_write}
 use Rattle.board_core.proofs.MemBoardLemmas.{told_acted, failed_acted, stops_acted}
-use Rattle.board_core.proofs.mem_board.MemBoardBoard.reg_write.Goals as goal
+use Rattle.board_core.proofs.mem_board.calls.MemBoardBoard.reg_write.Goals as goal
 
 pub returns-clause-told : goal.returns-clause-told
 returns-clause-told c = told_acted c.make_reg_write.result c.args.self.now c.make_reg_write.new.self (Write c.args.reg c.args.value) (wrote_register c.args.reg c.args.value) c.make_reg_write.ensures.does.past_is c.make_reg_write.ensures.listed

@@ -3,7 +3,7 @@ use Rattle.board_core.specs.declared.board.Access.TheVariants.{RangeWrite}
 use Rattle.board_core.specs.MemBoard.{wrote_range}
 use Rattle.board_core.specs.Told.{after_range_write}
 use Rattle.board_core.proofs.MemBoardLemmas.{told_acted, failed_acted, stops_kept}
-use Rattle.board_core.proofs.mem_board.MemBoardBoard.range_write.Goals as goal
+use Rattle.board_core.proofs.mem_board.calls.MemBoardBoard.range_write.Goals as goal
 
 pub returns-clause-told : goal.returns-clause-told
 returns-clause-told c = told_acted c.make_range_write.result c.args.self.now c.make_range_write.new.self (RangeWrite c.args.place (length c.args.bytes.now)) (wrote_range c.args.place c.args.bytes.now) c.make_range_write.ensures.does.past_is c.make_range_write.ensures.listed
