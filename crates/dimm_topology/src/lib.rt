@@ -12,6 +12,3 @@ mod topology;
 pub use label::{Label, LabelRefused, MOST_LABEL_BYTES};
 pub use row::{Location, Row};
 pub use topology::{MOST_ROWS, Topology, TopologyRefused};
-
-#[cfg(test)]
-mod tests;

@@ -77,7 +77,8 @@ impl Topology {
         ensures err { OnErr result (self.new ≡ self.old) }
 
         // Who owns an address in a range stays.
-        ensures addresses { (address : ℕ) → owner_of_address self.new address ≡ owner_of_address self.old address }
+        ensures addresses { (address : ℕ)
+            → owner_of_address self.new address ≡ owner_of_address self.old address }
 
         // The row counts from now on, whatever row the CPU had.
         ensures last { OnOk result (socket_by_rows self.new cpu ≡ Some socket) }
@@ -97,12 +98,15 @@ impl Topology {
         bank: u8,
         channel: u8,
     ) -> Result<(), TopologyRefused>
-        ensures answer { Answers result (refusal_of self.old (Row.Module label socket bank channel)) }
-        ensures ok { OnOk result (self.new ≡ self.old ++ Row.Module label socket bank channel ∷ []) }
+        ensures answer { Answers result
+            (refusal_of self.old (Row.Module label socket bank channel)) }
+        ensures ok { OnOk result (self.new
+            ≡ self.old ++ Row.Module label socket bank channel ∷ []) }
         ensures err { OnErr result (self.new ≡ self.old) }
 
         // Who owns an address in a range stays.
-        ensures addresses { (address : ℕ) → owner_of_address self.new address ≡ owner_of_address self.old address }
+        ensures addresses { (address : ℕ)
+            → owner_of_address self.new address ≡ owner_of_address self.old address }
     {
         self.add(Row::Module {
             label,
@@ -125,10 +129,12 @@ impl Topology {
         ensures err { OnErr result (self.new ≡ self.old) }
 
         // An address that is in a range keeps its owner.
-        ensures addresses { (address : ℕ) → IsSome (owner_of_address self.old address) → owner_of_address self.new address ≡ owner_of_address self.old address }
+        ensures addresses { (address : ℕ) → IsSome (owner_of_address self.old address)
+            → owner_of_address self.new address ≡ owner_of_address self.old address }
 
         // A range overlaps a held one exactly where some address is in both.
-        ensures shared { IsTrue (list_any (overlap (Row.Range label first last)) self.old) ↔ SharesAddress self.old first last }
+        ensures shared { IsTrue (list_any (overlap (Row.Range label first last)) self.old)
+            ↔ SharesAddress self.old first last }
     {
         self.add(Row::Range { label, first, last })
     }
@@ -149,7 +155,8 @@ impl Topology {
         ensures err { OnErr result (self.new ≡ self.old) }
 
         // Who owns an address in a range stays.
-        ensures addresses { (address : ℕ) → owner_of_address self.new address ≡ owner_of_address self.old address }
+        ensures addresses { (address : ℕ)
+            → owner_of_address self.new address ≡ owner_of_address self.old address }
     {
         self.add(Row::Place {
             label,
@@ -169,7 +176,8 @@ impl Topology {
         code: Code,
         address: Option<u64>,
     ) -> Option<&Label>
-        ensures owner { option_copied result ≡ owner_by_rows self.now address (bank_location self.now cpu bank code) }
+        ensures owner { option_copied result
+            ≡ owner_by_rows self.now address (bank_location self.now cpu bank code) }
 
         // Each address is in one range at most.
         ensures one_range { (held : ℕ) → length (ranges_over self.now held) ≤ 1 }
@@ -185,7 +193,8 @@ impl Topology {
     /// their place rows name. No module where they name none or several different ones. (UEFI,
     /// appendix N, "Memory Error Section".)
     pub fn owner_of_section(&self, section: &MemSection) -> Option<&Label>
-        ensures owner { option_copied result ≡ owner_by_rows self.now section.now.physical (section_location section.now) }
+        ensures owner { option_copied result
+            ≡ owner_by_rows self.now section.now.physical (section_location section.now) }
 
         // An owner is the label of a module row.
         ensures named { IfSome result (λ label. IsTrue (is_module_label self.now label.now)) }

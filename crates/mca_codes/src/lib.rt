@@ -11,6 +11,3 @@ mod words;
 pub use codes::{Code, code_of};
 pub use marks::{Mark, mark_of};
 pub use texts::{Text, code_text};
-
-#[cfg(test)]
-mod tests;

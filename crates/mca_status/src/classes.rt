@@ -98,13 +98,15 @@ pub fn class_of(cap: Cap, status: Status) -> Option<Class>
     ensures held { IsSome result ↔ IsTrue (valid status) }
 
     // An error is Ce exactly where the bank holds one that the hardware corrected.
-    ensures corrected { (result ≡ Some Class.Ce) ↔ IsTrue (valid status && not (uncorrected status)) }
+    ensures corrected { (result ≡ Some Class.Ce)
+        ↔ IsTrue (valid status && not (uncorrected status)) }
 
     // OVER, at bit 62, never changes the class.
     ensures overflow_ignored { ClassIgnores (62 ∷ []) cap status }
 
     // AR and S, at bits 55 and 56, say nothing where the processor has no software error recovery.
-    ensures recovery_ignored { IsFalse (recovers_in_software cap) → ClassIgnores (55 ∷ 56 ∷ []) cap status }
+    ensures recovery_ignored { IsFalse (recovers_in_software cap)
+        → ClassIgnores (55 ∷ 56 ∷ []) cap status }
 {
     if status.is_valid() {
         Some(held_class(cap, status))

@@ -14,6 +14,3 @@ pub use classes::{CLASS_COUNT, Class, ItemClass, class_of};
 pub use registers::{Cap, GlobalStatus, Misc, Status};
 pub use thresholds::{Threshold, threshold_of};
 pub use weights::weight_of;
-
-#[cfg(test)]
-mod tests;

@@ -26,7 +26,8 @@ pub fn fact_of_block(
     ensures none { (result ≡ Ok None) ↔ (block.now.status ≡ 0) }
 
     // The entries of a block can be more than a valid fact has items.
-    ensures valid { length block.now.entries ≤ MOST_ITEMS → IfOk result (λ fact. IfSome fact IsValidFact) }
+    ensures valid { length block.now.entries ≤ MOST_ITEMS
+        → IfOk result (λ fact. IfSome fact IsValidFact) }
 {
     if block.status() == 0 {
         return Ok(None);

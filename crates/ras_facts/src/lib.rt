@@ -22,6 +22,3 @@ pub use items::{Item, Items, MOST_ITEMS, MOST_WEIGHT, PAGES};
 pub use laws::labels_are_of_their_sections;
 pub use name::Name;
 pub use record::fact_of_record;
-
-#[cfg(test)]
-mod tests;

@@ -1,0 +1,8 @@
+//! Tables of rows, by the crate that they are about. In each file the calls of that crate go
+//! through functions of one call each that state nothing. So what its clauses speak of comes into
+//! their proofs alone, and not into those of the tests.
+
+mod codes;
+mod facts;
+mod status;
+mod topology;
