@@ -67,7 +67,7 @@ once_in_order history page = left_from page [] (page_history history page)
 -- single corrected errors within a period
 
 -- nothing leaks within a period
-unaged : (limit : Limit) (now : ℕ) (bucket : Bucket) → IsLimit limit → now < bucket.stamp + limit.period → aged_bucket limit now bucket ≡ bucket
+pub unaged : (limit : Limit) (now : ℕ) (bucket : Bucket) → IsLimit limit → now < bucket.stamp + limit.period → aged_bucket limit now bucket ≡ bucket
 unaged limit now bucket valid early = by (nat_le limit.period (now - bucket.stamp)) refl
   where
     leaked : Bucket
@@ -211,8 +211,9 @@ order-at_capacity limit page earlier last valid all =
     before (r ∷ rs) = refl
 
 -- a whole period lets out as much as the capacity
-pub empties : (limit : Limit) (now : ℕ) (bucket : Bucket) → IsLimit limit → bucket.count ≤ limit.capacity → bucket.stamp + limit.period ≤ now → (aged_bucket limit now bucket).count ≡ 0
-empties limit now bucket is below late = by (nat_le limit.period passed) refl
+pub aged-whole : (limit : Limit) (now : ℕ) (bucket : Bucket) → IsLimit limit → bucket.count ≤ limit.capacity → bucket.stamp + limit.period ≤ now
+    → aged_bucket limit now bucket ≡ record { count = 0; stamp = now }
+aged-whole limit now bucket is below late = by (nat_le limit.period passed) refl
   where
     passed : ℕ
     passed = now - bucket.stamp
@@ -223,6 +224,12 @@ empties limit now bucket is below late = by (nat_le limit.period passed) refl
         (le-div_iff_mul-le (omega (arith, is.period_from))).1
         (rw (mul_comm limit.capacity limit.period) (mul-le-mul_right limit.capacity whole))
 
-    by : (b : Bool) → nat_le limit.period passed ≡ b → (if b then record { count = bucket.count - leak limit passed; stamp = now } else bucket).count ≡ 0
-    by true test = omega (arith, below, leaks)
+    none : bucket.count - leak limit passed ≡ 0
+    none = omega (arith, below, leaks)
+
+    by : (b : Bool) → nat_le limit.period passed ≡ b → (if b then record { count = bucket.count - leak limit passed; stamp = now } else bucket) ≡ record { count = 0; stamp = now }
+    by true test = λ i. record { count = none i; stamp = now }
     by false test = absurd (grind (arith, nat_tests, late, test))
+
+pub empties : (limit : Limit) (now : ℕ) (bucket : Bucket) → IsLimit limit → bucket.count ≤ limit.capacity → bucket.stamp + limit.period ≤ now → (aged_bucket limit now bucket).count ≡ 0
+empties limit now bucket is below late = ap (λ (b : Bucket). b.count) (aged-whole limit now bucket is below late)

@@ -1,5 +1,5 @@
 -- The leaky bucket of a page's corrected errors. The rule is that of mcelog's page error limits.
-use Rattle.std.specs.Prelude.{ℕ, ◌+◌, ◌-◌, ◌*◌, ◌/◌, ◌≤◌, Bool, nat_le, ◌&&◌, if◌then◌else◌, Option, Some, None}
+use Rattle.std.specs.Prelude.{ℕ, ◌+◌, ◌-◌, ◌*◌, ◌/◌, ◌≤◌, ◌<◌, Bool, nat_le, ◌&&◌, if◌then◌else◌, Option, Some, None}
 use Rattle.page_policy.specs.declared.buckets.TheConstants.{MOST_CAPACITY, MOST_PERIOD, MOST_COUNT}
 use Rattle.page_policy.specs.declared.buckets.Limit.{Limit}
 use Rattle.page_policy.specs.declared.buckets.Bucket.{Bucket}
@@ -32,6 +32,17 @@ aged_bucket limit now bucket =
     if nat_le limit.period (now - bucket.stamp)
     then record { count = bucket.count - leak limit (now - bucket.stamp); stamp = now }
     else bucket
+
+-- a time within a period of a bucket's stamp, or before the stamp
+abbrev pub IsEarly : Limit → ℕ → Bucket → Type 0
+IsEarly limit now bucket = now < bucket.stamp + limit.period
+
+-- a bucket with so many errors more, and whether it then holds the capacity
+abbrev pub filled_bucket : ℕ → Bucket → Bucket
+filled_bucket weight bucket = record bucket { count = bucket.count + weight }
+
+abbrev pub IsFull : Limit → Bucket → Type 0
+IsFull limit bucket = limit.capacity ≤ bucket.count
 
 -- the errors in a bucket with those of a report of this weight
 abbrev pub count_with : Limit → ℕ → ℕ → Bucket → ℕ

@@ -1,5 +1,5 @@
 -- What a list of reports gives: a row for each page, and the orders.
-use Rattle.std.specs.Prelude.{ℕ, ◌≡◌, ◌+◌, ◌<◌, ◌⊎◌, true, nat_eq, Option, Some, List, [], ◌∷◌, ◌++◌, fold}
+use Rattle.std.specs.Prelude.{ℕ, ◌≡◌, ◌≢◌, ◌+◌, ◌<◌, ◌≤◌, ◌⊎◌, true, nat_eq, Option, Some, List, [], ◌∷◌, ◌++◌, All, fold, map}
 use Rattle.std.specs.List.{filter_map}
 use Rattle.std.specs.Map.{lookup}
 use Rattle.std.specs.Option.{option_map_or}
@@ -10,7 +10,7 @@ use Rattle.page_policy.specs.declared.rows.Order.TheVariants.{Soft, Hard}
 use Rattle.page_policy.specs.declared.rows.PageState.{PageState}
 use Rattle.page_policy.specs.declared.rows.PageState.TheVariants.{Kept}
 use Rattle.page_policy.specs.declared.rows.PageRow.{PageRow}
-use Rattle.page_policy.specs.Rows.{Report, new_row, row_after, is_corrected, order_between}
+use Rattle.page_policy.specs.Rows.{Report, height, new_row, row_after, is_corrected, order_between}
 use Rattle.row_tables.specs.Tables.{of_key, table, updated_rows}
 
 -- the page that a report names
@@ -20,6 +20,10 @@ page_in r = Some r.page
 -- the reports of a page in a history, in order
 abbrev pub page_history : List Report → ℕ → List Report
 page_history history page = of_key nat_eq page_in history page
+
+-- the pages that reports name, in order
+abbrev pub pages_named : List Report → List ℕ
+pages_named reports = map (λ (r : Report). r.page) reports
 
 -- the time of the first report of a list
 abbrev pub first_seconds : List Report → ℕ
@@ -43,10 +47,26 @@ state_in rows page = option_map_or (λ (row : PageRow). row.state) (lookup (nat_
 abbrev pub rows_after : List (ℕ × PageRow) → Report → List (ℕ × PageRow)
 rows_after rows r = updated_rows nat_eq r.page (row_after (new_row r.seconds) r) (λ row. row_after row r) rows
 
+-- the order for a page whose table was the first and is now the other
+abbrev pub order_at : ℕ → List (ℕ × PageRow) → List (ℕ × PageRow) → Option Order
+order_at page before now = order_between page (state_in before page) (state_in now page)
+
+-- no page's state falls from a table to another, and none but one page's row changes
+abbrev pub NeverFalls : List (ℕ × PageRow) → List (ℕ × PageRow) → Type 0
+NeverFalls before now = (page : ℕ) → height (state_in before page) ≤ height (state_in now page)
+
+abbrev pub OthersStay : ℕ → List (ℕ × PageRow) → List (ℕ × PageRow) → Type 0
+OthersStay page before now =
+    (other : ℕ) → other ≢ page → lookup (nat_eq other) now ≡ lookup (nat_eq other) before
+
 -- the order of a report behind the earlier reports of its page: it comes where the page's state
 -- rises
 abbrev pub order_behind : ℕ → List Report → Report → Option Order
 order_behind page earlier r = order_between page (page_row earlier).state (page_row (earlier ++ r ∷ [])).state
+
+-- the order of a report behind a history: that behind its page's reports
+abbrev pub order_in : List Report → Report → Option Order
+order_in history r = order_behind r.page (page_history history r.page) r
 
 -- the orders of a page in a history, in order
 abbrev pub orders_of : List Report → ℕ → List Order
@@ -67,3 +87,7 @@ pub record IsSingle (limit : Limit) (from : ℕ) (r : Report) : Type 0 where
   pub one : r.weight ≡ 1
   pub limit_is : r.limit ≡ limit
   pub within : r.seconds < from + limit.period
+
+-- reports of one corrected error each, under a limit and within a period of the first
+abbrev pub AreSingle : Limit → List Report → Type 0
+AreSingle limit reports = All (IsSingle limit (first_seconds reports)) reports

@@ -1,7 +1,9 @@
 -- What a report does to the pages that are held and those that wait.
-use Rattle.std.specs.Prelude.{ℕ, nat_eq, if◌then◌else◌, drop}
-use Rattle.row_tables.specs.Held.{Held, is_held}
+use Rattle.std.specs.Prelude.{ℕ, ◌≡◌, nat_eq, if◌then◌else◌, List, drop}
+use Rattle.row_tables.specs.Held.{Held, is_held, new_keys}
+use Rattle.page_policy.specs.declared.buckets.Bucket.{Bucket}
 use Rattle.page_policy.specs.declared.rows.PageRow.{PageRow}
+use Rattle.page_policy.specs.declared.rows.PageState.{PageState}
 use Rattle.page_policy.specs.Rows.{Report}
 use Rattle.page_policy.specs.Histories.{rows_after}
 
@@ -11,3 +13,11 @@ pages_after held r = record {
   rows = rows_after held.rows r;
   waiting = if is_held nat_eq held.rows r.page then held.waiting else drop 1 held.waiting;
 }
+
+-- exactly what the reports of these pages add waits, so that they can be taken in turn
+abbrev pub AreReservedFor : Held ℕ PageRow → List ℕ → Type 0
+AreReservedFor held pages = held.waiting ≡ new_keys nat_eq held.rows pages
+
+-- a page with its bucket and its state
+abbrev pub page_entry : ℕ → Bucket → PageState → ℕ × PageRow
+page_entry page bucket state = (page, record { bucket = bucket; state = state })

@@ -2,7 +2,7 @@
 -- this project's own: a page is ordered away softly at too many corrected errors or at an
 -- uncorrected one that nothing has used yet, and hard at each other uncorrected error of a known
 -- class.
-use Rattle.std.specs.Prelude.{ℕ, Bool, true, false, nat_lt, if◌then◌else◌, Option, Some, None}
+use Rattle.std.specs.Prelude.{ℕ, ◌≡◌, Bool, true, false, nat_lt, if◌then◌else◌, Option, Some, None}
 use Rattle.mca_status.specs.declared.classes.ItemClass.{ItemClass}
 use Rattle.mca_status.specs.declared.classes.ItemClass.TheVariants.{Ce, Ucna, Srao, Srar, Uc, Odd, Corrected, Recoverable, Fatal, Informational}
 use Rattle.page_policy.specs.declared.buckets.Limit.{Limit}
@@ -49,6 +49,10 @@ state_called_for Uc trip = Hard
 state_called_for Fatal trip = Hard
 state_called_for Odd trip = Kept
 state_called_for Informational trip = Kept
+
+-- a class that calls for a hard order, whatever the bucket does
+abbrev pub CallsForHard : ItemClass → Type 0
+CallsForHard class = state_called_for class false ≡ Hard
 
 -- how high a state is
 abbrev pub height : PageState → ℕ

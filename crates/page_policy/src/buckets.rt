@@ -52,7 +52,7 @@ pub struct Bucket {
 }
 
 impl Bucket {
-    ghost use Rattle.page_policy.specs.Buckets.{IsLimit, most_count, aged_bucket, trips, bucket_after};
+    ghost use Rattle.page_policy.specs.Buckets.{IsLimit, IsEarly, IsFull, most_count, filled_bucket, aged_bucket, trips, bucket_after};
 
     /// Lets out what has leaked by this time, in seconds, and fills in a report's errors. The
     /// answer is whether the bucket trips: it held the limit's capacity or more, and was emptied.
@@ -69,8 +69,10 @@ impl Bucket {
         ensures count { self.new.count ≤ most_count }
 
         // Within a period of the stamp, or before it, the count is what it was and the weight.
-        ensures early_trip { now < self.old.stamp + limit.period → (IsTrue result ↔ (limit.capacity ≤ self.old.count + weight)) }
-        ensures early_count { now < self.old.stamp + limit.period → OnFalse result (self.new ≡ record self.old { count = self.old.count + weight }) }
+        ensures early_trip { IsEarly limit now self.old
+            → (IsTrue result ↔ IsFull limit (filled_bucket weight self.old)) }
+        ensures early_count { IsEarly limit now self.old
+            → OnFalse result (self.new ≡ filled_bucket weight self.old) }
         ensures emptied { OnTrue result (self.new.count ≡ 0) }
     {
         self.age(limit, now);

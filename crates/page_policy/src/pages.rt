@@ -1,13 +1,13 @@
 //! The pages, each with its row.
 
-ghost use Rattle.std.specs.Prelude.{◌≡◌, ℕ, ◌≢◌, ◌↔◌, ◌≤◌, ◌<◌, ◌++◌, List, [], ◌∷◌, false, IsTrue, Some, Err, OnOk, OnErr, length, slice_get, nat_eq};
-ghost use Rattle.std.specs.Map.{keys_of, lookup};
-ghost use Rattle.row_tables.specs.Tables.{added_keys};
-ghost use Rattle.row_tables.specs.Held.{is_held, is_ready};
+ghost use Rattle.std.specs.Prelude.{◌≡◌, ℕ, ◌↔◌, ◌≤◌, ◌<◌, ◌++◌, List, [], ◌∷◌, IsTrue, Some, Err, OnOk, OnErr, length, slice_get, nat_eq};
+ghost use Rattle.row_tables.specs.Held.{is_held, is_ready, new_keys};
+ghost use Rattle.row_tables.specs.declared.row_table.RowRefused.TheVariants.{Repeated};
 ghost use Rattle.page_policy.specs.Buckets.{IsLimit, most_count};
-ghost use Rattle.page_policy.specs.Rows.{Report, report, height, state_called_for, order_between};
-ghost use Rattle.page_policy.specs.Histories.{page_rows_of, state_in, page_history, order_behind};
-ghost use Rattle.page_policy.specs.Pages.{pages_after};
+ghost use Rattle.page_policy.specs.declared.rows.PageState.TheVariants.{Kept};
+ghost use Rattle.page_policy.specs.Rows.{Report, report, CallsForHard};
+ghost use Rattle.page_policy.specs.Histories.{page_rows_of, state_in, order_at, order_in, NeverFalls, OthersStay};
+ghost use Rattle.page_policy.specs.Pages.{pages_after, page_entry, AreReservedFor};
 
 use crate::rows::order_for;
 use crate::{Bucket, Limit, Order, PageRow, PageState};
@@ -55,7 +55,7 @@ impl Pages {
     /// is given up. The pages held stay, and after `NoMemory` none waits.
     pub fn reserve(&mut self, pages: &[u64]) -> Result<(), NoMemory>
         ensures rows { self.new.rows ≡ self.old.rows }
-        ensures ok { OnOk result (self.new.waiting ≡ added_keys nat_eq (keys_of self.old.rows) pages.now) }
+        ensures ok { OnOk result (self.new.waiting ≡ new_keys nat_eq self.old.rows pages.now) }
         ensures err { OnErr result (self.new.waiting ≡ []) }
     {
         self.table.reserve(pages, PageRow::new(0))
@@ -81,24 +81,28 @@ impl Pages {
         requires ready { IsTrue (is_ready nat_eq self.old page) }
         requires limit { IsLimit limit }
         ensures pages { self.new ≡ pages_after self.old (report page class seconds weight limit) }
-        ensures order { result ≡ order_between page (state_in self.old.rows page) (state_in self.new.rows page) }
+        ensures order { result ≡ order_at page self.old.rows self.new.rows }
 
         // Soft is ordered of a page that is Kept alone, and Hard only where the class calls for it,
         // whatever the bucket says.
-        ensures soft { result ≡ Some (Order.Soft page) → state_in self.old.rows page ≡ PageState.Kept }
-        ensures hard { result ≡ Some (Order.Hard page) → state_called_for class false ≡ PageState.Hard }
+        ensures soft { result ≡ Some (Order.Soft page) → state_in self.old.rows page ≡ Kept }
+        ensures hard { result ≡ Some (Order.Hard page) → CallsForHard class }
 
         // No state falls, and no other page's row changes.
-        ensures never_falls { (other : _) → height (state_in self.old.rows other) ≤ height (state_in self.new.rows other) }
-        ensures others { (other : _) → other ≢ page → lookup (nat_eq other) self.new.rows ≡ lookup (nat_eq other) self.old.rows }
+        ensures never_falls { NeverFalls self.old.rows self.new.rows }
+        ensures others { OthersStay page self.old.rows self.new.rows }
 
         // Where the pages of a list of reports wait, the reports can be taken in turn.
-        ensures in_turn { (pages : List ℕ) → self.old.waiting ≡ added_keys nat_eq (keys_of self.old.rows) (page ∷ pages) → self.new.waiting ≡ added_keys nat_eq (keys_of self.new.rows) pages }
+        ensures in_turn { (pages : List ℕ) → AreReservedFor self.old (page ∷ pages)
+            → AreReservedFor self.new pages }
 
         // The rows of a history become those of the history with this report, and the order is the
         // one there.
-        ensures history { (history : List Report) → self.old.rows ≡ page_rows_of history → self.new.rows ≡ page_rows_of (history ++ report page class seconds weight limit ∷ []) }
-        ensures history_order { (history : List Report) → self.old.rows ≡ page_rows_of history → result ≡ order_behind page (page_history history page) (report page class seconds weight limit) }
+        ensures history { (history : List Report) → self.old.rows ≡ page_rows_of history
+            → self.new.rows
+            ≡ page_rows_of (history ++ report page class seconds weight limit ∷ []) }
+        ensures history_order { (history : List Report) → self.old.rows ≡ page_rows_of history
+            → result ≡ order_in history (report page class seconds weight limit) }
     {
         let (place, known) = self.table.find(&page);
         let before = known.unwrap_or(PageRow::new(seconds));
@@ -124,7 +128,7 @@ impl Pages {
     /// The page at a place, from 0 in first-seen order, with its bucket and its state.
     pub fn row(&self, i: usize) -> (u64, Bucket, PageState)
         requires { i < length self.now.rows }
-        ensures row { slice_get self.now.rows i ≡ Some (result.0, record { bucket = result.1; state = result.2 }) }
+        ensures row { slice_get self.now.rows i ≡ Some (page_entry result.0 result.1 result.2) }
         ensures count { result.1.count ≤ most_count }
     {
         let row = self.table.row(i);
@@ -142,10 +146,11 @@ impl Pages {
     ) -> Result<(), RowRefused>
         requires waiting { self.old.waiting ≡ [] }
         requires count { bucket.count ≤ most_count }
-        ensures ok { OnOk result (self.new.rows ≡ self.old.rows ++ (page, record { bucket = bucket; state = state }) ∷ []) }
+        ensures ok { OnOk result
+            (self.new.rows ≡ self.old.rows ++ page_entry page bucket state ∷ []) }
         ensures waiting { self.new.waiting ≡ [] }
         ensures err { OnErr result (self.new.rows ≡ self.old.rows) }
-        ensures repeated { (result ≡ Err RowRefused.Repeated) ↔ IsTrue (is_held nat_eq self.old.rows page) }
+        ensures repeated { (result ≡ Err Repeated) ↔ IsTrue (is_held nat_eq self.old.rows page) }
     {
         self.table.push_row(page, PageRow { bucket, state })
     }

@@ -17,3 +17,4 @@ pub mod ReserveLemmas
 pub mod NotingLemmas
 pub mod AgainLemmas
 pub mod ModuleRowLemmas
+pub mod BucketLemmas

@@ -2,8 +2,9 @@
 -- each row of its items alone: the sums of a module are sums over the items that have its label,
 -- its bucket runs along its own corrected errors since the last mark, and the row of a page runs
 -- one bucket along the items that name the page.
-use Rattle.std.specs.Prelude.{ℕ, not, List, [], ◌∷◌, map, filter, length, sum}
-use Rattle.std.specs.List.{sum_by}
+use Rattle.std.specs.Prelude.{◌≡◌, ℕ, Bool, not, List, [], ◌∷◌, map, filter, length, sum, Contains}
+use Rattle.std.specs.Bool.{IsFalse}
+use Rattle.std.specs.List.{sum_by, list_any}
 use Rattle.mca_status.specs.declared.classes.ItemClass.{ItemClass}
 use Rattle.dimm_topology.specs.Labels.{Bytes, same_label}
 use Rattle.page_policy.specs.declared.buckets.Limit.{Limit}
@@ -14,7 +15,7 @@ use Rattle.page_policy.specs.Histories.{page_rows_of, page_history as page_histo
 use Rattle.ras_facts.specs.declared.name.Name.{Name}
 use Rattle.ras_facts.specs.declared.entry.Entry.{Entry}
 use Rattle.ras_facts.specs.declared.entry.Entry.TheVariants.{Fact}
-use Rattle.ras_account.specs.History.{History, limit_after, module_limit_after, floor_after, is_retired}
+use Rattle.ras_account.specs.History.{History, with_entry, names_in, limit_after, module_limit_after, floor_after, is_retired}
 use Rattle.ras_account.specs.Fresh.{fresh_entries}
 use Rattle.ras_account.specs.Sightings.{Sighting, sightings, sightings_since_mark, label_of, sighting_weight, reports_of}
 use Rattle.ras_account.specs.Modules.{Module, class_weight, is_labeled, errors_of, module_by_items}
@@ -87,3 +88,27 @@ account_of history = record {
 -- all weights that modules hold together
 abbrev pub weight_in : List (Bytes × Module) → ℕ
 weight_in modules = sum_by (λ row. sum row.1.sums) modules
+
+-- an account is that of a history, and the accounts of two histories are the same
+abbrev pub IsAccountOf : History → State → Type 0
+IsAccountOf history a = a ≡ account_of history
+
+abbrev pub AreSame : History → History → Type 0
+AreSame one other = account_of one ≡ account_of other
+
+-- an entry behind a history changes nothing
+abbrev pub ChangesNothing : History → Entry → Type 0
+ChangesNothing history entry = AreSame (with_entry history entry) history
+
+-- a name of one of the history's facts whose boot isn't retired
+abbrev pub IsKeptAfter : History → Name → Type 0
+IsKeptAfter history name =
+    Contains (names_in history) name × IsFalse (is_retired (floor_after history) name)
+
+-- whether an item has a label, and what is counted of the label's module
+abbrev pub is_seen : History → Bytes → Bool
+is_seen history label = list_any (same_label label) (map label_of (sightings history))
+
+abbrev pub module_of : History → Bytes → Module
+module_of history label =
+    module_by_items (sightings history) (sightings_since_mark history) label

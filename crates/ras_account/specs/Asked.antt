@@ -1,12 +1,13 @@
 -- What the laws on orders speak of: the orders for one page, and those for one module.
-use Rattle.std.specs.Prelude.{ℕ, Bool, false, nat_eq, List, filter}
+use Rattle.std.specs.Prelude.{ℕ, Bool, false, nat_eq, List, filter, IsTrue}
+use Rattle.std.specs.List.{list_any}
 use Rattle.std.specs.Map.{keys_of}
-use Rattle.dimm_topology.specs.Labels.{Bytes}
+use Rattle.dimm_topology.specs.Labels.{Bytes, same_label}
 use Rattle.page_policy.specs.declared.rows.Order.{Order}
 use Rattle.page_policy.specs.declared.rows.Order.TheVariants.{Soft, Hard, Module}
 use Rattle.ras_account.specs.History.{History}
 use Rattle.ras_account.specs.Account.{account_of}
-use Rattle.ras_account.specs.Orders.{place_of}
+use Rattle.ras_account.specs.Orders.{place_of, orders_since_mark}
 
 -- whether an order is for a page
 abbrev pub is_for_page : ℕ → Order → Bool
@@ -31,3 +32,16 @@ orders_for_module place orders = filter (is_for_module place) orders
 -- the place of a label's row in the account of a history
 abbrev pub module_place : History → Bytes → ℕ
 module_place history label = place_of label (keys_of (account_of history).modules)
+
+-- a label has a row in the account of a history
+abbrev pub HasRow : History → Bytes → Type 0
+HasRow history label =
+    IsTrue (list_any (same_label label) (keys_of (account_of history).modules))
+
+-- the order to replace a label's module, and such orders since the last mark
+abbrev pub replace_order : History → Bytes → Order
+replace_order history label = Module (module_place history label)
+
+abbrev pub replace_orders : History → Bytes → List Order
+replace_orders history label =
+    orders_for_module (module_place history label) (orders_since_mark history)

@@ -23,6 +23,10 @@ with_entries history entries = fold with_entry history entries
 abbrev pub history_of : List Entry → History
 history_of entries = with_entries empty entries
 
+-- a history with a retire of the boots below a number behind it
+abbrev pub with_retire : History → ℕ → History
+with_retire history boot = with_entry history (Retire boot)
+
 -- a history with another one behind it
 abbrev pub followed_by : History → History → History
 followed_by history empty = history

@@ -1,12 +1,13 @@
 -- What is counted of a memory module: the sums of its items by class, and a leaky bucket of its
 -- corrected errors. The first time that the bucket trips, the module is to be replaced.
-use Rattle.std.specs.Prelude.{ℕ, Bool, ◌&&◌, not, nat_eq, Option, None, Some, List, [], map, filter, fold, unwrap_or}
+use Rattle.std.specs.Prelude.{ℕ, ◌≡◌, ◌+◌, ◌<◌, ◌≤◌, Bool, ◌&&◌, not, nat_eq, Option, None, Some, List, [], ◌∷◌, map, filter, fold, unwrap_or, All}
 use Rattle.std.specs.List.{sum_by, list_any}
 use Rattle.mca_status.specs.declared.classes.ItemClass.{ItemClass}
 use Rattle.mca_status.specs.Classes.{class_number, classes}
 use Rattle.ras_base.specs.Places.{places}
 use Rattle.dimm_topology.specs.Labels.{Bytes, same_label}
 use Rattle.page_policy.specs.declared.buckets.Bucket.{Bucket}
+use Rattle.page_policy.specs.declared.buckets.Limit.{Limit}
 use Rattle.page_policy.specs.Buckets.{trips, bucket_after}
 use Rattle.page_policy.specs.Rows.{is_corrected}
 use Rattle.ras_account.specs.Sightings.{Sighting, label_of, sighting_weight}
@@ -62,3 +63,22 @@ module_by_items all since_mark label = record {
   bucket = bucket_over (errors_of label since_mark);
   replace = has_tripped (errors_of label since_mark);
 }
+
+-- an error of weight 1, under a limit for modules and within the period from a time
+pub record IsSingleError (limit : Limit) (from : ℕ) (s : Sighting) : Type 0 where
+  pub one : s.item.weight ≡ 1
+  pub limit_is : s.module_limit ≡ limit
+  pub within : s.seconds < from + limit.period
+
+-- the time of the first error of a list
+abbrev pub first_time : List Sighting → ℕ
+first_time [] = 0
+first_time (s ∷ ss) = s.seconds
+
+-- errors of weight 1 each, under a limit for modules and within a period of the first
+abbrev pub AreSingleErrors : Limit → List Sighting → Type 0
+AreSingleErrors limit errors = All (IsSingleError limit (first_time errors)) errors
+
+-- an error that comes a whole period after a bucket's stamp, or later
+abbrev pub IsLate : Bucket → Sighting → Type 0
+IsLate bucket s = bucket.stamp + s.module_limit.period ≤ s.seconds

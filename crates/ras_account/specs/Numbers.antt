@@ -1,6 +1,6 @@
 -- The three numbers that an account keeps small, and those that a list of entries would bring it
 -- to.
-use Rattle.std.specs.Prelude.{ℕ, ◌+◌, ◌≤◌, Bool, ◌||◌, nat_lt, if◌then◌else◌, List, [], ◌∷◌, length}
+use Rattle.std.specs.Prelude.{ℕ, ◌+◌, ◌≤◌, Bool, ◌||◌, nat_lt, if◌then◌else◌, List, [], ◌∷◌, length, IsTrue}
 use Rattle.std.specs.List.{sum_by, flat_map}
 use Rattle.ras_facts.specs.declared.items.Item.{Item}
 use Rattle.ras_facts.specs.declared.entry.Entry.{Entry}
@@ -54,3 +54,10 @@ numbers_with a entries = record {
   entries = a.entries + length (fresh_entries_in a entries);
   total = a.total + sum_by (λ (item : Item). item.weight) (items_of (fresh_entries_in a entries));
 }
+
+-- there is room for all that is fresh of a list, or there is none
+abbrev pub HasRoomFor : State → List Entry → Type 0
+HasRoomFor a entries = AreWithin (numbers_with a entries)
+
+abbrev pub HasNoRoomFor : State → List Entry → Type 0
+HasNoRoomFor a entries = IsTrue (are_past (numbers_with a entries))

@@ -1,7 +1,8 @@
 -- An account made again from its numbers and rows, as they are read back one after the other.
-use Rattle.std.specs.Prelude.{ℕ, ◌+◌, Bool, List, [], ◌∷◌, ◌++◌, fold, sum}
+use Rattle.std.specs.Prelude.{ℕ, ◌+◌, Bool, nat_eq, List, [], ◌∷◌, ◌++◌, fold, sum}
 use Rattle.std.specs.List.{list_any}
-use Rattle.dimm_topology.specs.Labels.{Bytes}
+use Rattle.dimm_topology.specs.Labels.{Bytes, same_label}
+use Rattle.row_tables.specs.Held.{is_held}
 use Rattle.page_policy.specs.declared.rows.PageRow.{PageRow}
 use Rattle.ras_facts.specs.declared.name.Name.{Name}
 use Rattle.ras_account.specs.declared.modules.ModuleRow.{ModuleRow}
@@ -16,6 +17,13 @@ row_of row = (row.label, record { sums = row.sums; bucket = row.bucket; replace 
 -- whether one of the names is of a boot below a floor
 abbrev pub has_retired : ℕ → List Name → Bool
 has_retired floor names = list_any (is_retired floor) names
+
+-- whether an account has a row of a label, or of a page
+abbrev pub has_module : State → Bytes → Bool
+has_module a label = is_held same_label a.modules label
+
+abbrev pub has_page : State → ℕ → Bool
+has_page a page = is_held nat_eq a.pages page
 
 -- an account with a name, a module or a page more; a module brings its weight
 abbrev pub with_name : State → Name → State

@@ -1,10 +1,11 @@
 -- Only for proofs: how the items of a fact are taken, each in turn.
-use Rattle.std.specs.Prelude.{◌≡◌, ℕ, ◌+◌, ◌*◌, ◌<◌, ◌≤◌, Bool, false, not, nat_eq, nat_lt, if◌then◌else◌, List, [], ◌∷◌, ◌++◌, length, take, drop, All, IfSome, IsTrue, option_to_list}
+use Rattle.std.specs.Prelude.{◌≡◌, ℕ, ◌+◌, ◌*◌, ◌<◌, ◌≤◌, Bool, true, false, not, nat_eq, nat_lt, if◌then◌else◌, List, [], ◌∷◌, ◌++◌, length, take, drop, All, IfSome, IsTrue, option_to_list}
 use Rattle.std.specs.List.{list_any, sum_by}
 use Rattle.std.specs.Map.{keys_of}
 use Rattle.std.specs.Option.{option_map_or}
 use Rattle.dimm_topology.specs.Labels.{Bytes, same_label}
 use Rattle.page_policy.specs.declared.buckets.Limit.{Limit}
+use Rattle.page_policy.specs.Buckets.{IsLimit}
 use Rattle.page_policy.specs.declared.rows.Order.{Order}
 use Rattle.page_policy.specs.declared.rows.PageRow.{PageRow}
 use Rattle.row_tables.specs.Tables.{added_keys}
@@ -38,6 +39,20 @@ holds_name a (FactEntry fact) = is_among a.names fact.name
 holds_name a (PageLimit limit) = false
 holds_name a (Retire boot) = false
 holds_name a (ModuleLimit limit) = false
+
+-- whether the name of an entry is the first of names that wait; so it is where it has none
+abbrev pub name_waits_first : List Name → Entry → Bool
+name_waits_first names (FactEntry fact) = is_among (take 1 names) fact.name
+name_waits_first names (PageLimit limit) = true
+name_waits_first names (Retire boot) = true
+name_waits_first names (ModuleLimit limit) = true
+
+-- an entry that sets a limit in its ranges
+abbrev pub SetsLimit : Entry → Type 0
+SetsLimit (FactEntry fact) = ⊥
+SetsLimit (PageLimit limit) = IsLimit limit
+SetsLimit (Retire boot) = ⊥
+SetsLimit (ModuleLimit limit) = IsLimit limit
 
 abbrev pub weights_in : List Item → ℕ
 weights_in items = sum_by (λ (item : Item). item.weight) items
@@ -90,6 +105,10 @@ pub record AreNext (v : View) (items : List Item) (rest : Waiting) : Type 0 wher
 -- the items of a fact that came at this time, with what an account has in force
 abbrev pub sightings_at : State → ℕ → List Item → List Sighting
 sightings_at a seconds items = sightings_of a.limit a.module_limit seconds items
+
+-- the orders of items that came at this time, by which an account is continued
+abbrev pub orders_of_items_at : State → ℕ → List Item → List Order
+orders_of_items_at a seconds items = orders_along a (sightings_at a seconds items)
 
 -- an account with these items more, and what waits behind what they took
 pub record TakesItems (old new : View) (seconds : ℕ) (items : List Item) : Type 0 where

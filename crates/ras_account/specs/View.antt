@@ -57,3 +57,7 @@ pub record View : Type 0 where
 pub record OrderList : Type 0 where
   pub orders : List Order
   pub room : ℕ
+
+-- exactly what a list of entries adds waits, so that each can be taken in turn
+abbrev pub IsReservedFor : View → List Entry → Type 0
+IsReservedFor account entries = account.waiting ≡ added_by account.state entries

@@ -1,21 +1,21 @@
 //! The account.
 ghost use Rattle.std.specs.Prelude.{◌≡◌, ◌+◌, ◌<◌, ◌≤◌, ◌*◌, ◌++◌, List, [], ◌∷◌, IsTrue, IfSome, Some, nat_eq, length, slice_get};
-ghost use Rattle.std.specs.Bool.{IsFalse};
+ghost use Rattle.std.specs.Bool.{IsFalse, OnTrue};
 ghost use Rattle.page_policy.specs.Buckets.{IsLimit};
 ghost use Rattle.ras_facts.specs.Entries.{IsValidEntry, most_orders};
 ghost use Rattle.ras_account.specs.History.{History, empty, with_entry, with_mark};
 ghost use Rattle.ras_account.specs.Fresh.{is_fresh_behind};
-ghost use Rattle.ras_account.specs.Account.{account_of, weight_in};
+ghost use Rattle.ras_account.specs.Account.{account_of, weight_in, IsAccountOf};
 ghost use Rattle.ras_account.specs.Continued.{is_fresh_in, account_after, account_after_fresh, account_with_count, account_after_mark};
 ghost use Rattle.ras_account.specs.Sightings.{Sighting};
 ghost use Rattle.row_tables.specs.Held.{is_ready};
 ghost use Rattle.ras_facts.specs.declared.entry.Entry.{Entry};
-ghost use Rattle.ras_account.specs.Orders.{orders_along, orders_at, orders_behind, page_order_in};
+ghost use Rattle.ras_account.specs.Orders.{orders_at, orders_behind, page_order_in};
 ghost use Rattle.ras_account.specs.Numbers.{IsWithin};
-ghost use Rattle.ras_account.specs.View.{Waiting, nothing, then_waits, WaitsFirst, added_by};
+ghost use Rattle.ras_account.specs.View.{Waiting, nothing, then_waits, WaitsFirst, added_by, IsReservedFor};
 ghost use Rattle.ras_account.specs.Accounts.{IsAccount};
 ghost use Rattle.ras_account.specs.Rows.{row_of};
-ghost use Rattle.ras_account.specs.Taking.{holds_name, IsNext, view_after_item, item_orders_in, sighting_in, Gives, AreNext, TakesItems, sightings_at, CanTakeFact, TakesFact, Takes, CanCountName, view_after_name, pages_after_item};
+ghost use Rattle.ras_account.specs.Taking.{SetsLimit, holds_name, name_waits_first, IsNext, view_after_item, item_orders_in, sighting_in, Gives, AreNext, TakesItems, orders_of_items_at, CanTakeFact, TakesFact, Takes, CanCountName, view_after_name, pages_after_item};
 
 use crate::in_force::InForce;
 use crate::modules::Modules;
@@ -99,8 +99,10 @@ impl Account {
     /// retired, a limit other than the one of its kind in force, or a retire above the floor.
     pub fn is_fresh(&self, entry: &Entry) -> bool
         ensures fresh { result ≡ is_fresh_in self.now.state entry.now }
-        ensures history { (history : History) → self.now.state ≡ account_of history → result ≡ is_fresh_behind history entry.now }
-        ensures stale { (history : History) → self.now.state ≡ account_of history → IsFalse result → self.now.state ≡ account_of (with_entry history entry.now) }
+        ensures history { (history : History) → IsAccountOf history self.now.state
+            → result ≡ is_fresh_behind history entry.now }
+        ensures stale { (history : History) → IsAccountOf history self.now.state
+            → IsFalse result → IsAccountOf (with_entry history entry.now) self.now.state }
     {
         self.in_force.admits(entry) && !self.holds_name_of(entry)
     }
@@ -126,19 +128,20 @@ impl Account {
         requires room { most_orders entry ≤ orders.old.room }
         requires within { IsWithin (account_after self.old.state entry) }
         ensures state { self.new.state ≡ account_after self.old.state entry }
-        ensures waiting { self.old.waiting ≡ then_waits (added_by self.old.state (entry ∷ [])) self.new.waiting }
+        ensures waiting { self.old.waiting
+            ≡ then_waits (added_by self.old.state (entry ∷ [])) self.new.waiting }
         ensures orders { orders.new.orders ≡ orders.old.orders ++ orders_at self.old.state entry }
         ensures room { orders.new.room + length (orders_at self.old.state entry) ≡ orders.old.room }
 
         // Where what a list of entries adds waits, the entries can be taken in turn.
-        ensures in_turn { (entries : List Entry) → self.old.waiting ≡ added_by self.old.state (entry ∷ entries)
-            → self.new.waiting ≡ added_by self.new.state entries }
+        ensures in_turn { (entries : List Entry) → IsReservedFor self.old (entry ∷ entries)
+            → IsReservedFor self.new entries }
 
         // The account of a history becomes that of the history with the entry behind it, and the
         // orders are those of the history.
-        ensures history { (history : History) → self.old.state ≡ account_of history
-            → self.new.state ≡ account_of (with_entry history entry) }
-        ensures history_orders { (history : History) → self.old.state ≡ account_of history
+        ensures history { (history : History) → IsAccountOf history self.old.state
+            → IsAccountOf (with_entry history entry) self.new.state }
+        ensures history_orders { (history : History) → IsAccountOf history self.old.state
             → orders.new.orders ≡ orders.old.orders ++ orders_behind history entry }
     {
         self.take_any(entry, orders);
@@ -152,14 +155,33 @@ impl Account {
         requires within { IsWithin (account_after self.old.state entry) }
         ensures { Takes self.old self.new orders.old orders.new entry }
     {
-        if !self.is_fresh(&entry) {
+        if !self.is_next(&entry) {
             return;
         }
+        match &entry {
+            Entry::Fact(fact) => self.take_fact(fact, orders),
+            Entry::Limit(_) | Entry::ModuleLimit(_) => self.put_limit(&entry),
+            Entry::Retire(boot) => self.retire(*boot),
+        }
+    }
+
+    // Whether an entry is fresh, where what it adds waits first. A name that is held never waits,
+    // so that no name needs to be hashed.
+    fn is_next(&self, entry: &Entry) -> bool
+        requires { WaitsFirst (added_by self.now.state (entry.now ∷ [])) self.now.waiting }
+        ensures { result ≡ is_fresh_in self.now.state entry.now }
+    {
+        self.in_force.admits(entry) && self.has_name_waiting(entry)
+    }
+
+    // Whether the name of an entry is the first that waits; an entry other than a fact has none.
+    fn has_name_waiting(&self, entry: &Entry) -> bool
+        ensures first { result ≡ name_waits_first self.now.waiting.names entry.now }
+        ensures apart { OnTrue result (IsFalse (holds_name self.now.state entry.now)) }
+    {
         match entry {
-            Entry::Fact(fact) => self.take_fact(&fact, orders),
-            Entry::Limit(limit) => self.put_limit(limit),
-            Entry::Retire(boot) => self.retire(boot),
-            Entry::ModuleLimit(limit) => self.put_module_limit(limit),
+            Entry::Fact(fact) => self.names.waits_first(&fact.name),
+            Entry::Limit(_) | Entry::Retire(_) | Entry::ModuleLimit(_) => true,
         }
     }
 
@@ -168,7 +190,8 @@ impl Account {
         requires ready { CanTakeFact self.old fact.now }
         requires room { 2 * length fact.now.items ≤ orders.old.room }
         ensures account { TakesFact self.old self.new fact.now }
-        ensures orders { Gives orders.old orders.new (orders_along self.old.state (sightings_at self.old.state fact.now.seconds fact.now.items)) }
+        ensures orders { Gives orders.old orders.new
+            (orders_of_items_at self.old.state fact.now.seconds fact.now.items) }
     {
         self.count_name();
         self.take_items(fact.items.as_slice(), fact.seconds, orders);
@@ -188,7 +211,8 @@ impl Account {
         requires next { (rest : Waiting) × AreNext self.old items.now rest }
         requires room { 2 * length items.now ≤ orders.old.room }
         ensures account { TakesItems self.old self.new seconds items.now }
-        ensures orders { Gives orders.old orders.new (orders_along self.old.state (sightings_at self.old.state seconds items.now)) }
+        ensures orders { Gives orders.old orders.new
+            (orders_of_items_at self.old.state seconds items.now) }
     {
         for item in items {
             self.take_item(item, seconds, orders);
@@ -200,7 +224,8 @@ impl Account {
         requires next { IsNext self.old item.now }
         requires room { 2 ≤ orders.old.room }
         ensures account { self.new ≡ view_after_item self.old (sighting_in self.old.state seconds item.now) }
-        ensures orders { Gives orders.old orders.new (item_orders_in self.old.state (sighting_in self.old.state seconds item.now)) }
+        ensures orders { Gives orders.old orders.new
+            (item_orders_in self.old.state (sighting_in self.old.state seconds item.now)) }
     {
         self.total += u64::from(item.weight);
         let replaced = self
@@ -211,26 +236,15 @@ impl Account {
         orders.push_some(replaced);
     }
 
-    // Puts a limit for pages in force.
-    fn put_limit(&mut self, limit: Limit)
-        requires limit { IsLimit limit }
+    // Puts in force the limit that an entry sets, for pages or for modules.
+    fn put_limit(&mut self, entry: &Entry)
+        requires limit { SetsLimit entry.now }
         requires room { self.old.state.entries < MOST_ENTRIES }
-        ensures state { self.new.state ≡ account_after_fresh (account_with_count self.old.state) (Entry.Limit limit) }
+        ensures state { self.new.state ≡ account_after_fresh (account_with_count self.old.state) entry.now }
         ensures waiting { self.new.waiting ≡ self.old.waiting }
     {
         self.entries += 1;
-        self.in_force.limit = limit;
-    }
-
-    // Puts a limit for modules in force.
-    fn put_module_limit(&mut self, limit: Limit)
-        requires limit { IsLimit limit }
-        requires room { self.old.state.entries < MOST_ENTRIES }
-        ensures state { self.new.state ≡ account_after_fresh (account_with_count self.old.state) (Entry.ModuleLimit limit) }
-        ensures waiting { self.new.waiting ≡ self.old.waiting }
-    {
-        self.entries += 1;
-        self.in_force.module_limit = limit;
+        self.in_force.put(entry);
     }
 
     // Retires the boots below a number: their names are dropped.
@@ -250,7 +264,8 @@ impl Account {
         requires { self.old.waiting ≡ nothing }
         ensures state { self.new.state ≡ account_after_mark self.old.state }
         ensures waiting { self.new.waiting ≡ nothing }
-        ensures history { (history : History) → self.old.state ≡ account_of history → self.new.state ≡ account_of (with_mark history) }
+        ensures history { (history : History) → IsAccountOf history self.old.state
+            → IsAccountOf (with_mark history) self.new.state }
     {
         self.modules.mark();
     }
@@ -338,8 +353,10 @@ impl Account {
 fn order_for_page(pages: &mut Pages, item: &Item, seconds: u64, limit: Limit) -> Option<Order>
     requires ready { IfSome item.now.page (λ page. IsTrue (is_ready nat_eq pages.old page)) }
     requires limit { IsLimit limit }
-    ensures pages { (s : Sighting) → s.item ≡ item.now → s.seconds ≡ seconds → s.limit ≡ limit → pages.new ≡ pages_after_item pages.old s }
-    ensures order { (s : Sighting) → s.item ≡ item.now → s.seconds ≡ seconds → s.limit ≡ limit → result ≡ page_order_in pages.old.rows s }
+    ensures pages { (s : Sighting) → s.item ≡ item.now → s.seconds ≡ seconds → s.limit ≡ limit
+        → pages.new ≡ pages_after_item pages.old s }
+    ensures order { (s : Sighting) → s.item ≡ item.now → s.seconds ≡ seconds → s.limit ≡ limit
+        → result ≡ page_order_in pages.old.rows s }
 {
     let page = item.page?;
     pages.account(page, item.class, seconds, item.weight, limit)

@@ -6,6 +6,7 @@ ghost use Rattle.ras_account.specs.History.{empty, history_of};
 ghost use Rattle.ras_account.specs.Account.{account_of};
 ghost use Rattle.ras_account.specs.Continued.{account_after};
 ghost use Rattle.ras_account.specs.Numbers.{IsWithin, StaysWithin};
+ghost use Rattle.ras_account.specs.declared.reserve.ReserveRefused.TheVariants.{Full};
 ghost use Rattle.ras_account.specs.View.{nothing};
 
 use crate::{Account, Orders, ReserveRefused};
@@ -24,7 +25,7 @@ impl Account {
         requires { All IsValidEntry entries.items }
         ensures state { IfOk result (λ a. a.state ≡ account_of (history_of entries.items)) }
         ensures waiting { IfOk result (λ a. a.waiting ≡ nothing) }
-        ensures full { result ≡ Err ReserveRefused.Full → StaysWithin (account_of empty) entries.items → ⊥ }
+        ensures full { result ≡ Err Full → StaysWithin (account_of empty) entries.items → ⊥ }
         ensures within { OnOk result (StaysWithin (account_of empty) entries.items) }
     {
         let mut account = Account::new(alloc);
@@ -39,7 +40,7 @@ impl Account {
         requires { IsValidEntry entry }
         ensures state { OnOk result (self.new.state ≡ account_after self.old.state entry) }
         ensures waiting { OnOk result (self.new.waiting ≡ nothing) }
-        ensures full { result ≡ Err ReserveRefused.Full → IsWithin (account_after self.old.state entry) → ⊥ }
+        ensures full { result ≡ Err Full → IsWithin (account_after self.old.state entry) → ⊥ }
         ensures within { OnOk result (IsWithin (account_after self.old.state entry)) }
     {
         // So that the clauses can tell that the account is within its numbers.

@@ -1,11 +1,14 @@
 //! What an account is, in other words than its definitions.
 
-ghost use Rattle.std.specs.Prelude.{◌≡◌, ◌≤◌, ◌+◌, ◌==◌, ◌&&◌, not, ◌↔◌, ℕ, max, List, [], ◌∷◌, ◌++◌, if◌then◌else◌, IsTrue, All, Contains, Some, None, map, nat_eq, length};
+ghost use Rattle.std.specs.Prelude.{◌≡◌, ◌≤◌, ◌+◌, ◌==◌, ◌&&◌, not, ◌↔◌, ℕ, max, List, [], ◌∷◌, ◌++◌, if◌then◌else◌, IsTrue, All, Contains, Some, None, map, nat_eq, nat_le, length};
 ghost use Rattle.std.specs.Bool.{IsFalse};
-ghost use Rattle.std.specs.List.{IsDistinct, list_any};
+ghost use Rattle.std.specs.List.{IsDistinct};
 ghost use Rattle.std.specs.Map.{keys_of, lookup};
 ghost use Rattle.mca_status.specs.declared.classes.ItemClass.{ItemClass};
 ghost use Rattle.dimm_topology.specs.Labels.{Bytes, same_label};
+ghost use Rattle.page_policy.specs.declared.buckets.Bucket.{Bucket};
+ghost use Rattle.page_policy.specs.declared.buckets.Limit.{Limit};
+ghost use Rattle.page_policy.specs.Buckets.{IsLimit};
 ghost use Rattle.page_policy.specs.declared.rows.Order.{Order};
 ghost use Rattle.page_policy.specs.Histories.{AreOnceInOrder, orders_of};
 ghost use Rattle.ras_facts.specs.declared.fact.Fact.{Fact};
@@ -13,92 +16,137 @@ ghost use Rattle.ras_facts.specs.declared.name.Name.{Name};
 ghost use Rattle.ras_facts.specs.declared.entry.Entry.{Entry};
 ghost use Rattle.ras_facts.specs.Names.{same_name};
 ghost use Rattle.ras_facts.specs.Entries.{IsValidEntry};
-ghost use Rattle.ras_account.specs.History.{History, empty, with_entry, with_mark, with_entries, history_of, followed_by, IsUnmarked, names_in, floor_after, is_retired};
+ghost use Rattle.ras_account.specs.History.{History, empty, with_entry, with_mark, with_entries, with_retire, history_of, followed_by, IsUnmarked, floor_after, is_retired};
 ghost use Rattle.ras_account.specs.Fresh.{is_fresh_behind, fresh_entries};
-ghost use Rattle.ras_account.specs.Sightings.{sightings, sightings_since_mark, label_of, reports_of};
-ghost use Rattle.ras_account.specs.Modules.{module_by_items, has_tripped};
-ghost use Rattle.ras_account.specs.Account.{State, account_of, module_errors, weight_in};
+ghost use Rattle.ras_account.specs.Sightings.{Sighting, sightings, reports_of};
+ghost use Rattle.ras_account.specs.Modules.{has_tripped, bucket_with, trips_at, AreSingleErrors, IsLate};
+ghost use Rattle.ras_account.specs.Account.{State, account_of, module_errors, weight_in, is_seen, module_of, AreSame, ChangesNothing, IsKeptAfter};
 ghost use Rattle.ras_account.specs.Continued.{is_fresh_in, account_after, account_after_all, account_after_history, account_after_mark};
-ghost use Rattle.ras_account.specs.Orders.{orders_at, orders_behind, orders, orders_since_mark};
-ghost use Rattle.ras_account.specs.Asked.{orders_for_page, orders_for_module, module_place};
-ghost use Rattle.ras_account.specs.Numbers.{AreWithin, are_past, IsWithin, StaysWithin, numbers_of, numbers_with};
+ghost use Rattle.ras_account.specs.Orders.{orders_at, orders_behind, orders};
+ghost use Rattle.ras_account.specs.Asked.{orders_for_page, replace_order, replace_orders, HasRow};
+ghost use Rattle.ras_account.specs.Numbers.{are_past, IsWithin, StaysWithin, HasRoomFor, numbers_of, numbers_with};
 ghost use Rattle.ras_account.specs.Rows.{account_from_rows};
-ghost use Rattle.ras_account.specs.View.{View, WaitsFirst, then_waits, added_by};
+ghost use Rattle.ras_account.specs.View.{View, WaitsFirst, IsReservedFor, then_waits, added_by};
 ghost use Rattle.ras_account.specs.Accounts.{IsAccount};
 
 /// The laws of the account of a history. The function does nothing: its clauses are what it is for.
 pub fn account_laws()
     // The account of a history with an entry or a mark behind it is that of the history, continued
     // by it.
-    ensures entry { (history : History) (entry : Entry) → account_of (with_entry history entry) ≡ account_after (account_of history) entry }
-    ensures mark { (history : History) → account_of (with_mark history) ≡ account_after_mark (account_of history) }
-    ensures entries { (history : History) (entries : List Entry) → account_of (with_entries history entries) ≡ account_after_all (account_of history) entries }
-    ensures followed { (history more : History) → account_of (followed_by history more) ≡ account_after_history (account_of history) more }
+    ensures entry { (history : History) (entry : Entry)
+        → account_of (with_entry history entry) ≡ account_after (account_of history) entry }
+    ensures mark { (history : History)
+        → account_of (with_mark history) ≡ account_after_mark (account_of history) }
+    ensures entries { (history : History) (entries : List Entry)
+        → account_of (with_entries history entries)
+        ≡ account_after_all (account_of history) entries }
+    ensures followed { (history more : History)
+        → account_of (followed_by history more)
+        ≡ account_after_history (account_of history) more }
 
     // Accounts that are equal stay equal, whatever follows.
-    ensures equal { (one other more : History) → account_of one ≡ account_of other → account_of (followed_by one more) ≡ account_of (followed_by other more) }
+    ensures equal { (one other more : History) → AreSame one other
+        → AreSame (followed_by one more) (followed_by other more) }
 
     // An entry that isn't fresh changes nothing, and an account knows which entries are.
-    ensures freshness { (history : History) (entry : Entry) → is_fresh_in (account_of history) entry ≡ is_fresh_behind history entry }
-    ensures stale { (history : History) (entry : Entry) → IsFalse (is_fresh_behind history entry) → account_of (with_entry history entry) ≡ account_of history }
-    ensures stale_orders { (history : History) (entry : Entry) → IsFalse (is_fresh_behind history entry) → orders_behind history entry ≡ [] }
+    ensures freshness { (history : History) (entry : Entry)
+        → is_fresh_in (account_of history) entry ≡ is_fresh_behind history entry }
+    ensures stale { (history : History) (entry : Entry)
+        → IsFalse (is_fresh_behind history entry) → ChangesNothing history entry }
+    ensures stale_orders { (history : History) (entry : Entry)
+        → IsFalse (is_fresh_behind history entry) → orders_behind history entry ≡ [] }
 
     // The fresh entries alone give the account again, as where they are all that was kept.
-    ensures refreshed { (history : History) → IsUnmarked history → account_of (history_of (fresh_entries history)) ≡ account_of history }
+    ensures refreshed { (history : History) → IsUnmarked history
+        → AreSame (history_of (fresh_entries history)) history }
     ensures unmarked { (entries : List Entry) → IsUnmarked (history_of entries) }
 
     // An account holds exactly the names of the history's facts whose boots aren't retired, and
     // each of them once, as each label and each page.
-    ensures held { (history : History) (name : Name) → Contains (account_of history).names name ↔ (Contains (names_in history) name × IsFalse (is_retired (floor_after history) name)) }
+    ensures held { (history : History) (name : Name)
+        → Contains (account_of history).names name ↔ IsKeptAfter history name }
     ensures names_once { (history : History) → IsDistinct same_name (account_of history).names }
-    ensures labels_once { (history : History) → IsDistinct same_label (keys_of (account_of history).modules) }
-    ensures pages_once { (history : History) → IsDistinct nat_eq (keys_of (account_of history).pages) }
+    ensures labels_once { (history : History)
+        → IsDistinct same_label (keys_of (account_of history).modules) }
+    ensures pages_once { (history : History)
+        → IsDistinct nat_eq (keys_of (account_of history).pages) }
 
     // The row of a label says what is counted of it, and the rows together are the total weight.
-    ensures counts { (history : History) (label : Bytes) → lookup (same_label label) (account_of history).modules
-        ≡ (if list_any (same_label label) (map label_of (sightings history)) then Some (module_by_items (sightings history) (sightings_since_mark history) label) else None) }
-    ensures total { (history : History) → weight_in (account_of history).modules ≡ (account_of history).total }
+    ensures counts { (history : History) (label : Bytes)
+        → lookup (same_label label) (account_of history).modules
+        ≡ (if is_seen history label then Some (module_of history label) else None) }
+    ensures total { (history : History)
+        → weight_in (account_of history).modules ≡ (account_of history).total }
 {}
 
 /// The laws of retired boots. The function does nothing: its clauses are what it is for.
 pub fn retire_laws()
     // The floor never falls, and what is retired stays so.
-    ensures floor { (history more : History) → floor_after history ≤ floor_after (followed_by history more) }
+    ensures floor { (history more : History)
+        → floor_after history ≤ floor_after (followed_by history more) }
 
     // A report of a retired boot never changes anything again, and orders nothing.
-    ensures unchanged { (history more : History) (fact : Fact) → IsTrue (is_retired (floor_after history) fact.name)
-        → account_of (with_entry (followed_by history more) (Entry.Fact fact)) ≡ account_of (followed_by history more) }
-    ensures unordered { (history more : History) (fact : Fact) → IsTrue (is_retired (floor_after history) fact.name)
+    ensures unchanged { (history more : History) (fact : Fact)
+        → IsTrue (is_retired (floor_after history) fact.name)
+        → ChangesNothing (followed_by history more) (Entry.Fact fact) }
+    ensures unordered { (history more : History) (fact : Fact)
+        → IsTrue (is_retired (floor_after history) fact.name)
         → orders_behind (followed_by history more) (Entry.Fact fact) ≡ [] }
 
     // A retire changes the names, the floor and the number of entries alone: counts, modules and
     // pages stay.
-    ensures keeps { (history : History) (boot : ℕ) → record (account_of (with_entry history (Entry.Retire boot))) {
-      names = (account_of history).names;
-      floor = (account_of history).floor;
-      entries = (account_of history).entries;
-    } ≡ account_of history }
+    ensures keeps { (history : History) (boot : ℕ)
+        → record (account_of (with_retire history boot)) {
+          names = (account_of history).names;
+          floor = (account_of history).floor;
+          entries = (account_of history).entries;
+        } ≡ account_of history }
 
     // Retiring twice drops the same names as retiring once at the greater number.
-    ensures twice { (history : History) (one other : ℕ) → (account_of (with_entry (with_entry history (Entry.Retire one)) (Entry.Retire other))).names
-        ≡ (account_of (with_entry history (Entry.Retire (max one other)))).names }
+    ensures twice { (history : History) (one other : ℕ)
+        → (account_of (with_retire (with_retire history one) other)).names
+        ≡ (account_of (with_retire history (max one other))).names }
 {}
 
 /// The laws of the orders of a history. The function does nothing: its clauses are what it is for.
 pub fn order_laws()
     // The orders that an entry gives behind a history are those by which its account is continued.
-    ensures ordered { (history : History) (entry : Entry) → orders_behind history entry ≡ orders_at (account_of history) entry }
+    ensures ordered { (history : History) (entry : Entry)
+        → orders_behind history entry ≡ orders_at (account_of history) entry }
 
     // Of all orders of a history those for a page are what the page's own reports give: at most one
     // soft and one hard, and never a soft one after a hard one.
-    ensures page { (history : History) (page : ℕ) → orders_for_page page (orders history) ≡ orders_of (reports_of (sightings history)) page }
-    ensures page_once { (history : History) (page : ℕ) → AreOnceInOrder page (orders_for_page page (orders history)) }
+    ensures page { (history : History) (page : ℕ)
+        → orders_for_page page (orders history)
+        ≡ orders_of (reports_of (sightings history)) page }
+    ensures page_once { (history : History) (page : ℕ)
+        → AreOnceInOrder page (orders_for_page page (orders history)) }
 
     // Since the last mark a module was asked to be replaced once where its own corrected errors
     // have made its bucket trip, and else not at all, whatever other modules do.
-    ensures module { (history : History) (label : Bytes) → IsTrue (list_any (same_label label) (keys_of (account_of history).modules))
-        → orders_for_module (module_place history label) (orders_since_mark history)
-        ≡ (if has_tripped (module_errors history label) then Order.Module (module_place history label) ∷ [] else []) }
+    ensures module { (history : History) (label : Bytes) → HasRow history label
+        → replace_orders history label
+        ≡ (if has_tripped (module_errors history label)
+        then replace_order history label ∷ [] else []) }
+{}
+
+/// The laws of the buckets of modules. The function does nothing: its clauses are what it is for.
+pub fn module_laws()
+    // Single corrected errors of a module within one period ask for it to be replaced once their
+    // number reaches the capacity, and not before.
+    ensures capacity { (history : History) (label : Bytes) (limit : Limit) → IsLimit limit
+        → AreSingleErrors limit (module_errors history label)
+        → has_tripped (module_errors history label)
+        ≡ nat_le limit.capacity (length (module_errors history label)) }
+
+    // A bucket that isn't above its capacity is empty after a whole period: it goes on as one that
+    // begins at the next error.
+    ensures empties { (bucket : Bucket) (s : Sighting) → IsLimit s.module_limit
+        → bucket.count ≤ s.module_limit.capacity → IsLate bucket s
+        → bucket_with (Some bucket) s ≡ bucket_with None s }
+    ensures empties_trip { (bucket : Bucket) (s : Sighting) → IsLimit s.module_limit
+        → bucket.count ≤ s.module_limit.capacity → IsLate bucket s
+        → trips_at (Some bucket) s ≡ trips_at None s }
 {}
 
 /// The laws of accounts that no history needs to give. The function does nothing: its clauses are
@@ -106,8 +154,10 @@ pub fn order_laws()
 pub fn kept_laws()
     // The empty account is one, and a valid entry or a mark keeps it so, within the three numbers.
     ensures empty { IsAccount (account_of empty) }
-    ensures entry { (a : State) (entry : Entry) → IsAccount a → IsValidEntry entry → IsWithin (account_after a entry) → IsAccount (account_after a entry) }
-    ensures entries { (a : State) (entries : List Entry) → IsAccount a → All IsValidEntry entries → StaysWithin a entries → IsAccount (account_after_all a entries) }
+    ensures entry { (a : State) (entry : Entry) → IsAccount a → IsValidEntry entry
+        → IsWithin (account_after a entry) → IsAccount (account_after a entry) }
+    ensures entries { (a : State) (entries : List Entry) → IsAccount a → All IsValidEntry entries
+        → StaysWithin a entries → IsAccount (account_after_all a entries) }
     ensures mark { (a : State) → IsAccount a → IsAccount (account_after_mark a) }
 
     // Its numbers and rows alone give an account again.
@@ -119,18 +169,26 @@ pub fn kept_laws()
 pub fn reserve_laws()
     // What a list adds begins with what its first entry adds, and goes on with what the others then
     // add.
-    ensures in_turn { (a : State) (entry : Entry) (entries : List Entry) → added_by a (entry ∷ entries) ≡ then_waits (added_by a (entry ∷ [])) (added_by (account_after a entry) entries) }
+    ensures in_turn { (a : State) (entry : Entry) (entries : List Entry)
+        → added_by a (entry ∷ entries)
+        ≡ then_waits (added_by a (entry ∷ [])) (added_by (account_after a entry) entries) }
 
     // Where what a list adds waits, what its first entry adds waits first.
-    ensures first { (account : View) (entry : Entry) (entries : List Entry) → account.waiting ≡ added_by account.state (entry ∷ entries) → WaitsFirst (added_by account.state (entry ∷ [])) account.waiting }
+    ensures first { (account : View) (entry : Entry) (entries : List Entry)
+        → IsReservedFor account (entry ∷ entries)
+        → WaitsFirst (added_by account.state (entry ∷ [])) account.waiting }
 
     // Numbers are within what an account counts, or past it.
-    ensures past { (a : State) (entries : List Entry) → IsFalse (are_past (numbers_with a entries)) ↔ AreWithin (numbers_with a entries) }
+    ensures past { (a : State) (entries : List Entry)
+        → IsFalse (are_past (numbers_with a entries)) ↔ HasRoomFor a entries }
     ensures now_past { (a : State) → IsFalse (are_past (numbers_of a)) ↔ IsWithin a }
 
     // Where there is room for all that a list adds, the account stays within its numbers at every
     // front of the list, and then there is room for what the others add.
-    ensures stays { (a : State) (entries : List Entry) → AreWithin (numbers_with a entries) → StaysWithin a entries }
-    ensures front { (a : State) (front more : List Entry) → AreWithin (numbers_with a (front ++ more)) → IsWithin (account_after_all a front) }
-    ensures others { (a : State) (entry : Entry) (entries : List Entry) → AreWithin (numbers_with a (entry ∷ entries)) → AreWithin (numbers_with (account_after a entry) entries) }
+    ensures stays { (a : State) (entries : List Entry)
+        → HasRoomFor a entries → StaysWithin a entries }
+    ensures front { (a : State) (front more : List Entry)
+        → HasRoomFor a (front ++ more) → IsWithin (account_after_all a front) }
+    ensures others { (a : State) (entry : Entry) (entries : List Entry)
+        → HasRoomFor a (entry ∷ entries) → HasRoomFor (account_after a entry) entries }
 {}

@@ -57,7 +57,8 @@ impl ModuleRow {
         requires counting { IsCounting self }
         requires limit { IsLimit limit }
         requires total { sum self.sums + item.now.weight ≤ MOST_TOTAL }
-        ensures row { (s : Sighting) → s.item ≡ item.now → s.seconds ≡ seconds → s.module_limit ≡ limit → row_of result ≡ (self.label, module_after (row_of self).1 s) }
+        ensures row { (s : Sighting) → s.item ≡ item.now → s.seconds ≡ seconds
+            → s.module_limit ≡ limit → row_of result ≡ (self.label, module_after (row_of self).1 s) }
         ensures counting { IsCounting result }
     {
         let sums = sums_after(self.sums, item);
@@ -151,8 +152,10 @@ impl Modules {
         requires next { IsTrue (is_next_label self.old item.now.label) }
         requires limit { IsLimit limit }
         requires total { weight_in self.old.rows + item.now.weight ≤ MOST_TOTAL }
-        ensures rows { (s : Sighting) → s.item ≡ item.now → s.seconds ≡ seconds → s.module_limit ≡ limit → self.new ≡ with_sighting self.old s }
-        ensures order { (s : Sighting) → s.item ≡ item.now → s.seconds ≡ seconds → s.module_limit ≡ limit → result ≡ module_order_in self.old.rows s }
+        ensures rows { (s : Sighting) → s.item ≡ item.now → s.seconds ≡ seconds
+            → s.module_limit ≡ limit → self.new ≡ with_sighting self.old s }
+        ensures order { (s : Sighting) → s.item ≡ item.now → s.seconds ≡ seconds
+            → s.module_limit ≡ limit → result ≡ module_order_in self.old.rows s }
     {
         let label = item.label;
         let (place, known) = self.table.find(&label);
@@ -175,7 +178,8 @@ impl Modules {
     // Lets a label wait that neither has a row nor waits yet.
     pub(crate) fn let_wait(&mut self, label: &Label) -> Result<(), NoMemory>
         ensures rows { self.new.rows ≡ self.old.rows }
-        ensures ok { OnOk result (self.new.waiting ≡ self.old.waiting ++ added_keys same_label (all_labels self.old) (label.now ∷ [])) }
+        ensures ok { OnOk result (self.new.waiting
+            ≡ self.old.waiting ++ added_keys same_label (all_labels self.old) (label.now ∷ [])) }
     {
         self.table.let_wait(*label, ModuleRow::new(*label))?;
         Ok(())
@@ -183,7 +187,8 @@ impl Modules {
 
     // Takes each module's bucket away, and asks for none to be replaced.
     pub(crate) fn mark(&mut self)
-        ensures rows { self.new.rows ≡ map {B = Bytes × Module} (λ row. (row.0, without_bucket row.1)) self.old.rows }
+        ensures rows { self.new.rows
+            ≡ map {B = Bytes × Module} (λ row. (row.0, without_bucket row.1)) self.old.rows }
         ensures waiting { self.new.waiting ≡ self.old.waiting }
     {
         for place in 0..self.table.len() {
@@ -199,7 +204,8 @@ impl Modules {
         ensures ok { OnOk result (self.new.rows ≡ self.old.rows ++ row_of row ∷ []) }
         ensures err { OnErr result (self.new.rows ≡ self.old.rows) }
         ensures waiting { self.new.waiting ≡ [] }
-        ensures repeated { (result ≡ Err RowRefused.Repeated) ↔ IsTrue (list_any (same_label row.label) (keys_of self.old.rows)) }
+        ensures repeated { (result ≡ Err RowRefused.Repeated)
+            ↔ IsTrue (list_any (same_label row.label) (keys_of self.old.rows)) }
     {
         self.table.push_row(row.label, row)
     }

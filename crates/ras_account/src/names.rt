@@ -1,5 +1,6 @@
 //! The names that are counted, and behind them those that wait.
 ghost use Rattle.std.specs.Prelude.{◌≡◌, ◌↔◌, ◌<◌, ◌++◌, [], ◌∷◌, not, IsTrue, Some, Err, IfOk, OnOk, OnErr, length, take, drop, slice_get};
+ghost use Rattle.std.specs.Bool.{IsFalse, OnTrue};
 ghost use Rattle.std.specs.List.{list_any};
 ghost use Rattle.row_tables.specs.Tables.{added_keys};
 ghost use Rattle.ras_facts.specs.Names.{same_name};
@@ -67,9 +68,10 @@ impl Names {
         self.table.holds(name)
     }
 
-    // Whether a name is the first that waits.
+    // Whether a name is the first that waits. A counted name never waits.
     pub(crate) fn waits_first(&self, name: &Name) -> bool
-        ensures { result ≡ is_among (take 1 self.now.waiting) name.now }
+        ensures first { result ≡ is_among (take 1 self.now.waiting) name.now }
+        ensures apart { OnTrue result (IsFalse (is_among self.now.held name.now)) }
     {
         self.table.waits_first(name)
     }
@@ -117,7 +119,8 @@ impl Names {
     // name.
     pub(crate) fn let_wait(&mut self, name: Name) -> Result<bool, NoMemory>
         ensures held { self.new.held ≡ self.old.held }
-        ensures ok { OnOk result (self.new.waiting ≡ self.old.waiting ++ added_keys same_name (all_names self.old) (name ∷ [])) }
+        ensures ok { OnOk result (self.new.waiting
+            ≡ self.old.waiting ++ added_keys same_name (all_names self.old) (name ∷ [])) }
         ensures fresh { IfOk result (λ fresh. fresh ≡ not (list_any (same_name name) (all_names self.old))) }
         ensures err { OnErr result (self.new.waiting ≡ self.old.waiting) }
     {

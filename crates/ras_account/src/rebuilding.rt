@@ -1,13 +1,15 @@
 //! The account made again from its numbers and rows, as they are read back one after the other.
-ghost use Rattle.std.specs.Prelude.{◌≡◌, ◌↔◌, ◌+◌, ◌<◌, ◌≤◌, ◌^◌, ◌++◌, [], ◌∷◌, None, Err, IsTrue, IfSome, IfNone, OnOk, OnErr, not, sum, length, nat_eq};
+ghost use Rattle.std.specs.Prelude.{◌≡◌, ◌↔◌, ◌+◌, ◌<◌, ◌≤◌, ◌^◌, ◌++◌, [], ◌∷◌, None, Err, IsTrue, IfSome, IfNone, OnOk, OnErr, not, sum, length};
 ghost use Rattle.std.specs.Bool.{IsFalse, OnTrue, OnFalse};
-ghost use Rattle.dimm_topology.specs.Labels.{same_label, is_label_or_none};
-ghost use Rattle.row_tables.specs.Held.{is_held};
+ghost use Rattle.dimm_topology.specs.Labels.{is_label_or_none};
+ghost use Rattle.row_tables.specs.declared.row_table.RowRefused.TheVariants.{Repeated as RowRepeated};
+ghost use Rattle.page_policy.specs.Pages.{page_entry};
+ghost use Rattle.ras_account.specs.declared.rebuilding.PushRefused.TheVariants.{Repeated, Full};
 ghost use Rattle.page_policy.specs.Buckets.{IsLimit, most_count};
 ghost use Rattle.ras_facts.specs.Valid.{IsPage, IsValidName};
 ghost use Rattle.ras_account.specs.History.{is_retired};
 ghost use Rattle.ras_account.specs.Fresh.{is_among};
-ghost use Rattle.ras_account.specs.Rows.{has_retired, with_name, with_module, with_page};
+ghost use Rattle.ras_account.specs.Rows.{has_retired, has_module, has_page, with_name, with_module, with_page};
 ghost use Rattle.ras_account.specs.View.{nothing};
 ghost use Rattle.ras_account.specs.Rows.{row_of};
 
@@ -51,7 +53,8 @@ impl Account {
         requires waiting { self.old.waiting ≡ nothing }
         requires limit { IsLimit limit }
         requires entries { entries ≤ MOST_ENTRIES }
-        ensures state { self.new.state ≡ record self.old.state { limit = limit; entries = entries } }
+        ensures state { self.new.state
+            ≡ record self.old.state { limit = limit; entries = entries } }
         ensures waiting { self.new.waiting ≡ nothing }
     {
         self.in_force.limit = limit;
@@ -95,8 +98,8 @@ impl Account {
         ensures ok { OnOk result (self.new.state ≡ with_name self.old.state name) }
         ensures err { OnErr result (self.new.state ≡ self.old.state) }
         ensures waiting { self.new.waiting ≡ nothing }
-        ensures repeated { (result ≡ Err PushRefused.Repeated) ↔ IsTrue (is_among self.old.state.names name) }
-        ensures full { result ≡ Err PushRefused.Full → length self.old.state.names ≡ MOST_NAMES }
+        ensures repeated { (result ≡ Err Repeated) ↔ IsTrue (is_among self.old.state.names name) }
+        ensures full { result ≡ Err Full → length self.old.state.names ≡ MOST_NAMES }
         ensures within { OnOk result (length self.old.state.names < MOST_NAMES) }
     {
         tell_valid_name(&name);
@@ -125,8 +128,8 @@ impl Account {
         ensures ok { OnOk result (self.new.state ≡ with_module self.old.state (row_of row)) }
         ensures err { OnErr result (self.new.state ≡ self.old.state) }
         ensures waiting { self.new.waiting ≡ nothing }
-        ensures repeated { (result ≡ Err PushRefused.Repeated) ↔ IsTrue (is_held same_label self.old.state.modules row.label) }
-        ensures full { (result ≡ Err PushRefused.Full) → MOST_TOTAL < self.old.state.total + sum row.sums }
+        ensures repeated { (result ≡ Err Repeated) ↔ IsTrue (has_module self.old.state row.label) }
+        ensures full { result ≡ Err Full → MOST_TOTAL < self.old.state.total + sum row.sums }
         ensures within { OnOk result (self.old.state.total + sum row.sums ≤ MOST_TOTAL) }
     {
         tell_valid_row(&row);
@@ -155,10 +158,11 @@ impl Account {
         requires waiting { self.old.waiting ≡ nothing }
         requires page { IsPage page }
         requires count { bucket.count ≤ most_count }
-        ensures ok { OnOk result (self.new.state ≡ with_page self.old.state (page, record { bucket = bucket; state = state })) }
+        ensures ok { OnOk result
+            (self.new.state ≡ with_page self.old.state (page_entry page bucket state)) }
         ensures err { OnErr result (self.new.state ≡ self.old.state) }
         ensures waiting { self.new.waiting ≡ nothing }
-        ensures repeated { (result ≡ Err RowRefused.Repeated) ↔ IsTrue (is_held nat_eq self.old.state.pages page) }
+        ensures repeated { (result ≡ Err RowRepeated) ↔ IsTrue (has_page self.old.state page) }
     {
         tell_valid_bucket(bucket);
         self.pages.push_row(page, bucket, state)

@@ -1,11 +1,11 @@
 //! What a list of entries adds to an account, noted before any of them is taken.
-ghost use Rattle.std.specs.Prelude.{◌≡◌, List, [], ◌∷◌, IsTrue, Err, IfOk, OnOk, OnErr};
-ghost use Rattle.ras_account.specs.declared.reserve.ReserveRefused.TheVariants.{NoMemory as NoMemoryForEntries};
+ghost use Rattle.std.specs.Prelude.{◌≡◌, List, [], ◌∷◌, Err, IfOk, OnOk, OnErr};
+ghost use Rattle.ras_account.specs.declared.reserve.ReserveRefused.TheVariants.{NoMemory as NoMemoryForEntries, Full};
 ghost use Rattle.ras_facts.specs.declared.entry.Entry.{Entry};
 ghost use Rattle.std.specs.Bool.{IsFalse};
 ghost use Rattle.ras_account.specs.History.{is_retired};
 ghost use Rattle.ras_account.specs.Account.{State};
-ghost use Rattle.ras_account.specs.Numbers.{AreWithin, are_past, numbers_with};
+ghost use Rattle.ras_account.specs.Numbers.{HasRoomFor, HasNoRoomFor};
 ghost use Rattle.ras_account.specs.View.{nothing, added_by};
 ghost use Rattle.ras_account.specs.Continued.{account_after};
 ghost use Rattle.ras_account.specs.Reserving.{NotesItems, with_fresh, Shadows, Noted};
@@ -50,8 +50,8 @@ impl Account {
         ensures state { self.new.state ≡ self.old.state }
         ensures ok { OnOk result (self.new.waiting ≡ added_by self.old.state entries.now) }
         ensures err { OnErr result (self.new.waiting ≡ nothing) }
-        ensures full { result ≡ Err ReserveRefused.Full → IsTrue (are_past (numbers_with self.old.state entries.now)) }
-        ensures within { OnOk result (AreWithin (numbers_with self.old.state entries.now)) }
+        ensures full { result ≡ Err Full → HasNoRoomFor self.old.state entries.now }
+        ensures within { OnOk result (HasRoomFor self.old.state entries.now) }
     {
         self.give_up();
         match self.let_wait(entries) {
@@ -79,8 +79,8 @@ impl Account {
         requires { self.old.waiting ≡ nothing }
         ensures state { self.new.state ≡ self.old.state }
         ensures ok { OnOk result (self.new.waiting ≡ added_by self.old.state entries.now) }
-        ensures full { result ≡ Err ReserveRefused.Full → IsTrue (are_past (numbers_with self.old.state entries.now)) }
-        ensures within { OnOk result (AreWithin (numbers_with self.old.state entries.now)) }
+        ensures full { result ≡ Err Full → HasNoRoomFor self.old.state entries.now }
+        ensures within { OnOk result (HasRoomFor self.old.state entries.now) }
     {
         let tally = self.tally_of(entries)?;
         if self.names.len_with_waiting() > MOST_NAMES
@@ -133,8 +133,10 @@ impl Tally {
     ) -> Result<(), NoMemory>
         ensures held { names.new.held ≡ names.old.held }
         ensures rows { modules.new.rows ≡ modules.old.rows }
-        ensures noted { (a b : State) (fresh : List Entry) → Shadows a b fresh names.old modules.old self.old
-            → OnOk result (Shadows a (account_after b entry.now) (with_fresh b fresh entry.now) names.new modules.new self.new) }
+        ensures noted { (a b : State) (fresh : List Entry)
+            → Shadows a b fresh names.old modules.old self.old
+            → OnOk result (Shadows a (account_after b entry.now)
+            (with_fresh b fresh entry.now) names.new modules.new self.new) }
     {
         if !self.in_force.admits(entry) {
             return Ok(());
@@ -159,8 +161,10 @@ impl Tally {
         requires { IsFalse (is_retired self.old.in_force.floor fact.now.name) }
         ensures held { names.new.held ≡ names.old.held }
         ensures rows { modules.new.rows ≡ modules.old.rows }
-        ensures noted { (a b : State) (fresh : List Entry) → Shadows a b fresh names.old modules.old self.old
-            → OnOk result (Shadows a (account_after b (Entry.Fact fact.now)) (with_fresh b fresh (Entry.Fact fact.now)) names.new modules.new self.new) }
+        ensures noted { (a b : State) (fresh : List Entry)
+            → Shadows a b fresh names.old modules.old self.old
+            → OnOk result (Shadows a (account_after b (Entry.Fact fact.now))
+            (with_fresh b fresh (Entry.Fact fact.now)) names.new modules.new self.new) }
     {
         if !names.let_wait(fact.name)? {
             return Ok(());
@@ -183,7 +187,8 @@ impl Tally {
     // Notes an item.
     fn note_item(&mut self, modules: &mut Modules, item: &Item) -> Result<(), NoMemory>
         ensures rows { modules.new.rows ≡ modules.old.rows }
-        ensures noted { OnOk result (NotesItems modules.old modules.new self.old self.new (item.now ∷ [])) }
+        ensures noted { OnOk result
+            (NotesItems modules.old modules.new self.old self.new (item.now ∷ [])) }
     {
         modules.let_wait(&item.label)?;
         if let Some(page) = item.page {

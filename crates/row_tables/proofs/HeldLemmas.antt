@@ -1,7 +1,8 @@
 -- Tables whose first rows are held and whose other keys wait behind them, as a list of entries and
 -- the number of rows held. For the crates above too.
 use Rattle.std.proofs.Common.{◌≡◌, ℕ, zero, suc, ◌+◌, ◌<◌, ◌≤◌, Bool, true, false, not, cond, if◌then◌else◌, ◌||◌, nat_lt, List, [], ◌∷◌, ◌++◌, length, take, drop, None, Some, refl, sym, ap, ◌∙◌, true≢false, max, unwrap_or, slice_get, is_some, arith, append-nil, add-one, get_or, filter, nat_eq, ◌-◌, length-append, length-drop}
-use Rattle.std.specs.List.{list_any, position, position_or_len}
+use Rattle.std.specs.List.{list_any, position, position_or_len, IsDistinct}
+use Rattle.std.proofs.lemmas.Map.Keys.{IsDistinct-tail, apart_from_distinct}
 use Rattle.std.specs.Map.{keys_of, values_of, lookup}
 use Rattle.std.proofs.lemmas.Bool.Decides.{nat_tests}
 use Rattle.std.specs.Map.Calls.{RetainsPairs}
@@ -204,6 +205,21 @@ module _ {K R : Type 0} where
 module _ {K R : Type 0} (same : K → K → Bool) (exact : (x y : K) → same x y ≡ true → x ≡ y) where
   abbrev is_in : List (K × R) → K → Bool
   is_in es k = list_any (same k) (keys_of es)
+
+  -- the keys before a place differ from the key there
+  pub apart_before : (k : K) (es : List (K × R)) (held : ℕ) (d : K) → IsDistinct same (keys_of es) → held < length es
+      → same k (get_or (keys_of es) held d) ≡ true → is_in (take held es) k ≡ false
+  apart_before k [] held d once within here = absurd (omega arith)
+  apart_before k (e ∷ es) zero d once within here = refl
+  apart_before k (e ∷ es) (suc held) d once within here =
+      by (same k e.0) refl (apart_before k es held d (IsDistinct-tail same e.0 (keys_of es) once) (omega arith) here)
+    where
+      other : same e.0 (get_or (keys_of es) held d) ≡ false
+      other = apart_from_distinct same (e.0 ∷ keys_of es) 0 (suc held) d once (omega arith) (omega (arith, length-keys es))
+
+      by : (b : Bool) → same k e.0 ≡ b → is_in (take held es) k ≡ false → (b || is_in (take held es) k) ≡ false
+      by true equal ih = absurd (true≢false (sym here ∙ ap (λ j. same j (get_or (keys_of es) held d)) (exact k e.0 equal) ∙ other))
+      by false equal ih = ih
 
   module _ (k : K) where
     -- the first place at which the test of a key passes is the key's place

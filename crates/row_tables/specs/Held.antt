@@ -2,7 +2,7 @@
 use Rattle.std.specs.Prelude.{◌≡◌, ℕ, zero, suc, Bool, true, false, if◌then◌else◌, List, [], ◌∷◌, ◌++◌, map, take, drop}
 use Rattle.std.specs.List.{list_any}
 use Rattle.std.specs.Map.{keys_of}
-use Rattle.row_tables.specs.Tables.{updated_rows}
+use Rattle.row_tables.specs.Tables.{updated_rows, added_keys}
 
 -- the keys held, with their rows, in the order in which they came, and the keys that wait
 pub record Held (K R : Type 0) : Type 0 where
@@ -39,9 +39,26 @@ module _ {K R : Type 0} where
     abbrev pub is_ready : Held K R → K → Bool
     is_ready held key = list_any (same key) (keys_of held.rows ++ take 1 held.waiting)
 
+    -- whether a key is held or waits
+    abbrev pub is_there : Held K R → K → Bool
+    is_there held key = list_any (same key) (all_keys held)
+
+    -- the keys of a list that have no row, in the order in which they are first seen, each once
+    abbrev pub new_keys : List (K × R) → List K → List K
+    new_keys rows keys = added_keys same (keys_of rows) keys
+
+    -- the keys that wait once these do too: those that are held or wait already add nothing
+    abbrev pub waiting_with : Held K R → List K → List K
+    waiting_with held keys = held.waiting ++ added_keys same (all_keys held) keys
+
     -- the table with this row at a key, which is held already or is held now behind the others
     abbrev pub with_row : Held K R → K → R → Held K R
     with_row held key row = record {
       rows = updated_rows same key row (λ old. row) held.rows;
       waiting = if is_held held.rows key then held.waiting else drop 1 held.waiting;
     }
+
+    -- a row is put at the key that stands at a place
+    abbrev pub PutsAt : Held K R → Held K R → ℕ → R → Type 0
+    PutsAt old new place row =
+        (key : K) → IsPlace same key (all_keys old) place → new ≡ with_row old key row

@@ -1,12 +1,13 @@
 //! The table of keys that are held, each with its row, and of keys that wait.
 
 ghost use Rattle.std.specs.Prelude.{◌≡◌, ◌↔◌, ◌<◌, ◌≤◌, ◌^◌, ◌++◌, [], ◌∷◌, not, map, IsTrue, Some, Err, IfOk, OnOk, OnErr, length, slice_get, take, drop, filter, nat_eq, ◌-◌, ◌||◌, Bool};
-ghost use Rattle.std.specs.Bool.{IsFalse};
+ghost use Rattle.std.specs.Bool.{IsFalse, OnTrue};
 ghost use Rattle.std.specs.List.{list_any};
 ghost use Rattle.std.specs.Map.{keys_of, values_of, lookup};
 ghost use Rattle.indexmap.specs.IndexMap.{set_value_at};
 ghost use Rattle.row_tables.specs.Tables.{added_keys};
-ghost use Rattle.row_tables.specs.Held.{all_keys, is_held, is_ready, with_row, waiting_rows, kept_entries, IsPlace};
+ghost use Rattle.row_tables.specs.Held.{all_keys, is_held, is_there, is_ready, new_keys, waiting_with, waiting_rows, kept_entries, IsPlace, PutsAt};
+ghost use Rattle.row_tables.specs.declared.row_table.RowRefused.TheVariants.{Repeated};
 
 use indexmap::IndexMap;
 use ras_base::{ExactEq, NoMemory};
@@ -116,9 +117,10 @@ impl<K: Hash + ExactEq + Copy, R: Copy> RowTable<K, R> {
         }
     }
 
-    /// Whether a key is the first that waits. It hashes nothing.
+    /// Whether a key is the first that waits. A key that is held never waits. It hashes nothing.
     pub fn waits_first(&self, key: &K) -> bool
-        ensures { result ≡ list_any (K.eq key.now) (take 1 self.now.waiting) }
+        ensures first { result ≡ list_any (K.eq key.now) (take 1 self.now.waiting) }
+        ensures apart { OnTrue result (IsFalse (is_held K.eq self.now.rows key.now)) }
     {
         self.held < self.table.len() && *key == self.table.keys().as_slice()[self.held]
     }
@@ -139,7 +141,7 @@ impl<K: Hash + ExactEq + Copy, R: Copy> RowTable<K, R> {
     pub fn put(&mut self, place: usize, row: R)
         requires there { place < length (all_keys self.old) }
         requires next { place ≤ length self.old.rows }
-        ensures { (key : _) → IsPlace K.eq key (all_keys self.old) place → self.new ≡ with_row K.eq self.old key row }
+        ensures { PutsAt K.eq self.old self.new place row }
     {
         // What the length says bounds the place.
         let _len = self.table.len();
@@ -175,7 +177,7 @@ impl<K: Hash + ExactEq + Copy, R: Copy> RowTable<K, R> {
         ensures ok { OnOk result (self.new.rows ≡ self.old.rows ++ (key, row) ∷ []) }
         ensures waiting { self.new.waiting ≡ [] }
         ensures err { OnErr result (self.new.rows ≡ self.old.rows) }
-        ensures repeated { (result ≡ Err RowRefused.Repeated) ↔ IsTrue (is_held K.eq self.old.rows key) }
+        ensures repeated { (result ≡ Err Repeated) ↔ IsTrue (is_held K.eq self.old.rows key) }
     {
         match insert_last(&mut self.table, key, row) {
             Ok(true) => {
@@ -209,8 +211,8 @@ impl<K: Hash + ExactEq + Copy, R: Copy> RowTable<K, R> {
     /// answer is whether it is such a key. Nothing reads `row` while the key waits.
     pub fn let_wait(&mut self, key: K, row: R) -> Result<bool, NoMemory>
         ensures rows { self.new.rows ≡ self.old.rows }
-        ensures ok { OnOk result (self.new.waiting ≡ self.old.waiting ++ added_keys K.eq (all_keys self.old) (key ∷ [])) }
-        ensures fresh { IfOk result (λ fresh. fresh ≡ not (list_any (K.eq key) (all_keys self.old))) }
+        ensures ok { OnOk result (self.new.waiting ≡ waiting_with K.eq self.old (key ∷ [])) }
+        ensures fresh { IfOk result (λ fresh. fresh ≡ not (is_there K.eq self.old key)) }
         ensures err { OnErr result (self.new.waiting ≡ self.old.waiting) }
     {
         insert_last(&mut self.table, key, row)
@@ -220,7 +222,7 @@ impl<K: Hash + ExactEq + Copy, R: Copy> RowTable<K, R> {
     /// each once. What waited before is given up, and after `NoMemory` no key waits.
     pub fn reserve(&mut self, keys: &[K], row: R) -> Result<(), NoMemory>
         ensures rows { self.new.rows ≡ self.old.rows }
-        ensures ok { OnOk result (self.new.waiting ≡ added_keys K.eq (keys_of self.old.rows) keys.now) }
+        ensures ok { OnOk result (self.new.waiting ≡ new_keys K.eq self.old.rows keys.now) }
         ensures err { OnErr result (self.new.waiting ≡ []) }
     {
         self.give_up();

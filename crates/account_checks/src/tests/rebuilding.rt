@@ -1,0 +1,234 @@
+//! Accounts that are made again from numbers and rows.
+use super::steps::Named::{Bank, Boot, Record};
+use super::steps::Parts::{One, Two};
+use super::steps::Step::{self, Fact};
+use super::steps::{Named, name_of};
+use super::told::{Line, play};
+use dimm_topology::Label;
+use mca_status::ItemClass::{Ce, Ucna};
+use page_policy::{Bucket, MOST_CAPACITY, Order, PageState};
+use ras_account::{Account, MOST_TOTAL, ModuleRow, PushRefused};
+use ras_facts::{Name, PAGES};
+use std::alloc::Global;
+use std::test::Fail;
+
+// Puts a name behind the others; nothing waits after nothing is reserved.
+fn push_name(account: &mut Account, name: Name) -> Result<Result<(), PushRefused>, Fail> {
+    account.reserve(&[])?;
+    let is_retired = match name.boot() {
+        Some(boot) => boot < account.floor(),
+        None => false,
+    };
+    if is_retired {
+        Err("the name's boot is retired")?;
+    }
+    Ok(account.push_name(name))
+}
+
+// Puts the row of a module behind the others.
+fn push_module(account: &mut Account, row: ModuleRow) -> Result<Result<(), PushRefused>, Fail> {
+    account.reserve(&[])?;
+    let is_row = match row.bucket {
+        Some(bucket) => bucket.count < MOST_CAPACITY && !row.label.bytes().is_empty(),
+        None => !row.replace,
+    };
+    if !is_row {
+        Err("this is no row of a module")?;
+    }
+    Ok(account.push_module(row))
+}
+
+// Puts the row of a page behind the others. The answer is whether it had none.
+fn push_page(
+    account: &mut Account,
+    page: u64,
+    bucket: Bucket,
+    state: PageState,
+) -> Result<bool, Fail> {
+    account.reserve(&[])?;
+    if page >= PAGES || bucket.count >= MOST_CAPACITY {
+        Err("this is no row of a page")?;
+    }
+    Ok(account.push_page(page, bucket, state).is_ok())
+}
+
+// Sets the floor. The answer is whether it was set.
+fn set_floor(account: &mut Account, floor: u64) -> Result<bool, Fail> {
+    account.reserve(&[])?;
+    Ok(account.set_floor(floor))
+}
+
+// The row of the module of a letter, with so many corrected errors and no bucket.
+fn row_of(alloc: Global, letter: u8, weight: u64) -> ModuleRow {
+    ModuleRow {
+        label: Label::new(alloc, &[letter]).unwrap_or(Label::none()),
+        sums: [weight, 0, 0, 0, 0, 0, 0, 0, 0, 0],
+        bucket: None,
+        replace: false,
+    }
+}
+
+// A new account with these names, each of which it lacks.
+fn account_of(alloc: Global, names: &[Named]) -> Result<Account, Fail> {
+    let mut account = Account::new(alloc);
+    for named in names {
+        push_name(&mut account, name_of(*named))?
+            .ok()
+            .ok_or("the name is held")?;
+    }
+    Ok(account)
+}
+
+#[test]
+fn sets_no_floor_above_a_name_that_is_held(rt: HostRuntime) -> Result<(), Fail> {
+    let mut account = account_of(rt.alloc(), &[Bank(2, 1), Record(5), Boot(4)])?;
+    for (floor, is_set, stands) in [(2, true, 2), (3, false, 2), (4, false, 2), (1, true, 1)] {
+        assert_eq!(rt; set_floor(&mut account, floor)?, is_set, "{floor}");
+        assert_eq!(rt; account.floor(), stands);
+    }
+    Ok(())
+}
+
+const TWO_NAMES: [Line; 4] = [
+    Line::Numbers(0, 0, 0),
+    Line::Name(Bank(1, 1)),
+    Line::Name(Bank(1, 2)),
+    Line::End,
+];
+
+#[test]
+fn refuses_a_name_that_is_held(rt: HostRuntime) -> Result<(), Fail> {
+    let mut account = account_of(rt.alloc(), &[Bank(1, 1), Bank(1, 2)])?;
+    let repeated = push_name(&mut account, name_of(Bank(1, 1)))?;
+    assert_eq!(rt; repeated, Err(PushRefused::Repeated));
+    play(&rt, rt.alloc(), account, &TWO_NAMES)?;
+    Ok(())
+}
+
+const TWO_PAGES: [Line; 4] = [
+    Line::Numbers(0, 0, 0),
+    Line::Page((7, 3, 100, PageState::Kept)),
+    Line::Page((8, 3, 100, PageState::Kept)),
+    Line::End,
+];
+
+#[test]
+fn refuses_a_page_that_has_a_row(rt: HostRuntime) -> Result<(), Fail> {
+    let mut account = Account::new(rt.alloc());
+    let bucket = Bucket {
+        count: 3,
+        stamp: 100,
+    };
+    for (page, is_new) in [(7, true), (8, true), (7, false)] {
+        assert_eq!(rt;
+            push_page(&mut account, page, bucket, PageState::Kept)?,
+            is_new
+        );
+    }
+    play(&rt, rt.alloc(), account, &TWO_PAGES)?;
+    Ok(())
+}
+
+// A row brings its weight, up to 2 ^ 62 in all.
+#[test]
+fn holds_so_much_weight_and_no_more(rt: HostRuntime) -> Result<(), Fail> {
+    let mut account = Account::new(rt.alloc());
+    for (letter, weight, pushed) in [
+        (b'A', 1, Ok(())),
+        (b'B', MOST_TOTAL, Err(PushRefused::Full)),
+        (b'A', MOST_TOTAL, Err(PushRefused::Repeated)),
+        (b'B', MOST_TOTAL - 1, Ok(())),
+        (b'C', 1, Err(PushRefused::Full)),
+        (b'C', 0, Ok(())),
+    ] {
+        let row = row_of(rt.alloc(), letter, weight);
+        assert_eq!(rt; push_module(&mut account, row)?, pushed);
+    }
+    assert_eq!(rt; (account.total(), account.modules_len()), (MOST_TOTAL, 3));
+    Ok(())
+}
+
+// Puts each name of an account into another.
+fn copy_names(account: &Account, copy: &mut Account) -> Result<(), Fail> {
+    for i in 0..account.names_len() {
+        push_name(copy, *account.name(i))?
+            .ok()
+            .ok_or("the name is new")?;
+    }
+    Ok(())
+}
+
+// Puts the row of each module of an account into another.
+fn copy_modules(account: &Account, copy: &mut Account) -> Result<(), Fail> {
+    for i in 0..account.modules_len() {
+        push_module(copy, *account.module(i))?
+            .ok()
+            .ok_or("the module is new")?;
+    }
+    Ok(())
+}
+
+// Puts the row of each page of an account into another.
+fn copy_pages(account: &Account, copy: &mut Account) -> Result<(), Fail> {
+    for i in 0..account.pages().len() {
+        let (page, bucket, state) = account.pages().row(i);
+        if !push_page(copy, page, bucket, state)? {
+            Err("the page is new")?;
+        }
+    }
+    Ok(())
+}
+
+// Puts the numbers of an account into a new one.
+fn with_base(alloc: Global, account: &Account) -> Account {
+    let mut copy = Account::new(alloc);
+    copy.set_base(account.limit(), account.entries());
+    copy.set_module_limit(account.module_limit());
+    copy
+}
+
+// Puts the numbers of an account and each of its rows into a new one.
+fn copy_of(alloc: Global, account: &Account) -> Result<Account, Fail> {
+    let mut copy = with_base(alloc, account);
+    copy_names(account, &mut copy)?;
+    copy_modules(account, &mut copy)?;
+    copy_pages(account, &mut copy)?;
+    set_floor(&mut copy, account.floor())?;
+    Ok(copy)
+}
+
+const HISTORY: [Line; 6] = [
+    Line::Step(Fact(
+        Bank(1, 1),
+        100,
+        Two((Ce, b'A', Some(7), 3), (Ce, 0, Some(8), 1)),
+    )),
+    Line::Step(Fact(Record(9), 100, One((Ucna, b'B', Some(9), 5)))),
+    Line::Step(Step::Retire(2)),
+    Line::Step(Fact(Bank(2, 1), 100, One((Ce, b'A', None, 100)))),
+    Line::Order(Order::Soft(9)),
+    Line::Order(Order::Module(0)),
+];
+
+const ROWS: [Line; 10] = [
+    Line::Numbers(4, 109, 2),
+    Line::Name(Record(9)),
+    Line::Name(Bank(2, 1)),
+    Line::Module((b'A', [103, 0, 0, 0, 0, 0, 0, 0, 0, 0], Some((0, 100)), true)),
+    Line::Module((0, [1, 0, 0, 0, 0, 0, 0, 0, 0, 0], None, false)),
+    Line::Module((b'B', [0, 5, 0, 0, 0, 0, 0, 0, 0, 0], None, false)),
+    Line::Page((7, 3, 100, PageState::Kept)),
+    Line::Page((8, 1, 100, PageState::Kept)),
+    Line::Page((9, 0, 100, PageState::Soft)),
+    Line::End,
+];
+
+#[test]
+fn gives_an_account_again(rt: HostRuntime) -> Result<(), Fail> {
+    let account = play(&rt, rt.alloc(), Account::new(rt.alloc()), &HISTORY)?;
+    let copy = copy_of(rt.alloc(), &account)?;
+    for again in [account, copy] {
+        play(&rt, rt.alloc(), again, &ROWS)?;
+    }
+    Ok(())
+}
