@@ -4,9 +4,9 @@ use Rattle.std.specs.Prelude.{IfSome}
 use Rattle.std.specs.List.{find}
 use Rattle.std.proofs.lemmas.Bool.{ltb-true, ltb-false, lt-ltb, le-ltb, leb-true, le-leb, eqb-true, and_parts, and_from}
 use Rattle.std.proofs.lemmas.List.{take_at, drop_at, take-append-drop, length-take}
-use Rattle.ras_base.specs.LittleEndian.{AreBytes, u16_bytes, u64_bytes, number_at}
-use Rattle.ras_base.specs.LittleEndianLemmas.{length-u16_bytes, length-u64_bytes, number_at-lt, number_at-u16_bytes, number_at-u64_bytes, u16_bytes-number_at, u64_bytes-number_at}
-use Rattle.mca_status.specs.Classes.{class_number}
+use Rattle.ras_base.specs.LittleEndian.{AreBytes, u16_bytes, u32_bytes, u64_bytes, number_at}
+use Rattle.ras_base.specs.LittleEndianLemmas.{length-u16_bytes, length-u32_bytes, length-u64_bytes, number_at-lt, number_at-u16_bytes, number_at-u32_bytes, number_at-u64_bytes, u16_bytes-number_at, u32_bytes-number_at, u64_bytes-number_at}
+use Rattle.mca_status.specs.Classes.{classes, class_number}
 use Rattle.mca_status.specs.declared.classes.ItemClass.{ItemClass}
 use Rattle.mca_status.specs.declared.classes.ItemClass.TheVariants.{Ce, Ucna, Srao, Srar, Uc, Odd, Corrected, Recoverable, Fatal, Informational}
 use Rattle.dimm_topology.specs.Labels.{Bytes, is_label_or_none}
@@ -14,7 +14,7 @@ use Rattle.ras_facts.specs.Valid.{IsPage}
 use Rattle.ras_facts.specs.declared.items.TheConstants.{MOST_WEIGHT, PAGES}
 use Rattle.entry_format.specs.declared.refused.EntryRefused.TheVariants.{Bad}
 use Rattle.entry_format.specs.Spelling.{page_bytes, label_bytes}
-use Rattle.entry_format.specs.Reading.{front_number, u16_at, u64_at, byte_at, bytes_at, if_passes, made_at, classes, class_of, class_at, label_at, page_number_at, some_page_at, no_page_at, page_of_kind, page_at, weight_at}
+use Rattle.entry_format.specs.Reading.{front_number, u16_at, u32_at, u64_at, byte_at, bytes_at, if_passes, made_at, class_of, class_at, label_at, page_number_at, some_page_at, no_page_at, page_of_kind, page_at, weight_at}
 use Rattle.entry_format.proofs.CodecLemmas.{Reads, Makes, bind_ok, ok_is, rest_fits, like_read, made_read, kinds_read, either_kind}
 
 -- what was read where the bytes were enough
@@ -58,6 +58,13 @@ wide_8 = record { len = length-u64_bytes; back = u64_bytes-number_at 0; again = 
 pub u16_read : Reads u16_at u16_bytes (λ n. n < 2 ^ 16)
 unfolding u16_at
 u16_read = number_read 2 (2 ^ 16) u16_bytes wide_2
+
+wide_4 : AreWide 4 (2 ^ 32) u32_bytes
+wide_4 = record { len = length-u32_bytes; back = u32_bytes-number_at 0; again = number_at-u32_bytes; below = number_at-lt 0 4 }
+
+pub u32_read : Reads u32_at u32_bytes (λ n. n < 2 ^ 32)
+unfolding u32_at
+u32_read = number_read 4 (2 ^ 32) u32_bytes wide_4
 
 pub u64_read : Reads u64_at u64_bytes (λ n. n < 2 ^ 64)
 unfolding u64_at
@@ -168,7 +175,7 @@ below_makes : Makes (if_passes (λ page. ltb page PAGES)) (λ page. page) (λ n.
 below_makes =
     tested (λ page. ltb page PAGES) (λ n. n < 2 ^ 64) IsPage (λ page lt is. ltb-true page PAGES is) (λ page is. (lt-ltb page PAGES is, omega arith))
 
-page_number_read : Reads page_number_at u64_bytes IsPage
+pub page_number_read : Reads page_number_at u64_bytes IsPage
 unfolding page_number_at
 page_number_read = made_read (if_passes (λ page. ltb page PAGES)) (λ page. page) u64_at u64_bytes (λ n. n < 2 ^ 64) IsPage below_makes u64_read
 

@@ -6,7 +6,7 @@ use Rattle.ras_facts.specs.declared.name.Name.TheVariants.{Bank, Record, Block, 
 use Rattle.ras_facts.specs.Valid.{IsValidName}
 use Rattle.entry_format.specs.declared.refused.EntryRefused.TheVariants.{Bad}
 use Rattle.entry_format.specs.Spelling.{name_bytes}
-use Rattle.entry_format.specs.Reading.{both_at, u16_at, u64_at, byte_at, bank_at, record_at, block_at, boot_at, name_of_kind, name_at}
+use Rattle.entry_format.specs.Reading.{both_at, u16_at, u64_at, byte_at, bank_name_at, record_name_at, block_name_at, boot_name_at, name_of_kind, name_at}
 use Rattle.entry_format.proofs.CodecLemmas.{Reads, like_read, both_read, bind_ok, ok_is, kinds_read, either_kind}
 use Rattle.entry_format.proofs.FieldLemmas.{u16_read, u64_read, byte_read}
 
@@ -42,16 +42,16 @@ bank_fields_read =
     let more = both_read u16_at (both_at byte_at u64_at) u16_bytes (λ (p : ℕ × ℕ). p.0 ∷ [] ++ u64_bytes p.1) Fits2 (λ p. (p.0 < 2 ^ 8) × Fits8 p.1) u16_read last in
     both_read u64_at (both_at u16_at (both_at byte_at u64_at)) u64_bytes (λ (p : ℕ × (ℕ × ℕ)). u16_bytes p.0 ++ (p.1.0 ∷ [] ++ u64_bytes p.1.1)) Fits8 (λ p. Fits2 p.0 × ((p.1.0 < 2 ^ 8) × Fits8 p.1.1)) u64_read more
 
-bank_takes : (bytes : List ℕ) (name : Name) (rest : List ℕ) → AreBytes bytes → bank_at bytes ≡ Ok (name, rest) → Taken 1 bytes name rest
-unfolding bank_at
+bank_takes : (bytes : List ℕ) (name : Name) (rest : List ℕ) → AreBytes bytes → bank_name_at bytes ≡ Ok (name, rest) → Taken 1 bytes name rest
+unfolding bank_name_at
 bank_takes bytes name rest fits e =
     let p = bind_ok (both_at u64_at (both_at u16_at (both_at byte_at u64_at)) bytes) (λ u. Ok (Bank u.0.0 u.0.1.0 u.0.1.1.0 u.0.1.1.1, u.1)) (name, rest) e in
     let t = bank_fields_read.takes bytes p.0.0 p.0.1 fits p.1 in
     subst (λ (x : Name × List ℕ). Taken 1 bytes x.0 x.1) (ok_is (named (Bank p.0.0.0 p.0.0.1.0 p.0.0.1.1.0 p.0.0.1.1.1) p.0.1) (name, rest) p.2)
     (refl, t.0, (t.1.0, t.1.1.0, t.1.1.1.0, t.1.1.1.1))
 
-record_takes : (bytes : List ℕ) (name : Name) (rest : List ℕ) → AreBytes bytes → record_at bytes ≡ Ok (name, rest) → Taken 2 bytes name rest
-unfolding record_at
+record_takes : (bytes : List ℕ) (name : Name) (rest : List ℕ) → AreBytes bytes → record_name_at bytes ≡ Ok (name, rest) → Taken 2 bytes name rest
+unfolding record_name_at
 record_takes bytes name rest fits e =
     let p = bind_ok (u64_at bytes) (λ u. Ok (Record u.0, u.1)) (name, rest) e in
     let t = u64_read.takes bytes p.0.0 p.0.1 fits p.1 in
@@ -62,16 +62,16 @@ block_fields_read =
     let last = both_read u16_at u64_at u16_bytes u64_bytes Fits2 Fits8 u16_read u64_read in
     both_read u64_at (both_at u16_at u64_at) u64_bytes (λ (p : ℕ × ℕ). u16_bytes p.0 ++ u64_bytes p.1) Fits8 (λ p. Fits2 p.0 × Fits8 p.1) u64_read last
 
-block_takes : (bytes : List ℕ) (name : Name) (rest : List ℕ) → AreBytes bytes → block_at bytes ≡ Ok (name, rest) → Taken 3 bytes name rest
-unfolding block_at
+block_takes : (bytes : List ℕ) (name : Name) (rest : List ℕ) → AreBytes bytes → block_name_at bytes ≡ Ok (name, rest) → Taken 3 bytes name rest
+unfolding block_name_at
 block_takes bytes name rest fits e =
     let p = bind_ok (both_at u64_at (both_at u16_at u64_at) bytes) (λ u. Ok (Block u.0.0 u.0.1.0 u.0.1.1, u.1)) (name, rest) e in
     let t = block_fields_read.takes bytes p.0.0 p.0.1 fits p.1 in
     subst (λ (x : Name × List ℕ). Taken 3 bytes x.0 x.1) (ok_is (named (Block p.0.0.0 p.0.0.1.0 p.0.0.1.1) p.0.1) (name, rest) p.2)
     (refl, t.0, (t.1.0, t.1.1.0, t.1.1.1))
 
-boot_takes : (bytes : List ℕ) (name : Name) (rest : List ℕ) → AreBytes bytes → boot_at bytes ≡ Ok (name, rest) → Taken 4 bytes name rest
-unfolding boot_at
+boot_takes : (bytes : List ℕ) (name : Name) (rest : List ℕ) → AreBytes bytes → boot_name_at bytes ≡ Ok (name, rest) → Taken 4 bytes name rest
+unfolding boot_name_at
 boot_takes bytes name rest fits e =
     let p = bind_ok (u64_at bytes) (λ u. Ok (Boot u.0, u.1)) (name, rest) e in
     let t = u64_read.takes bytes p.0.0 p.0.1 fits p.1 in
@@ -83,19 +83,19 @@ of_kind k kind bytes name rest same t = (same ∙ t.0, t.1, t.2)
 
 name_takes : (k : ℕ) (bytes : List ℕ) (name : Name) (rest : List ℕ) → AreBytes bytes → name_of_kind k bytes ≡ Ok (name, rest) → Taken k bytes name rest
 name_takes k bytes name rest fits e =
-    let fourth = cond (eqb k 4) (boot_at bytes) (Err Bad) in
-    let third = cond (eqb k 3) (block_at bytes) fourth in
-    let second = cond (eqb k 2) (record_at bytes) third in
-    elim (either_kind k 1 (bank_at bytes) second (name, rest) e) [
+    let fourth = cond (eqb k 4) (boot_name_at bytes) (Err Bad) in
+    let third = cond (eqb k 3) (block_name_at bytes) fourth in
+    let second = cond (eqb k 2) (record_name_at bytes) third in
+    elim (either_kind k 1 (bank_name_at bytes) second (name, rest) e) [
       | inl h ↦ of_kind k 1 bytes name rest h.0 (bank_takes bytes name rest fits h.1)
       | inr e2 ↦
-          elim (either_kind k 2 (record_at bytes) third (name, rest) e2) [
+          elim (either_kind k 2 (record_name_at bytes) third (name, rest) e2) [
             | inl h ↦ of_kind k 2 bytes name rest h.0 (record_takes bytes name rest fits h.1)
             | inr e3 ↦
-                elim (either_kind k 3 (block_at bytes) fourth (name, rest) e3) [
+                elim (either_kind k 3 (block_name_at bytes) fourth (name, rest) e3) [
                   | inl h ↦ of_kind k 3 bytes name rest h.0 (block_takes bytes name rest fits h.1)
                   | inr e4 ↦
-                      elim (either_kind k 4 (boot_at bytes) (Err Bad) (name, rest) e4) [
+                      elim (either_kind k 4 (boot_name_at bytes) (Err Bad) (name, rest) e4) [
                         | inl h ↦ of_kind k 4 bytes name rest h.0 (boot_takes bytes name rest fits h.1)
                         | inr none ↦ absurd cc
                       ]
@@ -104,7 +104,7 @@ name_takes k bytes name rest fits e =
     ]
 
 name_again : (name : Name) (rest : List ℕ) → IsValidName name → name_of_kind (kind_of name) (fields_of name ++ rest) ≡ Ok (name, rest)
-unfolding bank_at record_at block_at boot_at
+unfolding bank_name_at record_name_at block_name_at boot_name_at
 name_again (Bank boot cpu bank tsc) rest v = rw (bank_fields_read.again (boot, (cpu, (bank, tsc))) rest (v.0, (v.1, (v.2, v.3)))) refl
 name_again (Record id) rest v = rw (u64_read.again id rest v) refl
 name_again (Block boot source number) rest v = rw (block_fields_read.again (boot, (source, number)) rest (v.0, (v.1, v.2))) refl

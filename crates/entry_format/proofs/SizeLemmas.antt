@@ -63,3 +63,6 @@ one_item_most fact item valid one =
 pub limit_size : (limit : Limit) → length (entry_bytes (entry.Limit limit)) ≡ 17
 unfolding entry_bytes limit_bytes
 limit_size limit = omega (arith, length-append (u64_bytes limit.capacity) (u64_bytes limit.period), length-u64_bytes limit.capacity, length-u64_bytes limit.period)
+
+-- how many bytes the parts of spellings have
+pub ruleset name_sizes = (length-append, length-u16_bytes, length-u64_bytes)

@@ -1,12 +1,11 @@
--- Only for proofs: reading fields from left to right. What may be read is said in Spelling and
--- File.
+-- How fields are read, each at the front of bytes, from left to right: a field is read exactly
+-- where the bytes begin with its spelling.
 use Rattle.std.specs.Prelude.{◌≡◌, ℕ, zero, suc, List, [], ◌∷◌, length, take, drop, Option, Some, None, Result, Ok, Err, Bool, nat_lt, nat_le, ◌==◌, ◌&&◌, if◌then◌else◌}
 use Rattle.std.specs.List.{find}
 use Rattle.ras_base.specs.Chaining.{◌>>=◌}
 use Rattle.ras_base.specs.LittleEndian.{number_at}
-use Rattle.mca_status.specs.Classes.{class_number}
+use Rattle.mca_status.specs.Classes.{class_number, classes}
 use Rattle.mca_status.specs.declared.classes.ItemClass.{ItemClass}
-use Rattle.mca_status.specs.declared.classes.ItemClass.TheVariants.{Ce, Ucna, Srao, Srar, Uc, Odd, Corrected, Recoverable, Fatal, Informational}
 use Rattle.dimm_topology.specs.Labels.{Bytes, is_label_or_none}
 use Rattle.page_policy.specs.declared.buckets.Limit.{Limit}
 use Rattle.page_policy.specs.Buckets.{limit_of}
@@ -87,6 +86,9 @@ front_number width bytes =
 unfoldable pub u16_at : Reader ℕ
 u16_at = front_number 2
 
+unfoldable pub u32_at : Reader ℕ
+u32_at = front_number 4
+
 unfoldable pub u64_at : Reader ℕ
 u64_at = front_number 8
 
@@ -102,37 +104,33 @@ by_kind read bytes = do
 
 -- ---- names
 
-unfoldable pub bank_at : Reader Name
-bank_at =
+unfoldable pub bank_name_at : Reader Name
+bank_name_at =
     made_at (λ p. Some (name.Bank p.0 p.1.0 p.1.1.0 p.1.1.1))
     (both_at u64_at (both_at u16_at (both_at byte_at u64_at)))
 
-unfoldable pub record_at : Reader Name
-record_at = made_at (λ id. Some (name.Record id)) u64_at
+unfoldable pub record_name_at : Reader Name
+record_name_at = made_at (λ id. Some (name.Record id)) u64_at
 
-unfoldable pub block_at : Reader Name
-block_at =
+unfoldable pub block_name_at : Reader Name
+block_name_at =
     made_at (λ p. Some (name.Block p.0 p.1.0 p.1.1)) (both_at u64_at (both_at u16_at u64_at))
 
-unfoldable pub boot_at : Reader Name
-boot_at = made_at (λ boot. Some (name.Boot boot)) u64_at
+unfoldable pub boot_name_at : Reader Name
+boot_name_at = made_at (λ boot. Some (name.Boot boot)) u64_at
 
 abbrev pub name_of_kind : ℕ → Reader Name
 name_of_kind kind bytes =
-    if kind == 1 then bank_at bytes
-    else if kind == 2 then record_at bytes
-    else if kind == 3 then block_at bytes
-    else if kind == 4 then boot_at bytes
+    if kind == 1 then bank_name_at bytes
+    else if kind == 2 then record_name_at bytes
+    else if kind == 3 then block_name_at bytes
+    else if kind == 4 then boot_name_at bytes
     else Err Bad
 
 unfoldable pub name_at : Reader Name
 name_at = by_kind name_of_kind
 
 -- ---- items
-
--- the ten classes in the order of their numbers
-abbrev pub classes : List ItemClass
-classes = Ce ∷ Ucna ∷ Srao ∷ Srar ∷ Uc ∷ Odd ∷ Corrected ∷ Recoverable ∷ Fatal ∷ Informational ∷ []
 
 -- the class of a number
 unfoldable pub class_of : ℕ → Option ItemClass

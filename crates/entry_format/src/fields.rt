@@ -3,7 +3,7 @@
 //! Each function reads one at the front of the bytes, and gives the bytes after it too. It answers
 //! `Bad` where none stands there.
 ghost use Rattle.std.specs.Prelude.{◌≡◌};
-ghost use Rattle.entry_format.specs.Reading.{Gives, u16_at, u64_at, byte_at, bytes_at};
+ghost use Rattle.entry_format.specs.Reading.{Gives, u16_at, u32_at, u64_at, byte_at, bytes_at};
 
 use crate::EntryRefused;
 use ras_base::little_endian;
@@ -19,9 +19,22 @@ pub(crate) fn u16_at(bytes: &[u8]) -> Result<(u16, &[u8]), EntryRefused>
     Ok((little_endian::u16_at(bytes, 0), &bytes[2..]))
 }
 
-// A number of 8 bytes.
+/// A number of 4 bytes at the front, and the bytes after it. `Bad` comes exactly where fewer are
+/// there.
+#[tactic(auto, unfolding(crate::specs::Reading::u32_at))]
+pub fn u32_at(bytes: &[u8]) -> Result<(u32, &[u8]), EntryRefused>
+    ensures { Gives (λ x. (x.0, x.1.now)) result (u32_at bytes.now) }
+{
+    if bytes.len() < 4 {
+        return Err(EntryRefused::Bad);
+    }
+    Ok((little_endian::u32_at(bytes, 0), &bytes[4..]))
+}
+
+/// A number of 8 bytes at the front, and the bytes after it. `Bad` comes exactly where fewer are
+/// there.
 #[tactic(auto, unfolding(crate::specs::Reading::u64_at))]
-pub(crate) fn u64_at(bytes: &[u8]) -> Result<(u64, &[u8]), EntryRefused>
+pub fn u64_at(bytes: &[u8]) -> Result<(u64, &[u8]), EntryRefused>
     ensures { Gives (λ x. (x.0, x.1.now)) result (u64_at bytes.now) }
 {
     if bytes.len() < 8 {
@@ -30,9 +43,9 @@ pub(crate) fn u64_at(bytes: &[u8]) -> Result<(u64, &[u8]), EntryRefused>
     Ok((little_endian::u64_at(bytes, 0), &bytes[8..]))
 }
 
-// A byte.
+/// The first byte, and the bytes after it. `Bad` comes exactly where there is none.
 #[tactic(auto, unfolding(crate::specs::Reading::byte_at))]
-pub(crate) fn byte_at(bytes: &[u8]) -> Result<(u8, &[u8]), EntryRefused>
+pub fn byte_at(bytes: &[u8]) -> Result<(u8, &[u8]), EntryRefused>
     ensures { Gives (λ x. (x.0, x.1.now)) result (byte_at bytes.now) }
 {
     match bytes {

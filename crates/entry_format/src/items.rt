@@ -56,9 +56,10 @@ fn label_of(alloc: Global, text: &[u8]) -> Result<Label, EntryRefused>
     }
 }
 
-// A label after the number of its bytes.
+/// The label or none at the front, after the number of its bytes, and the bytes after it. `Bad`
+/// comes exactly where none stands there, and `NoMemory` where memory runs out.
 #[tactic(auto, unfolding(crate::specs::Reading::label_at))]
-fn label_at(alloc: Global, bytes: &[u8]) -> Result<(Label, &[u8]), EntryRefused>
+pub fn label_at(alloc: Global, bytes: &[u8]) -> Result<(Label, &[u8]), EntryRefused>
     ensures { Gives (λ x. (x.0, x.1.now)) result (label_at bytes.now) }
 {
     let (length, rest) = byte_at(bytes)?;
@@ -67,9 +68,10 @@ fn label_at(alloc: Global, bytes: &[u8]) -> Result<(Label, &[u8]), EntryRefused>
     Ok((label, rest))
 }
 
-// The number of a page.
+/// The number of a page at the front, and the bytes after it. `Bad` comes exactly where none
+/// stands there.
 #[tactic(auto, unfolding(crate::specs::Reading::page_number_at))]
-fn page_number_at(bytes: &[u8]) -> Result<(u64, &[u8]), EntryRefused>
+pub fn page_number_at(bytes: &[u8]) -> Result<(u64, &[u8]), EntryRefused>
     ensures { Gives (λ x. (x.0, x.1.now)) result (page_number_at bytes.now) }
 {
     let (page, rest) = u64_at(bytes)?;

@@ -16,8 +16,10 @@ pub fn format_laws()
         → entry_bytes d ++ x ≡ entry_bytes e ++ y → (d ≡ e) × (x ≡ y) }
     ensures one_reading { (ds es : List Entry) → All IsValidEntry ds → All IsValidEntry es
         → entries_bytes ds ≡ entries_bytes es → ds ≡ es }
-    ensures one_place { (version : Version) (bytes : List ℕ) (p q : ℕ) → BreaksOffAt version bytes p → BreaksOffAt version bytes q → p ≡ q }
-    ensures whole_or_broken { (version : Version) (bytes : List ℕ) (es : List Entry) (p : ℕ) → AreEntriesOf version es bytes
+    ensures one_place { (version : Version) (bytes : List ℕ) (p q : ℕ) → BreaksOffAt version bytes p
+        → BreaksOffAt version bytes q → p ≡ q }
+    ensures whole_or_broken { (version : Version) (bytes : List ℕ) (es : List Entry) (p : ℕ)
+        → AreEntriesOf version es bytes
         → ¬ BreaksOffAt version bytes p }
     ensures most { (f : Fact) (item : Item) → IsValidEntry (Entry.Fact f) → f.items ≡ item ∷ []
         → length (entry_bytes (Entry.Fact f)) ≤ 76 }

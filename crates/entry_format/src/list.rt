@@ -60,7 +60,8 @@ pub fn read_list(
     ensures count { IfOk result (λ read. length read.items ≡ count) }
 
     // What the bytes are is read, unless memory runs out.
-    ensures entries { (entries : List Entry) → AreEntriesOf version entries bytes.now → length entries ≡ count
+    ensures entries { (entries : List Entry) → AreEntriesOf version entries bytes.now
+        → length entries ≡ count
         → result ≢ Err EntryRefused.NoMemory → IsOkAnd result (λ read. read.items ≡ entries) }
 {
     whole_list(alloc, version, count, bytes)

@@ -35,9 +35,10 @@ fn fact_at(alloc: Global, bytes: &[u8]) -> Result<(Fact, &[u8]), EntryRefused>
     Ok((fact, rest))
 }
 
-// A limit.
+/// A limit at the front, and the bytes after it. `Bad` comes exactly where none in its ranges
+/// stands there.
 #[tactic(auto, unfolding(crate::specs::Reading::limit_at))]
-fn limit_at(bytes: &[u8]) -> Result<(Limit, &[u8]), EntryRefused>
+pub fn limit_at(bytes: &[u8]) -> Result<(Limit, &[u8]), EntryRefused>
     ensures { Gives (λ x. (x.0, x.1.now)) result (limit_at bytes.now) }
 {
     let (capacity, rest) = u64_at(bytes)?;

@@ -13,9 +13,10 @@ use ras_base::little_endian::{push_u16, push_u64};
 use ras_facts::{Entry, Fact, Item, MOST_ITEMS, Name};
 use std::alloc::Global;
 
-// Adds the name of a report.
+/// Adds the spelling of the name of a report. Where memory runs out, some of its bytes may have
+/// been added.
 #[tactic(auto, unfolding(crate::specs::Spelling::name_bytes))]
-fn push_name(bytes: &mut Vec<u8>, name: &Name) -> Result<(), NoMemory>
+pub fn push_name(bytes: &mut Vec<u8>, name: &Name) -> Result<(), NoMemory>
     ensures { OnOk result (bytes.new.items ≡ bytes.old.items ++ name_bytes name.now) }
 {
     match name {
@@ -52,9 +53,10 @@ fn push_name(bytes: &mut Vec<u8>, name: &Name) -> Result<(), NoMemory>
     }
 }
 
-// Adds a label behind the number of its bytes.
+/// Adds a label behind the number of its bytes. Where memory runs out, some of its bytes may have
+/// been added.
 #[tactic(auto, unfolding(crate::specs::Spelling::label_bytes))]
-fn push_label(bytes: &mut Vec<u8>, label: &Label) -> Result<(), NoMemory>
+pub fn push_label(bytes: &mut Vec<u8>, label: &Label) -> Result<(), NoMemory>
     ensures { OnOk result (bytes.new.items ≡ bytes.old.items ++ label_bytes label.now) }
 {
     let text = label.bytes();
@@ -114,9 +116,9 @@ fn push_fact(bytes: &mut Vec<u8>, fact: &Fact) -> Result<(), NoMemory>
     push_items(bytes, items)
 }
 
-// Adds a limit.
+/// Adds the spelling of a limit. Where memory runs out, some of its bytes may have been added.
 #[tactic(auto, unfolding(crate::specs::Spelling::limit_bytes))]
-fn push_limit(bytes: &mut Vec<u8>, limit: Limit) -> Result<(), NoMemory>
+pub fn push_limit(bytes: &mut Vec<u8>, limit: Limit) -> Result<(), NoMemory>
     ensures { OnOk result (bytes.new.items ≡ bytes.old.items ++ limit_bytes limit) }
 {
     push_u64(bytes, u64::from(limit.capacity))?;

@@ -1,4 +1,5 @@
-//! Bytes of entries that were written down by hand, against the crate that reads and writes them.
+//! Bytes of entries, links and checkpoints that were written down by hand, against the crates that
+//! read and write them.
 #![tactic(auto)]
 
 use entry_format::{EntriesRefused, Version, entry_bytes, read_entries, read_list};
@@ -25,5 +26,8 @@ pub fn is_written_as(alloc: Global, entry: &Entry, bytes: &[u8]) -> bool {
         && entry_bytes(alloc, entry).is_ok_and(|written| written.as_slice() == bytes)
 }
 
+pub mod journal;
+#[cfg(test)]
+mod journal_tests;
 #[cfg(test)]
 mod tests;

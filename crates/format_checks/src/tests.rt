@@ -1,4 +1,7 @@
 //! What no clause says: bytes that were written down by hand, and that the calls succeed.
+//!
+//! The calls go through functions of one call each that state nothing, so that the clauses of the
+//! crate that reads and writes come into their proofs alone, and not into those of the tests.
 use super::*;
 use dimm_topology::Label;
 use entry_format::{EntriesRefused, Version};
@@ -42,186 +45,206 @@ const RETIRE: [u8; 9] = [3, 2, 1, 0, 0, 0, 0, 0, 0];
 // The limit of modules of 100 errors in 86,400 seconds.
 const MODULE_LIMIT: [u8; 17] = [4, 100, 0, 0, 0, 0, 0, 0, 0, 0x80, 0x51, 1, 0, 0, 0, 0, 0];
 
-// Where the bytes of a file of version 2 break off.
-fn break_of(alloc: Global, bytes: &[u8]) -> Option<u64> {
+const ENTRIES: [&[u8]; 8] = [
+    &EVERYDAY,
+    &LABELLED,
+    &RECORD,
+    &BLOCK,
+    &BOOT,
+    &LIMIT,
+    &RETIRE,
+    &MODULE_LIMIT,
+];
+
+// How many entries the bytes of a file of version 2 are, or the place where they break off.
+fn read(alloc: Global, bytes: &[u8]) -> Option<Result<usize, u64>> {
     match count_of_entries(alloc, Version::Two, bytes) {
-        Err(EntriesRefused::Bad { place }) => Some(place),
-        Ok(_) | Err(EntriesRefused::NoMemory) => None,
+        Ok(count) => Some(Ok(count)),
+        Err(EntriesRefused::Bad { place }) => Some(Err(place)),
+        Err(EntriesRefused::NoMemory) => None,
     }
+}
+
+fn breaks_at(alloc: Global, bytes: &[u8], place: u64) -> bool {
+    read(alloc, bytes) == Some(Err(place))
+}
+
+// Whether bytes are one entry, and no front of them is any.
+fn is_one(alloc: Global, bytes: &[u8]) -> bool {
+    for end in 1..bytes.len() {
+        if !breaks_at(alloc, &bytes[..end], 0) {
+            return false;
+        }
+    }
+    read(alloc, bytes) == Some(Ok(1))
 }
 
 #[test]
 fn reads_each_entry_whole_and_no_part_of_it(rt: HostRuntime) {
-    for bytes in [
-        EVERYDAY.as_slice(),
-        LABELLED.as_slice(),
-        RECORD.as_slice(),
-        BLOCK.as_slice(),
-        BOOT.as_slice(),
-        LIMIT.as_slice(),
-        RETIRE.as_slice(),
-        MODULE_LIMIT.as_slice(),
-    ] {
-        assert_eq!(rt;
-            count_of_entries(rt.alloc(), Version::Two, bytes),
-            Ok(1),
-            "{bytes:?}"
-        );
-        for end in 1..bytes.len() {
-            assert_eq!(rt;
-                break_of(rt.alloc(), &bytes[..end]),
-                Some(0),
-                "cut at {end}"
-            );
-        }
+    for (row, bytes) in ENTRIES.iter().enumerate() {
+        assert!(rt; is_one(rt.alloc(), bytes), "entry {row}");
     }
 }
 
-// The fact of a name, at a time, with these items.
-fn fact_of(name: Name, seconds: u64, items: Items) -> Entry {
+// Where a changed byte of the file breaks it off; None where the file has no such byte.
+fn changed(alloc: Global, file: &[u8], place: usize, byte: u8) -> Result<Option<u64>, Fail> {
+    let mut bytes = file.to_vec(alloc)?;
+    match bytes.get_mut(place) {
+        Some(there) => *there = byte,
+        None => return Ok(None),
+    }
+    match read(alloc, &bytes) {
+        Some(Err(place)) => Ok(Some(place)),
+        _ => Ok(None),
+    }
+}
+
+// The one item of the labelled entry.
+fn labelled_items(alloc: Global) -> Result<Items, Fail> {
+    let mut items = Items::new(alloc);
+    let label = Label::new(alloc, b"DIMM_A1").ok().ok_or("it is a label")?;
+    let item = Item {
+        class: ItemClass::Ce,
+        label,
+        page: Some(0x12345),
+        weight: 1,
+    };
+    items.push(item).ok().ok_or("memory is left")?;
+    Ok(items)
+}
+
+// A fact of a name, at a time, without an item.
+fn bare(alloc: Global, name: Name, seconds: u64) -> Entry {
     Entry::Fact(Fact {
         name,
         seconds,
-        items,
+        items: Items::new(alloc),
     })
+}
+
+fn labelled(alloc: Global) -> Result<Entry, Fail> {
+    Ok(Entry::Fact(Fact {
+        name: Name::Bank {
+            boot: 1,
+            cpu: 0,
+            bank: 7,
+            tsc: 1000,
+        },
+        seconds: 100,
+        items: labelled_items(alloc)?,
+    }))
+}
+
+fn day(capacity: u32) -> Limit {
+    Limit {
+        capacity,
+        period: 86_400,
+    }
+}
+
+fn is_written(alloc: Global, entry: Entry, bytes: &[u8]) -> bool {
+    is_written_as(alloc, &entry, bytes)
 }
 
 #[test]
 fn writes_each_entry(rt: HostRuntime) -> Result<(), Fail> {
     let alloc = rt.alloc();
-    let mut items = Items::new(alloc);
-    let label = Label::new(alloc, b"DIMM_A1").ok().ok_or("it is a label")?;
-    items
-        .push(Item {
-            class: ItemClass::Ce,
-            label,
-            page: Some(0x12345),
-            weight: 1,
-        })
-        .ok()
-        .ok_or("memory is left")?;
-    let bank = Name::Bank {
-        boot: 1,
-        cpu: 0,
-        bank: 7,
-        tsc: 1000,
-    };
     let block = Name::Block {
         boot: 1,
         source: 2,
         number: 3,
     };
-    let day = |capacity: u32| Limit {
-        capacity,
-        period: 86_400,
-    };
-    assert!(rt; is_written_as(alloc, &fact_of(bank, 100, items), &LABELLED));
-    for (entry, bytes) in [
-        (
-            fact_of(Name::Record { id: 5 }, 300, Items::new(alloc)),
-            RECORD.as_slice(),
-        ),
-        (fact_of(block, 60, Items::new(alloc)), BLOCK.as_slice()),
-        (
-            fact_of(Name::Boot { boot: 9 }, 50, Items::new(alloc)),
-            BOOT.as_slice(),
-        ),
-        (Entry::Limit(day(10)), LIMIT.as_slice()),
-        (Entry::Retire(258), RETIRE.as_slice()),
-        (Entry::ModuleLimit(day(100)), MODULE_LIMIT.as_slice()),
-    ] {
-        assert!(rt; is_written_as(alloc, &entry, bytes), "{entry:?}");
+    assert!(rt; is_written(alloc, labelled(alloc)?, &LABELLED));
+    assert!(rt; is_written(alloc, bare(alloc, Name::Record { id: 5 }, 300), &RECORD));
+    assert!(rt; is_written(alloc, bare(alloc, block, 60), &BLOCK));
+    assert!(rt; is_written(alloc, bare(alloc, Name::Boot { boot: 9 }, 50), &BOOT));
+    assert!(rt; is_written(alloc, Entry::Limit(day(10)), &LIMIT));
+    assert!(rt; is_written(alloc, Entry::Retire(258), &RETIRE));
+    assert!(rt; is_written(alloc, Entry::ModuleLimit(day(100)), &MODULE_LIMIT));
+    Ok(())
+}
+
+// A byte at a place of the labelled entry: the kind, the name's kind, the class, the labels of no
+// byte, of 33 bytes and with a space, the flag, the page 2 ^ 52, and the weights 0 and 32,769.
+const WRONG_BYTES: [(usize, u8); 11] = [
+    (0, 5),
+    (1, 0),
+    (1, 5),
+    (31, 10),
+    (32, 0),
+    (32, 33),
+    (35, 0x20),
+    (40, 2),
+    (47, 16),
+    (49, 0),
+    (50, 0x80),
+];
+
+// The capacities 0 and 1,000,001, and the periods 0 and 10,000,001.
+const WRONG_LIMITS: [[u8; 17]; 4] = [
+    [2, 0, 0, 0, 0, 0, 0, 0, 0, 0x80, 0x51, 1, 0, 0, 0, 0, 0],
+    [
+        2, 0x41, 0x42, 0x0f, 0, 0, 0, 0, 0, 0x80, 0x51, 1, 0, 0, 0, 0, 0,
+    ],
+    [2, 10, 0, 0, 0, 0, 0, 0, 0, 0, 0, 0, 0, 0, 0, 0, 0],
+    [2, 10, 0, 0, 0, 0, 0, 0, 0, 0x81, 0x96, 0x98, 0, 0, 0, 0, 0],
+];
+
+#[test]
+fn refuses_what_is_no_entry(rt: HostRuntime) -> Result<(), Fail> {
+    for (place, byte) in WRONG_BYTES {
+        let broken = changed(rt.alloc(), &LABELLED, place, byte)?;
+        assert!(rt; broken == Some(0), "{byte} at {place}");
+    }
+    for (row, bytes) in WRONG_LIMITS.iter().enumerate() {
+        assert!(rt; breaks_at(rt.alloc(), bytes, 0), "limit {row}");
     }
     Ok(())
 }
 
 #[test]
-fn refuses_what_is_no_entry(rt: HostRuntime) {
-    // The kind, the name's kind, the class, the labels of no byte, of 33 bytes and with a space,
-    // the flag, the page 2 ^ 52, and the weights 0 and 32,769.
-    for (place, byte) in [
-        (0, 5),
-        (1, 0),
-        (1, 5),
-        (31, 10),
-        (32, 0),
-        (32, 33),
-        (35, 0x20),
-        (40, 2),
-        (47, 16),
-        (49, 0),
-        (50, 0x80),
-    ] {
-        let mut bytes = LABELLED;
-        assert!(rt; place < bytes.len());
-        bytes[place] = byte;
-        assert_eq!(rt; break_of(rt.alloc(), &bytes), Some(0), "{byte} at {place}");
-    }
-    // The capacities 0 and 1,000,001, and the periods 0 and 10,000,001.
-    for (place, bytes) in [
-        (1, [0, 0, 0]),
-        (1, [0x41, 0x42, 0x0f]),
-        (9, [0, 0, 0]),
-        (9, [0x81, 0x96, 0x98]),
-    ] {
-        let mut limit = LIMIT;
-        limit[place..place + 3].copy_from_slice(&bytes);
-        assert_eq!(rt;
-            break_of(rt.alloc(), &limit),
-            Some(0),
-            "{bytes:?} at {place}"
+fn version_1_has_no_limit_of_modules(rt: HostRuntime) {
+    let rows: [(&[u8], bool); 4] = [
+        (&LABELLED, true),
+        (&LIMIT, true),
+        (&RETIRE, true),
+        (&MODULE_LIMIT, false),
+    ];
+    for (row, (bytes, is_entry)) in rows.iter().enumerate() {
+        assert!(rt;
+            is_list(rt.alloc(), Version::One, 1, bytes) == *is_entry,
+            "row {row}"
         );
+        assert!(rt; is_list(rt.alloc(), Version::Two, 1, bytes), "row {row}");
     }
 }
 
-#[test]
-fn version_1_has_no_limit_of_modules(rt: HostRuntime) {
-    for (bytes, is_entry) in [
-        (LABELLED.as_slice(), true),
-        (LIMIT.as_slice(), true),
-        (RETIRE.as_slice(), true),
-        (MODULE_LIMIT.as_slice(), false),
-    ] {
-        assert_eq!(rt;
-            is_list(rt.alloc(), Version::One, 1, bytes),
-            is_entry,
-            "{bytes:?}"
-        );
-        assert!(rt; is_list(rt.alloc(), Version::Two, 1, bytes), "{bytes:?}");
-    }
-}
+// A byte at a place of the file of three entries, and where that breaks it off.
+const BREAKS: [(usize, u8, u64); 5] = [
+    (0, 5, 0),
+    (35, 0x80, 0),
+    (36, 5, 36),
+    (68, 33, 36),
+    (103, 1, 87),
+];
 
 #[test]
 fn tells_the_place_of_the_first_that_is_none(rt: HostRuntime) -> Result<(), Fail> {
-    let mut file = Vec::new(rt.alloc());
-    for entry in [EVERYDAY.as_slice(), LABELLED.as_slice(), LIMIT.as_slice()] {
-        file.extend_from_slice(entry)?;
-    }
-    assert_eq!(rt; count_of_entries(rt.alloc(), Version::Two, &file), Ok(3));
+    let mut file = EVERYDAY.to_vec(rt.alloc())?;
+    file.extend_from_slice(&LABELLED)?;
+    file.extend_from_slice(&LIMIT)?;
+    assert!(rt; read(rt.alloc(), &file) == Some(Ok(3)));
     for (count, is_whole) in [(0, false), (2, false), (3, true), (4, false)] {
-        assert_eq!(rt;
-            is_list(rt.alloc(), Version::Two, count, &file),
-            is_whole,
+        assert!(rt;
+            is_list(rt.alloc(), Version::Two, count, &file) == is_whole,
             "{count}"
         );
     }
-    for (place, byte, bad) in [
-        (0, 5, 0),
-        (35, 0x80, 0),
-        (36, 5, 36),
-        (68, 33, 36),
-        (103, 1, 87),
-    ] {
-        let mut bytes = Vec::from_slice(rt.alloc(), &file)?;
-        assert!(rt; place < bytes.len());
-        bytes[place] = byte;
-        assert_eq!(rt;
-            break_of(rt.alloc(), &bytes),
-            Some(bad),
-            "{byte} at {place}"
-        );
+    for (place, byte, bad) in BREAKS {
+        let broken = changed(rt.alloc(), &file, place, byte)?;
+        assert!(rt; broken == Some(bad), "{byte} at {place}");
     }
     file.push(1)?;
-    assert_eq!(rt; break_of(rt.alloc(), &file), Some(104));
+    assert!(rt; breaks_at(rt.alloc(), &file, 104));
     Ok(())
 }

@@ -1,0 +1,10 @@
+pub mod WholeLemmas
+pub mod PayloadLemmas
+pub mod LinkLemmas
+pub mod RowLemmas
+pub mod SizeLemmas
+pub mod RowReadLemmas
+pub mod SoundLemmas
+pub mod CheckpointLemmas
+pub mod DecodingLemmas
+pub mod VersionLemmas

@@ -1,0 +1,6 @@
+pub mod Links
+pub mod Checkpoints
+pub mod PayloadReading
+pub mod CheckpointReading
+pub mod Decoding
+pub mod Versions

@@ -1,0 +1,323 @@
+//! Checkpoints as accounts.
+ghost use Rattle.std.specs.Prelude.{◌≡◌, ◌≢◌, ◌≤◌, ◌∷◌, ◌++◌, ℕ, List, [], IfOk, OnOk, IsOkAnd, Ok, Err};
+ghost use Rattle.dimm_topology.specs.Labels.{Bytes};
+ghost use Rattle.page_policy.specs.declared.rows.PageRow.{PageRow};
+ghost use Rattle.ras_facts.specs.declared.name.Name.{Name};
+ghost use Rattle.page_policy.specs.Buckets.{most_count};
+ghost use Rattle.ras_facts.specs.Valid.{IsPage};
+ghost use Rattle.ras_account.specs.Accounts.{IsModuleRow};
+ghost use Rattle.ras_account.specs.Modules.{Module};
+ghost use Rattle.ras_account.specs.Account.{State, weight_in};
+ghost use Rattle.ras_account.specs.Rows.{row_of, with_name, with_module, with_page};
+ghost use Rattle.ras_account.specs.View.{nothing};
+ghost use Rattle.entry_format.specs.Reading.{many_at, name_at};
+ghost use Rattle.journal_format.specs.Checkpoints.{IsCheckpoint};
+ghost use Rattle.journal_format.specs.CheckpointReading.{list_at, module_at, page_row_at, checkpoint_in};
+ghost use Rattle.journal_format.specs.Decoding.{AreNames, AreModules, ArePages, Holds, AreTaken, with_rows_of};
+
+use crate::CheckpointRefused;
+use crate::row_reading::{floor_in, front_at, module_at, page_row_at};
+use entry_format::{EntryRefused, Version, name_at, u64_at};
+use page_policy::{Bucket, PageState, RowRefused};
+use ras_account::{Account, ModuleRow, PushRefused};
+use ras_facts::Name;
+use std::alloc::Global;
+
+// Puts a name behind those of an account that has no floor. `Bad` comes exactly where it is there
+// or the account is full.
+fn put_name(account: &mut Account, name: Name) -> Result<(), EntryRefused>
+    requires waiting { account.old.waiting ≡ nothing }
+    requires floor { account.old.state.floor ≡ 0 }
+    ensures waiting { account.new.waiting ≡ nothing }
+    ensures ok { OnOk result (account.new.state ≡ with_name account.old.state name) }
+    ensures bad { result ≡ Err EntryRefused.Bad → (later : List Name)
+        → ¬ AreNames (account.old.state.names ++ name ∷ later) }
+{
+    match account.push_name(name) {
+        Ok(()) => Ok(()),
+        Err(PushRefused::Repeated) => Err(EntryRefused::Bad),
+        Err(PushRefused::Full) => Err(EntryRefused::Bad),
+        Err(PushRefused::NoMemory) => Err(EntryRefused::NoMemory),
+    }
+}
+
+// Puts so many names at the front of the bytes into an account that has none and no floor. The
+// answer is the bytes after them.
+fn many_names_at<'a>(
+    account: &mut Account,
+    count: u64,
+    bytes: &'a [u8],
+) -> Result<&'a [u8], EntryRefused>
+    requires waiting { account.old.waiting ≡ nothing }
+    requires none { account.old.state.names ≡ [] }
+    requires floor { account.old.state.floor ≡ 0 }
+    ensures waiting { account.new.waiting ≡ nothing }
+    ensures read { IfOk result (λ rest. many_at name_at count bytes.now
+        ≡ Ok (account.new.state.names, rest.now)) }
+    ensures state { OnOk result (account.new.state
+        ≡ record account.old.state { names = account.new.state.names }) }
+    ensures bad { result ≡ Err EntryRefused.Bad → (names : List Name) (rest : List ℕ)
+        → many_at name_at count bytes.now ≡ Ok (names, rest) → ¬ AreNames names }
+{
+    let mut rest = bytes;
+    for _ in 0..count {
+        let (name, after) = match name_at(rest) {
+            Ok(found) => found,
+            Err(refused) => return Err(refused),
+        };
+        match put_name(account, name) {
+            Ok(()) => rest = after,
+            Err(refused) => return Err(refused),
+        }
+    }
+    Ok(rest)
+}
+
+// Puts the names at the front of the bytes into an account that has none and no floor. The answer
+// is the bytes after them.
+fn names_at<'a>(account: &mut Account, bytes: &'a [u8]) -> Result<&'a [u8], EntryRefused>
+    requires waiting { account.old.waiting ≡ nothing }
+    requires none { account.old.state.names ≡ [] }
+    requires floor { account.old.state.floor ≡ 0 }
+    ensures waiting { account.new.waiting ≡ nothing }
+    ensures read { IfOk result (λ rest. list_at name_at bytes.now
+        ≡ Ok (account.new.state.names, rest.now)) }
+    ensures state { OnOk result (account.new.state
+        ≡ record account.old.state { names = account.new.state.names }) }
+    ensures bad { result ≡ Err EntryRefused.Bad → (names : List Name) (rest : List ℕ)
+        → list_at name_at bytes.now ≡ Ok (names, rest) → ¬ AreNames names }
+{
+    match u64_at(bytes) {
+        Ok((count, rest)) => many_names_at(account, count, rest),
+        Err(refused) => Err(refused),
+    }
+}
+
+// Puts a module's row behind those of an account. `Bad` comes exactly where its label has a row or
+// the account is full.
+fn put_module(account: &mut Account, row: ModuleRow) -> Result<(), EntryRefused>
+    requires waiting { account.old.waiting ≡ nothing }
+    requires row { IsModuleRow (row_of row) }
+    ensures waiting { account.new.waiting ≡ nothing }
+    ensures ok { OnOk result (account.new.state ≡ with_module account.old.state (row_of row)) }
+    ensures bad { result ≡ Err EntryRefused.Bad → (later : List (Bytes × Module))
+        → ¬ AreModules (account.old.state.modules ++ row_of row ∷ later) }
+{
+    let _ = account.total();
+    match account.push_module(row) {
+        Ok(()) => Ok(()),
+        Err(PushRefused::Repeated) => Err(EntryRefused::Bad),
+        Err(PushRefused::Full) => Err(EntryRefused::Bad),
+        Err(PushRefused::NoMemory) => Err(EntryRefused::NoMemory),
+    }
+}
+
+// Puts so many rows of modules at the front of the bytes into an account that has none. The answer
+// is the bytes after them.
+fn many_modules_at<'a>(
+    alloc: Global,
+    version: Version,
+    account: &mut Account,
+    count: u64,
+    bytes: &'a [u8],
+) -> Result<&'a [u8], EntryRefused>
+    requires waiting { account.old.waiting ≡ nothing }
+    requires none { account.old.state.modules ≡ [] }
+    ensures waiting { account.new.waiting ≡ nothing }
+    ensures read { IfOk result (λ rest. many_at (module_at version) count bytes.now
+        ≡ Ok (account.new.state.modules, rest.now)) }
+    ensures state { OnOk result (account.new.state
+        ≡ record account.old.state { modules = account.new.state.modules; total = account.new.state.total }) }
+    ensures bad { result ≡ Err EntryRefused.Bad → (rows : List (Bytes × Module)) (rest : List ℕ)
+        → many_at (module_at version) count bytes.now ≡ Ok (rows, rest) → ¬ AreModules rows }
+{
+    let mut rest = bytes;
+    for _ in 0..count {
+        let (row, after) = match module_at(alloc, version, rest) {
+            Ok(found) => found,
+            Err(refused) => return Err(refused),
+        };
+        match put_module(account, row) {
+            Ok(()) => rest = after,
+            Err(refused) => return Err(refused),
+        }
+    }
+    Ok(rest)
+}
+
+// Puts the rows of modules at the front of the bytes into an account that has none. The answer is
+// the bytes after them.
+fn modules_at<'a>(
+    alloc: Global,
+    version: Version,
+    account: &mut Account,
+    bytes: &'a [u8],
+) -> Result<&'a [u8], EntryRefused>
+    requires waiting { account.old.waiting ≡ nothing }
+    requires none { account.old.state.modules ≡ [] }
+    ensures waiting { account.new.waiting ≡ nothing }
+    ensures read { IfOk result (λ rest. list_at (module_at version) bytes.now
+        ≡ Ok (account.new.state.modules, rest.now)) }
+    ensures state { OnOk result (account.new.state
+        ≡ record account.old.state { modules = account.new.state.modules; total = account.new.state.total }) }
+    ensures bad { result ≡ Err EntryRefused.Bad → (rows : List (Bytes × Module)) (rest : List ℕ)
+        → list_at (module_at version) bytes.now ≡ Ok (rows, rest) → ¬ AreModules rows }
+{
+    match u64_at(bytes) {
+        Ok((count, rest)) => many_modules_at(alloc, version, account, count, rest),
+        Err(refused) => Err(refused),
+    }
+}
+
+// Puts a page's row behind those of an account. `Bad` comes exactly where the page has a row.
+fn put_page(
+    account: &mut Account,
+    page: u64,
+    bucket: Bucket,
+    state: PageState,
+) -> Result<(), EntryRefused>
+    requires waiting { account.old.waiting ≡ nothing }
+    requires page { IsPage page }
+    requires count { bucket.count ≤ most_count }
+    ensures waiting { account.new.waiting ≡ nothing }
+    ensures ok { OnOk result (account.new.state
+        ≡ with_page account.old.state (page, record { bucket = bucket; state = state })) }
+    ensures bad { result ≡ Err EntryRefused.Bad → (later : List (ℕ × PageRow))
+        → ¬ ArePages (account.old.state.pages
+        ++ (page, record { bucket = bucket; state = state }) ∷ later) }
+{
+    match account.push_page(page, bucket, state) {
+        Ok(()) => Ok(()),
+        Err(RowRefused::Repeated) => Err(EntryRefused::Bad),
+        Err(RowRefused::NoMemory) => Err(EntryRefused::NoMemory),
+    }
+}
+
+// Puts so many rows of pages at the front of the bytes into an account that has none. The answer is
+// the bytes after them.
+fn many_pages_at<'a>(
+    account: &mut Account,
+    count: u64,
+    bytes: &'a [u8],
+) -> Result<&'a [u8], EntryRefused>
+    requires waiting { account.old.waiting ≡ nothing }
+    requires none { account.old.state.pages ≡ [] }
+    ensures waiting { account.new.waiting ≡ nothing }
+    ensures read { IfOk result (λ rest. many_at page_row_at count bytes.now
+        ≡ Ok (account.new.state.pages, rest.now)) }
+    ensures state { OnOk result (account.new.state
+        ≡ record account.old.state { pages = account.new.state.pages }) }
+    ensures bad { result ≡ Err EntryRefused.Bad → (rows : List (ℕ × PageRow)) (rest : List ℕ)
+        → many_at page_row_at count bytes.now ≡ Ok (rows, rest) → ¬ ArePages rows }
+{
+    let mut rest = bytes;
+    for _ in 0..count {
+        let ((page, bucket, state), after) = match page_row_at(rest) {
+            Ok(found) => found,
+            Err(refused) => return Err(refused),
+        };
+        match put_page(account, page, bucket, state) {
+            Ok(()) => rest = after,
+            Err(refused) => return Err(refused),
+        }
+    }
+    Ok(rest)
+}
+
+// Puts the rows of pages at the front of the bytes into an account that has none. The answer is the
+// bytes after them.
+fn pages_at<'a>(account: &mut Account, bytes: &'a [u8]) -> Result<&'a [u8], EntryRefused>
+    requires waiting { account.old.waiting ≡ nothing }
+    requires none { account.old.state.pages ≡ [] }
+    ensures waiting { account.new.waiting ≡ nothing }
+    ensures read { IfOk result (λ rest. list_at page_row_at bytes.now
+        ≡ Ok (account.new.state.pages, rest.now)) }
+    ensures state { OnOk result (account.new.state
+        ≡ record account.old.state { pages = account.new.state.pages }) }
+    ensures bad { result ≡ Err EntryRefused.Bad → (rows : List (ℕ × PageRow)) (rest : List ℕ)
+        → list_at page_row_at bytes.now ≡ Ok (rows, rest) → ¬ ArePages rows }
+{
+    match u64_at(bytes) {
+        Ok((count, rest)) => many_pages_at(account, count, rest),
+        Err(refused) => Err(refused),
+    }
+}
+
+// Puts what stands behind the numbers at the front into an account that has no names, no rows and
+// no floor.
+fn fill(
+    alloc: Global,
+    version: Version,
+    floor: u64,
+    account: &mut Account,
+    bytes: &[u8],
+) -> Result<(), EntryRefused>
+    requires waiting { account.old.waiting ≡ nothing }
+    requires names { account.old.state.names ≡ [] }
+    requires modules { account.old.state.modules ≡ [] }
+    requires pages { account.old.state.pages ≡ [] }
+    requires floor { account.old.state.floor ≡ 0 }
+    ensures waiting { account.new.waiting ≡ nothing }
+    ensures holds { OnOk result (Holds version floor bytes.now account.new.state) }
+    ensures state { OnOk result (account.new.state
+        ≡ with_rows_of account.old.state account.new.state) }
+    ensures bad { result ≡ Err EntryRefused.Bad → (a : State) → Holds version floor bytes.now a
+        → ¬ AreTaken a }
+{
+    let rest = names_at(account, bytes)?;
+    let rest = modules_at(alloc, version, account, rest)?;
+    let rest = pages_at(account, rest)?;
+    let floor = floor_in(version, floor, rest)?;
+    if account.set_floor(floor) {
+        Ok(())
+    } else {
+        Err(EntryRefused::Bad)
+    }
+}
+
+// The account whose checkpoint the bytes are, as it is read.
+fn account_at(alloc: Global, version: Version, bytes: &[u8]) -> Result<Account, EntryRefused>
+    ensures waiting { IfOk result (λ account. account.waiting ≡ nothing) }
+    ensures found { IfOk result (λ account. checkpoint_in version bytes.now ≡ Ok account.state) }
+    ensures bad { result ≡ Err EntryRefused.Bad → (a : State)
+        → checkpoint_in version bytes.now ≢ Ok a }
+{
+    let (front, rest) = front_at(version, bytes)?;
+    let mut account = Account::new(alloc);
+    account.set_base(front.limit, front.entries);
+    account.set_module_limit(front.module_limit);
+    match fill(alloc, version, front.floor, &mut account, rest) {
+        Ok(()) => {
+            let _ = account.entries();
+            Ok(account)
+        }
+        Err(refused) => Err(refused),
+    }
+}
+
+/// The account whose checkpoint the bytes are, in the version that is given. Nothing waits in it.
+/// Each byte is read once.
+///
+/// It is refused as `Bad` exactly where the bytes aren't all of a checkpoint of that version, and
+/// as `NoMemory` where memory runs out.
+pub fn read_checkpoint(
+    alloc: Global,
+    version: Version,
+    bytes: &[u8],
+) -> Result<Account, CheckpointRefused>
+    // What is read is the account whose checkpoint the bytes are.
+    ensures found { IfOk result (λ account. IsCheckpoint version account.state bytes.now) }
+    ensures waiting { IfOk result (λ account. account.waiting ≡ nothing) }
+
+    // What isn't read is no checkpoint, and what is one is read, unless memory runs out.
+    ensures bad { result ≡ Err CheckpointRefused.Bad → (a : State)
+        → ¬ IsCheckpoint version a bytes.now }
+    ensures account { (a : State) → IsCheckpoint version a bytes.now
+        → result ≢ Err CheckpointRefused.NoMemory → IsOkAnd result (λ account. account.state ≡ a) }
+{
+    match account_at(alloc, version, bytes) {
+        Ok(account) => Ok(account),
+        Err(EntryRefused::Bad) => Err(CheckpointRefused::Bad),
+        Err(EntryRefused::NoMemory) => Err(CheckpointRefused::NoMemory),
+    }
+}

@@ -1,0 +1,100 @@
+//! Accounts as checkpoints.
+ghost use Rattle.std.specs.Prelude.{◌≡◌, ◌<◌, ◌^◌, ◌++◌, length, IfOk, OnOk};
+ghost use Rattle.std.specs.List.{flat_map};
+ghost use Rattle.entry_format.specs.declared.version.Version.TheVariants.{Two};
+ghost use Rattle.entry_format.specs.Spelling.{name_bytes};
+ghost use Rattle.ras_account.specs.Accounts.{IsAccount};
+ghost use Rattle.journal_format.specs.Checkpoints.{list_bytes, module_bytes, page_row_bytes, front_bytes, checkpoint_bytes, IsCheckpoint};
+
+use crate::checkpoint_len;
+use crate::rows::{push_module, push_page_row};
+use entry_format::{push_limit, push_name};
+use ras_account::Account;
+use ras_base::NoMemory;
+use ras_base::little_endian::push_u64;
+use std::alloc::Global;
+
+// Adds the numbers at the front.
+#[tactic(auto, unfolding(crate::specs::Checkpoints::front_bytes))]
+fn push_front(bytes: &mut Vec<u8>, account: &Account) -> Result<(), NoMemory>
+    ensures { OnOk result (bytes.new.items ≡ bytes.old.items ++ front_bytes Two account.now.state) }
+{
+    push_limit(bytes, account.limit())?;
+    push_limit(bytes, account.module_limit())?;
+    push_u64(bytes, account.entries())?;
+    push_u64(bytes, account.floor())
+}
+
+// Adds the names.
+fn push_names(bytes: &mut Vec<u8>, account: &Account) -> Result<(), NoMemory>
+    ensures { OnOk result (bytes.new.items
+        ≡ bytes.old.items ++ list_bytes name_bytes account.now.state.names) }
+{
+    let count = account.names_len();
+    push_u64(bytes, count as u64)?;
+    for i in 0..count {
+        push_name(bytes, account.name(i))?;
+    }
+    Ok(())
+}
+
+// Adds the rows of modules.
+fn push_modules(bytes: &mut Vec<u8>, account: &Account) -> Result<(), NoMemory>
+    ensures { OnOk result (bytes.new.items
+        ≡ bytes.old.items ++ list_bytes (module_bytes Two) account.now.state.modules) }
+{
+    let count = account.modules_len();
+    push_u64(bytes, count as u64)?;
+    for i in 0..count {
+        push_module(bytes, account.module(i))?;
+    }
+    Ok(())
+}
+
+// Adds the rows of pages.
+fn push_pages(bytes: &mut Vec<u8>, account: &Account) -> Result<(), NoMemory>
+    ensures { OnOk result (bytes.new.items
+        ≡ bytes.old.items ++ list_bytes page_row_bytes account.now.state.pages) }
+{
+    let pages = account.pages();
+    let count = pages.len();
+    push_u64(bytes, count as u64)?;
+    for i in 0..count {
+        let (page, bucket, state) = pages.row(i);
+        push_page_row(bytes, page, bucket, state)?;
+    }
+    Ok(())
+}
+
+// The spelling of an account.
+#[tactic(auto, unfolding(crate::specs::Checkpoints::checkpoint_bytes, crate::specs::Checkpoints::end_bytes))]
+fn spelled(alloc: Global, account: &Account) -> Result<Vec<u8>, NoMemory>
+    ensures { IfOk result (λ bytes. bytes.items ≡ checkpoint_bytes Two account.now.state) }
+{
+    let mut bytes = Vec::with_capacity(alloc, checkpoint_len(account) as usize)?;
+    push_front(&mut bytes, account)?;
+    push_names(&mut bytes, account)?;
+    push_modules(&mut bytes, account)?;
+    push_pages(&mut bytes, account)?;
+    Ok(bytes)
+}
+
+// So that a clause can tell that an account is one, and that its numbers of rows fit their fields.
+fn tell_account(account: &Account)
+    ensures account { IsAccount account.now.state }
+    ensures modules { length account.now.state.modules < 2 ^ 64 }
+    ensures pages { length account.now.state.pages < 2 ^ 64 }
+{
+    let _ = account.entries();
+    let _ = account.modules_len();
+    let _ = account.pages().len();
+}
+
+/// The checkpoint of an account, in version 2. Its bytes are written once, into a vector that has
+/// room for all of them.
+pub fn encode_checkpoint(alloc: Global, account: &Account) -> Result<Vec<u8>, NoMemory>
+    ensures { IfOk result (λ bytes. IsCheckpoint Two account.now.state bytes.items) }
+{
+    tell_account(account);
+    spelled(alloc, account)
+}

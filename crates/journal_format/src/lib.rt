@@ -1,0 +1,24 @@
+//! The journal's links and checkpoints as bytes, and back.
+//!
+//! A link has the entries that are kept or lost together, and a checkpoint is a whole account.
+//! Each has one spelling, which `specs/` gives. What is spelled is read again, and bytes that are
+//! no spelling are refused.
+#![tactic(auto)]
+
+mod decoding;
+mod encoding;
+mod laws;
+mod link;
+mod links;
+mod refused;
+mod row_reading;
+mod rows;
+mod sizes;
+
+pub use decoding::read_checkpoint;
+pub use encoding::encode_checkpoint;
+pub use laws::{checkpoint_laws, link_laws};
+pub use link::{Link, MOST_LINK_ENTRIES, MOST_PAYLOAD};
+pub use links::{encode_link, read_link};
+pub use refused::{CheckpointRefused, LinkRefused};
+pub use sizes::checkpoint_len;

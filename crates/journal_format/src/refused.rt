@@ -1,0 +1,48 @@
+//! Why bytes could not be read.
+ghost use Rattle.std.specs.Prelude.{◌≡◌};
+ghost use Rattle.journal_format.specs.declared.refused.LinkRefused.TheVariants.{NoMemory as NoMemoryForLink};
+ghost use Rattle.journal_format.specs.declared.refused.CheckpointRefused.TheVariants.{NoMemory as NoMemoryForCheckpoint};
+
+use ras_base::NoMemory;
+use thiserror::Error;
+
+/// Why bytes were not read as a link.
+#[derive(Clone, Copy, Debug, PartialEq, Eq, Drop, Error)]
+pub enum LinkRefused {
+    /// They end before the link does.
+    #[error("the link is cut")]
+    Cut,
+    /// Its payload is no list of entries.
+    #[error("the payload of the link is no list of entries")]
+    Bad,
+    /// Memory ran out.
+    #[error("memory ran out")]
+    NoMemory,
+}
+
+impl From<NoMemory> for LinkRefused {
+    ghost from_gives = { λ _ e. e ≡ NoMemoryForLink };
+
+    fn from(_: NoMemory) -> Self {
+        LinkRefused::NoMemory
+    }
+}
+
+/// Why bytes were not read as a checkpoint.
+#[derive(Clone, Copy, Debug, PartialEq, Eq, Drop, Error)]
+pub enum CheckpointRefused {
+    /// They are none, or more than one.
+    #[error("the bytes are no checkpoint")]
+    Bad,
+    /// Memory ran out.
+    #[error("memory ran out")]
+    NoMemory,
+}
+
+impl From<NoMemory> for CheckpointRefused {
+    ghost from_gives = { λ _ e. e ≡ NoMemoryForCheckpoint };
+
+    fn from(_: NoMemory) -> Self {
+        CheckpointRefused::NoMemory
+    }
+}
