@@ -1,0 +1,296 @@
+-- What a stop leaves at each moment of an append.
+use Rattle.std.proofs.Common.{◌≡◌, ◌∙◌, ℕ, ◌+◌, ◌-◌, ◌^◌, ◌≤◌, ◌<◌, ◌⊎◌, min, max, List, [], ◌∷◌, length, Option, None, Some, Ok, refl, sym, ap, subst, arith, inl, inr, length-append}
+use Rattle.std.specs.Prelude.{IfSome, true, false}
+use Rattle.std.specs.Option.{option_map}
+use Rattle.std.proofs.lemmas.Bool.Decides.{nat_tests}
+use Rattle.ras_base.specs.LittleEndian.{u32_bytes}
+use Rattle.ras_base.specs.LittleEndianLemmas.{length-u32_bytes}
+use Rattle.board_core.specs.declared.board.FileNo.{FileNo}
+use Rattle.board_core.specs.declared.board.FileNo.TheVariants.{Zero, One}
+use Rattle.board_core.specs.Clock.{Clock, Adds, Rests}
+use Rattle.board_core.specs.ClockLemmas.{adds_weaker, adds_both, file_in-with}
+use Rattle.board_core.specs.Stop.{Left, InFile, file_in, with_file_in}
+use Rattle.board_core.specs.Told.{Told, Torn, Steps, file_of, overlay}
+use Rattle.ras_facts.specs.declared.entry.Entry.{Entry}
+use Rattle.ras_account.specs.Account.{State}
+use Rattle.ras_account.specs.Continued.{account_after, account_after_all}
+use Rattle.ras_account.specs.Numbers.{IsWithin, StaysWithin, numbers_of, are_past}
+use Rattle.entry_format.specs.declared.version.Version.{Version}
+use Rattle.entry_format.specs.declared.version.Version.TheVariants.{Two}
+use Rattle.journal_format.specs.Links.{payload_bytes, link_bytes}
+use Rattle.journal_format.specs.PayloadReading.{payload_of}
+use Rattle.journal_format.proofs.PayloadLemmas.{payload_is_read}
+use Rattle.ras_journal.specs.declared.limits.TheConstants.{LONGEST_FILE, OPEN_GATE}
+use Rattle.ras_journal.specs.declared.standing.Standing.{Standing}
+use Rattle.ras_journal.specs.Fields.{stays_within}
+use Rattle.ras_journal.specs.File.{FileFront, front_of, account_by}
+use Rattle.ras_journal.specs.Recovered.{standing_of, other_of, is_shut, Recovers, IsAt}
+use Rattle.ras_journal.specs.Appending.{length_with, standing_with, after_link, after_gate, after_append, Links, Before, Appending}
+use Rattle.ras_journal.specs.Laws.{followed}
+use Rattle.ras_journal.proofs.FileLemmas.{Lies, lies, CanRead, linked, linked_parts, opened, opened_length, torn_link, torn_gate, gate_written}
+use Rattle.ras_journal.proofs.JournalLemmas.{Here, here_of, recovers_of, at_of}
+
+within_test : (account : State) → IsWithin account → are_past (numbers_of account) ≡ false
+within_test account within = let names = within.names in let entries = within.entries in let total = within.total in grind (arith, nat_tests)
+
+pub stays_test : (account : State) (entries : List Entry) → StaysWithin account entries → stays_within account entries ≡ true
+stays_test account [] stays = refl
+stays_test account (entry ∷ entries) stays = rw (within_test (account_after account entry) stays.0) (stays_test (account_after account entry) entries stays.1)
+
+-- ---- files changed one after the other
+
+pub file_twice : (file : FileNo) (one other : List ℕ) (left : Left) → with_file_in file other (with_file_in file one left) ≡ with_file_in file other left
+file_twice Zero one other left = refl
+file_twice One one other left = refl
+
+other_stays : (file : FileNo) (bytes : List ℕ) (left : Left) → other_of file (with_file_in file bytes left).file0 (with_file_in file bytes left).file1 ≡ other_of file left.file0 left.file1
+other_stays Zero bytes left = refl
+other_stays One bytes left = refl
+
+-- ---- a journal of version 2 at this standing, and a link
+
+pub record Ready (standing : Standing) (account : State) (entries : List Entry) (link : List ℕ) (left : Left) : Type 0 where
+  pub here : Here standing account left
+  pub version : here.front.version ≡ Two
+  pub gate : here.front.gate ≡ standing.length
+  pub links : here.front.links ≡ standing.links
+  pub account_is : here.front.account ≡ account
+  pub can : CanRead here.front entries
+  pub bytes : link ≡ link_bytes entries
+  pub lies : Lies here.counts.taken (file_in standing.file left) here.front
+  pub room : length_with standing link ≤ LONGEST_FILE
+
+pub ready : (standing : Standing) (account : State) (entries : List Entry) (link : List ℕ) (left : Left) → standing.version ≡ Two → length_with standing link ≤ LONGEST_FILE → IsAt standing account left → Links account entries link
+    → Ready standing account entries link left
+ready standing account entries link left two room at links =
+    let here = here_of standing account left at in
+    let version : here.front.version ≡ Two = ap (λ (s : Standing). s.version) here.standing_is ∙ two in
+    let account_is : here.front.account ≡ account = ap (λ (v : Version). account_by v here.front.account) (sym version) ∙ here.account_is in
+    record {
+      here = here;
+      version = version;
+      gate = ap (λ (s : Standing). s.length) here.standing_is;
+      links = ap (λ (s : Standing). s.links) here.standing_is;
+      account_is = account_is;
+      can = record {
+        fits = links.can.fits;
+        reads = ap (λ (v : Version). payload_of v (payload_bytes entries)) version ∙ payload_is_read Two entries (payload_bytes entries) links.can.payload;
+        within = ap (λ (a : State). stays_within a entries) account_is ∙ stays_test account entries links.within;
+      };
+      bytes = links.bytes;
+      lies = lies here.counts.taken (file_in standing.file left) here.front here.counts.reads;
+      room = room;
+    }
+
+account_two : (front : FileFront) → front.version ≡ Two → account_by front.version front.account ≡ front.account
+account_two front two = ap (λ (v : Version). account_by v front.account) two
+
+-- the file is read as before: the account without the link
+without_link : (standing : Standing) (account : State) (entries : List Entry) (link : List ℕ) (left : Left) (r : Ready standing account entries link left) (bytes : List ℕ) → length bytes ≤ LONGEST_FILE
+    → front_of r.here.counts.taken bytes ≡ Ok (Some r.here.front) → Recovers account (with_file_in standing.file bytes left)
+without_link standing account entries link left r bytes short reads =
+    recovers_of (with_file_in standing.file bytes left) (record { file = standing.file; front = r.here.front }) account (r.here.counts.changed bytes r.here.front short reads refl) r.here.account_is
+
+-- or with the link
+with_the_link : (standing : Standing) (account : State) (entries : List Entry) (link : List ℕ) (left : Left) (r : Ready standing account entries link left) (bytes : List ℕ) → length bytes ≤ LONGEST_FILE
+    → front_of r.here.counts.taken bytes ≡ Ok (Some (followed r.here.front entries)) → Recovers (account_after_all account entries) (with_file_in standing.file bytes left)
+with_the_link standing account entries link left r bytes short reads =
+    recovers_of (with_file_in standing.file bytes left) (record { file = standing.file; front = followed r.here.front entries }) (account_after_all account entries)
+    (r.here.counts.changed bytes (followed r.here.front entries) short reads refl)
+    (account_two (followed r.here.front entries) r.version ∙ ap (λ (a : State). account_after_all a entries) r.account_is)
+
+appending_of : (standing : Standing) (account : State) (entries : List Entry) (here left : Left) (bytes : List ℕ) → left ≡ with_file_in standing.file bytes here
+    → Recovers account (with_file_in standing.file bytes here) ⊎ Recovers (account_after_all account entries) (with_file_in standing.file bytes here) → Appending standing account entries here left
+appending_of standing account entries here left bytes is recovers =
+    let file : bytes ≡ file_in standing.file left = sym (ap (λ (l : Left). file_in standing.file l) is ∙ file_in-with standing.file bytes here) in
+    record {
+      recovers = subst (λ (l : Left). Recovers account l ⊎ Recovers (account_after_all account entries) l) (sym is) recovers;
+      rest = is ∙ ap (λ (b : List ℕ). with_file_in standing.file b here) file;
+    }
+
+-- ---- the two moments
+
+pub first_moment : (standing : Standing) (account : State) (entries : List Entry) (link : List ℕ) (here left : Left) → Ready standing account entries link here
+    → InFile standing.file (Torn (standing.length + 1) (length link + 1)) here left → Appending standing account entries here left
+first_moment standing account entries link here left r by =
+    let torn = subst (λ (n : ℕ). Torn (n + 1) (length link + 1) (file_in standing.file here) by.bytes) (sym r.gate) by.step in
+    let within : length by.bytes ≤ max (length (file_in standing.file here)) (standing.length + 1 + (length link + 1)) = by.step.within in
+    let room : length_with standing link ≤ LONGEST_FILE = r.room in
+    let short : length (file_in standing.file here) ≤ LONGEST_FILE = r.here.counts.short in
+    appending_of standing account entries here left by.bytes by.rest
+    (inl (without_link standing account entries link here r by.bytes (omega arith) (torn_link r.here.counts.taken (file_in standing.file here) by.bytes r.here.front (length link + 1) r.here.counts.reads torn)))
+
+-- the file with the link on the disk
+abbrev pub linked_file : Standing → List ℕ → Left → List ℕ
+linked_file standing link left = linked (file_in standing.file left) standing.length link
+
+linked_as : (standing : Standing) (account : State) (entries : List Entry) (link : List ℕ) (here : Left) (r : Ready standing account entries link here)
+    → linked_file standing link here ≡ linked (file_in standing.file here) r.here.front.gate (link_bytes entries)
+linked_as standing account entries link here r =
+    ap (λ (n : ℕ). linked (file_in standing.file here) n link) (sym r.gate) ∙ ap (λ (l : List ℕ). linked (file_in standing.file here) r.here.front.gate l) r.bytes
+
+gate_lies : (standing : Standing) (account : State) (entries : List Entry) (link : List ℕ) (here : Left) → Ready standing account entries link here → standing.length < length (file_in standing.file here)
+gate_lies standing account entries link here r =
+    let within : r.here.front.gate < length (file_in standing.file here) = r.lies.within in
+    let gate : r.here.front.gate ≡ standing.length = r.gate in omega arith
+
+pub second_moment : (standing : Standing) (account : State) (entries : List Entry) (link : List ℕ) (here there left : Left) → Ready standing account entries link here → there ≡ with_file_in standing.file (linked_file standing link here) here
+    → InFile standing.file (Torn standing.length 1) there left → Appending standing account entries here left
+second_moment standing account entries link here there left r is by =
+    let base = file_in standing.file here in
+    let file : file_in standing.file there ≡ linked_file standing link here = ap (λ (l : Left). file_in standing.file l) is ∙ file_in-with standing.file (linked_file standing link here) here in
+    let left_is : left ≡ with_file_in standing.file by.bytes here =
+    by.rest ∙ (ap (λ (l : Left). with_file_in standing.file by.bytes l) is ∙ file_twice standing.file (linked_file standing link here) by.bytes here) in
+    let torn_here : Torn standing.length 1 (linked_file standing link here) by.bytes = subst (λ (b : List ℕ). Torn standing.length 1 b by.bytes) file by.step in
+    let torn_gate_there : Torn r.here.front.gate 1 (linked_file standing link here) by.bytes = subst (λ (n : ℕ). Torn n 1 (linked_file standing link here) by.bytes) (sym r.gate) torn_here in
+    let torn : Torn r.here.front.gate 1 (linked base r.here.front.gate (link_bytes entries)) by.bytes = subst (λ (b : List ℕ). Torn r.here.front.gate 1 b by.bytes) (linked_as standing account entries link here r) torn_gate_there in
+    let w = linked_parts base standing.length link (gate_lies standing account entries link here r) in
+    let within : length by.bytes ≤ max (length (linked_file standing link here)) (standing.length + 1) = torn_here.within in
+    let longest : length (linked_file standing link here) ≤ max (length base) (standing.length + 1 + length link + 1) = w.within in
+    let room : length_with standing link ≤ LONGEST_FILE = r.room in
+    let short : length base ≤ LONGEST_FILE = r.here.counts.short in
+    let size : length by.bytes ≤ LONGEST_FILE = omega arith in
+    appending_of standing account entries here left by.bytes left_is (elim (torn_gate r.here.counts.taken base by.bytes r.here.front entries r.here.counts.reads r.can torn) [
+      | inl before ↦ inl (without_link standing account entries link here r by.bytes size before)
+      | inr behind ↦ inr (with_the_link standing account entries link here r by.bytes size behind)
+    ])
+
+-- ---- what stands after it
+
+-- the file with the link and its open gate
+abbrev pub opened_file : Standing → List ℕ → Left → List ℕ
+opened_file standing link left = opened (file_in standing.file left) standing.length link
+
+opened_as : (standing : Standing) (account : State) (entries : List Entry) (link : List ℕ) (here : Left) (r : Ready standing account entries link here)
+    → opened_file standing link here ≡ opened (file_in standing.file here) r.here.front.gate (link_bytes entries)
+opened_as standing account entries link here r =
+    ap (λ (n : ℕ). opened (file_in standing.file here) n link) (sym r.gate) ∙ ap (λ (l : List ℕ). opened (file_in standing.file here) r.here.front.gate l) r.bytes
+
+same_standing : (one other : Standing) → one.file ≡ other.file → one.version ≡ other.version → one.generation ≡ other.generation → one.length ≡ other.length → one.links ≡ other.links → one.shut ≡ other.shut → one ≡ other
+same_standing one other file version generation long links shut = λ i. record {
+  file = file i;
+  version = version i;
+  generation = generation i;
+  length = long i;
+  links = links i;
+  shut = shut i;
+}
+
+-- the standing of a file with one more link
+standing_follows : (standing : Standing) (account : State) (entries : List Entry) (link : List ℕ) (here : Left) (r : Ready standing account entries link here) (bytes : List ℕ)
+    → standing_of (with_file_in standing.file bytes here).file0 (with_file_in standing.file bytes here).file1 (record { file = standing.file; front = followed r.here.front entries }) ≡ standing_with standing link
+unfolding link_bytes
+standing_follows standing account entries link here r bytes =
+    let payload = payload_bytes entries in
+    let is = r.here.standing_is in
+    let gate : r.here.front.gate ≡ standing.length = r.gate in
+    let links : r.here.front.links ≡ standing.links = r.links in
+    let few : r.here.front.links ≤ r.here.front.gate = r.lies.few in
+    let lies_in : r.here.front.gate < length (file_in standing.file here) = r.lies.within in
+    let short : length (file_in standing.file here) ≤ LONGEST_FILE = r.here.counts.short in
+    let long : length link ≡ 4 + length payload =
+    ap length r.bytes ∙ (length-append (u32_bytes (length payload)) payload ∙ ap (λ (n : ℕ). n + length payload) (length-u32_bytes (length payload))) in
+    let length_is : r.here.front.gate + 5 + length payload ≡ standing.length + 1 + length link = omega arith in
+    let links_are : r.here.front.links + 1 ≡ min (standing.links + 1) (2 ^ 64 - 1) = omega arith in
+    same_standing _ _ refl (ap (λ (s : Standing). s.version) is) (ap (λ (s : Standing). s.generation) is) length_is links_are
+    (ap is_shut (other_stays standing.file bytes here) ∙ ap (λ (s : Standing). s.shut) is)
+
+pub at_behind : (standing : Standing) (account : State) (entries : List Entry) (link : List ℕ) (here : Left) → Ready standing account entries link here
+    → IsAt (standing_with standing link) (account_after_all account entries) (with_file_in standing.file (opened_file standing link here) here)
+at_behind standing account entries link here r =
+    let base = file_in standing.file here in
+    let bytes = opened_file standing link here in
+    let w = linked_parts base standing.length link (gate_lies standing account entries link here r) in
+    let long : length bytes ≡ length (linked base standing.length link) = opened_length base standing.length link (gate_lies standing account entries link here r) in
+    let longest : length (linked base standing.length link) ≤ max (length base) (standing.length + 1 + length link + 1) = w.within in
+    let room : length_with standing link ≤ LONGEST_FILE = r.room in
+    let short : length base ≤ LONGEST_FILE = r.here.counts.short in
+    let next = followed r.here.front entries in
+    let reads : front_of r.here.counts.taken bytes ≡ Ok (Some next) =
+    ap (λ (b : List ℕ). front_of r.here.counts.taken b) (opened_as standing account entries link here r) ∙ gate_written r.here.counts.taken base r.here.front entries r.here.counts.reads r.can in
+    at_of (with_file_in standing.file bytes here) (record { file = standing.file; front = next }) (standing_with standing link) (account_after_all account entries)
+    (r.here.counts.changed bytes next (omega arith) reads refl) (standing_follows standing account entries link here r bytes)
+    (account_two next r.version ∙ ap (λ (a : State). account_after_all a entries) r.account_is)
+
+-- what is told after each of the two
+
+link_told : (standing : Standing) (link : List ℕ) (t : Told) → file_of standing.file (after_link standing link t) ≡ linked_file standing link t.here
+link_told standing link t = file_in-with standing.file (linked_file standing link t.here) t.here
+
+pub append_told : (standing : Standing) (link : List ℕ) (t : Told) → (after_append standing link t).here ≡ with_file_in standing.file (opened_file standing link t.here) t.here
+append_told standing link t =
+    let there = (after_link standing link t).here in
+    ap (λ (b : List ℕ). with_file_in standing.file (overlay standing.length (OPEN_GATE ∷ []) b) there) (link_told standing link t)
+    ∙ file_twice standing.file (linked_file standing link t.here) (opened_file standing link t.here) t.here
+
+pub file_told : (standing : Standing) (link : List ℕ) (t : Told) → file_of standing.file (after_append standing link t) ≡ opened_file standing link t.here
+file_told standing link t =
+    ap (λ (l : Left). file_in standing.file l) (append_told standing link t) ∙ file_in-with standing.file (opened_file standing link t.here) t.here
+
+-- ---- for the function
+
+pub gate_within : (standing : Standing) (link : List ℕ) (old new : Option Told) → IfSome old (λ t. standing.length < length (file_of standing.file t)) → Steps (after_append standing link) old new
+    → IfSome new (λ t. standing.length + 1 + length link < length (file_of standing.file t))
+gate_within standing link None new within steps = subst (λ (o : Option Told). IfSome o (λ t. standing.length + 1 + length link < length (file_of standing.file t))) (sym steps) tt
+gate_within standing link (Some t) new within steps =
+    let base = file_of standing.file t in
+    let w = linked_parts base standing.length link within in
+    let longer : standing.length + 1 + length link < length (linked base standing.length link) = w.longer in
+    let long : length (opened base standing.length link) ≡ length (linked base standing.length link) = opened_length base standing.length link within in
+    let here : standing.length + 1 + length link < length (file_of standing.file (after_append standing link t)) = omega (arith, ap length (file_told standing link t)) in
+    subst (λ (o : Option Told). IfSome o (λ t. standing.length + 1 + length link < length (file_of standing.file t))) (sym steps) here
+
+pub both_steps : (standing : Standing) (link : List ℕ) (old mid new : Option Told) → Steps (after_link standing link) old mid → Steps (after_gate standing) mid new → Steps (after_append standing link) old new
+both_steps standing link None mid new first second = second ∙ ap (λ (o : Option Told). option_map (after_gate standing) o) first
+both_steps standing link (Some t) mid new first second = second ∙ ap (λ (o : Option Told). option_map (after_gate standing) o) first
+
+-- the link and its sync, from rest
+abbrev pub FirstAdds : Standing → List ℕ → Option Told → Clock → Clock → Type 0
+FirstAdds standing link told old mid = (t : Told) → Rests t told old → Adds (InFile standing.file (Torn (standing.length + 1) (length link + 1)) t.here) old mid
+
+pub stops_first : (standing : Standing) (account : State) (entries : List Entry) (link : List ℕ) (t : Told) (told : Option Told) (old mid : Clock) → standing.version ≡ Two → length_with standing link ≤ LONGEST_FILE
+    → FirstAdds standing link told old mid → Before standing account t told old → Links account entries link → Adds (Appending standing account entries t.here) old mid
+stops_first standing account entries link t told old mid two room adds before links =
+    let r = ready standing account entries link t.here two room before.at links in
+    adds_weaker (InFile standing.file (Torn (standing.length + 1) (length link + 1)) t.here) (Appending standing account entries t.here) old mid (adds t before.rests)
+    (λ left by. first_moment standing account entries link t.here left r by)
+
+abbrev pub FirstRests : Standing → List ℕ → Option Told → Clock → Option Told → Clock → Type 0
+FirstRests standing link told old told_mid mid = (t : Told) → Rests t told old → Rests (after_link standing link t) told_mid mid
+
+abbrev pub SecondAdds : Standing → Option Told → Clock → Clock → Type 0
+SecondAdds standing told mid new = (t : Told) → Rests t told mid → Adds (InFile standing.file (Torn standing.length 1) t.here) mid new
+
+pub stops_both : (standing : Standing) (account : State) (entries : List Entry) (link : List ℕ) (t : Told) (told : Option Told) (old : Clock) (told_mid : Option Told) (mid new : Clock) → standing.version ≡ Two → length_with standing link ≤ LONGEST_FILE
+    → FirstAdds standing link told old mid → FirstRests standing link told old told_mid mid → SecondAdds standing told_mid mid new → Before standing account t told old → Links account entries link → Adds (Appending standing account entries t.here) old new
+stops_both standing account entries link t told old told_mid mid new two room adds rests then before links =
+    let r = ready standing account entries link t.here two room before.at links in
+    let there = after_link standing link t in
+    adds_both (Appending standing account entries t.here) old mid new
+    (stops_first standing account entries link t told old mid two room adds before links)
+    (adds_weaker (InFile standing.file (Torn standing.length 1) there.here) (Appending standing account entries t.here) mid new (then there (rests t before.rests))
+    (λ left by. second_moment standing account entries link t.here there.here left r refl by))
+
+abbrev pub SecondRests : Standing → Option Told → Clock → Option Told → Clock → Type 0
+SecondRests standing told mid told_new new = (t : Told) → Rests t told mid → Rests (after_gate standing t) told_new new
+
+pub appended : (standing : Standing) (account : State) (entries : List Entry) (link : List ℕ) (t : Told) (told : Option Told) (old : Clock) (told_mid : Option Told) (mid : Clock) (told_new : Option Told) (new : Clock) → standing.version ≡ Two
+    → length_with standing link ≤ LONGEST_FILE → FirstRests standing link told old told_mid mid → SecondRests standing told_mid mid told_new new → Before standing account t told old → Links account entries link
+    → Before (standing_with standing link) (account_after_all account entries) (after_append standing link t) told_new new
+appended standing account entries link t told old told_mid mid told_new new two room rests then before links =
+    let r = ready standing account entries link t.here two room before.at links in
+    record {
+      rests = then (after_link standing link t) (rests t before.rests);
+      at = subst (λ (l : Left). IsAt (standing_with standing link) (account_after_all account entries) l) (sym (append_told standing link t)) (at_behind standing account entries link t.here r);
+    }
+
+-- the closed gate still lies in the file once the link is written
+pub gate_after_link : (standing : Standing) (link : List ℕ) (old mid : Option Told) → IfSome old (λ t. standing.length < length (file_of standing.file t)) → Steps (after_link standing link) old mid
+    → IfSome mid (λ t. standing.length ≤ length (file_of standing.file t))
+gate_after_link standing link None mid within steps = subst (λ (o : Option Told). IfSome o (λ t. standing.length ≤ length (file_of standing.file t))) (sym steps) tt
+gate_after_link standing link (Some t) mid within steps =
+    let base = file_of standing.file t in
+    let w = linked_parts base standing.length link within in
+    let kept : length base ≤ length (linked base standing.length link) = w.kept in
+    let here : standing.length ≤ length (file_of standing.file (after_link standing link t)) = omega (arith, ap length (link_told standing link t)) in
+    subst (λ (o : Option Told). IfSome o (λ t. standing.length ≤ length (file_of standing.file t))) (sym steps) here

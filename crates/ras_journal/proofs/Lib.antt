@@ -1,0 +1,10 @@
+pub mod PartLemmas
+pub mod FrontLemmas
+pub mod FileLemmas
+pub mod JournalLemmas
+pub mod AppendLemmas
+pub mod LawLemmas
+pub mod PairLemmas
+pub mod AllLemmas
+pub mod FormattingLemmas
+pub mod SwitchLemmas

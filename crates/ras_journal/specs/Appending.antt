@@ -1,0 +1,97 @@
+-- What an append of a link does, and what stops leave of it at every moment.
+use Rattle.std.specs.Prelude.{◌≡◌, ℕ, ◌+◌, ◌-◌, ◌^◌, ◌<◌, ◌≤◌, ◌⊎◌, min, Bool, true, false, nat_lt, nat_le, ◌||◌, List, [], ◌∷◌, ◌++◌, length, Result, Ok, Err, Option}
+use Rattle.board_core.specs.Clock.{Clock, Rests}
+use Rattle.board_core.specs.Stop.{Left, file_in, with_file_in}
+use Rattle.board_core.specs.Told.{Told, after_write_through, FailsThrough}
+use Rattle.ras_facts.specs.declared.entry.Entry.{Entry}
+use Rattle.ras_account.specs.Account.{State}
+use Rattle.ras_account.specs.Continued.{account_after_all}
+use Rattle.ras_account.specs.Numbers.{StaysWithin}
+use Rattle.entry_format.specs.declared.version.Version.{Version}
+use Rattle.entry_format.specs.declared.version.Version.TheVariants.{One, Two}
+use Rattle.journal_format.specs.Links.{link_bytes, CanLink}
+use Rattle.ras_journal.specs.declared.limits.TheConstants.{OPEN_GATE, CLOSED_GATE, LONGEST_FILE, MOST_LINKS}
+use Rattle.ras_journal.specs.declared.standing.Standing.{Standing}
+use Rattle.ras_journal.specs.declared.refused.AppendRefused.{AppendRefused}
+use Rattle.ras_journal.specs.declared.refused.AppendRefused.TheVariants.{Full, Disk}
+use Rattle.ras_journal.specs.Recovered.{Recovers, IsAt}
+
+-- how long a file is with a link of these bytes at its closed gate, and the next closed gate
+abbrev pub length_with : Standing → List ℕ → ℕ
+length_with standing link = standing.length + 1 + length link + 1
+
+-- a standing with a link of these bytes more (links are counted up to 2^64 - 1)
+abbrev pub standing_with : Standing → List ℕ → Standing
+standing_with standing link = record standing {
+  length = standing.length + 1 + length link;
+  links = min (standing.links + 1) (2 ^ 64 - 1);
+}
+
+-- the link with the next closed gate is on the disk, and its own gate is still closed
+abbrev pub after_link : Standing → List ℕ → Told → Told
+after_link standing link t = after_write_through standing.file (standing.length + 1) (link ++ CLOSED_GATE ∷ []) t
+
+-- and then the gate is open
+abbrev pub after_gate : Standing → Told → Told
+after_gate standing t = after_write_through standing.file standing.length (OPEN_GATE ∷ []) t
+
+abbrev pub after_append : Standing → List ℕ → Told → Told
+after_append standing link t = after_gate standing (after_link standing link t)
+
+-- a disk call of the one or of the other failed, and was the last
+abbrev pub FailsLink : Standing → List ℕ → Told → Told → Type 0
+FailsLink standing link old new = FailsThrough standing.file (standing.length + 1) (link ++ CLOSED_GATE ∷ []) old new
+
+abbrev pub FailsGate : Standing → Told → Told → Type 0
+FailsGate standing old new = FailsThrough standing.file standing.length (OPEN_GATE ∷ []) old new
+
+abbrev pub FailsAppend : Standing → List ℕ → Told → Told → Type 0
+FailsAppend standing link old new = FailsLink standing link old new ⊎ FailsGate standing (after_link standing link old) new
+
+-- Full isn't a fault of the disk.
+abbrev pub disk_failure : Result (Unit {0}) AppendRefused → Result (Unit {0}) AppendRefused
+disk_failure (Ok done) = Ok tt
+disk_failure (Err Full) = Ok tt
+disk_failure (Err Disk) = Err Disk
+
+-- Full comes exactly where the file would be too long.
+abbrev pub IsFullBy : Result (Unit {0}) AppendRefused → ℕ → Type 0
+IsFullBy (Err Full) count = LONGEST_FILE < count
+IsFullBy result count = count ≤ LONGEST_FILE
+
+-- what holds where the answer is Full, and where it is Disk
+abbrev pub OnFull : Result (Unit {0}) AppendRefused → Type 0 → Type 0
+OnFull (Err Full) P = P
+OnFull result P = Unit {0}
+
+abbrev pub OnDisk : Result (Unit {0}) AppendRefused → Type 0 → Type 0
+OnDisk (Err Disk) P = P
+OnDisk result P = Unit {0}
+
+-- whether the journal has to be switched before an append: its chain has 256 or more links, or its
+-- file would be too long, or is of version 1
+abbrev pub is_first_version : Version → Bool
+is_first_version One = true
+is_first_version Two = false
+
+abbrev pub needs_switch : Standing → List ℕ → Bool
+needs_switch standing link =
+    nat_le MOST_LINKS standing.links || nat_lt LONGEST_FILE (length_with standing link)
+    || is_first_version standing.version
+
+-- these bytes are the link of these entries, by which the account can be continued
+pub record Links (account : State) (entries : List Entry) (link : List ℕ) : Type 0 where
+  pub can : CanLink Two entries
+  pub bytes : link ≡ link_bytes entries
+  pub within : StaysWithin account entries
+
+-- Before the append the files are told and synced, and hold this account at this standing.
+pub record Before (standing : Standing) (account : State) (t : Told) (told : Option Told) (clock : Clock) : Type 0 where
+  pub rests : Rests t told clock
+  pub at : IsAt standing account t.here
+
+-- While a link is appended, whatever a stop leaves recovers the account without the link or with
+-- it. All but the journal's file is as it was.
+pub record Appending (standing : Standing) (account : State) (entries : List Entry) (here left : Left) : Type 0 where
+  pub recovers : Recovers account left ⊎ Recovers (account_after_all account entries) left
+  pub rest : left ≡ with_file_in standing.file (file_in standing.file left) here

@@ -1,0 +1,67 @@
+-- The fields of a journal file: what is made of the bytes of each. Each number stands from its low
+-- byte on.
+use Rattle.std.specs.Prelude.{ℕ, ◌+◌, Bool, true, false, nat_eq, nat_le, ◌&&◌, not, if◌then◌else◌, List, [], ◌∷◌, length, take, drop, codes, slice_index, Option, None, Some, Result, Ok, Err}
+use Rattle.std.specs.Cmp.Lexicographic.{pointwise}
+use Rattle.std.specs.Option.{option_map_or, option_and_then}
+use Rattle.ras_base.specs.LittleEndian.{number_at}
+use Rattle.ras_facts.specs.declared.entry.Entry.{Entry}
+use Rattle.ras_account.specs.Account.{State}
+use Rattle.ras_account.specs.Continued.{account_after}
+use Rattle.ras_account.specs.Numbers.{numbers_of, are_past}
+use Rattle.entry_format.specs.declared.version.Version.{Version}
+use Rattle.entry_format.specs.declared.version.Version.TheVariants.{One, Two}
+use Rattle.journal_format.specs.PayloadReading.{payload_of}
+use Rattle.ras_journal.specs.declared.limits.TheConstants.{LAST_GENERATION, OPEN_GATE}
+
+-- so many bytes of a file from a place on, where the file's end doesn't cut them
+unfoldable pub part : ℕ → ℕ → List ℕ → Option (List ℕ)
+part place count file =
+    if nat_le (place + count) (length file) then Some (take count (drop place file)) else None
+
+abbrev pub some_or : {A E : Type 0} → E → Option A → Result A E
+some_or why None = Err why
+some_or why (Some x) = Ok x
+
+-- The field of so many bytes at a place. Where the file's end cuts it, or nothing can be made of
+-- its bytes, the file is damaged at its place.
+unfoldable pub field : {A : Type 0} → (List ℕ → Option A) → ℕ → ℕ → List ℕ → Result A ℕ
+field make place count file = some_or place (option_and_then make (part place count file))
+
+-- ---- what is made of a field's bytes
+
+-- the version that a magic names
+abbrev pub version_of : List ℕ → Option Version
+version_of bytes =
+    if pointwise nat_eq bytes (codes "RASJRNL1") then Some One
+    else if pointwise nat_eq bytes (codes "RASJRNL2") then Some Two
+    else None
+
+-- a number of so many bytes
+abbrev pub number_of : ℕ → List ℕ → Option ℕ
+number_of width bytes = Some (number_at 0 width bytes)
+
+-- a generation from 1 to 2^63 - 1, which the other file hasn't taken
+abbrev pub is_taken : Option ℕ → ℕ → Bool
+is_taken taken generation = option_map_or (λ other. nat_eq other generation) taken false
+
+abbrev pub is_generation : Option ℕ → ℕ → Bool
+is_generation taken n = nat_le 1 n && nat_le n LAST_GENERATION && not (is_taken taken n)
+
+abbrev pub generation_of : Option ℕ → List ℕ → Option ℕ
+generation_of taken bytes =
+    if is_generation taken (number_at 0 8 bytes) then Some (number_at 0 8 bytes) else None
+
+-- whether a gate is open: every other byte closes it
+abbrev pub is_open_of : List ℕ → Option Bool
+is_open_of bytes = Some (nat_eq (slice_index bytes 0) OPEN_GATE)
+
+-- whether an account, continued by entries in order, stays within what it can count after each
+abbrev pub stays_within : State → List Entry → Bool
+stays_within account [] = true
+stays_within account (entry ∷ entries) =
+    not (are_past (numbers_of (account_after account entry))) && stays_within (account_after account entry) entries
+
+-- the entries of a payload by which an account can be continued
+abbrev pub entries_by : Version → State → List ℕ → Option (List Entry)
+entries_by version account bytes =
+    option_and_then (λ entries. if stays_within account entries then Some entries else None) (payload_of version bytes)

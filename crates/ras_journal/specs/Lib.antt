@@ -1,0 +1,7 @@
+pub mod View
+pub mod Fields
+pub mod File
+pub mod Recovered
+pub mod Appending
+pub mod AppendingAll
+pub mod Laws

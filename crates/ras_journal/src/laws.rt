@@ -1,0 +1,85 @@
+//! What holds of journal files, in the words of the format.
+ghost use Rattle.std.specs.Prelude.{◌≡◌, ◌≢◌, ◌+◌, ◌<◌, ◌≤◌, ◌∷◌, ◌++◌, [], ℕ, List, Option, None, Some, Ok, Err, length, take};
+ghost use Rattle.ras_base.specs.LittleEndian.{AreBytes};
+ghost use Rattle.board_core.specs.declared.board.FileNo.{FileNo};
+ghost use Rattle.ras_facts.specs.declared.entry.Entry.{Entry};
+ghost use Rattle.ras_account.specs.History.{empty};
+ghost use Rattle.ras_account.specs.Account.{State, account_of};
+ghost use Rattle.entry_format.specs.declared.version.Version.{Version};
+ghost use Rattle.journal_format.specs.Links.{link_bytes};
+ghost use Rattle.ras_journal.specs.declared.limits.TheConstants.{LONGEST_FILE, OPEN_GATE};
+ghost use Rattle.ras_journal.specs.File.{FileFront, front_of};
+ghost use Rattle.ras_journal.specs.Recovered.{too_long, damaged, recovered};
+ghost use Rattle.ras_journal.specs.Laws.{IsRead, IsDamaged, IsShort, CanBegin, begun, begun_front, CanFollow, followed, opened_with, FollowsWhole};
+
+/// The laws of one journal file. What is read of it is told by its front, up to the closed gate:
+/// where that stands, how many links stand before it, and the account.
+pub fn file_laws()
+    // A file of a checkpoint and a closed gate is read, whatever stands after it.
+    ensures checkpoint { (taken : Option ℕ) (version : Version) (generation : ℕ)
+        (bytes : List ℕ) (account : State) (gate : ℕ) (rest : List ℕ)
+        → CanBegin taken version generation bytes account → gate ≢ OPEN_GATE
+        → IsRead taken (begun version generation bytes ++ gate ∷ rest)
+        (begun_front version generation bytes account) }
+
+    // What stands after the closed gate decides nothing.
+    ensures after_the_closed_gate { (taken : Option ℕ) (file other : List ℕ) (front : FileFront)
+        → IsRead taken file front → take (front.gate + 1) other ≡ take (front.gate + 1) file
+        → IsRead taken other front }
+
+    // Where the gate is opened on a link that a closed gate follows, the link is read too.
+    ensures one_link_more { (taken : Option ℕ) (file : List ℕ) (front : FileFront)
+        (entries : List Entry) (gate : ℕ) (rest : List ℕ)
+        → IsRead taken file front → CanFollow front entries → gate ≢ OPEN_GATE
+        → IsRead taken (opened_with file front (link_bytes entries ++ gate ∷ rest))
+        (followed front entries) }
+
+    // A file that is cut in the link of an open gate is damaged there, and never read without the
+    // link: at the length of its payload, or at the payload, or at the next gate.
+    ensures cut_in_the_length { (taken : Option ℕ) (file : List ℕ) (front : FileFront)
+        (entries : List Entry) (n : ℕ)
+        → IsRead taken file front → CanFollow front entries → n < 4
+        → IsDamaged taken (opened_with file front (take n (link_bytes entries)))
+        (front.gate + 1) }
+    ensures cut_in_the_payload { (taken : Option ℕ) (file : List ℕ) (front : FileFront)
+        (entries : List Entry) (n : ℕ)
+        → IsRead taken file front → CanFollow front entries
+        → 4 ≤ n → n < length (link_bytes entries)
+        → IsDamaged taken (opened_with file front (take n (link_bytes entries)))
+        (front.gate + 5) }
+    ensures cut_at_the_next_gate { (taken : Option ℕ) (file : List ℕ) (front : FileFront)
+        (entries : List Entry)
+        → IsRead taken file front → CanFollow front entries
+        → IsDamaged taken (opened_with file front (link_bytes entries))
+        (front.gate + 1 + length (link_bytes entries)) }
+
+    // Whatever bytes stand after an open gate: the file is damaged, or a whole link stands there
+    // and all its entries count.
+    ensures whole_or_damaged { (taken : Option ℕ) (file : List ℕ) (front longer : FileFront)
+        (bytes : List ℕ)
+        → IsRead taken file front → AreBytes bytes
+        → IsRead taken (opened_with file front bytes) longer → FollowsWhole front bytes longer }
+{}
+
+/// The laws of two journal files.
+pub fn journal_laws()
+    // A file that is too long refuses both.
+    ensures too_long_zero { (file0 file1 : List ℕ) → LONGEST_FILE < length file0
+        → recovered file0 file1 ≡ Err too_long }
+    ensures too_long_one { (file0 file1 : List ℕ) → LONGEST_FILE < length file1
+        → recovered file0 file1 ≡ Err too_long }
+
+    // Of two files that don't stand the empty account is recovered.
+    ensures none_stands { (file0 file1 : List ℕ) → IsShort file0 → IsShort file1
+        → front_of None file0 ≡ Ok None → front_of None file1 ≡ Ok None
+        → recovered file0 file1 ≡ Ok (account_of empty) }
+
+    // Damage of file 0 comes first.
+    ensures damage_zero { (file0 file1 : List ℕ) (place : ℕ) → IsShort file0 → IsShort file1
+        → IsDamaged None file0 place → recovered file0 file1 ≡ Err (damaged FileNo.Zero place) }
+
+    // Two standing files of one generation are damaged at the generation of file 1.
+    ensures one_generation { (file0 file1 : List ℕ) (zero one : FileFront) → IsShort file0
+        → IsShort file1 → IsRead None file0 zero → IsRead None file1 one
+        → zero.generation ≡ one.generation → recovered file0 file1 ≡ Err (damaged FileNo.One 9) }
+{}
