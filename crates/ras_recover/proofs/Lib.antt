@@ -1,0 +1,6 @@
+pub mod FormattingLemmas
+pub mod SwitchingLemmas
+pub mod ReadingLemmas
+pub mod PairLemmas
+pub mod KeepingLemmas
+pub mod OpeningLemmas

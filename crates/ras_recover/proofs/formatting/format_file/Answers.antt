@@ -1,0 +1,17 @@
+use Rattle.ras_recover.specs.Formatting.{after_closing, after_writing}
+use Rattle.ras_recover.proofs.FormattingLemmas.{stops_writing, stops_opening}
+use Rattle.ras_recover.proofs.formatting.format_file.Goals as goal
+
+pub returns-in_err-write_through-clause-stops : goal.returns-in_err-write_through-clause-stops
+returns-in_err-write_through-clause-stops g c = λ t rests.
+    stops_writing c.args.file c.args.shut c.args.bytes.now t _ _ _ (c.close_gate.ensures.at_rest t rests)
+    (c.write_through.ensures.at_rest (after_closing c.args.file c.args.shut t) (c.in_ok-close_gate.ensures.rests t rests))
+
+pub returns-clause-stops : goal.returns-clause-stops
+returns-clause-stops g c = λ t rests.
+    let closed = c.in_ok-close_gate.ensures.rests t rests in
+    let written = c.in_ok-write_through.ensures.rests (after_closing c.args.file c.args.shut t) closed in
+    stops_opening c.args.file c.args.shut c.args.bytes.now t _ _ _
+    (stops_writing c.args.file c.args.shut c.args.bytes.now t _ _ _ (c.close_gate.ensures.at_rest t rests)
+    (c.write_through.ensures.at_rest (after_closing c.args.file c.args.shut t) closed))
+    (c.write_through-2.ensures.at_rest (after_writing c.args.file c.args.shut c.args.bytes.now t) written)

@@ -1,0 +1,5 @@
+pub mod Formatting
+pub mod Switching
+pub mod Reading
+pub mod Recovering
+pub mod Opening

@@ -1,0 +1,62 @@
+-- What recovery answers, and what it leaves of the files.
+use Rattle.std.specs.Prelude.{◌≡◌, ℕ, Option, Result, Ok, Err}
+use Rattle.std.specs.Option.{option_map}
+use Rattle.board_core.specs.declared.board.FileNo.{FileNo}
+use Rattle.board_core.specs.declared.board.FileNo.TheVariants.{Zero, One}
+use Rattle.board_core.specs.Clock.{Clock, LeftNow, Adds, Rests}
+use Rattle.board_core.specs.Stop.{Left}
+use Rattle.board_core.specs.Told.{Told}
+use Rattle.ras_journal.specs.Recovered.{Refusal, too_long, damaged}
+use Rattle.ras_recover.specs.declared.refused.OpenRefused.{OpenRefused}
+use Rattle.ras_recover.specs.declared.refused.OpenRefused.TheVariants.{Disk, TooLong, Damaged, NoMemory}
+
+-- the number of a file
+abbrev pub file_number : FileNo → ℕ
+file_number Zero = 0
+file_number One = 1
+
+-- the file of this number is damaged at a place
+pub record IsDamagedAt {A : Type 0} (number place : ℕ) (held : Result A Refusal) : Type 0 where
+  pub file : FileNo
+  pub number_is : number ≡ file_number file
+  pub is : held ≡ Err (damaged file place)
+
+-- A refusal is what the files' bytes say, unless a disk call failed or memory ran out.
+abbrev pub Refuses : {A : Type 0} → OpenRefused → Result A Refusal → Type 0
+Refuses TooLong held = held ≡ Err too_long
+Refuses (Damaged file place) held = IsDamagedAt file place held
+Refuses Disk held = Unit {0}
+Refuses NoMemory held = Unit {0}
+
+-- What is answered is what the files hold, seen so, or why they are refused.
+abbrev pub Tells : {T A : Type 0} → (T → A) → Result T OpenRefused → Result A Refusal → Type 0
+Tells view (Ok x) held = held ≡ Ok (view x)
+Tells view (Err refused) held = Refuses refused held
+
+-- ---- what a recovery leaves
+
+-- The board tells the same of files, store and text as before. Whatever a stop leaves is what a
+-- stop before may have left.
+pub record Keeps (told_old : Option Told) (old : Clock) (told_new : Option Told) (new : Clock) : Type 0 where
+  pub here : option_map (λ (t : Told). t.here) told_new ≡ option_map (λ (t : Told). t.here) told_old
+  pub stops : Adds (LeftNow old) old new
+  pub ends : (left : Left) → LeftNow new left → LeftNow old left
+
+-- A stop now leaves just this, and it is what the board tells.
+pub record RestsHere (here : Left) (told : Option Told) (clock : Clock) : Type 0 where
+  pub there : Told
+  pub same : there.here ≡ here
+  pub rests : Rests there told clock
+
+-- what holds where no disk call failed
+abbrev pub UnlessDisk : {T : Type 0} → Result T OpenRefused → Type 0 → Type 0
+UnlessDisk (Err Disk) P = Unit {0}
+UnlessDisk result P = P
+
+-- Only a disk call that failed is a fault of the disk.
+abbrev pub open_failure : {T : Type 0} → Result T OpenRefused → Result (Unit {0}) OpenRefused
+open_failure (Ok x) = Ok tt
+open_failure (Err Disk) = Err Disk
+open_failure (Err TooLong) = Ok tt
+open_failure (Err (Damaged file place)) = Ok tt
+open_failure (Err NoMemory) = Ok tt

@@ -1,0 +1,128 @@
+//! The fields of a journal file.
+ghost use Rattle.std.specs.Prelude.{◌≡◌, ◌+◌, ◌≤◌, length, None, Some, IfSome, IfOk, OnOk};
+ghost use Rattle.journal_format.specs.CheckpointReading.{checkpoint_of};
+ghost use Rattle.ras_account.specs.View.{nothing, View};
+ghost use Rattle.ras_journal.specs.Fields.{part, field, version_of, generation_of, number_of, is_open_of};
+ghost use Rattle.ras_recover.specs.Reading.{Answers};
+
+use crate::place::Unread;
+use entry_format::Version;
+use journal_format::{CheckpointRefused, read_checkpoint};
+use ras_account::Account;
+use ras_base::little_endian::{u32_at, u64_at};
+use ras_journal::{LAST_GENERATION, OPEN_GATE};
+use std::alloc::Global;
+
+// So many bytes of a file from a place on, where the file's end doesn't cut them.
+#[tactic(auto, unfolding(ras_journal::specs::Fields::part))]
+pub(crate) fn part<'a>(place: usize, count: u64, file: &'a [u8]) -> Option<&'a [u8]>
+    ensures some { IfSome result (λ bytes. part place count file.now ≡ Some bytes.now) }
+    ensures length { IfSome result (λ bytes. length bytes.now ≡ count) }
+    ensures within { IfSome result (λ bytes. place + count ≤ length file.now) }
+    ensures none { result ≡ None → part place count file.now ≡ None }
+{
+    if place <= file.len() && count <= (file.len() - place) as u64 {
+        Some(&file[place..place + count as usize])
+    } else {
+        None
+    }
+}
+
+// The version that a magic names.
+fn version_of(bytes: &[u8]) -> Option<Version>
+    ensures { result ≡ version_of bytes.now }
+{
+    if bytes == b"RASJRNL1".as_slice() {
+        Some(Version::One)
+    } else if bytes == b"RASJRNL2".as_slice() {
+        Some(Version::Two)
+    } else {
+        None
+    }
+}
+
+// The version at the place of the magic.
+#[tactic(auto, unfolding(ras_journal::specs::Fields::field))]
+pub(crate) fn version_at(file: &[u8]) -> Result<Version, usize>
+    ensures { result ≡ field version_of 1 8 file.now }
+{
+    let Some(bytes) = part(1, 8, file) else {
+        return Err(1);
+    };
+    match version_of(bytes) {
+        Some(version) => Ok(version),
+        None => Err(1),
+    }
+}
+
+// The generation, where it is one and the other file hasn't taken it.
+#[tactic(auto, unfolding(ras_journal::specs::Fields::field))]
+pub(crate) fn generation_at(taken: Option<u64>, file: &[u8]) -> Result<u64, usize>
+    ensures { result ≡ field (generation_of taken) 9 8 file.now }
+{
+    let Some(bytes) = part(9, 8, file) else {
+        return Err(9);
+    };
+    let generation = u64_at(bytes, 0);
+    if 1 <= generation && generation <= LAST_GENERATION && taken != Some(generation) {
+        Ok(generation)
+    } else {
+        Err(9)
+    }
+}
+
+// The number of the checkpoint's bytes.
+#[tactic(auto, unfolding(ras_journal::specs::Fields::field))]
+pub(crate) fn checkpoint_count_at(file: &[u8]) -> Result<u64, usize>
+    ensures { result ≡ field (number_of 8) 17 8 file.now }
+{
+    match part(17, 8, file) {
+        Some(bytes) => Ok(u64_at(bytes, 0)),
+        None => Err(17),
+    }
+}
+
+// Whether the gate at a place is open.
+#[tactic(auto, unfolding(ras_journal::specs::Fields::field))]
+pub(crate) fn is_open_at(gate: usize, file: &[u8]) -> Result<bool, usize>
+    ensures read { result ≡ field is_open_of gate 1 file.now }
+    ensures within { OnOk result (gate + 1 ≤ length file.now) }
+{
+    match part(gate, 1, file) {
+        Some(bytes) => Ok(bytes[0] == OPEN_GATE),
+        None => Err(gate),
+    }
+}
+
+// The number of the payload's bytes at a place.
+#[tactic(auto, unfolding(ras_journal::specs::Fields::field))]
+pub(crate) fn payload_count_at(place: usize, file: &[u8]) -> Result<u64, usize>
+    ensures read { result ≡ field (number_of 4) place 4 file.now }
+    ensures within { OnOk result (place + 4 ≤ length file.now) }
+{
+    match part(place, 4, file) {
+        Some(bytes) => Ok(u64::from(u32_at(bytes, 0))),
+        None => Err(place),
+    }
+}
+
+// The account of the checkpoint of so many bytes. Nothing waits in it.
+pub(crate) fn checkpoint_at(
+    alloc: Global,
+    version: Version,
+    count: u64,
+    file: &[u8],
+) -> Result<Account, Unread>
+    ensures read { Answers (λ account. account.state) result (field (checkpoint_of version) 25 count file.now) }
+    ensures waiting { IfOk result (λ account. account.waiting ≡ nothing) }
+    ensures within { OnOk result (25 + count ≤ length file.now) }
+{
+    let Some(bytes) = part(25, count, file) else {
+        return Err(Unread::Damaged(25));
+    };
+    match read_checkpoint(alloc, version, bytes) {
+        Ok(account) => Ok(account),
+        Err(CheckpointRefused::Bad) => Err(Unread::Damaged(25)),
+        Err(CheckpointRefused::NoMemory) => Err(Unread::NoMemory),
+    }
+}

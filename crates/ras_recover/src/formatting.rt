@@ -1,0 +1,94 @@
+//! A new generation of the journal over a file.
+ghost use Rattle.std.specs.Prelude.{◌≡◌, ◌≤◌, ◌++◌, [], length, Bool, false, IfSome, IfOk, OnOk, OnErr};
+ghost use Rattle.board_core.specs.Cause.{disk_call, FailsAs};
+ghost use Rattle.board_core.specs.Clock.{Adds, Rests};
+ghost use Rattle.board_core.specs.Stop.{InFile};
+ghost use Rattle.board_core.specs.Told.{Told, Steps, Relates, file_of};
+ghost use Rattle.journal_format.specs.Checkpoints.{checkpoint_bytes, IsCheckpoint};
+ghost use Rattle.entry_format.specs.declared.version.Version.TheVariants.{Two};
+ghost use Rattle.ras_journal.specs.Recovered.{is_shut};
+ghost use Rattle.ras_recover.specs.Formatting.{behind_gate, after_closing, after_formatting, FailsClosing, FailsFormatting, TornClosing, Formatting};
+
+use board_core::{Board, Failed, FileNo, write_through};
+use journal_format::encode_checkpoint;
+use ras_account::Account;
+use ras_base::NoMemory;
+use ras_base::little_endian::push_u64;
+use ras_journal::{CLOSED_GATE, OPEN_GATE};
+use std::alloc::Global;
+
+/// The magic of a file of version 2.
+const MAGIC: &[u8; 8] = b"RASJRNL2";
+
+/// How many bytes are written beside the checkpoint: the magic, the generation, the number of the
+/// checkpoint's bytes, and the closed gate.
+const BYTES_BESIDE_CHECKPOINT: usize = 25;
+
+// What is written behind the gate at the front of a file.
+fn bytes_behind_gate(alloc: Global, generation: u64, checkpoint: &[u8]) -> Result<Vec<u8>, NoMemory>
+    ensures { IfOk result (λ bytes. bytes.items ≡ behind_gate generation checkpoint.now) }
+{
+    let length = checkpoint.len().saturating_add(BYTES_BESIDE_CHECKPOINT);
+    let mut bytes = Vec::with_capacity(alloc, length)?;
+    bytes.extend_from_slice(MAGIC)?;
+    push_u64(&mut bytes, generation)?;
+    push_u64(&mut bytes, checkpoint.len() as u64)?;
+    bytes.extend_from_slice(checkpoint)?;
+    bytes.push(CLOSED_GATE)?;
+    Ok(bytes)
+}
+
+// The same with the checkpoint of this account.
+pub(crate) fn next_bytes(
+    alloc: Global,
+    generation: u64,
+    account: &Account,
+) -> Result<Vec<u8>, NoMemory>
+    ensures is { IfOk result (λ bytes. bytes.items ≡ behind_gate generation
+        (checkpoint_bytes Two account.now.state)) }
+    ensures account { IfOk result (λ _. IsCheckpoint Two account.now.state
+        (checkpoint_bytes Two account.now.state)) }
+{
+    let checkpoint = encode_checkpoint(alloc, account)?;
+    bytes_behind_gate(alloc, generation, &checkpoint)
+}
+
+// Closes the gate at the front of a file and syncs it, where the file isn't shut already.
+fn close_gate<B: Board>(file: FileNo, shut: bool, board: &mut B) -> Result<(), Failed>
+    ensures told { OnOk result (Steps (after_closing file shut) (B.told board.old) (B.told board.new)) }
+    ensures failed { OnErr result (Relates (FailsClosing file shut) (B.told board.old) (B.told board.new)) }
+    ensures at_rest { (t : Told) → Rests t (B.told board.old) (B.clock board.old)
+        → Adds (InFile file (TornClosing shut) t.here) (B.clock board.old) (B.clock board.new) }
+    ensures rests { OnOk result ((t : Told) → Rests t (B.told board.old) (B.clock board.old)
+        → Rests (after_closing file shut t) (B.told board.new) (B.clock board.new)) }
+    ensures cause { FailsAs disk_call (B.faults board.old) (B.faults board.new) result }
+{
+    if shut {
+        return Ok(());
+    }
+    write_through(file, 0, &[CLOSED_GATE], board)
+}
+
+// Writes these bytes behind the gate at the front of a file, so that the gate is closed until they
+// are synced, and opens it then: four or six disk calls.
+pub(crate) fn format_file<B: Board>(
+    file: FileNo,
+    shut: bool,
+    bytes: &[u8],
+    board: &mut B,
+) -> Result<(), Failed>
+    requires { IfSome (B.told board.old) (λ t. shut ≡ is_shut (file_of file t)) }
+    ensures stops { (t : Told) → Rests t (B.told board.old) (B.clock board.old)
+        → Adds (InFile file (Formatting shut bytes.now) t.here) (B.clock board.old) (B.clock board.new) }
+    ensures rests { OnOk result ((t : Told) → Rests t (B.told board.old) (B.clock board.old)
+        → Rests (after_formatting file shut bytes.now t) (B.told board.new) (B.clock board.new)) }
+    ensures told { OnOk result (Steps (after_formatting file shut bytes.now) (B.told board.old)
+        (B.told board.new)) }
+    ensures failed { OnErr result (Relates (FailsFormatting file shut bytes.now) (B.told board.old)
+        (B.told board.new)) }
+    ensures cause { FailsAs disk_call (B.faults board.old) (B.faults board.new) result }
+{
+    close_gate(file, shut, board)?;
+    write_through(file, 1, bytes, board)?;
+    write_through(file, 0, &[OPEN_GATE], board)
+}

@@ -1,0 +1,20 @@
+//! Recovery: the account and the journal from two files, opening them, and switching the journal to
+//! its other file so that a stop at any moment leaves the account.
+#![tactic(auto)]
+
+mod fields;
+mod file;
+mod formatting;
+mod links;
+mod opening;
+mod pair;
+mod place;
+mod recovering;
+mod refused;
+mod switching;
+
+pub use opening::open_journal;
+pub use pair::Recovered;
+pub use recovering::recover;
+pub use refused::{OpenRefused, SwitchRefused};
+pub use switching::switch_file;

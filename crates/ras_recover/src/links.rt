@@ -1,0 +1,171 @@
+//! The links of a journal file.
+ghost use Rattle.std.specs.Prelude.{◌≡◌, ◌+◌, ◌≤◌, ◌<◌, length, None, Some, Ok, Err, IfSome, IfOk, OnOk, IsTrue, List};
+ghost use Rattle.std.specs.Option.{option_map};
+ghost use Rattle.std.specs.List.{All};
+ghost use Rattle.ras_facts.specs.Entries.{IsValidEntry};
+ghost use Rattle.ras_account.specs.Continued.{account_after, account_after_all};
+ghost use Rattle.ras_account.specs.Numbers.{IsWithin};
+ghost use Rattle.ras_account.specs.View.{nothing};
+ghost use Rattle.journal_format.specs.PayloadReading.{payload_of};
+ghost use Rattle.ras_journal.specs.Fields.{field, number_of, stays_within};
+ghost use Rattle.ras_journal.specs.File.{front_behind_link, next_front, whole_front};
+ghost use Rattle.ras_recover.specs.Reading.{Answers, front_at};
+
+use crate::fields::{is_open_at, part, payload_count_at};
+use crate::place::{Place, Unread};
+use entry_format::Version;
+use journal_format::{LinkRefused, read_link};
+use ras_account::{Account, Orders, ReserveRefused};
+use ras_base::NoMemory;
+use ras_facts::Entry;
+use std::alloc::Global;
+use std::slice;
+
+// Counts an entry, if it is fresh. The orders that it gives are given up.
+fn count_entry(alloc: Global, account: &mut Account, entry: Entry) -> Result<(), ReserveRefused>
+    requires { IsValidEntry entry }
+    ensures state { OnOk result (account.new.state ≡ account_after account.old.state entry) }
+    ensures waiting { OnOk result (account.new.waiting ≡ nothing) }
+    ensures full { result ≡ Err ReserveRefused.Full → IsWithin (account_after account.old.state entry) → ⊥ }
+    ensures within { OnOk result (IsWithin (account_after account.old.state entry)) }
+{
+    // So that the clauses can tell that the account is within its numbers.
+    let _ = account.entries();
+    account.reserve(slice::from_ref(&entry))?;
+    let mut orders = Orders::new(alloc, entry.most_orders())?;
+    account.take(entry, &mut orders);
+    Ok(())
+}
+
+// Counts entries in order, and answers whether the account stays within its numbers after each.
+fn count_entries(
+    alloc: Global,
+    account: &mut Account,
+    entries: Vec<Entry>,
+) -> Result<bool, NoMemory>
+    requires valid { All IsValidEntry entries.items }
+    requires waiting { account.old.waiting ≡ nothing }
+    ensures stays { IfOk result (λ stays. stays ≡ stays_within account.old.state entries.items) }
+    ensures state { IfOk result (λ stays. IsTrue stays
+        → account.new.state ≡ account_after_all account.old.state entries.items) }
+    ensures waiting { IfOk result (λ stays. IsTrue stays → account.new.waiting ≡ nothing) }
+{
+    for entry in entries {
+        match count_entry(alloc, account, entry) {
+            Ok(()) => {}
+            Err(ReserveRefused::Full) => return Ok(false),
+            Err(ReserveRefused::NoMemory) => return Err(NoMemory),
+        }
+    }
+    Ok(true)
+}
+
+// The entries of the payload of so many bytes behind an open gate.
+fn payload_at(
+    alloc: Global,
+    version: Version,
+    gate: usize,
+    count: u64,
+    file: &[u8],
+) -> Result<Vec<Entry>, Unread>
+    requires count { field (number_of 4) (gate + 1) 4 file.now ≡ Ok count }
+    requires length { gate + 5 ≤ length file.now }
+    ensures read { Answers (λ entries. entries.items) result
+        (field (payload_of version) (gate + 5) count file.now) }
+    ensures valid { IfOk result (λ entries. All IsValidEntry entries.items) }
+    ensures within { OnOk result (gate + 5 + count ≤ length file.now) }
+{
+    let Some(_) = part(gate + 5, count, file) else {
+        return Err(Unread::Damaged(gate + 5));
+    };
+    match read_link(alloc, version, &file[gate + 1..]) {
+        Ok((entries, _)) => Ok(entries),
+        Err(LinkRefused::Cut) => Err(Unread::Damaged(gate + 5)),
+        Err(LinkRefused::Bad) => Err(Unread::Damaged(gate + 5)),
+        Err(LinkRefused::NoMemory) => Err(Unread::NoMemory),
+    }
+}
+
+// Counts the entries of the link behind the open gate at a place, and answers the place of the next
+// gate.
+fn link_at(alloc: Global, place: Place, account: &mut Account, file: &[u8]) -> Result<Place, Unread>
+    requires waiting { account.old.waiting ≡ nothing }
+    requires gate { place.gate + 1 ≤ length file.now }
+    requires links { place.links < length file.now }
+    ensures read { Answers (λ next. front_at next account.new.state) result
+        (front_behind_link (front_at place account.old.state) file.now) }
+    ensures waiting { OnOk result (account.new.waiting ≡ nothing) }
+    ensures links { IfOk result (λ next. next.links ≡ place.links + 1) }
+{
+    let count = match payload_count_at(place.gate + 1, file) {
+        Ok(count) => count,
+        Err(at) => return Err(Unread::Damaged(at)),
+    };
+    let entries = match payload_at(alloc, place.version, place.gate, count, file) {
+        Ok(entries) => entries,
+        Err(Unread::Damaged(at)) => return Err(Unread::Damaged(at)),
+        Err(Unread::NoMemory) => return Err(Unread::NoMemory),
+    };
+    match count_entries(alloc, account, entries) {
+        Ok(true) => Ok(Place {
+            gate: place.gate + 5 + count as usize,
+            links: place.links + 1,
+            ..place
+        }),
+        Ok(false) => Err(Unread::Damaged(place.gate + 5)),
+        Err(NoMemory) => Err(Unread::NoMemory),
+    }
+}
+
+// The place of the next gate, where the gate at a place is open, with the entries before it
+// counted; or none where that gate is closed.
+#[tactic(auto, unfolding(ras_journal::specs::File::next_front))]
+fn next_place(
+    alloc: Global,
+    place: Place,
+    account: &mut Account,
+    file: &[u8],
+) -> Result<Option<Place>, Unread>
+    requires waiting { account.old.waiting ≡ nothing }
+    requires links { place.links < length file.now }
+    ensures read { Answers (λ next. option_map (λ p. front_at p account.new.state) next) result
+        (next_front (front_at place account.old.state) file.now) }
+    ensures kept { result ≡ Ok None → account.new.state ≡ account.old.state }
+    ensures waiting { OnOk result (account.new.waiting ≡ nothing) }
+    ensures links { IfOk result (λ next. IfSome next (λ p. p.links ≡ place.links + 1)) }
+{
+    match is_open_at(place.gate, file) {
+        Ok(true) => match link_at(alloc, place, account, file) {
+            Ok(next) => Ok(Some(next)),
+            Err(Unread::Damaged(at)) => Err(Unread::Damaged(at)),
+            Err(Unread::NoMemory) => Err(Unread::NoMemory),
+        },
+        Ok(false) => Ok(None),
+        Err(at) => Err(Unread::Damaged(at)),
+    }
+}
+
+// The place of the closed gate that ends the chain, with all entries before it counted.
+pub(crate) fn last_place(
+    alloc: Global,
+    first: Place,
+    account: &mut Account,
+    file: &[u8],
+) -> Result<Place, Unread>
+    requires waiting { account.old.waiting ≡ nothing }
+    requires links { first.links ≡ 0 }
+    ensures read { Answers (λ place. front_at place account.new.state) result
+        (whole_front (length file.now) (front_at first account.old.state) file.now) }
+    ensures waiting { OnOk result (account.new.waiting ≡ nothing) }
+{
+    let mut place = first;
+    for _ in 0..file.len() {
+        match next_place(alloc, place, account, file) {
+            Ok(Some(next)) => place = next,
+            Ok(None) => return Ok(place),
+            Err(Unread::Damaged(at)) => return Err(Unread::Damaged(at)),
+            Err(Unread::NoMemory) => return Err(Unread::NoMemory),
+        }
+    }
+    Err(Unread::Damaged(place.gate))
+}

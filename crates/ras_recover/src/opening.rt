@@ -1,0 +1,116 @@
+//! Opening the journal.
+ghost use Rattle.std.specs.Prelude.{◌≡◌, ◌<◌, nat_lt, length, Result, None, Some, Err, Ok, false, IfSome, IfOk, IfErr, OnOk};
+ghost use Rattle.board_core.specs.Cause.{disk_call, FailsAs};
+ghost use Rattle.board_core.specs.Clock.{Adds, Rests};
+ghost use Rattle.board_core.specs.Told.{Told, file_of};
+ghost use Rattle.board_core.specs.declared.board.FileNo.TheVariants.{Zero};
+ghost use Rattle.ras_account.specs.Account.{State};
+ghost use Rattle.ras_account.specs.View.{nothing};
+ghost use Rattle.ras_journal.specs.Recovered.{Refusal, recovered, is_shut};
+ghost use Rattle.ras_recover.specs.Recovering.{Refuses, Tells, Keeps, open_failure};
+ghost use Rattle.ras_recover.specs.Opening.{FormatsFirst, Opening, IsOpened, HoldsNone};
+
+use crate::formatting::{format_file, next_bytes};
+use crate::{OpenRefused, Recovered, recover};
+use board_core::{Board, Failed, FileNo};
+use entry_format::Version;
+use journal_format::checkpoint_len;
+use ras_account::Account;
+use ras_journal::{Journal, Standing};
+use std::alloc::Global;
+
+// The place of a checkpoint in its file.
+const CHECKPOINT_PLACE: u64 = 25;
+
+// Formats generation 1 in file 0, with this account as its checkpoint. It is given whether each
+// file is shut.
+fn format_first<B: Board>(
+    alloc: Global,
+    account: &Account,
+    shut: (bool, bool),
+    board: &mut B,
+) -> Result<Journal, OpenRefused>
+    requires { IfSome (B.told board.old) (λ t. shut.0 ≡ is_shut (file_of Zero t)) }
+    ensures stops { (t : Told) → HoldsNone account.now.state t.here
+        → Rests t (B.told board.old) (B.clock board.old)
+        → Adds (FormatsFirst t.here) (B.clock board.old) (B.clock board.new) }
+    ensures opened { IfOk result (λ journal. (t : Told) → HoldsNone account.now.state t.here
+        → shut.1 ≡ is_shut t.here.file1 → Rests t (B.told board.old) (B.clock board.old)
+        → IsOpened journal.standing account.now.state (B.told board.new) (B.clock board.new)) }
+    ensures usable { IfOk result (λ journal. journal.failed ≡ false) }
+    ensures refuses { IfErr result (λ refused. (held : Result State Refusal) → Refuses refused held) }
+    ensures cause { FailsAs disk_call (B.faults board.old) (B.faults board.new) (open_failure result) }
+{
+    let Ok(bytes) = next_bytes(alloc, 1, account) else {
+        return Err(OpenRefused::NoMemory);
+    };
+    if let Err(Failed) = format_file(FileNo::Zero, shut.0, &bytes, board) {
+        return Err(OpenRefused::Disk);
+    }
+    Ok(Journal::at(Standing {
+        file: FileNo::Zero,
+        version: Version::Two,
+        generation: 1,
+        length: CHECKPOINT_PLACE.saturating_add(checkpoint_len(account)),
+        links: 0,
+        shut: shut.1,
+    }))
+}
+
+// Whether file 0, and file 1, is longer than 1 byte.
+fn are_longer<B: Board>(board: &mut B) -> Result<(bool, bool), Failed>
+    ensures keeps { Keeps (B.told board.old) (B.clock board.old) (B.told board.new) (B.clock board.new) }
+    ensures zero { IfOk result (λ longer. IfSome (B.told board.old)
+        (λ t. longer.0 ≡ nat_lt 1 (length t.here.file0))) }
+    ensures one { IfOk result (λ longer. IfSome (B.told board.old)
+        (λ t. longer.1 ≡ nat_lt 1 (length t.here.file1))) }
+    ensures cause { FailsAs disk_call (B.faults board.old) (B.faults board.new) result }
+{
+    let zero = board.size(FileNo::Zero)?;
+    let one = board.size(FileNo::One)?;
+    Ok((zero > 1, one > 1))
+}
+
+/// The account and the journal, as `recover` does it. Where no file stands, generation 1 is then
+/// formatted in file 0. The journal hasn't failed.
+///
+/// # Errors
+///
+/// As `recover`. `Disk` and `NoMemory` also come while file 0 is formatted.
+pub fn open_journal<B: Board>(
+    alloc: Global,
+    board: &mut B,
+) -> Result<(Account, Journal), OpenRefused>
+    // What is answered is what the files hold.
+    ensures recovers { IfSome (B.told board.old)
+        (λ t. Tells (λ r. r.0.state) result (recovered t.here.file0 t.here.file1)) }
+    ensures waiting { IfOk result (λ r. r.0.waiting ≡ nothing) }
+    ensures usable { IfOk result (λ r. r.1.failed ≡ false) }
+
+    // What a stop leaves of it is what a stop before it may have left, or recovers the empty
+    // account where no file stands. Once it has answered `Ok`, a stop leaves just what the board
+    // tells, and the journal's standing is that of the files.
+    ensures stops { (t : Told) → B.told board.old ≡ Some t
+        → Adds (Opening (B.clock board.old) t.here) (B.clock board.old) (B.clock board.new) }
+    ensures opened { IfOk result (λ r. (t : Told) → B.told board.old ≡ Some t
+        → IsOpened r.1.standing r.0.state (B.told board.new) (B.clock board.new)) }
+
+    ensures cause { FailsAs disk_call (B.faults board.old) (B.faults board.new)
+        (open_failure result) }
+{
+    let Recovered { account, standing } = match recover(alloc, board) {
+        Ok(recovered) => recovered,
+        Err(refused) => return Err(refused),
+    };
+    if let Some(standing) = standing {
+        return Ok((account, Journal::at(standing)));
+    }
+    let shut = match are_longer(board) {
+        Ok(longer) => longer,
+        Err(Failed) => return Err(OpenRefused::Disk),
+    };
+    match format_first(alloc, &account, shut, board) {
+        Ok(journal) => Ok((account, journal)),
+        Err(refused) => Err(refused),
+    }
+}

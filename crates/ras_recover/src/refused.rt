@@ -1,0 +1,35 @@
+//! Why a call of this crate is refused.
+
+use ras_base::NoMemory;
+use thiserror::Error;
+
+/// Why a journal wasn't switched.
+#[derive(Clone, Copy, Debug, PartialEq, Eq, Error)]
+pub enum SwitchRefused {
+    /// The other file would be too long, or the last generation is reached. Nothing was called.
+    #[error("the journal file would be too long, or its generation is the last one")]
+    Full,
+    /// A disk call failed. Its count of faults rose.
+    #[error("a disk call failed")]
+    Disk,
+    /// Memory ran out. Nothing was called.
+    #[error("memory ran out")]
+    NoMemory,
+}
+
+/// Why no journal is recovered or opened, the first of them in this order.
+#[derive(Clone, Copy, Debug, PartialEq, Eq, Error)]
+pub enum OpenRefused {
+    /// A disk call failed. Its count of faults rose.
+    #[error("a disk call failed")]
+    Disk,
+    /// A file is longer than 67,108,864 bytes.
+    #[error("a journal file is too long")]
+    TooLong,
+    /// The file of this number, 0 or 1, is damaged at this place.
+    #[error("journal file {file} is damaged at byte {place}")]
+    Damaged { file: u8, place: u64 },
+    /// Memory ran out.
+    #[error("memory ran out")]
+    NoMemory,
+}
