@@ -1,0 +1,104 @@
+-- A run of an admitted list over a board.
+use Rattle.std.proofs.Common.{◌≡◌, ◌∙◌, ℕ, ◌^◌, ◌<◌, List, length, arith, Option, Some, None, refl, sym, ap, subst, inl, inr}
+use Rattle.std.specs.Prelude.{◌⊎◌, Result, Ok, Err, IfSome}
+use Rattle.erst_store.specs.Store.{Stored}
+use Rattle.erst_store.specs.DeviceLaws.{IsDevice}
+use Rattle.board_core.specs.Clock.{Clock, LeftNow, After, Passes}
+use Rattle.board_core.specs.Stop.{Left, InStore}
+use Rattle.board_core.specs.Told.{Told, device_of, StoreBy}
+use Rattle.erst_interp.specs.declared.entries.Entry.{Entry}
+use Rattle.erst_interp.specs.declared.refusals.RunRefused.{RunRefused}
+use Rattle.erst_interp.specs.declared.refusals.RunRefused.TheVariants.{Register, Fuel, BadInstruction, BadRegister, BadRange}
+use Rattle.erst_interp.specs.Machine.{End, start}
+use Rattle.erst_interp.specs.Steps.{start_over, end_over, told_over, RunsOver, StoreOver}
+use Rattle.erst_interp.specs.Admission.{IsAdmitted}
+use Rattle.erst_interp.specs.Faithful.{input_limit, device_after, IsFaithful, DoesRun}
+use Rattle.erst_interp.proofs.FaithfulLemmas.{Done, done, done-answer}
+
+pub faithful : (action : ℕ) (list : List Entry) → action < 2 ^ 64 → IsAdmitted action list → IsFaithful action list
+faithful action list fits is input d kept inside =
+    let end : Done action list (start input d) = done action list (start input d) fits refl inside is in
+    record {
+      answer = ap (λ (e : End). e.answer) end.ends ∙ ap (λ (n : ℕ). Ok n) (done-answer action list (start input d) inside kept end);
+      device = ap (λ (e : End). e.state.device) end.ends ∙ end.device;
+    }
+
+-- ---- what the board tells
+
+ok_same : (r : Result ℕ RunRefused) (x y : ℕ) → r ≡ Ok x → r ≡ Ok y → x ≡ y
+ok_same r x y one other = cc
+
+some_same : (o : Option Told) (x y : Told) → o ≡ Some x → o ≡ Some y → x ≡ y
+some_same o x y one other = cc
+
+no_err : (r : Result ℕ RunRefused) (why : RunRefused) (x : ℕ) → r ≡ Err why → r ≡ Ok x → ⊥
+no_err r why x one other = cc
+
+module _ (list : List Entry) (action input : ℕ) (fits : action < 2 ^ 64) (inside : input < input_limit action) (is : IsAdmitted action list) where
+  done_over : (t : Told) → Done action list (start_over input t)
+  done_over t = done action list (start_over input t) fits refl inside is
+
+  ended : (t : Told) → end_over list input t ≡ record { answer = Ok (done_over t).after.variables.value; state = (done_over t).after }
+  ended t = (done_over t).ends
+
+  never : (t : Told) (why : RunRefused) → Err why ≡ (end_over list input t).answer → ⊥
+  never t why same = no_err (end_over list input t).answer why (done_over t).after.variables.value (sym same) (ap (λ (e : End). e.answer) (ended t))
+
+  -- the run made an access, before which the board told a device
+  kept_by : (t : Told) (answer : Result ℕ RunRefused) (new : Option Told) → new ≡ Some (told_over (end_over list input t).state t) → (new ≡ Some t) ⊎ IsDevice (device_of t) → IsDevice (device_of t)
+  kept_by t answer new told_is (inr kept) = kept
+  kept_by t answer new told_is (inl same) =
+      let one : told_over (end_over list input t).state t ≡ t = some_same new _ _ told_is same in
+      let accesses : (end_over list input t).state.accesses ≡ t.accesses = ap (λ (u : Told). u.accesses) one in
+      let after : (end_over list input t).state.accesses ≡ (done_over t).after.accesses = ap (λ (e : End). e.state.accesses) (ended t) in
+      absurd (omega (arith, ap length accesses, ap length after, (done_over t).accesses))
+
+  does_told : (t : Told) (result : Result ℕ RunRefused) (new : Option Told) → RunsOver result (end_over list input t) t new → (new ≡ Some t) ⊎ IsDevice (device_of t) → DoesRun action input result t new
+  does_told t (Ok x) new ran kept = record {
+    after = told_over (end_over list input t).state t;
+    told = ran.1;
+    device = ap (λ (e : End). e.state.device) (ended t) ∙ (done_over t).device;
+    answer = ok_same (end_over list input t).answer x (done_over t).after.variables.value (sym ran.0) (ap (λ (e : End). e.answer) (ended t))
+        ∙ done-answer action list (start_over input t) inside (kept_by t (Ok x) new ran.1 kept) (done_over t);
+  }
+  does_told t (Err Register) new ran kept = tt
+  does_told t (Err Fuel) new ran kept = never t Fuel ran.0
+  does_told t (Err BadInstruction) new ran kept = never t BadInstruction ran.0
+  does_told t (Err BadRegister) new ran kept = never t BadRegister ran.0
+  does_told t (Err BadRange) new ran kept = never t BadRange ran.0
+
+  pub does_run : (old new : Option Told) (result : Result ℕ RunRefused) → IfSome old (λ t. RunsOver result (end_over list input t) t new)
+      → (new ≡ old) ⊎ IfSome old (λ t. IsDevice (device_of t)) → IfSome old (λ t. DoesRun action input result t new)
+  does_run None new result ran kept = tt
+  does_run (Some t) new result ran kept = does_told t result new ran kept
+
+  -- ---- what stops leave
+
+  module _ (S R : List Stored → List Stored → Type 0) (x : List Stored) (a b : Clock) (law : (left : Left) → LeftNow a left → left.store ≡ x) (more : (y : List Stored) → S x y → R x y) where
+    after_at : (left : Left) → After a (InStore S) left → After a (InStore R) left
+    after_at left after =
+        let from_is : after.from.store ≡ x = law after.from after.was in
+        record {
+          from = after.from;
+          was = after.was;
+          by = record {
+            store = after.by.store;
+            step = subst (λ (z : List Stored). R z after.by.store) (sym from_is) (more after.by.store (subst (λ (z : List Stored). S z after.by.store) from_is after.by.step));
+            rest = after.by.rest;
+          };
+        }
+
+    passes_at : Passes (InStore S) a b → Passes (InStore R) a b
+    passes_at passes = record {
+      later = passes.later;
+      kept = passes.kept;
+      each = λ t left within may. elim (passes.each t left within may) [ inl before ↦ inl before | inr after ↦ inr (after_at left after) ];
+      ends = λ left now. after_at left (passes.ends left now);
+    }
+
+  pub stores_run : (told : Option Told) (a b : Clock) → ((t : Told) (left : Left) → told ≡ Some t → LeftNow a left → left.store ≡ t.here.store)
+      → Passes (InStore (StoreOver list input told)) a b → Passes (InStore (StoreBy (device_after action input) told)) a b
+  stores_run None a b law passes = passes
+  stores_run (Some t) a b law passes =
+      passes_at (StoreOver list input (Some t)) (StoreBy (device_after action input) (Some t)) t.here.store a b (λ left now. law t left refl now)
+      (λ y step. elim step [ inl same ↦ inl same | inr passed ↦ (done_over t).stores y passed ]) passes

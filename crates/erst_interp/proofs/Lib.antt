@@ -1,0 +1,12 @@
+pub mod ShiftLemmas
+pub mod ListLemmas
+pub mod TouchLemmas
+pub mod FieldLemmas
+pub mod TurnLemmas
+pub mod RunLemmas
+pub mod LeadLemmas
+pub mod RoleLemmas
+pub mod FaithfulLemmas
+pub mod AdmittedRunLemmas
+pub mod WalkLemmas
+pub mod ShiftedLemmas

@@ -1,0 +1,75 @@
+-- Entries that are added to the lists of their actions one after the other.
+use Rattle.std.proofs.Common.{◌≡◌, ◌≢◌, ◌∙◌, ℕ, zero, suc, ◌+◌, ◌-◌, ◌<◌, ◌≤◌, Bool, true, false, nat_eq, List, [], ◌∷◌, ◌++◌, length, map, drop, set, get_or, refl, sym, ap, arith, append_assoc, append-nil, true≢false, if◌then◌else◌}
+use Rattle.std.proofs.lemmas.List.{get_or-set_same, get_or-set_other, length-set, map-set}
+use Rattle.ras_base.specs.ExactLemmas.{nat_exact, nat_own}
+use Rattle.erst_interp.specs.declared.entries.Entry.{Entry}
+use Rattle.erst_interp.specs.Entries.{entry_of}
+use Rattle.erst_interp.specs.Table.{list_of, entries_for, entries_at, HasLists}
+use Rattle.erst_interp.specs.Lists.{AreEmpty, with_entry}
+
+-- Lists that hold the entries before, and will hold those that follow.
+pub record Hold (all : List Entry) (lists : List (List Entry)) (left : List Entry) : Type 0 where
+  pub count : length lists ≡ 256
+  pub each : (action : ℕ) → list_of action lists ++ entries_for action left ≡ entries_for action all
+
+pub none_held : (lists : List (List Entry)) (all : List Entry) → AreEmpty lists → Hold all lists all
+none_held lists all empty = record {
+  count = empty.count;
+  each = λ action. ap (λ (list : List Entry). list ++ entries_for action all) (empty.empty action);
+}
+
+pub all_held : (all : List Entry) (lists : List (List Entry)) → Hold all lists [] → HasLists lists all
+all_held all lists held action small = sym (append-nil (list_of action lists)) ∙ held.each action
+
+-- an entry of an action, before others of it
+added : (list : List Entry) (e : Entry) (left : List Entry) → (list ++ e ∷ []) ++ left ≡ list ++ e ∷ left
+added list e left = append_assoc list (e ∷ []) left
+
+one_more : (action : ℕ) (e : Entry) (lists : List (List Entry)) (left : List Entry) → e.action < length lists
+    → list_of action (with_entry e lists) ++ entries_for action left ≡ list_of action lists ++ entries_for action (e ∷ left)
+one_more action e lists left inside = by (nat_eq action e.action) refl
+  where
+    by : (b : Bool) → nat_eq action e.action ≡ b
+        → list_of action (with_entry e lists) ++ entries_for action left ≡ list_of action lists ++ (if b then e ∷ entries_for action left else entries_for action left)
+    by true is =
+        let same : action ≡ e.action = nat_exact action e.action is in
+        ap (λ (i : ℕ). list_of i (with_entry e lists) ++ entries_for action left) same
+        ∙ ap (λ (list : List Entry). list ++ entries_for action left) (get_or-set_same lists e.action (list_of e.action lists ++ e ∷ []) [] inside)
+        ∙ added (list_of e.action lists) e (entries_for action left)
+        ∙ ap (λ (i : ℕ). list_of i lists ++ e ∷ entries_for action left) (sym same)
+    by false is =
+        let other : action ≢ e.action = λ same. true≢false (sym (nat_own e.action) ∙ ap (λ (i : ℕ). nat_eq i e.action) (sym same) ∙ is) in
+        ap (λ (list : List Entry). list ++ entries_for action left) (get_or-set_other lists e.action action (list_of e.action lists ++ e ∷ []) [] other)
+
+pub next_held : (all : List Entry) (lists : List (List Entry)) (e : Entry) (left : List Entry) → e.action < 256
+    → Hold all lists (e ∷ left) → Hold all (with_entry e lists) left
+next_held all lists e left small held = record {
+  count = length-set lists e.action (list_of e.action lists ++ e ∷ []) ∙ held.count;
+  each = λ action. one_more action e lists left (omega (arith, held.count)) ∙ held.each action;
+}
+
+-- one list is as good as another where their elements are the same
+pub pushed : {X : Type 0} (items : X → List Entry) (lists : List X) (i : ℕ) (old new : X) (e : Entry) → i < length lists → old ≡ get_or lists i old
+    → items new ≡ items old ++ e ∷ [] → map items (set lists i new) ≡ set (map items lists) i (get_or (map items lists) i [] ++ e ∷ [])
+pushed {X} items lists i old new e inside is pushed_is =
+    map-set items lists i new
+    ∙ ap (λ (list : List Entry). set (map items lists) i list)
+    (pushed_is ∙ ap (λ (list : List Entry). list ++ e ∷ []) (ap items is ∙ at lists i inside))
+  where
+    at : (lists : List X) (i : ℕ) → i < length lists → items (get_or lists i old) ≡ get_or (map items lists) i []
+    at [] i inside = absurd (omega (arith, inside))
+    at (x ∷ xs) zero inside = refl
+    at (x ∷ xs) (suc i) inside = at xs i (omega (arith, inside))
+
+-- the next entry is read from what is left
+pub more_left : (count done : ℕ) (rest : List ℕ) → done < count → entries_at (count - done) rest ≡ entry_of rest ∷ entries_at (count - (done + 1)) (drop 32 rest)
+unfolding entries_at
+more_left count done rest more =
+    let left : count - done ≡ suc (count - (done + 1)) = omega arith in
+    ap (λ (n : ℕ). entries_at n rest) left
+
+pub none_left : (count done : ℕ) (rest : List ℕ) → count ≤ done → entries_at (count - done) rest ≡ []
+unfolding entries_at
+none_left count done rest no_more =
+    let left : count - done ≡ zero = omega arith in
+    ap (λ (n : ℕ). entries_at n rest) left

@@ -1,0 +1,13 @@
+use Rattle.erst_interp.proofs.FieldLemmas.{stays_in_turn, more_in_turn, refused_after}
+use Rattle.erst_interp.specs.declared.machine.Use.TheVariants.{Moves}
+use Rattle.erst_interp.specs.Parts.{used_by}
+use Rattle.erst_interp.specs.Steps.{StoreInTurn}
+use Rattle.erst_interp.proofs.run.move_data.Goals as goal
+
+pub returns-in-Err-clause-touches : goal.returns-in-Err-clause-touches
+returns-in-Err-clause-touches g c =
+    let told = g.B.Board.told c.args.board.now in
+    let e = c.args.entry.now in
+    let turn = used_by Moves e.instruction e c.args.variables c.args.reg in
+    refused_after (StoreInTurn turn c.args.variables told) (stays_in_turn turn c.args.variables told) (more_in_turn turn c.args.variables told)
+    c.in-Err.why _ _ _ c.in-Ok.ensures.touches c.in-Err.ensures.touches

@@ -1,0 +1,86 @@
+use Rattle.std.proofs.Common.{◌≡◌, ◌-◌, ◌+◌, ◌∙◌, ◌<◌, ℕ, zero, suc, List, [], ◌∷◌, Some, subst, sym, ap, arith, get_or, length}
+use Rattle.std.specs.Prelude.{◌⊎◌, IfSome, Option, slice_get}
+use Rattle.std.proofs.Common.{inl, inr}
+use Rattle.board_core.specs.Told.{Told, device_of}
+use Rattle.erst_store.specs.DeviceLaws.{IsDevice}
+use Rattle.std.proofs.lemmas.Option.{slice_get_past}
+use Rattle.erst_interp.specs.declared.entries.Entry.{Entry}
+use Rattle.erst_interp.specs.Machine.{most_turns}
+use Rattle.erst_interp.proofs.RunLemmas.{Way, way_on, run_on, run_refused, run_ended, run_out, turn_refused}
+use Rattle.erst_interp.proofs.run.run_list.Goals as goal
+
+found : (list : List Entry) (i : ℕ) (e : Entry) → i < length list → e ≡ get_or list i e → slice_get list i ≡ Some e
+found [] i e inside is = absurd (omega (arith, inside))
+found (x ∷ xs) zero e inside is = ap (λ (y : Entry). Some y) (sym is)
+found (x ∷ xs) (suc i) e inside is = found xs i e (omega (arith, inside)) is
+
+-- what is told is as at first, or was a device's then
+still_device : (old now new : Option Told) → (now ≡ old) ⊎ IfSome old (λ t. IsDevice (device_of t)) → (new ≡ now) ⊎ IfSome now (λ t. IsDevice (device_of t))
+    → (new ≡ old) ⊎ IfSome old (λ t. IsDevice (device_of t))
+still_device old now new (inr kept) later = inr kept
+still_device old now new (inl same) (inl again) = inl (again ∙ same)
+still_device old now new (inl same) (inr kept) = inr (subst (λ (told : Option Told). IfSome told (λ t. IsDevice (device_of t))) same kept)
+
+pub returns-in-Err-clause-device : goal.returns-in-Err-clause-device
+returns-in-Err-clause-device g c = still_device _ _ _ c.loop.invariant.device c.turn.ensures.device
+
+pub returns-in_default-clause-runs : goal.returns-in_default-clause-runs
+returns-in_default-clause-runs g c =
+    let list = c.args.list.now in
+    let v = c.loop.variables in
+    run_ended list (most_turns - c.loop.counter) c.args.input v (g.B.Board.told c.args.board.now) (g.B.Board.told c.loop.board)
+    (slice_get_past list v.index c.in_default.ensures.lookup.3) c.loop.invariant.way
+
+pub returns-in-Err-clause-runs : goal.returns-in-Err-clause-runs
+returns-in-Err-clause-runs g c =
+    let list = c.args.list.now in
+    let v = c.loop.variables in
+    let e = c.in-Some.entry.now in
+    let left : most_turns - c.loop.counter ≡ suc (most_turns - suc c.loop.counter) = omega (arith, c.loop-test.true) in
+    turn_refused list (most_turns - suc c.loop.counter) c.args.input e v c.in-Err.why (g.B.Board.told c.args.board.now) (g.B.Board.told c.loop.board) (g.B.Board.told c.turn.new.board)
+    (found list v.index e c.in-Some.ensures.lookup.3.0 c.in-Some.ensures.lookup.1)
+    (subst (λ (turns : ℕ). Way list turns c.args.input v (g.B.Board.told c.args.board.now) (g.B.Board.told c.loop.board)) left c.loop.invariant.way)
+    c.in-Err.ensures.turns
+
+pub returns-in-Err-clause-touches : goal.returns-in-Err-clause-touches
+returns-in-Err-clause-touches g c =
+    let list = c.args.list.now in
+    let v = c.loop.variables in
+    let e = c.in-Some.entry.now in
+    let left : most_turns - c.loop.counter ≡ suc (most_turns - suc c.loop.counter) = omega (arith, c.loop-test.true) in
+    run_refused list (most_turns - suc c.loop.counter) c.args.input e v _ _ _
+    (found list v.index e c.in-Some.ensures.lookup.3.0 c.in-Some.ensures.lookup.1)
+    (subst (λ (turns : ℕ). Way list turns c.args.input v (g.B.Board.told c.args.board.now) (g.B.Board.told c.loop.board)) left c.loop.invariant.way)
+    c.in-Err.why c.loop.invariant.touches c.in-Err.ensures.touches
+
+pub loop-preserved : goal.loop-preserved
+loop-preserved g c =
+    let list = c.args.list.now in
+    let v = c.loop.variables in
+    let e = c.in-Some.entry.now in
+    let left : most_turns - c.loop.counter ≡ suc (most_turns - (c.loop.counter + 1)) = omega (arith, c.loop-test.true) in
+    let next : slice_get list v.index ≡ Some e = found list v.index e c.in-Some.ensures.lookup.3.0 c.in-Some.ensures.lookup.1 in
+    let way = subst (λ (turns : ℕ). Way list turns c.args.input v (g.B.Board.told c.args.board.now) (g.B.Board.told c.loop.board)) left c.loop.invariant.way in
+    record {
+      way = way_on list (most_turns - (c.loop.counter + 1)) c.args.input e v c.in-Ok.after (g.B.Board.told c.args.board.now) (g.B.Board.told c.loop.board) (g.B.Board.told c.turn.new.board)
+          next way c.in-Ok.ensures.turns c.in-Ok.ensures.touches.kept;
+      touches = run_on list (most_turns - (c.loop.counter + 1)) c.args.input e v _ _ _ next way c.loop.invariant.touches c.in-Ok.ensures.touches;
+      device = still_device _ _ _ c.loop.invariant.device c.turn.ensures.device;
+    }
+
+pub returns-in-Some-get-clause-runs : goal.returns-in-Some-get-clause-runs
+returns-in-Some-get-clause-runs g c =
+    let list = c.args.list.now in
+    let v = c.loop.variables in
+    let e = c.in-Some-get.field-0.now in
+    let left : most_turns - c.loop.counter ≡ zero = omega (arith, c.loop-test.false) in
+    run_out list c.args.input e v (g.B.Board.told c.args.board.now) (g.B.Board.told c.loop.board)
+    (found list v.index e c.in-Some-get.ensures.lookup.3.0 c.in-Some-get.ensures.lookup.1)
+    (subst (λ (turns : ℕ). Way list turns c.args.input v (g.B.Board.told c.args.board.now) (g.B.Board.told c.loop.board)) left c.loop.invariant.way)
+
+pub returns-in-None-clause-runs : goal.returns-in-None-clause-runs
+returns-in-None-clause-runs g c =
+    let list = c.args.list.now in
+    let v = c.loop.variables in
+    run_ended list (most_turns - c.loop.counter) c.args.input v (g.B.Board.told c.args.board.now) (g.B.Board.told c.loop.board)
+    (slice_get_past list v.index c.in-None.ensures.lookup.3) c.loop.invariant.way

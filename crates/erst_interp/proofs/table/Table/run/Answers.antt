@@ -1,0 +1,45 @@
+use Rattle.std.proofs.Common.{◌^◌, ◌<◌, List, subst, arith}
+use Rattle.std.specs.Prelude.{IfSome}
+use Rattle.board_core.specs.Clock.{Passes}
+use Rattle.board_core.specs.Stop.{InStore}
+use Rattle.board_core.specs.Told.{device_of}
+use Rattle.erst_interp.specs.declared.entries.Entry.{Entry}
+use Rattle.erst_interp.specs.Machine.{end_of}
+use Rattle.erst_interp.specs.Run.{StoreInRun, IsRun}
+use Rattle.erst_interp.specs.Steps.{StoreOver}
+use Rattle.erst_interp.proofs.AdmittedRunLemmas.{does_run, stores_run}
+use Rattle.erst_interp.proofs.ShiftedLemmas.{runs_alone, store_alone}
+use Rattle.erst_interp.proofs.TouchLemmas.{passes_more}
+use Rattle.erst_interp.proofs.TurnLemmas.{stops_of}
+use Rattle.erst_interp.proofs.table.Table.run.Goals as goal
+
+pub returns-clause-runs : goal.returns-clause-runs
+returns-clause-runs g c =
+    let told = g.B.Board.told c.args.board.now in
+    let new = g.B.Board.told c.run_list.new.board in
+    subst (λ (list : List Entry). IfSome told (λ t. IsRun c.run_list.result (end_of list c.args.input (device_of t)) t new)) c.list.ensures
+    (runs_alone c.list.result.now c.args.input c.run_list.result told new c.run_list.ensures.runs)
+
+pub returns-clause-stops : goal.returns-clause-stops
+returns-clause-stops g c =
+    let told = g.B.Board.told c.args.board.now in
+    let list = c.list.result.now in
+    subst (λ (l : List Entry). Passes (InStore (StoreInRun l c.args.input told)) (g.B.Board.clock c.args.board.now) (g.B.Board.clock c.run_list.new.board)) c.list.ensures
+    (passes_more (StoreOver list c.args.input told) (StoreInRun list c.args.input told) (store_alone list c.args.input told) _ _
+    (stops_of (StoreOver list c.args.input told) c.run_list.result _ _ c.run_list.ensures.touches))
+
+pub returns-clause-does : goal.returns-clause-does
+returns-clause-does g c = λ is inside.
+    let list = c.list.result.now in
+    let fits : c.args.action < 2 ^ 64 = omega (arith, c.ranges.action.fits) in
+    does_run list c.args.action c.args.input fits inside (rw c.list.ensures is) (g.B.Board.told c.args.board.now) (g.B.Board.told c.run_list.new.board) c.run_list.result
+    c.run_list.ensures.runs c.run_list.ensures.device
+
+pub returns-clause-stores : goal.returns-clause-stores
+returns-clause-stores g c = λ is inside.
+    let list = c.list.result.now in
+    let told = g.B.Board.told c.args.board.now in
+    let fits : c.args.action < 2 ^ 64 = omega (arith, c.ranges.action.fits) in
+    stores_run list c.args.action c.args.input fits inside (rw c.list.ensures is) told (g.B.Board.clock c.args.board.now) (g.B.Board.clock c.run_list.new.board)
+    (λ t left. g.met.B.Board.store_is_left c.args.board.now t left)
+    (stops_of (StoreOver list c.args.input told) c.run_list.result _ _ c.run_list.ensures.touches)

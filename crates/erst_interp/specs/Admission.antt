@@ -1,0 +1,164 @@
+-- Which lists of an action are admitted: those that do the action, whatever the device. The rules
+-- are this project's own. An admitted list is laid out like this, where idle entries leave both the
+-- device and the value alone:
+--
+--   actions that take the input    idle*, the input's write, idle*, the action's write, idle*
+--   EXECUTE                        (idle or a write to Value)*, the action's write, idle*
+--   actions that answer            idle*, the action's write, idle*, the answer's read
+--   all others                     idle*, the action's write, idle*
+use Rattle.std.specs.Prelude.{◌≡◌, ℕ, ◌-◌, ◌^◌, ◌≤◌, Bool, true, false, ◌&&◌, ◌||◌, not, nat_eq, is_some, List, [], ◌∷◌, ◌++◌, length, bit_and, Option, Some, IsTrue, if◌then◌else◌}
+use Rattle.std.specs.List.{list_all}
+use Rattle.erst_store.specs.Actions.{set_record_offset, execute_operation, check_busy_status, get_command_status, get_record_identifier, set_record_identifier, get_record_count}
+use Rattle.board_core.specs.declared.board.Reg.{Reg}
+use Rattle.board_core.specs.declared.board.Reg.TheVariants.{Action, Value}
+use Rattle.erst_interp.specs.declared.entries.Instruction.{Instruction}
+use Rattle.erst_interp.specs.declared.entries.Instruction.TheVariants.{ReadRegister, ReadRegisterValue, WriteRegister, WriteRegisterValue, Noop, LoadVar1, LoadVar2, Add, Subtract, Stall}
+use Rattle.erst_interp.specs.declared.entries.Entry.{Entry}
+use Rattle.erst_interp.specs.Machine.{most_turns}
+use Rattle.erst_interp.specs.Table.{list_of}
+
+-- ---- the actions
+
+-- the actions that take the input, and those that answer
+abbrev pub takes_input : ℕ → Bool
+takes_input action = nat_eq action set_record_offset || nat_eq action set_record_identifier
+
+abbrev pub gives_answer : ℕ → Bool
+gives_answer action =
+    nat_eq action check_busy_status || nat_eq action get_command_status
+    || nat_eq action get_record_identifier || nat_eq action get_record_count
+
+-- the bits that the mask of an input's write has to hold: the low 32 of an offset, all of an
+-- identifier
+abbrev pub input_bits : ℕ → ℕ
+input_bits action = if nat_eq action set_record_offset then 2 ^ 32 - 1 else 2 ^ 64 - 1
+
+-- the bits that the mask of an answer's read has to hold: bit 0 of whether the device is busy, the
+-- low 8 of a status, all of an identifier, the low 32 of a count
+abbrev pub answer_bits : ℕ → ℕ
+answer_bits action =
+    if nat_eq action check_busy_status then 1
+    else (if nat_eq action get_command_status then 2 ^ 8 - 1
+    else (if nat_eq action get_record_identifier then 2 ^ 64 - 1 else 2 ^ 32 - 1))
+
+-- ---- entries
+
+-- whether an entry uses this register
+abbrev pub is_action : Option Reg → Bool
+is_action (Some Action) = true
+is_action register = false
+
+abbrev pub is_value : Option Reg → Bool
+is_value (Some Value) = true
+is_value register = false
+
+-- whether a mask holds these bits
+abbrev pub holds_bits : ℕ → ℕ → Bool
+holds_bits bits mask = nat_eq (bit_and mask bits) bits
+
+-- an entry that leaves the device and the value alone
+abbrev pub is_idle_by : Instruction → Option Reg → Bool
+is_idle_by Noop register = true
+is_idle_by Stall register = true
+is_idle_by Add register = true
+is_idle_by Subtract register = true
+is_idle_by LoadVar1 register = is_some register
+is_idle_by LoadVar2 register = is_some register
+is_idle_by _ register = false
+
+abbrev pub is_idle : Entry → Bool
+is_idle e = is_idle_by e.instruction e.register
+
+-- an entry that has a whole register, of which it keeps nothing
+abbrev pub is_whole : Entry → Bool
+is_whole e = nat_eq e.offset 0 && not e.preserves
+
+-- an entry that writes the number of an action to Action
+abbrev pub is_constant : Instruction → Bool
+is_constant WriteRegisterValue = true
+is_constant _ = false
+
+abbrev pub is_act : ℕ → Entry → Bool
+is_act action e =
+    is_constant e.instruction && is_action e.register && is_whole e
+    && nat_eq (bit_and e.value e.mask) action
+
+-- an entry that writes the input to Value
+abbrev pub is_write : Instruction → Bool
+is_write WriteRegister = true
+is_write _ = false
+
+abbrev pub is_input : ℕ → Entry → Bool
+is_input action e =
+    is_write e.instruction && is_value e.register && is_whole e && holds_bits (input_bits action) e.mask
+
+-- an entry that writes a number of its own to Value: EXECUTE forgets what Value holds
+abbrev pub is_free : ℕ → Entry → Bool
+is_free action e =
+    nat_eq action execute_operation && is_constant e.instruction && is_value e.register && not e.preserves
+
+-- an entry that reads the answer from Value; where the answer is 0 or 1 it may be compared with 1
+abbrev pub is_read : ℕ → ℕ → Instruction → Bool
+is_read action value ReadRegister = true
+is_read action value ReadRegisterValue = nat_eq action check_busy_status && nat_eq value 1
+is_read action value _ = false
+
+abbrev pub is_answer : ℕ → Entry → Bool
+is_answer action e =
+    is_read action e.value e.instruction && is_value e.register && nat_eq e.offset 0
+    && holds_bits (answer_bits action) e.mask
+
+-- ---- lists
+
+abbrev pub AreIdle : List Entry → Type 0
+AreIdle entries = IsTrue (list_all is_idle entries)
+
+-- idle entries, one other, and again idle entries
+pub record HoldsOne (Is : Entry → Bool) (entries : List Entry) : Type 0 where
+  pub before : List Entry
+  pub one : Entry
+  pub after : List Entry
+  pub laid : entries ≡ before ++ one ∷ after
+  pub idle_before : AreIdle before
+  pub is : IsTrue (Is one)
+  pub idle_after : AreIdle after
+
+-- what stands before the action's write: the input's write among idle entries, or idle entries and
+-- before EXECUTE also writes to Value
+abbrev pub BeginsBy : Bool → ℕ → List Entry → Type 0
+BeginsBy true action entries = HoldsOne (is_input action) entries
+BeginsBy false action entries = IsTrue (list_all (λ e. is_idle e || is_free action e) entries)
+
+abbrev pub IsBeginning : ℕ → List Entry → Type 0
+IsBeginning action entries = BeginsBy (takes_input action) action entries
+
+-- idle entries, and last the answer's read
+pub record EndsWithAnswer (action : ℕ) (entries : List Entry) : Type 0 where
+  pub idle : List Entry
+  pub last : Entry
+  pub laid : entries ≡ idle ++ last ∷ []
+  pub are_idle : AreIdle idle
+  pub is : IsTrue (is_answer action last)
+
+-- what stands after it: idle entries, and where the action answers last the answer's read
+abbrev pub EndsBy : Bool → ℕ → List Entry → Type 0
+EndsBy true action entries = EndsWithAnswer action entries
+EndsBy false action entries = AreIdle entries
+
+abbrev pub IsEnding : ℕ → List Entry → Type 0
+IsEnding action entries = EndsBy (gives_answer action) action entries
+
+-- An admitted list of an action: its one write to Action, what stands before it and what after it.
+pub record IsAdmitted (action : ℕ) (list : List Entry) : Type 0 where
+  pub short : length list ≤ most_turns
+  pub before : List Entry
+  pub act : Entry
+  pub after : List Entry
+  pub laid : list ≡ before ++ act ∷ after
+  pub is : IsTrue (is_act action act)
+  pub begins : IsBeginning action before
+  pub ends : IsEnding action after
+
+-- A table is admitted where the lists of actions 0 to 10 are.
+abbrev pub IsAdmittedTable : List (List Entry) → Type 0
+IsAdmittedTable lists = (action : ℕ) → action ≤ get_record_count → IsAdmitted action (list_of action lists)

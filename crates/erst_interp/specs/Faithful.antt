@@ -1,0 +1,49 @@
+-- What a list of an action has to do: the action, whatever the device.
+use Rattle.std.specs.Prelude.{◌≡◌, ℕ, ◌^◌, ◌<◌, nat_eq, List, Option, Some, Result, Ok, Err, if◌then◌else◌}
+use Rattle.erst_store.specs.Actions.{set_record_offset}
+use Rattle.erst_store.specs.Device.{Device, act}
+use Rattle.erst_store.specs.DeviceLaws.{IsDevice}
+use Rattle.board_core.specs.Told.{Told, device_of}
+use Rattle.erst_interp.specs.declared.entries.Entry.{Entry}
+use Rattle.erst_interp.specs.declared.refusals.RunRefused.{RunRefused}
+use Rattle.erst_interp.specs.declared.refusals.RunRefused.TheVariants.{Register}
+use Rattle.erst_interp.specs.Machine.{End, end_of}
+use Rattle.erst_interp.specs.Admission.{takes_input, gives_answer}
+
+-- the inputs of an action: an offset has 32 bits, and any other 64
+abbrev pub input_limit : ℕ → ℕ
+input_limit action = if nat_eq action set_record_offset then 2 ^ 32 else 2 ^ 64
+
+-- the device with the input in its Value register, where the action takes it
+abbrev pub with_input : ℕ → ℕ → Device → Device
+with_input action input d = if takes_input action then record d { value = input } else d
+
+-- the device after the action, and the answer: the device's value, or the input where the action
+-- answers nothing
+abbrev pub device_after : ℕ → ℕ → Device → Device
+device_after action input d = act action (with_input action input d)
+
+abbrev pub answer_after : ℕ → ℕ → Device → ℕ
+answer_after action input d = if gives_answer action then (device_after action input d).value else input
+
+-- a run that did the action
+pub record DoesAction (action input : ℕ) (d : Device) (end : End) : Type 0 where
+  pub answer : end.answer ≡ Ok (answer_after action input d)
+  pub device : end.state.device ≡ device_after action input d
+
+-- A list is faithful to an action where its run does the action, on every device and every input.
+abbrev pub IsFaithful : ℕ → List Entry → Type 0
+IsFaithful action list = (input : ℕ) (d : Device) → IsDevice d → input < input_limit action → DoesAction action input d (end_of list input d)
+
+-- What a run of an admitted list does to a board: it answers as the action does, and the board
+-- tells the device after the action. It is refused only where a call of the board failed.
+pub record ActsOn (action input value : ℕ) (t : Told) (new : Option Told) : Type 0 where
+  pub after : Told
+  pub told : new ≡ Some after
+  pub device : device_of after ≡ device_after action input (device_of t)
+  pub answer : value ≡ answer_after action input (device_of t)
+
+abbrev pub DoesRun : ℕ → ℕ → Result ℕ RunRefused → Told → Option Told → Type 0
+DoesRun action input (Ok answer) t new = ActsOn action input answer t new
+DoesRun action input (Err Register) t new = Unit {0}
+DoesRun action input (Err why) t new = ⊥

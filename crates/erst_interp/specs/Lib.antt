@@ -1,0 +1,11 @@
+pub mod Refusals
+pub mod Entries
+pub mod Table
+pub mod Lists
+pub mod Machine
+pub mod Parts
+pub mod Run
+pub mod Admission
+pub mod Faithful
+pub mod Walk
+pub mod Steps

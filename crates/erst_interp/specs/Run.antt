@@ -1,0 +1,59 @@
+-- What a run does to a board, whether or not a call of the board fails.
+use Rattle.std.specs.Prelude.{◌≡◌, ℕ, zero, suc, ◌≤◌, ◌⊎◌, List, ◌++◌, slice_get, Option, Some, None, Result, Err}
+use Rattle.erst_store.specs.Store.{Stored}
+use Rattle.board_core.specs.Cause.{Rose, Faults}
+use Rattle.board_core.specs.Told.{Told, device_of, with_device}
+use Rattle.erst_interp.specs.declared.entries.Entry.{Entry}
+use Rattle.erst_interp.specs.declared.refusals.RunRefused.{RunRefused}
+use Rattle.erst_interp.specs.declared.refusals.RunRefused.TheVariants.{Register}
+use Rattle.erst_interp.specs.Machine.{State, Outcome, goes, stops, turn, End, start, most_turns}
+
+-- what is told after a run that ended in a state: the device is that state's, its accesses come
+-- after those that were made before, and all else is as it was
+abbrev pub told_after : State → Told → Told
+told_after s t = record (with_device s.device t) { accesses = t.accesses ++ s.accesses }
+
+-- Where no call of the board failed, the run is the machine's: it answers what the machine does,
+-- and what is told is as that end has it.
+abbrev pub IsRun : Result ℕ RunRefused → End → Told → Option Told → Type 0
+IsRun (Err Register) end old new = Unit {0}
+IsRun answer end old new = (answer ≡ end.answer) × (new ≡ Some (told_after end.state old))
+
+-- Of what is told, the record store, the rest of the device and the accesses alone change.
+pub record Keeps (old new : Told) : Type 0 where
+  pub here : new.here ≡ record old.here { store = new.here.store }
+  pub disk_calls : new.disk_calls ≡ old.disk_calls
+
+-- The count of device calls that failed rose, and no other.
+pub record Raises (before now : Faults) : Type 0 where
+  pub own : Rose before.registers now.registers
+  pub later : before.registers ≤ now.registers
+  pub others : now ≡ record before { registers = now.registers }
+
+-- Register comes exactly where that count rose. With any other answer all counts are as they were.
+abbrev pub RunCause : Result ℕ RunRefused → Faults → Faults → Type 0
+RunCause (Err Register) before now = Raises before now
+RunCause answer before now = now ≡ before
+
+-- of the entry that is next, and of what its turn comes to
+abbrev pub AtNext : (Entry → Type 0) → Option Entry → Type 0
+AtNext Holds None = ⊥
+AtNext Holds (Some e) = Holds e
+
+abbrev pub AfterTurn : (State → Type 0) → (State → Type 0) → Outcome → Type 0
+AfterTurn Goes Stops (goes s) = Goes s
+AfterTurn Goes Stops (stops why s) = Stops s
+
+-- A run of so many turns comes through a device with this record store.
+unfoldable pub PassesStore : ℕ → List Entry → State → List Stored → Type 0
+PassesStore zero list s store = store ≡ s.device.store
+PassesStore (suc turns) list s store =
+    (store ≡ s.device.store)
+    ⊎ AtNext (λ e. AfterTurn (λ t. PassesStore turns list t store) (λ t. store ≡ t.device.store) (turn e s))
+    (slice_get list s.variables.index)
+
+-- The record store stays, or becomes one that the run comes through. Of a board that tells nothing
+-- this says nothing.
+abbrev pub StoreInRun : List Entry → ℕ → Option Told → List Stored → List Stored → Type 0
+StoreInRun list input None old new = Unit {0}
+StoreInRun list input (Some t) old new = (new ≡ old) ⊎ PassesStore most_turns list (start input (device_of t)) new

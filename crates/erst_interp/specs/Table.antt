@@ -1,0 +1,78 @@
+-- The error record serialization table: ACPI 6.5, section 18.5.1, "Serialization Action Table". Its
+-- signature stands at 0, its length (4) at 4, a checksum byte at 9, the size of the serialization
+-- header (4) at 36, and the count of its entries (4) at 44. The entries follow from 48 on.
+use Rattle.std.specs.Prelude.{◌≡◌, ℕ, zero, suc, ◌+◌, ◌*◌, ◌%◌, ◌<◌, Bool, ◌&&◌, ◌||◌, ◌==◌, not, nat_eq, nat_le, nat_lt, List, [], ◌∷◌, length, take, drop, filter, sum, get_or, codes, Result, Ok, Err, if◌then◌else◌}
+use Rattle.std.specs.List.{starts_with}
+use Rattle.ras_base.specs.LittleEndian.{number_at}
+use Rattle.erst_interp.specs.declared.entries.Entry.{Entry}
+use Rattle.erst_interp.specs.declared.entries.TheConstants.{ENTRY_LENGTH}
+use Rattle.erst_interp.specs.declared.table.TheConstants.{ERST_FIXED_LENGTH}
+use Rattle.erst_interp.specs.declared.refusals.ErstTableRefused.{ErstTableRefused}
+use Rattle.erst_interp.specs.declared.refusals.ErstTableRefused.TheVariants.{Short, Signature, Length, Sum, HeaderSize, Count}
+use Rattle.erst_interp.specs.Entries.{entry_of}
+
+-- the length that a table says, header and all, and so many bytes from the front
+abbrev pub table_length : List ℕ → ℕ
+table_length bytes = number_at 4 4 bytes
+
+abbrev pub own_bytes : List ℕ → List ℕ
+own_bytes bytes = take (table_length bytes) bytes
+
+-- whether the table's length takes in its fixed part, and lies inside the bytes
+abbrev pub has_length : List ℕ → Bool
+has_length bytes = nat_le ERST_FIXED_LENGTH (table_length bytes) && nat_le (table_length bytes) (length bytes)
+
+-- whether the bytes of a table sum to 0 modulo 256
+abbrev pub has_sum : List ℕ → Bool
+has_sum table = sum table % 256 == 0
+
+-- the size of the serialization header: firmware counts its own 12 bytes, or those of the table's
+-- header too
+abbrev pub has_header_size : List ℕ → Bool
+has_header_size table = nat_eq (number_at 36 4 table) 12 || nat_eq (number_at 36 4 table) 48
+
+-- how many entries a table counts
+abbrev pub entry_count : List ℕ → ℕ
+entry_count table = number_at 44 4 table
+
+abbrev pub has_entries : List ℕ → Bool
+has_entries table = nat_le (ERST_FIXED_LENGTH + ENTRY_LENGTH * entry_count table) (length table)
+
+-- the table at the front of bytes, or the first reason that it can't be read
+unfoldable pub erst_table : List ℕ → Result (List ℕ) ErstTableRefused
+erst_table bytes =
+    if nat_lt (length bytes) ERST_FIXED_LENGTH then Err Short
+    else (if not (starts_with nat_eq bytes (codes "ERST")) then Err Signature
+    else (if not (has_length bytes) then Err Length
+    else (if not (has_sum (own_bytes bytes)) then Err Sum
+    else (if not (has_header_size (own_bytes bytes)) then Err HeaderSize
+    else (if not (has_entries (own_bytes bytes)) then Err Count
+    else Ok (own_bytes bytes))))))
+
+-- so many entries at the front of bytes, one after the other
+unfoldable pub entries_at : ℕ → List ℕ → List Entry
+entries_at zero bytes = []
+entries_at (suc count) bytes = entry_of bytes ∷ entries_at count (drop ENTRY_LENGTH bytes)
+
+abbrev pub entries_in : List ℕ → List Entry
+entries_in table = entries_at (entry_count table) (drop ERST_FIXED_LENGTH table)
+
+abbrev pub entries_of : Result (List ℕ) ErstTableRefused → Result (List Entry) ErstTableRefused
+entries_of (Ok table) = Ok (entries_in table)
+entries_of (Err why) = Err why
+
+-- the entries of the table at the front of bytes, or the first reason that they can't be read
+abbrev pub erst_of : List ℕ → Result (List Entry) ErstTableRefused
+erst_of bytes = entries_of (erst_table bytes)
+
+-- what is kept of a table: for each action, by its number, a list of entries
+abbrev pub list_of : ℕ → List (List Entry) → List Entry
+list_of action lists = get_or lists action []
+
+-- the entries of an action, in their order
+abbrev pub entries_for : ℕ → List Entry → List Entry
+entries_for action entries = filter (λ e. nat_eq action e.action) entries
+
+-- An action's list is its entries in the order of the table.
+abbrev pub HasLists : List (List Entry) → List Entry → Type 0
+HasLists lists entries = (action : ℕ) → action < 256 → list_of action lists ≡ entries_for action entries

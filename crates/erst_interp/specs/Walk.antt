@@ -1,0 +1,41 @@
+-- Only for proofs: what a list still has to hold, entry by entry.
+use Rattle.std.specs.Prelude.{ℕ, Bool, true, false, List, [], ◌∷◌, Option, Some, None, if◌then◌else◌}
+use Rattle.erst_interp.specs.declared.entries.Entry.{Entry}
+use Rattle.erst_interp.specs.declared.admission.Awaited.{Awaited}
+use Rattle.erst_interp.specs.declared.admission.Awaited.TheVariants.{Input, Action, Answer, Rest, End}
+use Rattle.erst_interp.specs.Admission.{takes_input, gives_answer, is_idle, is_act, is_input, is_free, is_answer}
+
+abbrev pub first_awaited : ℕ → Awaited
+first_awaited action = if takes_input action then Input else Action
+
+abbrev pub after_act : ℕ → Awaited
+after_act action = if gives_answer action then Answer else Rest
+
+-- after an idle entry, and after another
+abbrev pub after_idle : Awaited → Option Awaited
+after_idle End = None
+after_idle awaited = Some awaited
+
+abbrev pub after_role : ℕ → Awaited → Entry → Option Awaited
+after_role action Input e = if is_input action e then Some Action else None
+after_role action Action e = if is_act action e then Some (after_act action) else (if is_free action e then Some Action else None)
+after_role action Answer e = if is_answer action e then Some End else None
+after_role action Rest e = None
+after_role action End e = None
+
+abbrev pub next_awaited : ℕ → Awaited → Entry → Option Awaited
+next_awaited action awaited e = if is_idle e then after_idle awaited else after_role action awaited e
+
+-- nothing is awaited any more
+abbrev pub is_last : Awaited → Bool
+is_last Rest = true
+is_last End = true
+is_last awaited = false
+
+abbrev pub goes_by : (Awaited → Bool) → Option Awaited → Bool
+goes_by go_on None = false
+goes_by go_on (Some awaited) = go_on awaited
+
+abbrev pub walks : ℕ → Awaited → List Entry → Bool
+walks action awaited [] = is_last awaited
+walks action awaited (e ∷ entries) = goes_by (λ next. walks action next entries) (next_awaited action awaited e)

@@ -1,0 +1,23 @@
+//! The interpreter of error record serialization tables (ERST): tables, the machine that runs an
+//! action's list of instructions over the two registers and the range of a board's device, and the
+//! tables that are admitted. It follows ACPI 6.5, section 18.5, "Error Serialization".
+#![tactic(auto)]
+
+mod admission;
+mod entries;
+mod laws;
+mod machine;
+mod refusals;
+mod registers;
+mod run;
+mod table;
+
+pub use admission::admits;
+pub use entries::{Entry, Instruction};
+pub use laws::admitted_lists_are_faithful;
+pub use refusals::{ErstTableRefused, RunRefused};
+pub use run::MOST_TURNS;
+pub use table::{Table, read_erst};
+
+#[cfg(test)]
+mod tests;

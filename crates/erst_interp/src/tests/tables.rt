@@ -1,0 +1,63 @@
+//! The reading of tables.
+use super::samples::PLAIN;
+use super::steps::{bytes_of, mend, refusal, set_number};
+use crate::ErstTableRefused;
+use std::test::Fail;
+
+// The plain table has the length and the checksum that were worked out by hand.
+#[test]
+fn has_the_bytes_of_the_sample(rt: HostRuntime) -> Result<(), Fail> {
+    let bytes = bytes_of(rt.alloc(), 48, &PLAIN)?;
+    assert_eq!(rt; bytes.len(), 624);
+    assert!(rt; bytes.starts_with(&[0x45, 0x52, 0x53, 0x54, 0x70, 0x02, 0, 0, 0, 0x59]));
+    assert_eq!(rt; refusal(rt.alloc(), &bytes), None);
+    Ok(())
+}
+
+// A place of the plain table where a number is set, and why the table can't be read then.
+const BROKEN: [(usize, usize, bool, Option<ErstTableRefused>); 10] = [
+    (0, 0x5453_5244, true, Some(ErstTableRefused::Signature)),
+    (4, 47, true, Some(ErstTableRefused::Length)),
+    (4, 625, true, Some(ErstTableRefused::Length)),
+    (4, 0, false, Some(ErstTableRefused::Length)),
+    (36, 12, false, Some(ErstTableRefused::Sum)),
+    (36, 13, true, Some(ErstTableRefused::HeaderSize)),
+    (36, 12, true, None),
+    (44, 19, true, Some(ErstTableRefused::Count)),
+    (44, 0xffff_ffff, true, Some(ErstTableRefused::Count)),
+    (44, 0, true, None),
+];
+
+#[test]
+fn refuses_the_first_cause(rt: HostRuntime) -> Result<(), Fail> {
+    for (place, number, mended, want) in BROKEN {
+        let mut bytes = bytes_of(rt.alloc(), 48, &PLAIN)?;
+        set_number(&mut bytes, place, number);
+        if mended {
+            mend(&mut bytes);
+        }
+        assert_eq!(rt; refusal(rt.alloc(), &bytes), want, "{number} at {place}");
+    }
+    Ok(())
+}
+
+// Each shorter length is refused, and bytes after the table change nothing.
+#[test]
+fn reads_its_own_length(rt: HostRuntime) -> Result<(), Fail> {
+    let mut bytes = bytes_of(rt.alloc(), 48, &PLAIN)?;
+    for length in 0..bytes.len() {
+        let want = if length < 48 {
+            ErstTableRefused::Short
+        } else {
+            ErstTableRefused::Length
+        };
+        assert_eq!(rt;
+            refusal(rt.alloc(), &bytes[..length]),
+            Some(want),
+            "{length} bytes"
+        );
+    }
+    bytes.push(7)?;
+    assert_eq!(rt; refusal(rt.alloc(), &bytes), None);
+    Ok(())
+}
