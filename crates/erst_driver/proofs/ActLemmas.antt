@@ -1,0 +1,112 @@
+-- One action by the run of its list.
+use Rattle.std.proofs.Common.{◌≡◌, ◌∙◌, ℕ, ◌≤◌, ◌<◌, ◌^◌, Bool, true, false, nat_eq, List, [], ◌∷◌, Option, Some, None, refl, sym, ap, subst, inl, inr, arith, if◌then◌else◌}
+use Rattle.std.specs.Prelude.{◌⊎◌, Result, Ok, Err, IfSome}
+use Rattle.erst_store.specs.Actions.{set_record_offset}
+use Rattle.erst_store.specs.Store.{Stored}
+use Rattle.erst_store.specs.Device.{Device}
+use Rattle.erst_store.specs.DeviceLaws.{IsDevice}
+use Rattle.erst_store.specs.KeptLemmas.{IsDevice-act, IsDevice-value}
+use Rattle.board_core.specs.Cause.{Faults}
+use Rattle.board_core.specs.Clock.{Passes}
+use Rattle.board_core.specs.Stop.{InStore}
+use Rattle.board_core.specs.Told.{Told, device_of, Relates, StoreBy}
+use Rattle.erst_interp.specs.declared.entries.Entry.{Entry}
+use Rattle.erst_interp.specs.declared.refusals.RunRefused.{RunRefused}
+use Rattle.erst_interp.specs.declared.refusals.RunRefused.TheVariants.{Register}
+use Rattle.erst_interp.specs.Admission.{takes_input, IsAdmitted, IsAdmittedTable}
+use Rattle.erst_interp.specs.Faithful.{input_limit, with_input, device_after, answer_after, ActsOn, DoesRun}
+use Rattle.erst_interp.specs.Machine.{end_of}
+use Rattle.erst_interp.specs.Run.{told_after, IsRun, Keeps, Raises, RunCause}
+use Rattle.erst_interp.specs.Steps.{Seen, GoesWell, Fails}
+use Rattle.erst_interp.specs.Table.{list_of}
+use Rattle.erst_interp.proofs.TouchLemmas.{well_more, fails_more}
+use Rattle.erst_driver.specs.declared.step.Step.{Step}
+use Rattle.erst_driver.specs.Operations.{Over, after_step, after_steps, told_by_step, told_by}
+use Rattle.erst_driver.specs.Steps.{Inside, ComesThrough, StoreIn, Tells, Done, FailsIn, Never, Acted}
+
+some_is : (x y : Told) → Some x ≡ Some y → x ≡ y
+some_is x y e = cc
+
+pub raises_of : (why : RunRefused) (before now : Faults) → why ≡ Register → RunCause (Err why) before now → Raises before now
+raises_of why before now is cause = subst (λ (w : RunRefused). RunCause (Err w) before now) is cause
+
+pub acted_as : (table lists : List (List Entry)) (s : Step) (value : ℕ) (a b : Seen) → table ≡ lists → Acted table s value a b → Acted lists s value a b
+acted_as table lists s value a b is acted = subst (λ (l : List (List Entry)). Acted l s value a b) is acted
+
+-- the device after an action is one
+input_fits : (action input : ℕ) → input < input_limit action → input < 2 ^ 64
+input_fits action input inside = by (nat_eq action set_record_offset) inside
+  where
+    by : (b : Bool) → input < (if b then 2 ^ 32 else 2 ^ 64) → input < 2 ^ 64
+    by true small = omega (arith, small)
+    by false small = small
+
+is_device_after : (s : Step) (d : Device) → Inside s → IsDevice d → IsDevice (after_step s d)
+is_device_after s d inside device =
+    IsDevice-act s.action (with_input s.action s.input d) (by (takes_input s.action)) (omega (arith, inside.action))
+  where
+    by : (b : Bool) → IsDevice (if b then record d { value = s.input } else d)
+    by true = IsDevice-value s.input d device (input_fits s.action s.input inside.input)
+    by false = device
+
+module _ (lists : List (List Entry)) (s : Step) (a b : Seen) (kept : Relates Keeps a.told b.told)
+    (stops : Passes (InStore (StoreBy (device_after s.action s.input) a.told)) a.clock b.clock) where
+  store_in : (x y : List Stored) → StoreBy (device_after s.action s.input) a.told x y → StoreIn (λ d. s ∷ []) a.told x y
+  unfolding ComesThrough
+  store_in x y is = by a.told is
+    where
+      by : (o : Option Told) → StoreBy (device_after s.action s.input) o x y → StoreIn (λ d. s ∷ []) o x y
+      by None is = tt
+      by (Some t) is = λ device. elim is [ inl same ↦ inl same | inr new ↦ inr (inr new) ]
+
+  well : b.faults ≡ a.faults → GoesWell (StoreIn (λ d. s ∷ []) a.told) a b
+  well faults = well_more (StoreBy (device_after s.action s.input) a.told) (StoreIn (λ d. s ∷ []) a.told) store_in a b
+      (record { kept = kept; stops = stops; faults = faults })
+
+  pub failed : Raises a.faults b.faults → FailsIn (λ d. s ∷ []) a b
+  failed raises = fails_more (StoreBy (device_after s.action s.input) a.told) (StoreIn (λ d. s ∷ []) a.told) store_in a b
+      (record { kept = kept; stops = stops; raises = raises })
+
+  tells_one : (value : ℕ) (t : Told) → Inside s → IsRun (Ok value) (end_of (list_of s.action lists) s.input (device_of t)) t b.told → IsDevice (device_of t)
+      → ActsOn s.action s.input value t b.told → Tells lists (s ∷ []) t b.told
+  unfolding told_by after_steps
+  tells_one value t inside runs device acts = record {
+    told = runs.1;
+    device = ap (λ (u : Told). device_of u) (some_is (told_by_step lists s t) acts.after (sym runs.1 ∙ acts.told)) ∙ acts.device;
+    is = is_device_after s (device_of t) inside device;
+  }
+
+  pub acted : (value : ℕ) → Inside s → IsAdmittedTable lists → b.faults ≡ a.faults
+      → IfSome a.told (λ t. IsRun (Ok value) (end_of (list_of s.action lists) s.input (device_of t)) t b.told)
+      → (IsAdmitted s.action (list_of s.action lists) → s.input < input_limit s.action
+      → IfSome a.told (λ t. DoesRun s.action s.input (Ok value) t b.told))
+      → Acted lists s value a b
+  acted value inside admitted faults runs does = record {
+    done = record { well = well faults; tells = by a.told runs acts };
+    gives = gives a.told acts;
+  }
+    where
+      acts : IfSome a.told (λ t. ActsOn s.action s.input value t b.told)
+      acts = does (admitted s.action inside.action) inside.input
+
+      by : (o : Option Told) → IfSome o (λ t. IsRun (Ok value) (end_of (list_of s.action lists) s.input (device_of t)) t b.told)
+          → IfSome o (λ t. ActsOn s.action s.input value t b.told) → Over (λ t. Tells lists (s ∷ []) t b.told) o
+      by None runs acts = tt
+      by (Some t) runs acts = λ device. tells_one value t inside runs device acts
+
+      gives : (o : Option Told) → IfSome o (λ t. ActsOn s.action s.input value t b.told)
+          → Over (λ t. value ≡ answer_after s.action s.input (device_of t)) o
+      gives None acts = tt
+      gives (Some t) acts = λ device. acts.answer
+
+  -- a refusal that an admitted list doesn't come to
+  pub never : (why : RunRefused) → Inside s → IsAdmittedTable lists → b.faults ≡ a.faults
+      → ((t : Told) → DoesRun s.action s.input (Err why) t b.told → ⊥)
+      → (IsAdmitted s.action (list_of s.action lists) → s.input < input_limit s.action
+      → IfSome a.told (λ t. DoesRun s.action s.input (Err why) t b.told))
+      → Never (λ d. s ∷ []) a b
+  never why inside admitted faults none does = record { well = well faults; never = by a.told (does (admitted s.action inside.action) inside.input) }
+    where
+      by : (o : Option Told) → IfSome o (λ t. DoesRun s.action s.input (Err why) t b.told) → Over (λ t. ⊥) o
+      by None acts = tt
+      by (Some t) acts = λ device. none t acts

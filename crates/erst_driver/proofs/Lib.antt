@@ -1,0 +1,9 @@
+pub mod PlanLemmas
+pub mod ActLemmas
+pub mod WaitLemmas
+pub mod FinishLemmas
+pub mod OperationLemmas
+pub mod ClearLemmas
+pub mod ReadLemmas
+pub mod ListLemmas
+pub mod WriteLemmas

@@ -1,0 +1,260 @@
+-- Actions one after another.
+use Rattle.std.proofs.Common.{◌≡◌, ◌∙◌, ℕ, zero, suc, ◌+◌, ◌<◌, ◌≤◌, List, [], ◌∷◌, ◌++◌, length, take, drop, get_or, Option, Some, None, refl, sym, ap, subst, inl, inr, arith}
+use Rattle.std.proofs.lemmas.List.{take-append-drop}
+use Rattle.std.specs.Prelude.{◌⊎◌, Result, Ok, Err}
+use Rattle.erst_store.specs.Store.{Stored}
+use Rattle.erst_store.specs.Device.{Device}
+use Rattle.erst_store.specs.DeviceLaws.{IsDevice}
+use Rattle.board_core.specs.Told.{Told, device_of}
+use Rattle.erst_interp.specs.declared.entries.Entry.{Entry}
+use Rattle.erst_interp.specs.Steps.{Seen, GoesWell, Fails}
+use Rattle.erst_interp.proofs.TouchLemmas.{well_both, well_fails, well_more, fails_more, none_made}
+use Rattle.erst_driver.specs.declared.refusals.DriverRefused.{DriverRefused}
+use Rattle.erst_driver.specs.declared.refusals.DriverRefused.TheVariants.{Register, Busy, Status, NoMemory}
+use Rattle.erst_driver.specs.declared.step.Step.{Step}
+use Rattle.erst_driver.specs.Operations.{Over, after_step, after_steps, told_by}
+use Rattle.erst_driver.specs.Steps.{Plan, ComesThrough, StoreIn, Tells, Done, FailsIn, Never, Acted, Acts, Runs, Answered, Operates}
+
+-- one plan, and then another over the device after it
+abbrev pub both_plans : Plan → Plan → Plan
+both_plans p q = λ d. p d ++ q (after_steps (p d) d)
+
+pub after_both : (one two : List Step) (d : Device) → after_steps (one ++ two) d ≡ after_steps two (after_steps one d)
+unfolding after_steps
+after_both [] two d = refl
+after_both (s ∷ one) two d = after_both one two (after_step s d)
+
+told_both : (lists : List (List Entry)) (one two : List Step) (t : Told) → told_by lists (one ++ two) t ≡ told_by lists two (told_by lists one t)
+unfolding told_by
+told_both lists [] two t = refl
+told_both lists (s ∷ one) two t = told_both lists one two _
+
+-- ---- the stores that a device comes through
+
+through_here : (steps : List Step) (d : Device) (store : List Stored) → store ≡ d.store → ComesThrough steps d store
+unfolding ComesThrough
+through_here [] d store is = is
+through_here (s ∷ steps) d store is = inl is
+
+pub through_first : (one two : List Step) (d : Device) (store : List Stored) → ComesThrough one d store → ComesThrough (one ++ two) d store
+unfolding ComesThrough
+through_first [] two d store is = through_here two d store is
+through_first (s ∷ one) two d store is = elim is [ inl here ↦ inl here | inr later ↦ inr (through_first one two (after_step s d) store later) ]
+
+through_second : (one two : List Step) (d : Device) (store : List Stored) → ComesThrough two (after_steps one d) store → ComesThrough (one ++ two) d store
+unfolding ComesThrough after_steps
+through_second [] two d store is = is
+through_second (s ∷ one) two d store is = inr (through_second one two (after_step s d) store is)
+
+-- ---- what is told
+
+pub over_at : (P : Told → Type 0) (told : Option Told) (t : Told) → Over P told → told ≡ Some t → IsDevice (device_of t) → P t
+over_at P told t over is device = subst (λ (o : Option Told). Over P o) is over device
+
+tells_both : (lists : List (List Entry)) (one : List Step) (q : Plan) (t : Told) (mid new : Option Told) → Tells lists one t mid → Over (λ u. Tells lists (q (device_of u)) u new) mid
+    → Tells lists (one ++ q (after_steps one (device_of t))) t new
+tells_both lists one q t mid new first over =
+    let u = told_by lists one t in
+    let two = q (after_steps one (device_of t)) in
+    let device : IsDevice (device_of u) = subst IsDevice (sym first.device) first.is in
+    let second : Tells lists two u new =
+    subst (λ (d : Device). Tells lists (q d) u new) first.device
+    (over_at (λ v. Tells lists (q (device_of v)) v new) mid u over first.told device) in
+    let told_is : told_by lists (one ++ two) t ≡ told_by lists two u = told_both lists one two t in
+    let device_is : after_steps two (device_of u) ≡ after_steps (one ++ two) (device_of t) =
+    ap (after_steps two) first.device ∙ sym (after_both one two (device_of t)) in
+    record {
+      told = second.told ∙ ap (λ (v : Told). Some v) (sym told_is);
+      device = ap (λ (v : Told). device_of v) told_is ∙ second.device ∙ device_is;
+      is = subst IsDevice device_is second.is;
+    }
+
+-- ---- two plans
+
+module _ (lists : List (List Entry)) (p q : Plan) (told mid : Option Told) (first : Over (λ t. Tells lists (p (device_of t)) t mid) told) where
+  store_first : (x y : List Stored) → StoreIn p told x y → StoreIn (both_plans p q) told x y
+  store_first x y is = by told is
+    where
+      by : (o : Option Told) → StoreIn p o x y → StoreIn (both_plans p q) o x y
+      by None is = tt
+      by (Some t) is = λ device. elim (is device) [ inl same ↦ inl same | inr through ↦ inr (through_first (p (device_of t)) _ (device_of t) y through) ]
+
+  store_both : (x y z : List Stored) → StoreIn p told x y → StoreIn q mid y z → StoreIn (both_plans p q) told x z
+  store_both x y z one two = by told first one
+    where
+      by : (o : Option Told) → Over (λ t. Tells lists (p (device_of t)) t mid) o → StoreIn p o x y → StoreIn (both_plans p q) o x z
+      by None first one = tt
+      by (Some t) first one = λ device.
+          (let tells : Tells lists (p (device_of t)) t mid = first device in
+          let there : IsDevice (device_of (told_by lists (p (device_of t)) t)) = subst IsDevice (sym tells.device) tells.is in
+          let next = subst (λ (o : Option Told). StoreIn q o y z) tells.told two in
+          elim (next there) [
+            | inl same ↦ subst (λ (u : List Stored). (u ≡ x) ⊎ ComesThrough (both_plans p q (device_of t)) (device_of t) u) (sym same)
+                (elim (one device) [ inl old ↦ inl old | inr through ↦ inr (through_first (p (device_of t)) _ (device_of t) y through) ])
+            | inr through ↦ inr (through_second (p (device_of t)) _ (device_of t) z
+                (subst (λ (d : Device). ComesThrough (q d) d z) tells.device through))
+          ])
+
+module _ (lists : List (List Entry)) (p q : Plan) (a b c : Seen) (one : Done lists p a b) where
+  pub well_then : GoesWell (StoreIn q b.told) b c → GoesWell (StoreIn (both_plans p q) a.told) a c
+  well_then two = well_both (StoreIn p a.told) (StoreIn (both_plans p q) a.told) (store_first lists p q a.told b.told one.tells)
+      (StoreIn q b.told) (store_both lists p q a.told b.told one.tells) a b c one.well two
+
+  pub fails_then : FailsIn q b c → FailsIn (both_plans p q) a c
+  fails_then two = well_fails (StoreIn p a.told) (StoreIn (both_plans p q) a.told) (store_first lists p q a.told b.told one.tells)
+      (StoreIn q b.told) (store_both lists p q a.told b.told one.tells) a b c one.well two
+
+  pub done_then : Done lists q b c → Done lists (both_plans p q) a c
+  done_then two = record { well = well_then two.well; tells = by a.told one.tells }
+    where
+      by : (o : Option Told) → Over (λ t. Tells lists (p (device_of t)) t b.told) o → Over (λ t. Tells lists (both_plans p q (device_of t)) t c.told) o
+      by None first = tt
+      by (Some t) first = λ device. tells_both lists (p (device_of t)) q t b.told c.told (first device) two.tells
+
+  pub never_then : Never q b c → Never (both_plans p q) a c
+  never_then two = record { well = well_then two.well; never = by a.told one.tells }
+    where
+      by : (o : Option Told) → Over (λ t. Tells lists (p (device_of t)) t b.told) o → Over (λ t. ⊥) o
+      by None first = tt
+      by (Some t) first = λ device.
+          (let tells : Tells lists (p (device_of t)) t b.told = first device in
+          over_at (λ u. ⊥) b.told (told_by lists (p (device_of t)) t) two.never tells.told (subst IsDevice (sym tells.device) tells.is))
+
+-- ---- the same of another plan
+
+module _ (lists : List (List Entry)) (p q : Plan) (a b : Seen) where
+  module _ (more : Over (λ t. (store : List Stored) → ComesThrough (p (device_of t)) (device_of t) store → ComesThrough (q (device_of t)) (device_of t) store) a.told) where
+    store_more : (x y : List Stored) → StoreIn p a.told x y → StoreIn q a.told x y
+    store_more x y is = by a.told more is
+      where
+        by : (o : Option Told) → Over (λ t. (store : List Stored) → ComesThrough (p (device_of t)) (device_of t) store → ComesThrough (q (device_of t)) (device_of t) store) o
+            → StoreIn p o x y → StoreIn q o x y
+        by None more is = tt
+        by (Some t) more is = λ device. elim (is device) [ inl same ↦ inl same | inr through ↦ inr (more device y through) ]
+
+    pub fails_as : FailsIn p a b → FailsIn q a b
+    fails_as fails = fails_more (StoreIn p a.told) (StoreIn q a.told) store_more a b fails
+
+    pub never_as : Never p a b → Never q a b
+    never_as never = record { well = well_more (StoreIn p a.told) (StoreIn q a.told) store_more a b never.well; never = never.never }
+
+  pub done_as : Over (λ t. p (device_of t) ≡ q (device_of t)) a.told → Done lists p a b → Done lists q a b
+  done_as same done = record {
+    well = well_more (StoreIn p a.told) (StoreIn q a.told) (store_more (more a.told same)) a b done.well;
+    tells = by a.told same done.tells;
+  }
+    where
+      more : (o : Option Told) → Over (λ t. p (device_of t) ≡ q (device_of t)) o
+          → Over (λ t. (store : List Stored) → ComesThrough (p (device_of t)) (device_of t) store → ComesThrough (q (device_of t)) (device_of t) store) o
+      more None same = tt
+      more (Some t) same = λ device store through. subst (λ (steps : List Step). ComesThrough steps (device_of t) store) (same device) through
+
+      by : (o : Option Told) → Over (λ t. p (device_of t) ≡ q (device_of t)) o → Over (λ t. Tells lists (p (device_of t)) t b.told) o
+          → Over (λ t. Tells lists (q (device_of t)) t b.told) o
+      by None same tells = tt
+      by (Some t) same tells = λ device. subst (λ (steps : List Step). Tells lists steps t b.told) (same device) (tells device)
+
+-- what never comes over a board that tells a device
+module _ (lists : List (List Entry)) (p : Plan) (a b : Seen) (never : Never p a b) where
+  pub never_over : (P : Told → Type 0) → Over P a.told
+  never_over P = by a.told never.never
+    where
+      by : (o : Option Told) → Over (λ t. ⊥) o → Over P o
+      by None never = tt
+      by (Some t) never = λ device. absurd (never device)
+
+  pub never_done : Done lists p a b
+  never_done = record { well = never.well; tells = never_over (λ t. Tells lists (p (device_of t)) t b.told) }
+
+-- no action at all
+pub nothing_done : (lists : List (List Entry)) (a : Seen) → Done lists (λ d. []) a a
+unfolding told_by after_steps
+nothing_done lists a = record { well = none_made (StoreIn (λ d. []) a.told) (λ x. same a.told x) a; tells = by a.told refl }
+  where
+    same : (o : Option Told) (x : List Stored) → StoreIn (λ d. []) o x x
+    same None x = tt
+    same (Some t) x = λ device. inl refl
+
+    by : (o : Option Told) → a.told ≡ o → Over (λ t. Tells lists [] t a.told) o
+    by None is = tt
+    by (Some t) is = λ device. record { told = is; device = refl; is = device }
+
+-- ---- what holds over a board that tells a device
+
+pub everywhere : (P : Told → Type 0) (o : Option Told) → ((t : Told) → P t) → Over P o
+everywhere P None holds = tt
+everywhere P (Some t) holds = λ device. holds t
+
+pub over_both : (P Q R : Told → Type 0) (o : Option Told) → Over P o → Over Q o → ((t : Told) → P t → Q t → R t) → Over R o
+over_both P Q R None p q both = tt
+over_both P Q R (Some t) p q both = λ device. both t (p device) (q device)
+
+pub over_more : (P R : Told → Type 0) (o : Option Told) → Over P o → ((t : Told) → P t → R t) → Over R o
+over_more P R None p more = tt
+over_more P R (Some t) p more = λ device. more t (p device)
+
+pub over_device : (P R : Told → Type 0) (o : Option Told) → Over P o → ((t : Told) → IsDevice (device_of t) → P t → R t) → Over R o
+over_device P R None p more = tt
+over_device P R (Some t) p more = λ device. more t device (p device)
+
+pub over_both_device : (P Q R : Told → Type 0) (o : Option Told) → Over P o → Over Q o → ((t : Told) → IsDevice (device_of t) → P t → Q t → R t) → Over R o
+over_both_device P Q R None p q both = tt
+over_both_device P Q R (Some t) p q both = λ device. both t device (p device) (q device)
+
+-- what holds of the device after a plan
+pub over_after : (lists : List (List Entry)) (p : Plan) (a b : Seen) → Done lists p a b → (Q : Device → Type 0) → Over (λ t. Q (device_of t)) b.told
+    → Over (λ t. Q (after_steps (p (device_of t)) (device_of t))) a.told
+over_after lists p a b one Q over = by a.told one.tells
+  where
+    by : (o : Option Told) → Over (λ t. Tells lists (p (device_of t)) t b.told) o → Over (λ t. Q (after_steps (p (device_of t)) (device_of t))) o
+    by None tells = tt
+    by (Some t) tells = λ device.
+        (let is : Tells lists (p (device_of t)) t b.told = tells device in
+        subst Q is.device (over_at (λ u. Q (device_of u)) b.told (told_by lists (p (device_of t)) t) over is.told (subst IsDevice (sym is.device) is.is)))
+
+-- ---- one action more, which is refused
+
+module _ (lists : List (List Entry)) (p q : Plan) (s : Step) (a b c : Seen) (one : Done lists p a b)
+    (more : Over (λ t. (store : List Stored) → ComesThrough (p (device_of t) ++ s ∷ []) (device_of t) store → ComesThrough (q (device_of t)) (device_of t) store) a.told) where
+  never_more : Never (λ d. s ∷ []) b c → Never q a c
+  never_more never = never_as lists (both_plans p (λ d. s ∷ [])) q a c more (never_then lists p (λ d. s ∷ []) a b c one never)
+
+  fails_more_so : FailsIn (λ d. s ∷ []) b c → FailsIn q a c
+  fails_more_so fails = fails_as lists (both_plans p (λ d. s ∷ [])) q a c more (fails_then lists p (λ d. s ∷ []) a b c one fails)
+
+  pub refused_in_run : (e : DriverRefused) → Acts lists s (Err e) b c → Runs lists q (Err e) a c
+  refused_in_run Register acts = fails_more_so acts
+  refused_in_run Busy acts = never_more acts
+  refused_in_run (Status code) acts = absurd acts
+  refused_in_run NoMemory acts = absurd acts
+
+  pub refused_in_operation : (answer : Device → Result (Unit {0}) DriverRefused) (e : DriverRefused) → Acts lists s (Err e) b c → Operates lists q answer (Err e) a c
+  refused_in_operation answer Register acts = fails_more_so acts
+  refused_in_operation answer Busy acts = record {
+    done = never_done lists q a c (never_more acts);
+    answers = never_over lists q a c (never_more acts) _;
+  }
+  refused_in_operation answer (Status code) acts = absurd acts
+  refused_in_operation answer NoMemory acts = absurd acts
+
+-- ---- lists of steps
+
+take_one : (i : ℕ) (z : Step) (steps : List Step) → i < length steps → take i steps ++ get_or steps i z ∷ [] ≡ take (suc i) steps
+take_one i z [] inside = absurd (omega (arith, inside))
+take_one zero z (x ∷ xs) inside = refl
+take_one (suc i) z (x ∷ xs) inside = ap (λ (ys : List Step). x ∷ ys) (take_one i z xs (omega (arith, inside)))
+
+through_part : (i : ℕ) (steps : List Step) (d : Device) (store : List Stored) → ComesThrough (take i steps) d store → ComesThrough steps d store
+through_part i steps d store is =
+    subst (λ (all : List Step). ComesThrough all d store) (take-append-drop i steps) (through_first (take i steps) (drop i steps) d store is)
+
+module _ (lists : List (List Entry)) (steps : List Step) (i : ℕ) (z : Step) (a b c : Seen) (inside : i < length steps)
+    (one : Done lists (λ d. take i steps) a b) where
+  pub one_more : (value : ℕ) → Acted lists (get_or steps i z) value b c → Done lists (λ d. take (i + 1) steps) a c
+  one_more value acted = let next : suc i ≡ i + 1 = omega arith in done_as lists (λ d. take i steps ++ get_or steps i z ∷ []) (λ d. take (i + 1) steps) a c
+      (everywhere _ a.told (λ t. take_one i z steps inside ∙ ap (λ (n : ℕ). take n steps) next))
+      (done_then lists (λ d. take i steps) (λ d. get_or steps i z ∷ []) a b c one acted.done)
+
+  pub one_refused : (e : DriverRefused) → Acts lists (get_or steps i z) (Err e) b c → Runs lists (λ d. steps) (Err e) a c
+  one_refused e acts = refused_in_run lists (λ d. take i steps) (λ d. steps) (get_or steps i z) a b c one
+      (everywhere _ a.told (λ t store through. through_part (suc i) steps (device_of t) store (rw (sym (take_one i z steps inside)) through))) e acts

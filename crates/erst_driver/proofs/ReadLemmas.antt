@@ -1,0 +1,202 @@
+-- What the actions of a read come to.
+use Rattle.std.proofs.Common.{◌≡◌, ◌∙◌, ℕ, ◌+◌, ◌-◌, ◌≤◌, Bool, true, false, ◌||◌, nat_eq, nat_lt, List, [], ◌∷◌, ◌++◌, length, Option, Some, None, refl, sym, ap, subst, inl, inr, arith, if◌then◌else◌}
+use Rattle.std.proofs.lemmas.Bool.Decides.{nat_tests}
+use Rattle.std.specs.Prelude.{◌⊎◌, replicate, is_some, Result, Ok, Err, OnOk}
+use Rattle.std.specs.List.{AllByRecursion}
+use Rattle.erst_store.specs.declared.device.Command.TheVariants.{Read}
+use Rattle.erst_store.specs.declared.device.CommandStatus.{CommandStatus}
+use Rattle.erst_store.specs.declared.device.CommandStatus.TheVariants.{Success, NotEnoughSpace, StoreEmpty, NotFound}
+use Rattle.erst_store.specs.Actions.{execute_operation, set_record_identifier, range_length}
+use Rattle.erst_store.specs.Store.{Stored, Fits, most_bytes, holds, bytes_under}
+use Rattle.erst_store.specs.Device.{Device, act, busy_device, range_with_record, after_read_of}
+use Rattle.erst_store.specs.DeviceLaws.{IsDevice}
+use Rattle.board_core.specs.Clock.{Passes, LeftNow}
+use Rattle.board_core.specs.Stop.{Left, InStore}
+use Rattle.board_core.specs.Told.{Told, device_of, Relates}
+use Rattle.erst_interp.specs.declared.entries.Entry.{Entry}
+use Rattle.erst_interp.specs.Run.{Keeps}
+use Rattle.erst_interp.specs.Steps.{Seen}
+use Rattle.erst_driver.specs.declared.refusals.DriverRefused.{DriverRefused}
+use Rattle.erst_driver.specs.declared.refusals.DriverRefused.TheVariants.{Register, Busy, NoMemory, Status as EndedWith}
+use Rattle.erst_driver.specs.Operations.{Over, is_free_in_time, actions_of, read_steps, after_steps, told_by_read}
+use Rattle.erst_driver.specs.Answers.{Answer, by_status, found_status, answer_of, answer_on_found, Gives, Leaves, LeavesStore, IsStoreIn, HasCauseIn, Stays, HoldsRecord}
+use Rattle.erst_driver.specs.Steps.{StoreIn, ComesThrough, Done, Reads, Fetched}
+use Rattle.erst_driver.proofs.PlanLemmas.{over_device, over_both_device, everywhere}
+use Rattle.erst_driver.proofs.OperationLemmas.{Carries, through_operation, store_after, range_after, answer_is, passes_at, gives_of, leaves_of, store_of, kept_of, cause_of, stops}
+
+-- ---- the record that is found
+
+flipped : (x y : ℕ) (b : Bool) → nat_eq x y ≡ b → nat_eq y x ≡ b
+flipped x y true is = grind (arith, nat_tests, is)
+flipped x y false is = grind (arith, nat_tests, is)
+
+held_is_found : (id : ℕ) (rs : List Stored) → holds id rs ≡ is_some (bytes_under id rs)
+held_is_found id [] = refl
+held_is_found id (r ∷ rs) = by (nat_eq id r.id) refl (held_is_found id rs)
+  where
+    by : (b : Bool) → nat_eq id r.id ≡ b → holds id rs ≡ is_some (bytes_under id rs) → (nat_eq id r.id || holds id rs) ≡ is_some (if nat_eq r.id id then Some r.bytes else bytes_under id rs)
+    by true is ih = rw (is, flipped id r.id true is) refl
+    by false is ih = rw (is, flipped id r.id false is) ih
+
+found_short : (id : ℕ) (rs : List Stored) (bytes : List ℕ) → AllByRecursion Fits rs → bytes_under id rs ≡ Some bytes → length bytes ≤ most_bytes
+found_short id [] bytes each is = absurd cc
+found_short id (r ∷ rs) bytes each is = by (nat_eq r.id id) is (found_short id rs bytes each.1)
+  where
+    by : (b : Bool) → (if b then Some r.bytes else bytes_under id rs) ≡ Some bytes → (bytes_under id rs ≡ Some bytes → length bytes ≤ most_bytes) → length bytes ≤ most_bytes
+    by true here ih = let same : r.bytes ≡ bytes = cc in subst (λ (bs : List ℕ). length bs ≤ most_bytes) same each.0.size
+    by false later ih = ih later
+
+-- ---- the device at EXECUTE, and what the command makes of it
+
+abbrev begun : ℕ → Device → Device
+begun id d = record d { command = Some Read; value = id; id = id; offset = 0; action = set_record_identifier }
+
+abbrev in_range : Bool → List ℕ → Device → Device
+in_range long bytes d = if long then record d { status = NotEnoughSpace } else record d { range = range_with_record d.range d.offset bytes; status = Success }
+
+abbrev read_by : Bool → Option (List ℕ) → Device → Device
+read_by empty found d = if empty then record d { status = StoreEmpty } else after_read_of d found
+
+abbrev carried : Bool → Option (List ℕ) → ℕ → Device → Device
+carried empty found id d = record (busy_device (read_by empty found (begun id d))) { action = execute_operation }
+
+-- what a buffer of the range's length holds after it
+abbrev filled : List ℕ → List ℕ
+filled bytes = bytes ++ replicate (range_length - length bytes) 0
+
+record ReadDone (d e : Device) (status : CommandStatus) (found : Option (List ℕ)) : Type 0 where
+  busy : e.busy ≡ d.slow
+  status_is : e.status ≡ status
+  store : e.store ≡ d.store
+  range : (bytes : List ℕ) → found ≡ Some bytes → status ≡ Success → e.range ≡ filled bytes
+
+filled_from : (range bytes : List ℕ) → range_with_record range 0 bytes ≡ filled bytes
+filled_from range bytes = ap (λ (n : ℕ). bytes ++ replicate (range_length - n) 0) (let e : 0 + length bytes ≡ length bytes = omega arith in e)
+
+by_cases : (id : ℕ) (d : Device) (b : Bool) (o : Option (List ℕ)) → ((bytes : List ℕ) → o ≡ Some bytes → length bytes ≤ range_length)
+    → ReadDone d (carried b o id d) (if b then StoreEmpty else (if is_some o then Success else NotFound)) o
+by_cases id d true o short = record { busy = refl; status_is = refl; store = refl; range = λ bytes is success. absurd cc }
+by_cases id d false None short = record { busy = refl; status_is = refl; store = refl; range = λ bytes is success. absurd cc }
+by_cases id d false (Some bytes) short = by (nat_lt range_length (0 + length bytes)) refl
+  where
+    by : (long : Bool) → nat_lt range_length (0 + length bytes) ≡ long
+        → ReadDone d (record (busy_device (in_range long bytes (begun id d))) { action = execute_operation }) Success (Some bytes)
+    by true is = let fits : length bytes ≤ range_length = short bytes refl in absurd (grind (arith, nat_tests, is, fits))
+    by false is = record { busy = refl; status_is = refl; store = refl; range = λ other same success. (let e : bytes ≡ other = cc in filled_from d.range bytes ∙ ap filled e) }
+
+is_carried : (id : ℕ) (d : Device) → after_steps (read_steps id) d ≡ carried (nat_eq (length d.store) 0) (bytes_under id d.store) id d
+unfolding act after_steps
+is_carried id d = refl
+
+through_read : (id : ℕ) (d : Device) (mid : List Stored) → ComesThrough (read_steps id) d mid → (mid ≡ d.store) ⊎ (mid ≡ (after_steps (read_steps id) d).store)
+unfolding act after_steps ComesThrough
+through_read id d mid is =
+    elim is [
+      | inl here ↦ inl here
+      | inr later ↦ elim later [
+        | inl here ↦ inl here
+        | inr later ↦ elim later [ inl here ↦ inl here | inr later ↦ elim later [ inl here ↦ inl here | inr last ↦ inr last ] ]
+      ]
+    ]
+
+done : (id : ℕ) (d : Device) → IsDevice d → ReadDone d (after_steps (read_steps id) d) (found_status id d.store) (bytes_under id d.store)
+done id d device =
+    let short = λ (bytes : List ℕ) (is : bytes_under id d.store ≡ Some bytes). found_short id d.store bytes device.store.each is in
+    let cases = by_cases id d (nat_eq (length d.store) 0) (bytes_under id d.store) short in
+    let status : (if nat_eq (length d.store) 0 then StoreEmpty else (if is_some (bytes_under id d.store) then Success else NotFound)) ≡ found_status id d.store =
+    ap (λ (b : Bool). if nat_eq (length d.store) 0 then StoreEmpty else (if b then Success else NotFound)) (sym (held_is_found id d.store)) in
+    subst (λ (e : Device). ReadDone d e (found_status id d.store) (bytes_under id d.store)) (sym (is_carried id d))
+    (subst (λ (status : CommandStatus). ReadDone d (carried (nat_eq (length d.store) 0) (bytes_under id d.store) id d) status (bytes_under id d.store)) status cases)
+
+pub read_carries : (id : ℕ) (d : Device) → IsDevice d → Carries (read_steps id) d (found_status id d.store) d.store
+read_carries id d device =
+    let all : ReadDone d (after_steps (read_steps id) d) (found_status id d.store) (bytes_under id d.store) = done id d device in
+    record {
+      busy = all.busy;
+      status_is = all.status_is;
+      store_is = all.store;
+      through = λ mid is. elim (through_read id d mid is) [ inl here ↦ inl here | inr there ↦ inr (there ∙ all.store) ];
+    }
+
+-- ---- what is said of a read
+
+read_answers : (id : ℕ) (d : Device) → IsDevice d → answer_of (read_steps id) d ≡ answer_on_found id d
+read_answers id d device = answer_is (read_steps id) d (found_status id d.store) d.store (read_carries id d device)
+
+pub read_stops : (id : ℕ) (told : Option Told) (old new : List Stored) → ((t : Told) → told ≡ Some t → old ≡ t.here.store)
+    → StoreIn (actions_of (read_steps id)) told old new → Stays told old new
+read_stops id None old new law is = tt
+read_stops id (Some t) old new law is = λ device. elim (is device) [
+  | inl same ↦ same
+  | inr through ↦
+      elim (through_operation (read_steps id) (device_of t) (found_status id t.here.store) t.here.store (read_carries id (device_of t) device) new through) [
+        | inl before ↦ before ∙ sym (law t refl)
+        | inr after ↦ after ∙ sym (law t refl)
+      ]
+]
+
+-- an answer is Ok only where the record was found
+abbrev Is : Answer → Answer → Type 0
+Is one other = one ≡ other
+
+not_ok : (why : DriverRefused) → Is (Ok tt) (Err why) → ⊥
+not_ok why e = cc
+
+succeeded : (b : Bool) (status : CommandStatus) → Is (Ok tt) (if b then by_status status else Err Busy) → status ≡ Success
+succeeded false status is = absurd (not_ok _ is)
+succeeded true Success is = refl
+succeeded true NotEnoughSpace is = absurd (not_ok _ is)
+succeeded true StoreEmpty is = absurd (not_ok _ is)
+succeeded true NotFound is = absurd (not_ok _ is)
+
+found_of : (empty : Bool) (o : Option (List ℕ)) → (if empty then StoreEmpty else (if is_some o then Success else NotFound)) ≡ Success → (bytes : List ℕ) × (o ≡ Some bytes)
+found_of true o is = absurd cc
+found_of false None is = absurd cc
+found_of false (Some bytes) is = (bytes, refl)
+
+holds_record : (id : ℕ) (d : Device) (buffer : List ℕ) → IsDevice d → Ok tt ≡ answer_of (read_steps id) d → buffer ≡ (after_steps (actions_of (read_steps id) d) d).range
+    → HoldsRecord id d.store buffer
+holds_record id d buffer device answer is =
+    let success : found_status id d.store ≡ Success = succeeded (is_free_in_time d.slow) (found_status id d.store) (answer ∙ read_answers id d device) in
+    let found = found_of (nat_eq (length d.store) 0) (bytes_under id d.store)
+    (ap (λ (b : Bool). if nat_eq (length d.store) 0 then StoreEmpty else (if b then Success else NotFound)) (sym (held_is_found id d.store)) ∙ success) in
+    record {
+      bytes = found.0;
+      found = found.1;
+      is = is ∙ range_after (read_steps id) d ∙ (done id d device).range found.0 found.1 success;
+    }
+
+module _ (lists : List (List Entry)) (id : ℕ) (buffer : List ℕ) (a b : Seen) where
+  pub read_gives : (result : Answer) → Reads lists (read_steps id) buffer result a b → Over (λ t. Gives result (answer_on_found id (device_of t))) a.told
+  read_gives (Ok tt) reads = over_device _ _ a.told reads.answers (λ t device is. is ∙ read_answers id (device_of t) device)
+  read_gives (Err why) reads = over_device _ _ a.told (gives_of lists (actions_of (read_steps id)) (answer_of (read_steps id)) a b (Err why) reads)
+      (λ t device is. subst (λ (x : Answer). Gives (Err why) x) (read_answers id (device_of t) device) is)
+
+  read_holds : Fetched lists (read_steps id) buffer a b → Over (λ t. HoldsRecord id t.here.store buffer) a.told
+  read_holds fetched = over_both_device _ _ _ a.told fetched.answers fetched.bytes
+      (λ t device answer bytes. holds_record id (device_of t) buffer device answer bytes)
+
+  pub read_found : (result : Answer) → Reads lists (read_steps id) buffer result a b → OnOk result (Over (λ t. HoldsRecord id t.here.store buffer) a.told)
+  read_found (Ok tt) reads = read_holds reads
+  read_found (Err why) reads = tt
+
+  kept_store : Done lists (actions_of (read_steps id)) a b → Over (λ t. IsStoreIn b.told t.here.store) a.told
+  kept_store done = over_device _ _ a.told done.tells (λ t device tells. subst (λ (o : Option Told). IsStoreIn o t.here.store) (sym tells.told)
+      (ap (λ (d : Device). d.store) tells.device ∙ store_after (read_steps id) (device_of t) (found_status id t.here.store) t.here.store (read_carries id (device_of t) device)))
+
+  pub read_store : (result : Answer) → Reads lists (read_steps id) buffer result a b → Over (λ t. LeavesStore result b.told t.here.store) a.told
+  read_store (Ok tt) reads = over_both_device _ _ _ a.told reads.told reads.here
+      (λ t device told here. subst (λ (o : Option Told). IsStoreIn o t.here.store) (sym told)
+      (ap (λ (d : Device). d.store) here ∙ store_after (read_steps id) (device_of t) (found_status id t.here.store) t.here.store (read_carries id (device_of t) device)))
+  read_store (Err Register) reads = everywhere _ a.told (λ t. tt)
+  read_store (Err Busy) reads = kept_store reads.done
+  read_store (Err (EndedWith code)) reads = kept_store reads.done
+  read_store (Err NoMemory) reads = absurd reads
+
+  read_passes : (result : Answer) → Reads lists (read_steps id) buffer result a b → Passes (InStore (StoreIn (actions_of (read_steps id)) a.told)) a.clock b.clock
+  read_passes (Ok tt) reads = reads.well.stops
+  read_passes (Err why) reads = stops lists (actions_of (read_steps id)) (answer_of (read_steps id)) a b (Err why) reads
+
+  pub read_stays : (result : Answer) → Reads lists (read_steps id) buffer result a b → ((t : Told) (left : Left) → a.told ≡ Some t → LeftNow a.clock left → left.store ≡ t.here.store)
+      → Passes (InStore (Stays a.told)) a.clock b.clock
+  read_stays result reads law = passes_at (StoreIn (actions_of (read_steps id)) a.told) (Stays a.told) a.told a.clock b.clock law (read_stops id a.told) (read_passes result reads)

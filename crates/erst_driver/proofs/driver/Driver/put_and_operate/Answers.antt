@@ -1,0 +1,8 @@
+use Rattle.erst_driver.proofs.WriteLemmas.{fill_fails, writes_then}
+use Rattle.erst_driver.proofs.driver.Driver.put_and_operate.Goals as goal
+
+pub returns : goal.returns
+returns g c = record {
+  writes = writes_then c.args.bytes.now c.args.self.now _ _ _ c.in-Ok.ensures.told c.requires c.in-Ok.ensures.bytes c.in-Ok.ensures.touches
+      c.operate.result c.operate.ensures.operates;
+}

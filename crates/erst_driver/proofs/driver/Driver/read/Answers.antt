@@ -1,0 +1,15 @@
+use Rattle.erst_driver.proofs.ReadLemmas.{read_gives, read_found, read_store, read_stays}
+use Rattle.erst_driver.proofs.driver.Driver.read.Goals as goal
+
+pub returns-clause-answers : goal.returns-clause-answers
+returns-clause-answers g c = read_gives c.args.self.now c.args.id c.operate_and_fetch.new.buf _ _ c.operate_and_fetch.result c.operate_and_fetch.ensures.reads
+
+pub returns-clause-store : goal.returns-clause-store
+returns-clause-store g c = read_store c.args.self.now c.args.id c.operate_and_fetch.new.buf _ _ c.operate_and_fetch.result c.operate_and_fetch.ensures.reads
+
+pub returns-clause-record_read : goal.returns-clause-record_read
+returns-clause-record_read g c = read_found c.args.self.now c.args.id c.operate_and_fetch.new.buf _ _ c.operate_and_fetch.result c.operate_and_fetch.ensures.reads
+
+pub returns-clause-stops : goal.returns-clause-stops
+returns-clause-stops g c = read_stays c.args.self.now c.args.id c.operate_and_fetch.new.buf _ _ c.operate_and_fetch.result c.operate_and_fetch.ensures.reads
+    (λ t left. g.met.B.Board.store_is_left c.args.board.now t left)

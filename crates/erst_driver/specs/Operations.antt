@@ -1,0 +1,108 @@
+-- The operations on the device, each as the actions that it runs one after another: ACPI 6.5,
+-- section 18.5.2, "Operations". How often a busy device is asked is this project's own.
+use Rattle.std.specs.Prelude.{ℕ, suc, ◌+◌, min, length, Bool, true, false, nat_lt, List, [], ◌∷◌, ◌++◌, replicate, Option, Some, None, Result, Ok, Err, if◌then◌else◌}
+use Rattle.erst_store.specs.Actions.{begin_write_operation, begin_read_operation, begin_clear_operation, end_operation, set_record_offset, execute_operation, check_busy_status, get_command_status, get_record_identifier, set_record_identifier, range_length}
+use Rattle.erst_store.specs.Device.{Device}
+use Rattle.erst_store.specs.DeviceLaws.{IsDevice, left_to_list}
+use Rattle.erst_store.specs.Store.{most_records}
+use Rattle.board_core.specs.declared.board.Access.TheVariants.{RangeRead, RangeWrite}
+use Rattle.board_core.specs.Told.{Told, device_of, on_device, with_access, after_range_write}
+use Rattle.erst_interp.specs.declared.entries.Entry.{Entry}
+use Rattle.erst_interp.specs.Faithful.{device_after}
+use Rattle.erst_interp.specs.Machine.{end_of}
+use Rattle.erst_interp.specs.Run.{told_after}
+use Rattle.erst_interp.specs.Table.{list_of}
+use Rattle.erst_driver.specs.declared.driver.TheConstants.{MOST_CHECKS}
+use Rattle.erst_driver.specs.declared.refusals.DriverRefused.{DriverRefused}
+use Rattle.erst_driver.specs.declared.step.Step.{Step}
+
+-- where a board tells a device
+abbrev pub Over : (Told → Type 0) → Option Told → Type 0
+Over P None = Unit {0}
+Over P (Some t) = IsDevice (device_of t) → P t
+
+-- ---- the actions of an operation
+
+abbrev pub step : ℕ → ℕ → Step
+step action input = record { action = action; input = input }
+
+abbrev pub plain : ℕ → Step
+plain action = step action 0
+
+-- how each operation goes until it is carried out
+abbrev pub clear_steps : ℕ → List Step
+clear_steps id =
+    plain begin_clear_operation ∷ step set_record_identifier id ∷ plain execute_operation ∷ []
+
+abbrev pub read_steps : ℕ → List Step
+read_steps id =
+    plain begin_read_operation ∷ step set_record_offset 0 ∷ step set_record_identifier id
+    ∷ plain execute_operation ∷ []
+
+abbrev pub write_steps : List Step
+write_steps =
+    plain begin_write_operation ∷ step set_record_offset 0 ∷ plain execute_operation ∷ []
+
+-- A device that is busy for so many answers is asked once more than that, until it answers 0. After
+-- the most checks it isn't asked on.
+abbrev pub checks : ℕ → List Step
+checks count = replicate count (plain check_busy_status)
+
+abbrev pub is_free_in_time : ℕ → Bool
+is_free_in_time busy = nat_lt busy MOST_CHECKS
+
+abbrev pub asks : ℕ → List Step
+asks busy = if is_free_in_time busy then checks (busy + 1) else checks MOST_CHECKS
+
+-- One that is free is asked for its status, and the operation is ended.
+abbrev pub ends : ℕ → List Step
+ends busy =
+    if is_free_in_time busy then plain get_command_status ∷ plain end_operation ∷ [] else []
+
+abbrev pub finishes : ℕ → List Step
+finishes busy = asks busy ++ ends busy
+
+-- Identifiers are listed to the end of the list, and then again from the first one on, until the
+-- end is told or there are as many as a store can hold.
+abbrev pub listings : ℕ → List Step
+listings count = replicate count (plain get_record_identifier)
+
+abbrev pub ids_steps : Device → List Step
+ids_steps d = listings (left_to_list d) ++ listings (min (length d.store + 1) most_records)
+
+-- ---- what they do
+
+-- the device after one action and after several
+abbrev pub after_step : Step → Device → Device
+after_step s d = device_after s.action s.input d
+
+unfoldable pub after_steps : List Step → Device → Device
+after_steps [] d = d
+after_steps (s ∷ steps) d = after_steps steps (after_step s d)
+
+-- what a board tells after the runs of the actions' lists by the machine, where no call fails
+abbrev pub told_by_step : List (List Entry) → Step → Told → Told
+told_by_step lists s t = told_after (end_of (list_of s.action lists) s.input (device_of t)).state t
+
+unfoldable pub told_by : List (List Entry) → List Step → Told → Told
+told_by lists [] t = t
+told_by lists (s ∷ steps) t = told_by lists steps (told_by_step lists s t)
+
+-- all actions of an operation that goes so, over a device
+abbrev pub actions_of : List Step → Device → List Step
+actions_of steps d = steps ++ finishes (after_steps steps d).busy
+
+-- what a board tells after a read: where it ended well, the range was read too
+abbrev pub told_by_read : List (List Entry) → ℕ → Result (Unit {0}) DriverRefused → Told → Told
+told_by_read lists id (Ok done) t =
+    with_access (RangeRead 0 range_length) (told_by lists (actions_of (read_steps id) (device_of t)) t)
+told_by_read lists id (Err why) t = told_by lists (actions_of (read_steps id) (device_of t)) t
+
+-- what a board tells after bytes were written into the range, and after a write of them
+abbrev pub put_in_range : List ℕ → Told → Told
+put_in_range bytes t =
+    with_access (RangeWrite 0 (length bytes)) (on_device (after_range_write 0 bytes) t)
+
+abbrev pub told_by_write : List (List Entry) → List ℕ → Told → Told
+told_by_write lists bytes t =
+    told_by lists (actions_of write_steps (device_of (put_in_range bytes t))) (put_in_range bytes t)

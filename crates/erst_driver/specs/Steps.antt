@@ -1,0 +1,161 @@
+-- Only for proofs: what private functions say of the actions that they run.
+use Rattle.std.specs.Prelude.{◌≡◌, ℕ, ◌<◌, ◌≤◌, ◌⊎◌, min, take, drop, List, [], ◌∷◌, Option, Some, None, Result, Ok, Err}
+use Rattle.std.specs.List.{AllByRecursion}
+use Rattle.erst_store.specs.Actions.{get_record_count, range_length}
+use Rattle.erst_store.specs.Store.{Stored, most_records, ids}
+use Rattle.erst_store.specs.Device.{Device}
+use Rattle.erst_store.specs.DeviceLaws.{IsDevice, left_to_list}
+use Rattle.board_core.specs.declared.board.Access.TheVariants.{RangeRead}
+use Rattle.board_core.specs.Told.{Told, device_of, with_access}
+use Rattle.erst_interp.specs.declared.entries.Entry.{Entry}
+use Rattle.erst_interp.specs.Faithful.{input_limit, answer_after}
+use Rattle.erst_interp.specs.Steps.{Seen, GoesWell, Fails}
+use Rattle.erst_driver.specs.declared.refusals.DriverRefused.{DriverRefused}
+use Rattle.erst_driver.specs.declared.refusals.DriverRefused.TheVariants.{Register, Busy, NoMemory}
+use Rattle.erst_driver.specs.declared.step.Step.{Step}
+use Rattle.erst_driver.specs.Operations.{Over, after_step, after_steps, actions_of, write_steps, listings, ids_steps, told_by, put_in_range}
+use Rattle.erst_driver.specs.Answers.{answer_of}
+
+-- an action that an admitted table does, with an input that it takes
+pub record Inside (s : Step) : Type 0 where
+  pub action : s.action ≤ get_record_count
+  pub input : s.input < input_limit s.action
+
+abbrev pub AreInside : List Step → Type 0
+AreInside steps = AllByRecursion Inside steps
+
+-- a plan: the actions that are to be run over a device
+abbrev pub Plan : Type 0
+Plan = Device → List Step
+
+-- the record stores that a device comes through
+unfoldable pub ComesThrough : List Step → Device → List Stored → Type 0
+ComesThrough [] d store = store ≡ d.store
+ComesThrough (s ∷ steps) d store = (store ≡ d.store) ⊎ ComesThrough steps (after_step s d) store
+
+abbrev pub StoreIn : Plan → Option Told → List Stored → List Stored → Type 0
+StoreIn plan None old new = Unit {0}
+StoreIn plan (Some t) old new = IsDevice (device_of t) → (new ≡ old) ⊎ ComesThrough (plan (device_of t)) (device_of t) new
+
+-- what is told after actions that were done
+pub record Tells (lists : List (List Entry)) (steps : List Step) (t : Told) (new : Option Told) : Type 0 where
+  pub told : new ≡ Some (told_by lists steps t)
+  pub device : device_of (told_by lists steps t) ≡ after_steps steps (device_of t)
+  pub is : IsDevice (after_steps steps (device_of t))
+
+-- A plan was done, and no call failed; or a call failed on the way.
+pub record Done (lists : List (List Entry)) (plan : Plan) (old new : Seen) : Type 0 where
+  pub well : GoesWell (StoreIn plan old.told) old new
+  pub tells : Over (λ t. Tells lists (plan (device_of t)) t new.told) old.told
+
+abbrev pub FailsIn : Plan → Seen → Seen → Type 0
+FailsIn plan old new = Fails (StoreIn plan old.told) old new
+
+-- a refusal that doesn't come over a board that tells a device
+pub record Never (plan : Plan) (old new : Seen) : Type 0 where
+  pub well : GoesWell (StoreIn plan old.told) old new
+  pub never : Over (λ t. ⊥) old.told
+
+-- one action, with its answer
+pub record Acted (lists : List (List Entry)) (s : Step) (value : ℕ) (old new : Seen) : Type 0 where
+  pub done : Done lists (λ d. s ∷ []) old new
+  pub gives : Over (λ t. value ≡ answer_after s.action s.input (device_of t)) old.told
+
+abbrev pub Acts : List (List Entry) → Step → Result ℕ DriverRefused → Seen → Seen → Type 0
+Acts lists s (Ok value) old new = Acted lists s value old new
+Acts lists s (Err Register) old new = FailsIn (λ d. s ∷ []) old new
+Acts lists s (Err Busy) old new = Never (λ d. s ∷ []) old new
+Acts lists s (Err why) old new = ⊥
+
+-- several actions
+abbrev pub Runs : List (List Entry) → Plan → Result (Unit {0}) DriverRefused → Seen → Seen → Type 0
+Runs lists plan (Ok done) old new = Done lists plan old new
+Runs lists plan (Err Register) old new = FailsIn plan old new
+Runs lists plan (Err Busy) old new = Never plan old new
+Runs lists plan (Err why) old new = ⊥
+
+-- a plan that was done to its end, with this answer over a board that tells a device
+pub record Answered (lists : List (List Entry)) (plan : Plan) (answer : Device → Result (Unit {0}) DriverRefused) (result : Result (Unit {0}) DriverRefused) (old new : Seen) : Type 0 where
+  pub done : Done lists plan old new
+  pub answers : Over (λ t. result ≡ answer (device_of t)) old.told
+
+abbrev pub Operates : List (List Entry) → Plan → (Device → Result (Unit {0}) DriverRefused) → Result (Unit {0}) DriverRefused → Seen → Seen → Type 0
+Operates lists plan answer (Err Register) old new = FailsIn plan old new
+Operates lists plan answer (Err NoMemory) old new = ⊥
+Operates lists plan answer result old new = Answered lists plan answer result old new
+
+-- an operation that was done, and a read of the range after it
+pub record Fetched (lists : List (List Entry)) (steps : List Step) (buffer : List ℕ) (old new : Seen) : Type 0 where
+  pub well : GoesWell (StoreIn (actions_of steps) old.told) old new
+  pub told : Over (λ t. new.told ≡ Some (with_access (RangeRead 0 range_length) (told_by lists (actions_of steps (device_of t)) t))) old.told
+  pub here : Over (λ t. device_of (told_by lists (actions_of steps (device_of t)) t) ≡ after_steps (actions_of steps (device_of t)) (device_of t)) old.told
+  pub answers : Over (λ t. Ok tt ≡ answer_of steps (device_of t)) old.told
+  pub bytes : Over (λ t. buffer ≡ (after_steps (actions_of steps (device_of t)) (device_of t)).range) old.told
+
+abbrev pub Reads : List (List Entry) → List Step → List ℕ → Result (Unit {0}) DriverRefused → Seen → Seen → Type 0
+Reads lists steps buffer (Ok done) old new = Fetched lists steps buffer old new
+Reads lists steps buffer (Err why) old new = Operates lists (actions_of steps) (answer_of steps) (Err why) old new
+
+-- ---- listings
+
+-- the record store stays, or is what was told
+abbrev pub Quietly : Option Told → List Stored → List Stored → Type 0
+Quietly None old new = Unit {0}
+Quietly (Some t) old new = IsDevice (device_of t) → (new ≡ old) ⊎ (new ≡ t.here.store)
+
+-- a listing that came to its end
+pub record EndsListing (lists : List (List Entry)) (old new : Seen) : Type 0 where
+  pub done : Done lists (λ d. listings (left_to_list d)) old new
+  pub cursor : Over (λ t. (after_steps (listings (left_to_list (device_of t))) (device_of t)).cursor ≡ 0) old.told
+  pub store : Over (λ t. (after_steps (listings (left_to_list (device_of t))) (device_of t)).store ≡ t.here.store) old.told
+
+abbrev pub ListsOut : List (List Entry) → Result (Unit {0}) DriverRefused → Seen → Seen → Type 0
+ListsOut lists (Ok done) old new = EndsListing lists old new
+ListsOut lists (Err Register) old new = Fails (Quietly old.told) old new
+ListsOut lists (Err Busy) old new = GoesWell (Quietly old.told) old new × Over (λ t. ⊥) old.told
+ListsOut lists (Err why) old new = ⊥
+
+-- identifiers that were collected
+pub record Collected (lists : List (List Entry)) (found : List ℕ) (old new : Seen) : Type 0 where
+  pub done : Done lists (λ d. listings (min (left_to_list d) most_records)) old new
+  pub found_is : Over (λ t. found ≡ take most_records (drop (device_of t).cursor (ids t.here.store))) old.told
+
+abbrev pub Collects : {X : Type 0} → (X → List ℕ) → List (List Entry) → Result X DriverRefused → Seen → Seen → Type 0
+Collects view lists (Ok found) old new = Collected lists (view found) old new
+Collects view lists (Err Register) old new = Fails (Quietly old.told) old new
+Collects view lists (Err Busy) old new = GoesWell (Quietly old.told) old new × Over (λ t. ⊥) old.told
+Collects view lists (Err NoMemory) old new = GoesWell (Quietly old.told) old new
+Collects view lists (Err why) old new = ⊥
+
+-- all identifiers of a store
+pub record ListedAll (lists : List (List Entry)) (found : List ℕ) (old new : Seen) : Type 0 where
+  pub done : Done lists ids_steps old new
+  pub found_is : Over (λ t. found ≡ ids t.here.store) old.told
+
+abbrev pub ListsAll : {X : Type 0} → (X → List ℕ) → List (List Entry) → Result X DriverRefused → Seen → Seen → Type 0
+ListsAll view lists (Ok found) old new = ListedAll lists (view found) old new
+ListsAll view lists (Err Register) old new = Fails (Quietly old.told) old new
+ListsAll view lists (Err Busy) old new = GoesWell (Quietly old.told) old new × Over (λ t. ⊥) old.told
+ListsAll view lists (Err NoMemory) old new = GoesWell (Quietly old.told) old new
+ListsAll view lists (Err why) old new = ⊥
+
+-- ---- writes
+
+-- the record store stays, or is one that the device comes through once these bytes are in the range
+abbrev pub StoreInWrite : List ℕ → Option Told → List Stored → List Stored → Type 0
+StoreInWrite bytes None old new = Unit {0}
+StoreInWrite bytes (Some t) old new =
+    IsDevice (device_of t)
+    → (new ≡ old)
+    ⊎ ComesThrough (actions_of write_steps (device_of (put_in_range bytes t))) (device_of (put_in_range bytes t)) new
+
+-- bytes were written into the range, and a write was done
+pub record Written (lists : List (List Entry)) (bytes : List ℕ) (result : Result (Unit {0}) DriverRefused) (old new : Seen) : Type 0 where
+  pub well : GoesWell (StoreInWrite bytes old.told) old new
+  pub tells : Over (λ t. Tells lists (actions_of write_steps (device_of (put_in_range bytes t))) (put_in_range bytes t) new.told) old.told
+  pub answers : Over (λ t. result ≡ answer_of write_steps (device_of (put_in_range bytes t))) old.told
+
+abbrev pub Writes : List (List Entry) → List ℕ → Result (Unit {0}) DriverRefused → Seen → Seen → Type 0
+Writes lists bytes (Err Register) old new = Fails (StoreInWrite bytes old.told) old new
+Writes lists bytes (Err NoMemory) old new = ⊥
+Writes lists bytes result old new = Written lists bytes result old new

@@ -1,0 +1,424 @@
+//! The operations on the record store.
+
+ghost use Rattle.std.specs.Prelude.{◌≡◌, ◌≤◌, ◌<◌, length, take, drop, Some, IfSome, IfOk, OnOk};
+ghost use Rattle.board_core.specs.Clock.{Passes};
+ghost use Rattle.board_core.specs.Stop.{InStore};
+ghost use Rattle.board_core.specs.Told.{Relates, Steps, device_of, with_access};
+ghost use Rattle.board_core.specs.declared.board.Access.TheVariants.{RangeRead};
+ghost use Rattle.erst_store.specs.Actions.{range_length};
+ghost use Rattle.erst_interp.specs.Steps.{Touches, Stays as Unchanged};
+ghost use Rattle.ras_base.specs.LittleEndian.{AreBytes, number_at};
+ghost use Rattle.erst_store.specs.Device.{header_length, length_place};
+ghost use Rattle.erst_store.specs.Store.{ids, without};
+ghost use Rattle.erst_interp.specs.Admission.{IsAdmittedTable};
+ghost use Rattle.erst_interp.specs.Run.{Keeps};
+ghost use Rattle.erst_driver.specs.Operations.{Over, actions_of, asks, finishes, clear_steps, ids_steps, told_by, told_by_read, told_by_write, put_in_range};
+ghost use Rattle.erst_driver.specs.Answers.{answer_within, answer_at, answer_of, answer_on_found, Gives, Leaves, LeavesStore, HasCauseIn, Clears, Stays, HoldsRecord, IsMemoryOnly, written_id, answer_on_put, store_after_write, Puts};
+ghost use Rattle.erst_driver.specs.Steps.{Inside, AreInside, Acts, Runs, Operates, Reads, ListsOut, Collects, ListsAll, Writes};
+
+use crate::refusals::DriverRefused;
+use crate::step::Step;
+use board_core::{Board, Failed};
+use erst_interp::{RunRefused, Table};
+use erst_store::MOST_RECORDS;
+use erst_store::actions::{
+    BEGIN_CLEAR_OPERATION, BEGIN_READ_OPERATION, BEGIN_WRITE_OPERATION, CHECK_BUSY_STATUS,
+    END_OPERATION, EXECUTE_OPERATION, GET_COMMAND_STATUS, GET_RECORD_IDENTIFIER,
+    SET_RECORD_IDENTIFIER, SET_RECORD_OFFSET,
+};
+use std::alloc::Global;
+use std::marker::Model;
+
+/// How often a busy device is asked in one operation.
+pub const MOST_CHECKS: u32 = 1000;
+
+// How often identifiers are listed until the end of a list is told: once more than a store has
+// records.
+const MOST_LISTINGS: usize = MOST_RECORDS + 1;
+
+// What is listed at the end.
+const NO_RECORD: u64 = u64::MAX;
+
+/// A driver of the device of a board, by an admitted table.
+#[derive(Drop)]
+pub struct Driver {
+    table: Table,
+}
+
+impl Model for Driver {
+    ghost use Rattle.std.specs.Prelude.{List};
+    ghost use Rattle.erst_interp.specs.declared.entries.Entry.{Entry};
+    ghost use Rattle.erst_interp.specs.Admission.{IsAdmittedTable};
+
+    ghost Value = { List (List Entry) };
+
+    ghost view = { λ d. d.table };
+
+    ghost invariant = { λ d. IsAdmittedTable d.table };
+}
+
+impl Driver {
+    /// The driver of an admitted table.
+    pub fn new(table: Table) -> Driver
+        requires { IsAdmittedTable table }
+        ensures { result ≡ table }
+    {
+        Driver { table }
+    }
+
+    /// Removes the record under an identifier from the store, and no other. (ACPI 6.5, section
+    /// 18.5.2.3, "Clearing".)
+    ///
+    /// `Register` comes only where a call of the board failed, which is then the last one. `Busy`
+    /// comes where the device was busy at `MOST_CHECKS` checks, the last of which is then the last
+    /// action; the record is removed even so. `Status` comes after the operation was ended: 4
+    /// where the store is empty, and 5 where it has no such record.
+    ///
+    /// At each moment a stop leaves the store as it was or without the record, and all else as it
+    /// was.
+    pub fn clear<B: Board>(&self, id: u64, board: &mut B) -> Result<(), DriverRefused>
+        ensures answers { Over (λ t. Gives result (answer_on_found id (device_of t)))
+            (B.told board.old) }
+        ensures store { Over (λ t. LeavesStore result (B.told board.new) (without id t.here.store))
+            (B.told board.old) }
+        ensures told { Over (λ t. Leaves result (B.told board.new)
+            (told_by self.now (actions_of (clear_steps id) (device_of t)) t)) (B.told board.old) }
+        ensures kept { Relates Keeps (B.told board.old) (B.told board.new) }
+        ensures stops { Passes (InStore (Clears id (B.told board.old))) (B.clock board.old)
+            (B.clock board.new) }
+        ensures cause { HasCauseIn result (B.faults board.old) (B.faults board.new) }
+    {
+        let steps = [
+            Step {
+                action: BEGIN_CLEAR_OPERATION,
+                input: 0,
+            },
+            Step {
+                action: SET_RECORD_IDENTIFIER,
+                input: id,
+            },
+            Step {
+                action: EXECUTE_OPERATION,
+                input: 0,
+            },
+        ];
+        self.operate(&steps, board)
+    }
+
+    /// Reads the record under an identifier into a buffer of `RANGE_LENGTH` bytes, which then
+    /// holds the record and zeros after it. (ACPI 6.5, section 18.5.2.2, "Reading".) The range is
+    /// read by one call after the operation was ended.
+    ///
+    /// `Register` comes only where a call of the board failed, which is then the last one. `Busy`
+    /// comes where the device was busy at `MOST_CHECKS` checks, the last of which is then the last
+    /// action. `Status` comes after the operation was ended: 4 where the store is empty, and 5
+    /// where it has no such record. At each moment a stop leaves all as it was.
+    pub fn read<B: Board>(
+        &self,
+        id: u64,
+        buf: &mut [u8],
+        board: &mut B,
+    ) -> Result<(), DriverRefused>
+        requires { length buf.old ≡ range_length }
+        ensures answers { Over (λ t. Gives result (answer_on_found id (device_of t)))
+            (B.told board.old) }
+        ensures record_read { OnOk result
+            (Over (λ t. HoldsRecord id t.here.store buf.new) (B.told board.old)) }
+        ensures store { Over (λ t. LeavesStore result (B.told board.new) t.here.store)
+            (B.told board.old) }
+        ensures told { Over
+            (λ t. Leaves result (B.told board.new) (told_by_read self.now id result t))
+            (B.told board.old) }
+        ensures kept { Relates Keeps (B.told board.old) (B.told board.new) }
+        ensures stops { Passes (InStore (Stays (B.told board.old))) (B.clock board.old)
+            (B.clock board.new) }
+        ensures cause { HasCauseIn result (B.faults board.old) (B.faults board.new) }
+    {
+        let steps = [
+            Step {
+                action: BEGIN_READ_OPERATION,
+                input: 0,
+            },
+            Step {
+                action: SET_RECORD_OFFSET,
+                input: 0,
+            },
+            Step {
+                action: SET_RECORD_IDENTIFIER,
+                input: id,
+            },
+            Step {
+                action: EXECUTE_OPERATION,
+                input: 0,
+            },
+        ];
+        self.operate_and_fetch(&steps, buf, board)
+    }
+
+    /// Puts a record into the store, under the identifier in its header, and leaves all others.
+    /// (ACPI 6.5, section 18.5.2.1, "Writing".) It has 128 to `RANGE_LENGTH` bytes, and its header
+    /// says how many.
+    ///
+    /// `Register` comes only where a call of the board failed, which is then the last one. `Busy`
+    /// comes where the device was busy at `MOST_CHECKS` checks, the last of which is then the last
+    /// action; the record is put even so. `Status` comes after the operation was ended: 1 where
+    /// the identifier is 0 or all ones, or the store is full and has no record under it.
+    ///
+    /// At each moment a stop leaves the store as it was or with the record, and all else as it
+    /// was.
+    pub fn write<B: Board>(&self, bytes: &[u8], board: &mut B) -> Result<(), DriverRefused>
+        requires long { header_length ≤ length bytes.now }
+        requires short { length bytes.now ≤ range_length }
+        requires whole { number_at length_place 4 bytes.now ≡ length bytes.now }
+        ensures answers { Over
+            (λ t. Gives result (answer_on_put (written_id bytes.now) (device_of t)))
+            (B.told board.old) }
+        ensures store { Over
+            (λ t. LeavesStore result (B.told board.new) (store_after_write bytes.now t.here.store))
+            (B.told board.old) }
+        ensures told { Over
+            (λ t. Leaves result (B.told board.new) (told_by_write self.now bytes.now t))
+            (B.told board.old) }
+        ensures kept { Relates Keeps (B.told board.old) (B.told board.new) }
+        ensures stops { Passes (InStore (Puts bytes.now (B.told board.old))) (B.clock board.old)
+            (B.clock board.new) }
+        ensures cause { HasCauseIn result (B.faults board.old) (B.faults board.new) }
+    {
+        self.put_and_operate(bytes, board)
+    }
+
+    // Writes a record into the range, and then does a write.
+    fn put_and_operate<B: Board>(&self, bytes: &[u8], board: &mut B) -> Result<(), DriverRefused>
+        requires { length bytes.now ≤ range_length }
+        ensures writes { Writes self.now bytes.now result
+            (record { told = B.told board.old; clock = B.clock board.old; faults = B.faults board.old })
+            (record { told = B.told board.new; clock = B.clock board.new; faults = B.faults board.new }) }
+    {
+        match fill(bytes, board) {
+            Ok(()) => {}
+            Err(Failed) => return Err(DriverRefused::Register),
+        }
+        let steps = [
+            Step {
+                action: BEGIN_WRITE_OPERATION,
+                input: 0,
+            },
+            Step {
+                action: SET_RECORD_OFFSET,
+                input: 0,
+            },
+            Step {
+                action: EXECUTE_OPERATION,
+                input: 0,
+            },
+        ];
+        self.operate(&steps, board)
+    }
+
+    // Does an operation, and copies the range into a buffer where it ended well.
+    fn operate_and_fetch<B: Board>(
+        &self,
+        steps: &[Step],
+        buf: &mut [u8],
+        board: &mut B,
+    ) -> Result<(), DriverRefused>
+        requires inside { AreInside steps.now }
+        requires buffer { length buf.old ≡ range_length }
+        ensures reads { Reads self.now steps.now buf.new result
+            (record { told = B.told board.old; clock = B.clock board.old; faults = B.faults board.old })
+            (record { told = B.told board.new; clock = B.clock board.new; faults = B.faults board.new }) }
+    {
+        self.operate(steps, board)?;
+        match fetch(buf, board) {
+            Ok(()) => Ok(()),
+            Err(Failed) => Err(DriverRefused::Register),
+        }
+    }
+
+    /// The identifiers of the records, in the store's order. (ACPI 6.5, section 18.5.2.2,
+    /// "Reading".) They are listed to the end of the list first, wherever a listing stood, and then
+    /// from the first one on.
+    ///
+    /// `Register` comes only where a call of the board failed, which is then the last one, and
+    /// `NoMemory` only for want of memory. Over a board that tells, no other refusal comes. At each
+    /// moment a stop leaves all as it was.
+    pub fn ids<B: Board>(&self, alloc: Global, board: &mut B) -> Result<Vec<u64>, DriverRefused>
+        ensures ids { IfOk result (λ found. Over (λ t. found.items
+            ≡ ids t.here.store) (B.told board.old)) }
+        ensures told { IfOk result (λ found. Over (λ t. B.told board.new
+            ≡ Some (told_by self.now (ids_steps (device_of t)) t))
+            (B.told board.old)) }
+        ensures refused { Over (λ t. IsMemoryOnly result) (B.told board.old) }
+        ensures kept { Relates Keeps (B.told board.old) (B.told board.new) }
+        ensures stops { Passes (InStore (Stays (B.told board.old))) (B.clock board.old)
+            (B.clock board.new) }
+        ensures cause { HasCauseIn result (B.faults board.old) (B.faults board.new) }
+    {
+        self.list_all(alloc, board)
+    }
+
+    // Lists identifiers to the end, and then collects them.
+    fn list_all<B: Board>(&self, alloc: Global, board: &mut B) -> Result<Vec<u64>, DriverRefused>
+        ensures all { ListsAll (λ v. v.items) self.now result
+            (record { told = B.told board.old; clock = B.clock board.old; faults = B.faults board.old })
+            (record { told = B.told board.new; clock = B.clock board.new; faults = B.faults board.new }) }
+    {
+        self.list_to_end(board)?;
+        self.collect(alloc, board)
+    }
+
+    // Lists identifiers until the end of the list is told.
+    fn list_to_end<B: Board>(&self, board: &mut B) -> Result<(), DriverRefused>
+        ensures lists { ListsOut self.now result
+            (record { told = B.told board.old; clock = B.clock board.old; faults = B.faults board.old })
+            (record { told = B.told board.new; clock = B.clock board.new; faults = B.faults board.new }) }
+    {
+        for _ in 0..MOST_LISTINGS {
+            let list = Step {
+                action: GET_RECORD_IDENTIFIER,
+                input: 0,
+            };
+            if self.act(list, board)? == NO_RECORD {
+                return Ok(());
+            }
+        }
+        Ok(())
+    }
+
+    // Collects identifiers from the cursor on, until the end of the list is told or there are as
+    // many as a store can hold.
+    fn collect<B: Board>(&self, alloc: Global, board: &mut B) -> Result<Vec<u64>, DriverRefused>
+        ensures collects { Collects (λ v. v.items) self.now result
+            (record { told = B.told board.old; clock = B.clock board.old; faults = B.faults board.old })
+            (record { told = B.told board.new; clock = B.clock board.new; faults = B.faults board.new }) }
+    {
+        let mut found = Vec::new(alloc);
+        for _ in 0..MOST_RECORDS {
+            let list = Step {
+                action: GET_RECORD_IDENTIFIER,
+                input: 0,
+            };
+            let id = self.act(list, board)?;
+            if id == NO_RECORD {
+                return Ok(found);
+            }
+            match found.push(id) {
+                Ok(()) => {}
+                Err(_) => return Err(DriverRefused::NoMemory),
+            }
+        }
+        Ok(found)
+    }
+
+    // Runs the list of an action.
+    fn act<B: Board>(&self, step: Step, board: &mut B) -> Result<u64, DriverRefused>
+        requires { Inside step }
+        ensures acts { Acts self.now step result
+            (record { told = B.told board.old; clock = B.clock board.old; faults = B.faults board.old })
+            (record { told = B.told board.new; clock = B.clock board.new; faults = B.faults board.new }) }
+    {
+        match self.table.run(step.action as u8, step.input, board) {
+            Ok(value) => Ok(value),
+            Err(RunRefused::Register) => Err(DriverRefused::Register),
+            // An admitted table comes to no other refusal.
+            Err(_) => Err(DriverRefused::Busy),
+        }
+    }
+
+    // Runs the lists of several actions, one after another.
+    fn run_steps<B: Board>(&self, steps: &[Step], board: &mut B) -> Result<(), DriverRefused>
+        requires { AreInside steps.now }
+        ensures runs { Runs self.now (λ d. steps.now) result
+            (record { told = B.told board.old; clock = B.clock board.old; faults = B.faults board.old })
+            (record { told = B.told board.new; clock = B.clock board.new; faults = B.faults board.new }) }
+    {
+        for step in steps {
+            self.act(*step, board)?;
+        }
+        Ok(())
+    }
+
+    // Asks the device until it isn't busy.
+    fn wait<B: Board>(&self, board: &mut B) -> Result<(), DriverRefused>
+        ensures waits { Operates self.now (λ d. asks d.busy) (λ d. answer_within d.busy) result
+            (record { told = B.told board.old; clock = B.clock board.old; faults = B.faults board.old })
+            (record { told = B.told board.new; clock = B.clock board.new; faults = B.faults board.new }) }
+    {
+        for _ in 0..MOST_CHECKS {
+            let check = Step {
+                action: CHECK_BUSY_STATUS,
+                input: 0,
+            };
+            if self.act(check, board)? == 0 {
+                return Ok(());
+            }
+        }
+        Err(DriverRefused::Busy)
+    }
+
+    // Asks the device that carried out a command until it isn't busy, and then for its status, and
+    // ends the operation.
+    fn finish<B: Board>(&self, board: &mut B) -> Result<(), DriverRefused>
+        ensures finishes { Operates self.now (λ d. finishes d.busy) answer_at result
+            (record { told = B.told board.old; clock = B.clock board.old; faults = B.faults board.old })
+            (record { told = B.told board.new; clock = B.clock board.new; faults = B.faults board.new }) }
+    {
+        self.wait(board)?;
+        let ask = Step {
+            action: GET_COMMAND_STATUS,
+            input: 0,
+        };
+        let status = self.act(ask, board)?;
+        let end = Step {
+            action: END_OPERATION,
+            input: 0,
+        };
+        self.act(end, board)?;
+        if status == 0 {
+            Ok(())
+        } else {
+            Err(DriverRefused::Status(status))
+        }
+    }
+
+    // Runs the actions of an operation until it is carried out, and finishes it.
+    fn operate<B: Board>(&self, steps: &[Step], board: &mut B) -> Result<(), DriverRefused>
+        requires { AreInside steps.now }
+        ensures operates { Operates self.now (actions_of steps.now) (answer_of steps.now) result
+            (record { told = B.told board.old; clock = B.clock board.old; faults = B.faults board.old })
+            (record { told = B.told board.new; clock = B.clock board.new; faults = B.faults board.new }) }
+    {
+        self.run_steps(steps, board)?;
+        self.finish(board)
+    }
+}
+
+// Copies the range into a buffer.
+fn fetch<B: Board>(buf: &mut [u8], board: &mut B) -> Result<(), Failed>
+    requires { length buf.old ≡ range_length }
+    ensures read { OnOk result (IfSome (B.told board.old) (λ t. buf.new ≡ take (length buf.old) (drop 0 (device_of t).range))) }
+    ensures told { OnOk result (Steps (with_access (RangeRead 0 (length buf.old))) (B.told board.old) (B.told board.new)) }
+    ensures touches { Touches Unchanged result
+        (record { told = B.told board.old; clock = B.clock board.old; faults = B.faults board.old })
+        (record { told = B.told board.new; clock = B.clock board.new; faults = B.faults board.new }) }
+{
+    match board.range_read(0, buf) {
+        Ok(()) => Ok(()),
+        Err(Failed) => Err(Failed),
+    }
+}
+
+// Writes bytes into the front of the range.
+fn fill<B: Board>(bytes: &[u8], board: &mut B) -> Result<(), Failed>
+    requires { length bytes.now ≤ range_length }
+    ensures told { OnOk result (Steps (put_in_range bytes.now) (B.told board.old) (B.told board.new)) }
+    ensures touches { Touches Unchanged result
+        (record { told = B.told board.old; clock = B.clock board.old; faults = B.faults board.old })
+        (record { told = B.told board.new; clock = B.clock board.new; faults = B.faults board.new }) }
+    ensures bytes { AreBytes bytes.now }
+{
+    match board.range_write(0, bytes) {
+        Ok(()) => Ok(()),
+        Err(Failed) => Err(Failed),
+    }
+}

@@ -1,0 +1,10 @@
+//! The driver of the error record device: it clears, reads, writes and lists the records of its
+//! store, by the actions of an admitted table. It follows ACPI 6.5, section 18.5.2, "Operations".
+#![tactic(auto)]
+
+mod driver;
+mod refusals;
+mod step;
+
+pub use driver::Driver;
+pub use refusals::DriverRefused;
