@@ -1,3 +1,4 @@
 pub mod Runs
 pub mod Panics
+pub mod Reports
 pub mod Reading

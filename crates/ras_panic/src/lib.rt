@@ -5,11 +5,16 @@
 //! such a record has one name.
 #![tactic(auto)]
 
+mod laws;
 mod making;
 mod places;
 mod reading;
 mod stored;
 
+pub use laws::{reports_are_held, reports_are_read_back};
 pub use making::{PanicRefused, panic_record};
 pub use reading::panic_of;
 pub use stored::fact_of_stored;
+
+#[cfg(test)]
+mod tests;

@@ -1,4 +1,6 @@
 pub mod Detail
+pub mod Sections
 pub mod Text
+pub mod Reports
 pub mod Orders
 pub mod OrderRoom

@@ -19,9 +19,16 @@ pub fn bank_detail(alloc: Global, bank: &BankReport) -> Result<Vec<u8>, NoMemory
     ensures { IfOk result (λ text. text.items ≡ bank_detail bank.now) }
 {
     let mut text = Vec::new(alloc);
-    push_error(alloc, &mut text, Cap(bank.cap), Status(bank.status))?;
-    push_flags(&mut text, GlobalStatus(bank.mcg))?;
+    push_bank(alloc, &mut text, bank)?;
     Ok(text)
+}
+
+/// Adds what a bank's registers tell beside the class, the weight and the page.
+pub fn push_bank(alloc: Global, text: &mut Vec<u8>, bank: &BankReport) -> Result<(), NoMemory>
+    ensures { OnOk result (text.new.items ≡ text.old.items ++ bank_detail bank.now) }
+{
+    push_error(alloc, text, Cap(bank.cap), Status(bank.status))?;
+    push_flags(text, GlobalStatus(bank.mcg))
 }
 
 // Adds what an error's registers tell.

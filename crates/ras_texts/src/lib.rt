@@ -7,9 +7,15 @@ mod ends;
 mod log;
 mod order;
 mod pieces;
+mod report;
+mod section;
 
 pub use detail::bank_detail;
 pub use ends::{done_line, end_line};
 pub use log::{push_fresh, repeat_line};
 pub use order::{ORDER_LENGTH, push_orders, standing_lines};
 pub use pieces::push_number;
+pub use report::{push_detail, push_entry};
+
+#[cfg(test)]
+mod tests;

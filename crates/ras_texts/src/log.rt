@@ -96,7 +96,12 @@ fn push_items(text: &mut Vec<u8>, fact: &Fact, detail: &[u8]) -> Result<(), NoMe
 
 // Adds the line of an item of a fresh fact.
 #[tactic(auto, unfolding(crate::specs::Text::item_line))]
-fn push_item(text: &mut Vec<u8>, fact: &Fact, detail: &[u8], item: &Item) -> Result<(), NoMemory>
+pub(crate) fn push_item(
+    text: &mut Vec<u8>,
+    fact: &Fact,
+    detail: &[u8],
+    item: &Item,
+) -> Result<(), NoMemory>
     ensures { OnOk result
         (text.new.items ≡ text.old.items ++ item_line fact.now detail.now item.now) }
 {

@@ -96,8 +96,8 @@ pub fn page_digits(page: u64) -> [u8; 13]
     digits
 }
 
-// A number in 16 hexadecimal digits.
-fn hexadecimal_digits(number: u64) -> [u8; 16]
+/// A number in 16 hexadecimal digits.
+pub fn hexadecimal_digits(number: u64) -> [u8; 16]
     ensures { result ≡ encode_lower (to_be_bytes w64 number) }
 {
     let mut digits = [0u8; 16];

@@ -1,0 +1,43 @@
+//! What is said of panic records, for every report and every record.
+
+ghost use Rattle.std.specs.Prelude.{◌≡◌, ◌<◌, ◌^◌, ◌↔◌, ◌++◌, ℕ, List, IsTrue, Ok, Some};
+ghost use Rattle.mca_status.specs.Registers.{valid};
+ghost use Rattle.ras_base.specs.LittleEndian.{AreBytes};
+ghost use Rattle.cper_records.specs.Header.{record_id};
+ghost use Rattle.cper_records.specs.Records.{record_of};
+ghost use Rattle.dimm_topology.specs.declared.row.Row.{Row};
+ghost use Rattle.ras_facts.specs.Facts.{bank_fact, status_in};
+ghost use Rattle.ras_facts.specs.Reported.{record_fact};
+ghost use Rattle.ras_facts.specs.declared.bank.BankReport.{BankReport};
+ghost use Rattle.ras_panic.specs.Panics.{panic_bytes};
+ghost use Rattle.ras_panic.specs.Reading.{panic_report, stored_fact};
+ghost use Rattle.ras_panic.specs.Reports.{FitsFields, HoldsReport};
+
+/// The panic record of a report reads as a record of its identifier, whatever bytes stand after it,
+/// and gives the report back. Its fact is the bank's own, with the seconds of the report.
+pub fn reports_are_read_back()
+    ensures read { (id : ℕ) (bank : BankReport)
+        → record_of (panic_bytes id bank) ≡ Ok (panic_bytes id bank) }
+    ensures first { (id : ℕ) (bank : BankReport) (rest : List ℕ)
+        → record_of (panic_bytes id bank ++ rest) ≡ Ok (panic_bytes id bank) }
+    ensures id { (id : ℕ) (bank : BankReport) → id < 2 ^ 64
+        → record_id (panic_bytes id bank) ≡ id }
+    ensures report { (id : ℕ) (bank : BankReport) → FitsFields bank
+        → IsTrue (valid (status_in bank)) → panic_report (panic_bytes id bank) ≡ Some bank }
+    ensures fact { (rows : List Row) (seconds id : ℕ) (bank : BankReport) → FitsFields bank
+        → IsTrue (valid (status_in bank))
+        → Some (stored_fact rows seconds (panic_bytes id bank)) ≡ bank_fact bank rows }
+{}
+
+/// A record gives a report exactly where it holds one. Its fact is then the bank's own, with the
+/// seconds of the report; every other record's is that of its sections.
+pub fn reports_are_held()
+    ensures report { (own : List ℕ) (bank : BankReport) → AreBytes own → FitsFields bank
+        → (panic_report own ≡ Some bank) ↔ HoldsReport own bank }
+    ensures bank { (rows : List Row) (seconds : ℕ) (own : List ℕ) (bank : BankReport)
+        → FitsFields bank → HoldsReport own bank
+        → Some (stored_fact rows seconds own) ≡ bank_fact bank rows }
+    ensures ordinary { (rows : List Row) (seconds : ℕ) (own : List ℕ) → AreBytes own
+        → ((bank : BankReport) → FitsFields bank → ¬ HoldsReport own bank)
+        → stored_fact rows seconds own ≡ record_fact rows seconds own }
+{}

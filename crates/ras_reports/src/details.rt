@@ -1,0 +1,91 @@
+//! What is told of the items of a report.
+
+ghost use Rattle.std.specs.Prelude.{◌≡◌, ◌++◌, [], ◌∷◌, OnOk, OnErr};
+
+use cper_sections::{MemSection, ProcSection, Section, X64Section};
+use ras_base::NoMemory;
+use ras_facts::{BankReport, Fact};
+use std::alloc::Global;
+use std::marker::Model;
+use uuid::Uuid;
+
+/// What a report tells of an item beside the item.
+#[derive(Clone, Copy, Debug, PartialEq, Eq)]
+pub enum Detail {
+    /// The snapshot of the bank that holds the error.
+    Bank(BankReport),
+    /// A memory section.
+    Memory(MemSection),
+    /// A processor section.
+    Processor(ProcSection),
+    /// An IA32/X64 section.
+    X64(X64Section),
+    /// The type of another section.
+    Other(Uuid),
+}
+
+impl From<Section> for Detail {
+    ghost use Rattle.ras_reports.specs.Reports.{detail_of};
+
+    ghost from_gives = { λ section result. result ≡ detail_of section };
+
+    fn from(section: Section) -> Self {
+        match section {
+            Section::Memory(memory) => Detail::Memory(memory),
+            Section::Processor(processor) => Detail::Processor(processor),
+            Section::X64(x64) => Detail::X64(x64),
+            Section::Unknown(guid) => Detail::Other(guid),
+        }
+    }
+}
+
+/// What a report tells of each of its items, in order.
+#[derive(Debug, Drop)]
+pub struct Details {
+    list: Vec<Detail>,
+}
+
+impl Model for Details {
+    ghost use Rattle.std.specs.Prelude.{List};
+    ghost use Rattle.ras_reports.specs.declared.details.Detail.{Detail};
+
+    ghost Value = { List Detail };
+
+    ghost view = { λ a. a.list.items };
+}
+
+impl Details {
+    /// No details.
+    pub fn new(alloc: Global) -> Details
+        ensures { result ≡ [] }
+    {
+        Details {
+            list: Vec::new(alloc),
+        }
+    }
+
+    /// Puts a detail behind the others. Where memory runs out the list stays.
+    pub fn push(&mut self, detail: Detail) -> Result<(), NoMemory>
+        ensures ok { OnOk result (self.new ≡ self.old ++ detail ∷ []) }
+        ensures err { OnErr result (self.new ≡ self.old) }
+    {
+        self.list.push(detail)?;
+        Ok(())
+    }
+
+    /// The details in order.
+    pub fn as_slice(&self) -> &[Detail]
+        ensures { result.now ≡ self.now }
+    {
+        self.list.as_slice()
+    }
+}
+
+/// A report: its fact, and a detail for each of the fact's items, in order.
+#[derive(Debug, Drop)]
+pub struct Report {
+    /// What an account takes.
+    pub fact: Fact,
+    /// What is told of its items.
+    pub details: Details,
+}
