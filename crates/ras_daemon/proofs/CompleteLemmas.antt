@@ -8,10 +8,10 @@ use Rattle.ras_account.specs.Numbers.{are_past, numbers_with}
 use Rattle.ras_daemon.specs.Reported.{reported_account}
 use Rattle.ras_daemon.specs.declared.exit.Exit.{Exit}
 use Rattle.ras_daemon.specs.declared.exit.Exit.TheVariants.{Done, Usage, BadLine, SourceFault, DiskFault, PrintFault, Damaged, Full, NoMemory, TooLong}
-use Rattle.ras_daemon.specs.declared.word.Command.TheVariants.{Run}
+use Rattle.ras_daemon.specs.declared.word.Task.TheVariants.{Run}
 use Rattle.board_core.specs.Cause.{Faults, disk_call, print_call}
 use Rattle.ras_daemon.specs.Causes.{BoardCause, SourceCause}
-use Rattle.ras_daemon.specs.Command.{command_of}
+use Rattle.ras_daemon.specs.Task.{task_of}
 use Rattle.ras_daemon.specs.Ended.{IsAccepted, IsQuiet, IsQuietBoard, IsAcceptedScript, OnAnswer, OverTold, CanBeDone}
 use Rattle.ras_daemon.specs.Reports.{Event, Read, asks_nothing, reopens_account, adds_row, counts_entries, event_in, reads_of, reports, rows_told}
 use Rattle.ras_daemon.specs.Status.{event_refusal, refusal_at, refusal_among, exit_of}
@@ -45,7 +45,7 @@ lines-end before (read ∷ lines) all = by (read-refusal before read all.0) (lin
     by (inl none) ih = rw none ih
     by (inr full) ih = rw full (inr refl)
 
-status-end : (words : List (List ℕ)) (script file : List ℕ) → command_of words ≡ Some Run → file ≡ [] → IsAcceptedScript script → IsEnd (exit_of words script file)
+status-end : (words : List (List ℕ)) (script file : List ℕ) → task_of words ≡ Some Run → file ≡ [] → IsAcceptedScript script → IsEnd (exit_of words script file)
 status-end words script file run empty readable =
     let short : nat_lt LONGEST_SCRIPT (length script) ≡ false = grind (arith, nat_tests, readable.short) in
     rw (run, empty, short) (lines-end [] (reads_of script) readable.lines)
@@ -75,7 +75,7 @@ exit-end exit status source source' board board' answer end cause_s cause_b quie
 
 module _ (words : List (List ℕ)) (exit : Exit) (source source' : ℕ) (board board' : Faults) (cause_s : SourceCause exit source source') (cause_b : BoardCause exit board board') where
   pub completes : (left : Option (List ℕ)) (old : Option Told) → OverTold (λ script told. OnAnswer exit (exit ≡ exit_of words script told.here.file0)) left old
-      → command_of words ≡ Some Run → IsQuiet source source' → IsQuietBoard board board'
+      → task_of words ≡ Some Run → IsQuiet source source' → IsQuietBoard board board'
       → OverTold (λ script told. told.here.file0 ≡ [] → IsAcceptedScript script → exit ≢ Full → (exit ≡ Done) ⊎ (exit ≡ NoMemory)) left old
   completes None old answers run quiet_s quiet_b = tt
   completes (Some script) None answers run quiet_s quiet_b = tt

@@ -10,9 +10,9 @@ use Rattle.ras_daemon.specs.Reported.{reported_account}
 use Rattle.ras_daemon.specs.Reported.{is_fresh_after}
 use Rattle.ras_daemon.specs.declared.exit.Exit.{Exit}
 use Rattle.ras_daemon.specs.declared.exit.Exit.TheVariants.{Done, Usage}
-use Rattle.ras_daemon.specs.declared.word.Command.{Command}
-use Rattle.ras_daemon.specs.declared.word.Command.TheVariants.{Run}
-use Rattle.ras_daemon.specs.Command.{command_of}
+use Rattle.ras_daemon.specs.declared.word.Task.{Task}
+use Rattle.ras_daemon.specs.declared.word.Task.TheVariants.{Run}
+use Rattle.ras_daemon.specs.Task.{task_of}
 use Rattle.ras_daemon.specs.Output.{event_output, output_at, output_after, output_of, last_line}
 use Rattle.ras_daemon.specs.Progress.{Step, told_after, told_after_all, asks_size, reads_file, appends, prints_text, entry_steps, entries_steps, text_steps, say_steps, count_steps, event_steps, read_steps, lines_course, start_course, call_course}
 use Rattle.ras_daemon.specs.Reports.{Event, Read, asks_nothing, reopens_account, adds_row, counts_entries, event_in, reads_of, reports, rows_told}
@@ -121,24 +121,24 @@ exit-lines before (read ∷ reads) = by (refusal_at (before, read)) refl (exit-l
     by None is ih = rw is ih
 
 -- the whole of a call
-pub printed-call : (words : List (List ℕ)) (script file : List ℕ) → printed_by (call_course (command_of words) script file).steps ≡ output_of words script file
-printed-call words script file = by (command_of words) refl
+pub printed-call : (words : List (List ℕ)) (script file : List ℕ) → printed_by (call_course (task_of words) script file).steps ≡ output_of words script file
+printed-call words script file = by (task_of words) refl
   where
     started : (r : Option Exit) → printed_by (start_course r script).steps ≡ output_after r script
     started (Some exit) = append-nil (stop_line exit)
     started None = printed-lines [] (reads_of script)
 
-    by : (c : Option Command) → command_of words ≡ c → printed_by (call_course (command_of words) script file).steps ≡ output_of words script file
+    by : (c : Option Task) → task_of words ≡ c → printed_by (call_course (task_of words) script file).steps ≡ output_of words script file
     by None is = rw is (append-nil (stop_line Usage))
     by (Some Run) is = rw is (started (start_refusal (Some Run) script file))
 
-pub exit-call : (words : List (List ℕ)) (script file : List ℕ) → (call_course (command_of words) script file).exit ≡ exit_of words script file
-exit-call words script file = by (command_of words) refl
+pub exit-call : (words : List (List ℕ)) (script file : List ℕ) → (call_course (task_of words) script file).exit ≡ exit_of words script file
+exit-call words script file = by (task_of words) refl
   where
     started : (r : Option Exit) → (start_course r script).exit ≡ unwrap_or r (lines_exit (reads_of script))
     started (Some exit) = refl
     started None = exit-lines [] (reads_of script)
 
-    by : (c : Option Command) → command_of words ≡ c → (call_course (command_of words) script file).exit ≡ exit_of words script file
+    by : (c : Option Task) → task_of words ≡ c → (call_course (task_of words) script file).exit ≡ exit_of words script file
     by None is = rw is refl
     by (Some Run) is = rw is (started (start_refusal (Some Run) script file))

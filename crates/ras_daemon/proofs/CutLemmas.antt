@@ -7,9 +7,9 @@ use Rattle.ras_base.specs.Prefix.{IsPrefixOf}
 use Rattle.ras_daemon.specs.Reported.{reported_account}
 use Rattle.ras_daemon.specs.declared.exit.Exit.{Exit}
 use Rattle.ras_daemon.specs.declared.exit.Exit.TheVariants.{Usage}
-use Rattle.ras_daemon.specs.declared.word.Command.{Command}
-use Rattle.ras_daemon.specs.declared.word.Command.TheVariants.{Run}
-use Rattle.ras_daemon.specs.Command.{command_of}
+use Rattle.ras_daemon.specs.declared.word.Task.{Task}
+use Rattle.ras_daemon.specs.declared.word.Task.TheVariants.{Run}
+use Rattle.ras_daemon.specs.Task.{task_of}
 use Rattle.ras_daemon.specs.Ended.{PrintsPart}
 use Rattle.ras_daemon.specs.Output.{output_at, output_upto}
 use Rattle.ras_daemon.specs.PlainFile.{file_end}
@@ -161,9 +161,9 @@ paused-out steps t new paused = rw paused.leaves (
 )
 
 -- before a disk call of a call whole lines are printed
-whole_call : (words : List (List ℕ)) (script file : List ℕ) (done : List Step) (step : Step) (rest : List Step) → IsDisk step → done ++ step ∷ rest ≡ (call_course (command_of words) script file).steps
+whole_call : (words : List (List ℕ)) (script file : List ℕ) (done : List Step) (step : Step) (rest : List Step) → IsDisk step → done ++ step ∷ rest ≡ (call_course (task_of words) script file).steps
     → (count : ℕ) × (printed_by done ≡ output_upto (reads_of script) count)
-whole_call words script file done step rest disk is = by (command_of words) refl
+whole_call words script file done step rest disk is = by (task_of words) refl
   where
     started : (r : Option Exit) (later : List Step) → later ++ step ∷ rest ≡ (start_course r script).steps → (count : ℕ) × (printed_by later ≡ output_upto (reads_of script) count)
     started (Some exit) later there = absurd (no_disk later step rest (prints_text (stop_line exit) ∷ []) there (tt, tt) disk)
@@ -175,7 +175,7 @@ whole_call words script file done step rest disk is = by (command_of words) refl
         let later = started r there.0 there.2 in
         (later.0, ap printed_by there.1 ∙ later.1)
 
-    by : (c : Option Command) → command_of words ≡ c → (count : ℕ) × (printed_by done ≡ output_upto (reads_of script) count)
+    by : (c : Option Task) → task_of words ≡ c → (count : ℕ) × (printed_by done ≡ output_upto (reads_of script) count)
     by None none = absurd (no_disk done step rest (prints_text (stop_line Usage) ∷ []) (rw none at is) (tt, tt) disk)
     by (Some Run) run = found (start_refusal (Some Run) script file) (place_of done step rest (asks_size ∷ []) (start_course (start_refusal (Some Run) script file) script).steps (rw run at is))
 
@@ -192,7 +192,7 @@ fails_disk-out step old new disk fails =
     silent (prints_text bytes) d = absurd d
 
 -- where a disk call failed whole lines are printed
-pub disk-out : (words : List (List ℕ)) (script : List ℕ) (t : Told) (new : Option Told) → Cut IsDisk (call_course (command_of words) script t.here.file0).steps (Some t) new
+pub disk-out : (words : List (List ℕ)) (script : List ℕ) (t : Told) (new : Option Told) → Cut IsDisk (call_course (task_of words) script t.here.file0).steps (Some t) new
     → IsSomeAnd new (λ now. (count : ℕ) × (now.here.out ≡ t.here.out ++ output_upto (reads_of script) count))
 disk-out words script t None cut = cut.leaves
 disk-out words script t (Some now) cut =

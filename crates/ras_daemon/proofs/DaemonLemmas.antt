@@ -6,7 +6,7 @@ use Rattle.board_core.specs.declared.board.FileNo.TheVariants.{Zero}
 use Rattle.board_core.specs.Told.{Told, Relates, MayList, Steps, with_call}
 use Rattle.ras_daemon.specs.declared.exit.Exit.{Exit}
 use Rattle.ras_daemon.specs.declared.exit.Exit.TheVariants.{DiskFault, Damaged}
-use Rattle.ras_daemon.specs.declared.word.Command.TheVariants.{Run}
+use Rattle.ras_daemon.specs.declared.word.Task.TheVariants.{Run}
 use Rattle.ras_daemon.specs.Progress.{Follows, FollowsCall, asks_size, call_course, ends, start_course}
 use Rattle.ras_daemon.specs.Ended.{OverTold}
 use Rattle.ras_daemon.specs.Status.{script_refusal, start_refusal}

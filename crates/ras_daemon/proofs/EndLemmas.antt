@@ -4,7 +4,7 @@ use Rattle.std.specs.Option.{option_map}
 use Rattle.board_core.specs.Told.{Told}
 use Rattle.ras_daemon.specs.declared.exit.Exit.{Exit}
 use Rattle.ras_daemon.specs.declared.exit.Exit.TheVariants.{Done, Usage, BadLine, SourceFault, DiskFault, PrintFault, Damaged, Full, NoMemory, TooLong}
-use Rattle.ras_daemon.specs.Command.{command_of}
+use Rattle.ras_daemon.specs.Task.{task_of}
 use Rattle.ras_daemon.specs.Ended.{OnAnswer, OverBoth, OverTold, PrintsPart}
 use Rattle.ras_daemon.specs.Output.{output_of, output_upto}
 use Rattle.ras_daemon.specs.Progress.{Step, told_after_all, asks_size, reads_file, appends, prints_text, Fails, Cut, Course, FollowsCall, call_course}
@@ -95,35 +95,35 @@ same_file1 course TooLong t new taken = went-file1 course.steps t new taken.1
 module _ (words : List (List ℕ)) (exit : Exit) where
   -- a call over what is told has taken its course
   abbrev pub IsTaken : Option (List ℕ) → Option Told → Option Told → Type 0
-  IsTaken left old new = OverTold (λ script told. FollowsCall (call_course (command_of words) script told.here.file0) exit old new) left old
+  IsTaken left old new = OverTold (λ script told. FollowsCall (call_course (task_of words) script told.here.file0) exit old new) left old
 
   pub status-taken : (left : Option (List ℕ)) (old new : Option Told) → IsTaken left old new → OverTold (λ script told. OnAnswer exit (exit ≡ exit_of words script told.here.file0)) left old
   status-taken None old new taken = tt
   status-taken (Some script) None new taken = tt
   status-taken (Some script) (Some t) new taken =
-      on_answer exit _ _ (λ h. sym h.0 ∙ exit-call words script t.here.file0) (answered (call_course (command_of words) script t.here.file0) exit (Some t) new taken)
+      on_answer exit _ _ (λ h. sym h.0 ∙ exit-call words script t.here.file0) (answered (call_course (task_of words) script t.here.file0) exit (Some t) new taken)
 
   pub part-taken : (left : Option (List ℕ)) (old new : Option Told) → IsTaken left old new → OverBoth (λ script told now. PrintsPart (output_of words script told.here.file0) told.here.out now.here.out) left old new
   part-taken None old new taken = tt
   part-taken (Some script) None new taken = tt
   part-taken (Some script) (Some t) new taken =
-      subst (λ output. IsSomeAnd new (λ now. PrintsPart output t.here.out now.here.out)) (printed-call words script t.here.file0) (part-out (call_course (command_of words) script t.here.file0) exit t new taken)
+      subst (λ output. IsSomeAnd new (λ now. PrintsPart output t.here.out now.here.out)) (printed-call words script t.here.file0) (part-out (call_course (task_of words) script t.here.file0) exit t new taken)
 
   -- what the board tells after an answer
   abbrev pub Leaves : (List ℕ → Told → Told → Type 0) → Option (List ℕ) → Option Told → Option Told → Type 0
   Leaves P left old new = OverTold (λ script told. OnAnswer exit (IsSomeAnd new (λ now. P script told now))) left old
 
-  leaves : (P : List ℕ → Told → Told → Type 0) → ((script : List ℕ) (t : Told) → P script t (told_after_all (call_course (command_of words) script t.here.file0).steps t))
+  leaves : (P : List ℕ → Told → Told → Type 0) → ((script : List ℕ) (t : Told) → P script t (told_after_all (call_course (task_of words) script t.here.file0).steps t))
       → (left : Option (List ℕ)) (old new : Option Told) → IsTaken left old new → Leaves P left old new
   leaves P holds None old new taken = tt
   leaves P holds (Some script) None new taken = tt
   leaves P holds (Some script) (Some t) new taken =
-      on_answer exit _ _ (λ h. rw h.1 (holds script t)) (answered (call_course (command_of words) script t.here.file0) exit (Some t) new taken)
+      on_answer exit _ _ (λ h. rw h.1 (holds script t)) (answered (call_course (task_of words) script t.here.file0) exit (Some t) new taken)
 
   pub out-taken : (left : Option (List ℕ)) (old new : Option Told) → IsTaken left old new → Leaves (λ script told now. now.here.out ≡ told.here.out ++ output_of words script told.here.file0) left old new
   out-taken left old new taken =
       leaves (λ script told now. now.here.out ≡ told.here.out ++ output_of words script told.here.file0)
-      (λ script t. out-after (call_course (command_of words) script t.here.file0).steps t ∙ ap (λ text. t.here.out ++ text) (printed-call words script t.here.file0)) left old new taken
+      (λ script t. out-after (call_course (task_of words) script t.here.file0).steps t ∙ ap (λ text. t.here.out ++ text) (printed-call words script t.here.file0)) left old new taken
 
   pub file-taken : (left : Option (List ℕ)) (old new : Option Told) → IsTaken left old new → Leaves (λ script told now. now.here.file0 ≡ file_after words script told.here.file0) left old new
   file-taken left old new taken = leaves (λ script told now. now.here.file0 ≡ file_after words script told.here.file0) (λ script t. file-call words script t) left old new taken
@@ -131,16 +131,16 @@ module _ (words : List (List ℕ)) (exit : Exit) where
   pub calls-taken : (left : Option (List ℕ)) (old new : Option Told) → IsTaken left old new → Leaves (λ script told now. now.disk_calls ≡ told.disk_calls ++ calls_of words script told.here.file0) left old new
   calls-taken left old new taken =
       leaves (λ script told now. now.disk_calls ≡ told.disk_calls ++ calls_of words script told.here.file0)
-      (λ script t. calls-after (call_course (command_of words) script t.here.file0).steps t ∙ ap (λ calls. t.disk_calls ++ calls) (calls-call words script t.here.file0)) left old new taken
+      (λ script t. calls-after (call_course (task_of words) script t.here.file0).steps t ∙ ap (λ calls. t.disk_calls ++ calls) (calls-call words script t.here.file0)) left old new taken
 
   pub disk-taken : (left : Option (List ℕ)) (old new : Option Told) → IsTaken left old new → exit ≡ DiskFault
       → OverBoth (λ script told now. (count : ℕ) × (now.here.out ≡ told.here.out ++ output_upto (reads_of script) count)) left old new
   disk-taken None old new taken is = tt
   disk-taken (Some script) None new taken is = tt
   disk-taken (Some script) (Some t) new taken is =
-      disk-out words script t new (subst (λ e. FollowsCall (call_course (command_of words) script t.here.file0) e (Some t) new) is taken)
+      disk-out words script t new (subst (λ e. FollowsCall (call_course (task_of words) script t.here.file0) e (Some t) new) is taken)
 
   pub file1-taken : (left : Option (List ℕ)) (old new : Option Told) → IsTaken left old new → OverBoth (λ script told now. now.here.file1 ≡ told.here.file1) left old new
   file1-taken None old new taken = tt
   file1-taken (Some script) None new taken = tt
-  file1-taken (Some script) (Some t) new taken = same_file1 (call_course (command_of words) script t.here.file0) exit t new taken
+  file1-taken (Some script) (Some t) new taken = same_file1 (call_course (task_of words) script t.here.file0) exit t new taken

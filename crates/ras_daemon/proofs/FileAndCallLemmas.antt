@@ -15,9 +15,9 @@ use Rattle.ras_daemon.specs.Reported.{reported_account}
 use Rattle.ras_daemon.specs.Reported.{is_fresh_after}
 use Rattle.ras_daemon.specs.declared.exit.Exit.{Exit}
 use Rattle.ras_daemon.specs.declared.exit.Exit.TheVariants.{Damaged}
-use Rattle.ras_daemon.specs.declared.word.Command.{Command}
-use Rattle.ras_daemon.specs.declared.word.Command.TheVariants.{Run}
-use Rattle.ras_daemon.specs.Command.{command_of}
+use Rattle.ras_daemon.specs.declared.word.Task.{Task}
+use Rattle.ras_daemon.specs.declared.word.Task.TheVariants.{Run}
+use Rattle.ras_daemon.specs.Task.{task_of}
 use Rattle.ras_daemon.specs.PlainFile.{file_bytes, file_end}
 use Rattle.ras_daemon.specs.Progress.{Step, told_after, told_after_all, asks_size, reads_file, appends, prints_text, entry_steps, entries_steps, say_steps, count_steps, event_steps, reopen_steps, read_steps, lines_course, start_course, call_course}
 use Rattle.ras_daemon.specs.Reports.{Event, Read, asks_nothing, reopens_account, adds_row, counts_entries, event_in, reads_of, entries_at, entries_in, reports, rows_told}
@@ -206,19 +206,19 @@ lines-calls before (read ∷ reads) = by (refusal_at (before, read)) refl (lines
         ∙ ap (λ calls. calls_at (before, read) ++ calls) ih)
 
 -- the whole of a call
-pub calls-call : (words : List (List ℕ)) (script file : List ℕ) → calls_by (call_course (command_of words) script file).steps ≡ calls_of words script file
-calls-call words script file = by (command_of words) refl
+pub calls-call : (words : List (List ℕ)) (script file : List ℕ) → calls_by (call_course (task_of words) script file).steps ≡ calls_of words script file
+calls-call words script file = by (task_of words) refl
   where
     started : (r : Option Exit) → calls_by (start_course r script).steps ≡ calls_from_start r script
     started (Some exit) = refl
     started None = lines-calls [] (reads_of script)
 
-    by : (c : Option Command) → command_of words ≡ c → calls_by (call_course (command_of words) script file).steps ≡ calls_of words script file
+    by : (c : Option Task) → task_of words ≡ c → calls_by (call_course (task_of words) script file).steps ≡ calls_of words script file
     by None is = rw is refl
     by (Some Run) is = rw is (ap (λ calls. Size Zero ∷ calls) (started (start_refusal (Some Run) script file)))
 
-pub file-call : (words : List (List ℕ)) (script : List ℕ) (told : Told) → (told_after_all (call_course (command_of words) script told.here.file0).steps told).here.file0 ≡ file_after words script told.here.file0
-file-call words script told = by (command_of words) refl
+pub file-call : (words : List (List ℕ)) (script : List ℕ) (told : Told) → (told_after_all (call_course (task_of words) script told.here.file0).steps told).here.file0 ≡ file_after words script told.here.file0
+file-call words script told = by (task_of words) refl
   where
     none : (file : List ℕ) → nat_lt 0 (length file) ≡ false → file ≡ []
     none [] empty = refl
@@ -232,6 +232,6 @@ file-call words script told = by (command_of words) refl
         empty true long is = absurd (let no : Some (Damaged 0 0) ≡ None = sym (ap (λ b. if b then Some (Damaged 0 0) else script_refusal script) long) ∙ is in cc)
         empty false short is = short
 
-    by : (c : Option Command) → command_of words ≡ c → (told_after_all (call_course (command_of words) script told.here.file0).steps told).here.file0 ≡ file_after words script told.here.file0
+    by : (c : Option Task) → task_of words ≡ c → (told_after_all (call_course (task_of words) script told.here.file0).steps told).here.file0 ≡ file_after words script told.here.file0
     by None is = rw is refl
     by (Some Run) is = rw is (started (start_refusal (Some Run) script told.here.file0) refl)

@@ -15,3 +15,4 @@ pub mod FileAndCallLemmas
 pub mod EndLemmas
 pub mod CompleteLemmas
 pub mod ReportLemmas
+pub mod LaterKindLemmas

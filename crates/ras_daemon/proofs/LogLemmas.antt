@@ -5,7 +5,6 @@ use Rattle.std.specs.Option.{option_to_list}
 use Rattle.std.specs.Prelude.{Contains, ◌↔◌}
 use Rattle.std.specs.List.{AllByRecursion, IsDistinct, flat_map}
 use Rattle.dimm_topology.specs.declared.row.Row.{Row}
-use Rattle.ras_facts.specs.declared.bank.BankReport.{BankReport}
 use Rattle.ras_facts.specs.declared.fact.Fact.{Fact as FactType}
 use Rattle.ras_facts.specs.declared.name.Name.{Name}
 use Rattle.ras_facts.specs.declared.name.Name.TheVariants.{Bank as BankName, Record, Block, Boot}
@@ -17,7 +16,8 @@ use Rattle.ras_account.specs.Account.{kept_names, names_of}
 use Rattle.ras_account.specs.History.{History, empty, floor_after, history_of, is_retired, names_in, with_entries, with_entry}
 use Rattle.ras_account.proofs.LawLemmas.{held-names, names-once}
 use Rattle.ras_script.specs.declared.line.Line.{Line}
-use Rattle.ras_script.specs.declared.line.Line.TheVariants.{Empty, Comment, Bank, Cpu, Module, Range, Limit, Restart}
+use Rattle.ras_script.specs.declared.line.ErrorReport.TheVariants.{Bank}
+use Rattle.ras_script.specs.declared.line.Line.TheVariants as asks
 use Rattle.ras_daemon.specs.FileAndCalls.{script_log, script_reports}
 use Rattle.ras_daemon.specs.Reported.{reported_account}
 use Rattle.ras_daemon.specs.Reports.{Read, entries_at, entries_in, event_in, reads_of, rows_told}
@@ -41,27 +41,17 @@ keeps-bank None = tt
 keeps-bank (Some fact) = (tt, tt)
 
 keeps-line : (rows : List Row) (line : Line) → AllByRecursion KeepsBoots (entries_in (event_in rows line))
-keeps-line rows Empty = tt
-keeps-line rows Comment = tt
-keeps-line rows (Bank boot seconds cpu bank tsc cap mcg status addr misc) =
-    let report : BankReport = record {
-      boot = boot;
-      seconds = seconds;
-      cpu = cpu;
-      bank = bank;
-      tsc = tsc;
-      cap = cap;
-      mcg = mcg;
-      status = status;
-      addr = addr;
-      misc = misc;
-    } in
-    keeps-bank (bank_fact report rows)
-keeps-line rows (Cpu cpu socket) = tt
-keeps-line rows (Module label socket bank channel) = tt
-keeps-line rows (Range label first last) = tt
-keeps-line rows (Limit capacity period) = (tt, tt)
-keeps-line rows Restart = tt
+keeps-line rows asks.Nothing = tt
+keeps-line rows (asks.Row row) = tt
+keeps-line rows (asks.Table table) = tt
+keeps-line rows (asks.Report (Bank bank)) = keeps-bank (bank_fact bank rows)
+keeps-line rows (asks.Report report) = tt
+keeps-line rows (asks.Entry (Settles limit)) = (tt, tt)
+keeps-line rows (asks.Entry entry) = tt
+keeps-line rows (asks.Put id bytes) = tt
+keeps-line rows (asks.Panic id bank) = tt
+keeps-line rows (asks.Poll seconds) = tt
+keeps-line rows asks.Restart = tt
 
 keeps-at : (place : List Read × Read) → AllByRecursion KeepsBoots (entries_at place)
 keeps-at (before, (number, Err refused)) = tt

@@ -21,7 +21,8 @@ use Rattle.ras_script.specs.declared.line.LineRefused.{LineRefused}
 use Rattle.ras_script.specs.declared.line.LineRefused.TheVariants as refused
 use Rattle.ras_daemon.specs.declared.run.Run.{Run}
 use Rattle.ras_daemon.specs.Event.{FileEndsAt, IsKept, IsPrepared, IsLedgerOf, Reopened, Reopens, IsRunAfter, TakesEntries, TakesLine, TakesRow, end_after, prepared_steps, restart_steps, state_after}
-use Rattle.ras_script.specs.Line.{line_of, ReadsLine}
+use Rattle.ras_script.specs.Line.{Gives}
+use Rattle.ras_daemon.specs.LaterKinds.{taken_line}
 use Rattle.ras_daemon.specs.PlainFile.{file_bytes, file_end}
 use Rattle.ras_daemon.specs.Progress.{Step, told_after_all, prints_text, Performs, Course, Follows, behind, ends, count_steps, reopen_steps, say_steps, read_steps, line_course, lines_course}
 use Rattle.ras_daemon.specs.Reports.{Read, adds_row, counts_entries, event_in, reads_from, entries_at, reports, row_by, row_in, rows_told}
@@ -133,8 +134,8 @@ behind-append : (xs ys : List Step) (course : Course) → behind xs (behind ys c
 behind-append xs ys course = ap (λ steps. record { steps = steps; exit = course.exit }) (sym (append_assoc xs ys course.steps))
 
 -- the first of the lines that are left
-pub reads-first : (number : ℕ) (text line rest : List ℕ) → lines_of text ≡ line ∷ lines_of rest → reads_from number text ≡ (number, line_of line) ∷ reads_from (number + 1) rest
-reads-first number text line rest is = ap (λ lines. enumerate_from number (map line_of lines)) is
+pub reads-first : (number : ℕ) (text line rest : List ℕ) → lines_of text ≡ line ∷ lines_of rest → reads_from number text ≡ (number, taken_line line) ∷ reads_from (number + 1) rest
+reads-first number text line rest is = ap (λ lines. enumerate_from number (map taken_line lines)) is
 
 pub took_none : (reads : List Read) (told : Option Told) (run : Run) → IsRunAfter [] run told → TookSome reads reads told told run
 took_none reads told run stands = record { before = []; steps = []; course = refl; goes = sym (map_none told); stands = stands }
@@ -250,12 +251,13 @@ on_taken P added (Ok done) holds taken = subst (λ a. OnOk a P) taken holds
 on_taken P added (Err exit) holds taken = tt
 
 -- a line that can't be read ends the run
-pub line_refused : (before : List Read) (number : ℕ) (bytes : List ℕ) (why : LineRefused) (exit : Exit) (old new : Option Told) (run : Run) → ReadsLine (Err why) bytes
-    → RefusesLine number why exit old new → TakesLine {T = Unit {0}} before (number, line_of bytes) (Err exit) old new run
+pub line_refused : (before : List Read) (number : ℕ) (bytes : List ℕ) (why : LineRefused) (exit : Exit) (old new : Option Told) (run : Run) → Gives (Err why) (taken_line bytes)
+    → RefusesLine number why exit old new → TakesLine {T = Unit {0}} before (number, taken_line bytes) (Err exit) old new run
 line_refused before number bytes refused.NoMemory exit old new run read refuses = λ rest. rw refuses.0 (paused_at_once _ refuses.1)
 line_refused before number bytes refused.Kind exit old new run read refuses = λ rest. rw read refuses
 line_refused before number bytes refused.Words exit old new run read refuses = λ rest. rw read refuses
 line_refused before number bytes refused.Number exit old new run read refuses = λ rest. rw read refuses
+line_refused before number bytes refused.Hex exit old new run read refuses = λ rest. rw read refuses
 line_refused before number bytes refused.Label exit old new run read refuses = λ rest. rw read refuses
 
 -- a line whose row was taken or refused

@@ -9,9 +9,9 @@ use Rattle.ras_base.specs.Places.{places, places_behind}
 use Rattle.ras_facts.specs.declared.entry.Entry.{Entry}
 use Rattle.ras_daemon.specs.Reported.{is_fresh_after, fresh_reported}
 use Rattle.ras_daemon.specs.declared.exit.Exit.{Exit}
-use Rattle.ras_daemon.specs.declared.word.Command.{Command}
-use Rattle.ras_daemon.specs.declared.word.Command.TheVariants.{Run}
-use Rattle.ras_daemon.specs.Command.{command_of}
+use Rattle.ras_daemon.specs.declared.word.Task.{Task}
+use Rattle.ras_daemon.specs.declared.word.Task.TheVariants.{Run}
+use Rattle.ras_daemon.specs.Task.{task_of}
 use Rattle.ras_daemon.specs.PlainFile.{file_bytes, file_end}
 use Rattle.ras_daemon.specs.Reports.{Event, Read, asks_nothing, reopens_account, adds_row, counts_entries, event_in, reads_of, reports, rows_told}
 use Rattle.ras_daemon.specs.Status.{Place, start_refusal, lines_before_refusal, places_before_refusal}
@@ -50,13 +50,13 @@ abbrev pub calls_from_start : Option Exit → List ℕ → List DiskCall
 calls_from_start (Some exit) script = []
 calls_from_start None script = flat_map calls_at (places_before_refusal (places (reads_of script)))
 
-abbrev pub command_calls : Option Command → List ℕ → List ℕ → List DiskCall
-command_calls None script file = []
-command_calls (Some Run) script file = Size Zero ∷ calls_from_start (start_refusal (Some Run) script file) script
+abbrev pub task_calls : Option Task → List ℕ → List ℕ → List DiskCall
+task_calls None script file = []
+task_calls (Some Run) script file = Size Zero ∷ calls_from_start (start_refusal (Some Run) script file) script
 
 -- the disk calls of a call with these words over a script and a file 0
 abbrev pub calls_of : List (List ℕ) → List ℕ → List ℕ → List DiskCall
-calls_of words script file = command_calls (command_of words) script file
+calls_of words script file = task_calls (task_of words) script file
 
 -- what file 0 holds afterwards
 abbrev pub file_from_start : Option Exit → List ℕ → List ℕ → List ℕ
@@ -64,4 +64,4 @@ file_from_start (Some exit) script file = file
 file_from_start None script file = file_bytes (script_reports script)
 
 abbrev pub file_after : List (List ℕ) → List ℕ → List ℕ → List ℕ
-file_after words script file = file_from_start (start_refusal (command_of words) script file) script file
+file_after words script file = file_from_start (start_refusal (task_of words) script file) script file

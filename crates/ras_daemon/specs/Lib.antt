@@ -1,6 +1,7 @@
 pub mod Reported
-pub mod Command
+pub mod Task
 pub mod ExitStatus
+pub mod LaterKinds
 pub mod Reports
 pub mod PlainFile
 pub mod EventText

@@ -4,7 +4,7 @@ use Rattle.std.specs.List.{flat_map}
 use Rattle.ras_base.specs.Places.{places}
 use Rattle.ras_daemon.specs.Reported.{reported_account}
 use Rattle.ras_daemon.specs.declared.exit.Exit.{Exit}
-use Rattle.ras_daemon.specs.Command.{command_of}
+use Rattle.ras_daemon.specs.Task.{task_of}
 use Rattle.ras_daemon.specs.Reports.{Event, Read, asks_nothing, reopens_account, adds_row, counts_entries, event_in, reads_of, reports, rows_told}
 use Rattle.ras_daemon.specs.Status.{Place, places_before_refusal, refusal_among, start_refusal}
 use Rattle.ras_daemon.specs.EventText.{event_text}
@@ -39,7 +39,7 @@ output_after None script = lines_output (reads_of script)
 
 -- what a call with these words prints over a script and a file 0
 abbrev pub output_of : List (List ℕ) → List ℕ → List ℕ → List ℕ
-output_of words script file = output_after (start_refusal (command_of words) script file) script
+output_of words script file = output_after (start_refusal (task_of words) script file) script
 
 -- what so many of the lines before the first refused one have printed
 abbrev pub output_upto : List Read → ℕ → List ℕ

@@ -13,8 +13,8 @@ use Rattle.ras_daemon.specs.Reported.{reported_account}
 use Rattle.ras_daemon.specs.Reported.{is_fresh_after}
 use Rattle.ras_daemon.specs.declared.exit.Exit.{Exit}
 use Rattle.ras_daemon.specs.declared.exit.Exit.TheVariants.{Done, Usage, SourceFault, DiskFault, PrintFault, NoMemory}
-use Rattle.ras_daemon.specs.declared.word.Command.{Command}
-use Rattle.ras_daemon.specs.declared.word.Command.TheVariants.{Run}
+use Rattle.ras_daemon.specs.declared.word.Task.{Task}
+use Rattle.ras_daemon.specs.declared.word.Task.TheVariants.{Run}
 use Rattle.ras_daemon.specs.PlainFile.{file_end}
 use Rattle.ras_daemon.specs.Reports.{Event, Read, asks_nothing, reopens_account, adds_row, counts_entries, event_in, reads_of, reports, rows_told}
 use Rattle.ras_daemon.specs.Status.{refusal_at, start_refusal}
@@ -164,6 +164,6 @@ start_course (Some exit) script = ends (stop_line exit) exit
 start_course None script = lines_course [] (reads_of script)
 
 -- the course of a call
-abbrev pub call_course : Option Command → List ℕ → List ℕ → Course
+abbrev pub call_course : Option Task → List ℕ → List ℕ → Course
 call_course None script file = ends (stop_line Usage) Usage
 call_course (Some Run) script file = behind (asks_size ∷ []) (start_course (start_refusal (Some Run) script file) script)

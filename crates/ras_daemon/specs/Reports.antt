@@ -1,20 +1,20 @@
 -- What the lines of a script report.
 use Rattle.std.specs.Prelude.{ℕ, List, [], ◌∷◌, map, Option, None, Some, Result, Ok, Err}
 use Rattle.std.specs.List.{enumerate_from, filter_map, flat_map}
-use Rattle.std.specs.Option.{option_map_or, option_to_list}
+use Rattle.std.specs.Option.{option_to_list}
 use Rattle.dimm_topology.specs.declared.row.Row.{Row}
-use Rattle.dimm_topology.specs.declared.row.Row.TheVariants.{Cpu as CpuRow, Module as ModuleRow, Range as RangeRow}
 use Rattle.ras_base.specs.Places.{places}
 use Rattle.ras_facts.specs.declared.bank.BankReport.{BankReport}
 use Rattle.ras_facts.specs.Facts.{bank_fact}
 use Rattle.ras_facts.specs.declared.entry.Entry.{Entry}
 use Rattle.ras_facts.specs.declared.entry.Entry.TheVariants.{Fact as Report, Limit as Settles}
 use Rattle.ras_script.specs.declared.line.Line.{Line}
-use Rattle.ras_script.specs.declared.line.Line.TheVariants.{Bank, Cpu, Module, Range, Limit, Restart}
+use Rattle.ras_script.specs.declared.line.Line.TheVariants as asks
+use Rattle.ras_script.specs.declared.line.ErrorReport.TheVariants.{Bank}
 use Rattle.ras_script.specs.declared.line.LineRefused.{LineRefused}
 use Rattle.ras_texts.specs.Detail.{bank_detail}
-use Rattle.ras_script.specs.Line.{line_of}
 use Rattle.ras_script.specs.Splitting.{lines_of}
+use Rattle.ras_daemon.specs.LaterKinds.{taken_line}
 
 -- a line's number, and what the line is or why it is refused
 abbrev pub Read : Type 0
@@ -22,7 +22,7 @@ Read = ℕ × Result Line LineRefused
 
 -- the lines of a text, numbered from a number on
 abbrev pub reads_from : ℕ → List ℕ → List Read
-reads_from number text = enumerate_from number (map line_of (lines_of text))
+reads_from number text = enumerate_from number (map taken_line (lines_of text))
 
 -- the lines of a script, numbered from 1
 abbrev pub reads_of : List ℕ → List Read
@@ -30,9 +30,7 @@ reads_of script = reads_from 1 script
 
 -- the row of the machine that a line tells, if it tells one
 abbrev pub row_in : Line → Option Row
-row_in (Cpu cpu socket) = Some (CpuRow cpu socket)
-row_in (Module label socket bank channel) = Some (ModuleRow label socket bank channel)
-row_in (Range label first last) = Some (RangeRow label first last)
+row_in (asks.Row row) = Some row
 row_in line = None
 
 abbrev pub row_by : Read → Option Row
@@ -56,26 +54,15 @@ pub data Event : Type 0 where
 abbrev pub bank_entries : BankReport → List Row → List Entry
 bank_entries bank rows = map Report (option_to_list (bank_fact bank rows))
 
--- what a line asks for under the rows that the lines before it tell
+-- What a line asks for under the rows that the lines before it tell. Lines of later kinds are
+-- refused, so what they ask for never comes here.
 abbrev pub event_in : List Row → Line → Event
-event_in rows (Bank boot seconds cpu bank tsc cap mcg status addr misc) =
-    let report : BankReport = record {
-      boot = boot;
-      seconds = seconds;
-      cpu = cpu;
-      bank = bank;
-      tsc = tsc;
-      cap = cap;
-      mcg = mcg;
-      status = status;
-      addr = addr;
-      misc = misc;
-    } in
-    counts_entries (bank_detail report) (bank_entries report rows)
-event_in rows (Limit capacity period) =
-    counts_entries [] (Settles (record { capacity = capacity; period = period }) ∷ [])
-event_in rows Restart = reopens_account
-event_in rows line = option_map_or adds_row (row_in line) asks_nothing
+event_in rows (asks.Row row) = adds_row row
+event_in rows (asks.Report (Bank bank)) =
+    counts_entries (bank_detail bank) (bank_entries bank rows)
+event_in rows (asks.Entry (Settles limit)) = counts_entries [] (Settles limit ∷ [])
+event_in rows asks.Restart = reopens_account
+event_in rows line = asks_nothing
 
 -- what an event reports
 abbrev pub entries_in : Event → List Entry

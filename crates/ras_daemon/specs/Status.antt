@@ -12,9 +12,9 @@ use Rattle.ras_daemon.specs.declared.exit.Exit.{Exit}
 use Rattle.ras_daemon.specs.declared.exit.Exit.TheVariants.{Done, Usage, BadLine, Damaged, Full, TooLong}
 use Rattle.ras_daemon.specs.declared.exit.Reason.TheVariants.{Line as LineReason, Topology as TopologyReason}
 use Rattle.ras_daemon.specs.declared.script.TheConstants.{LONGEST_SCRIPT}
-use Rattle.ras_daemon.specs.declared.word.Command.{Command}
-use Rattle.ras_daemon.specs.declared.word.Command.TheVariants.{Run}
-use Rattle.ras_daemon.specs.Command.{command_of}
+use Rattle.ras_daemon.specs.declared.word.Task.{Task}
+use Rattle.ras_daemon.specs.declared.word.Task.TheVariants.{Run}
+use Rattle.ras_daemon.specs.Task.{task_of}
 use Rattle.ras_daemon.specs.Reports.{Event, Read, asks_nothing, reopens_account, adds_row, counts_entries, event_in, reads_of, reports, rows_told}
 
 -- a line with all the lines before it
@@ -68,7 +68,7 @@ script_refusal script = if nat_lt LONGEST_SCRIPT (length script) then Some TooLo
 
 -- Why a call ends before its first line, if it does: the words are no form of a call, the file
 -- isn't empty, or the script is too long.
-abbrev pub start_refusal : Option Command → List ℕ → List ℕ → Option Exit
+abbrev pub start_refusal : Option Task → List ℕ → List ℕ → Option Exit
 start_refusal None script file = Some Usage
 start_refusal (Some Run) script file =
     if nat_lt 0 (length file) then Some (Damaged 0 0) else script_refusal script
@@ -79,4 +79,4 @@ lines_exit reads = unwrap_or (refusal_among (places reads)) Done
 
 -- how a call with these words ends over a script and a file 0
 abbrev pub exit_of : List (List ℕ) → List ℕ → List ℕ → Exit
-exit_of words script file = unwrap_or (start_refusal (command_of words) script file) (lines_exit (reads_of script))
+exit_of words script file = unwrap_or (start_refusal (task_of words) script file) (lines_exit (reads_of script))

@@ -14,6 +14,7 @@ abbrev pub line_reason_text : LineRefused → List ℕ
 line_reason_text refused.Kind = codes "line.1"
 line_reason_text refused.Words = codes "line.2"
 line_reason_text refused.Number = codes "line.3"
+line_reason_text refused.Hex = codes "line.4"
 line_reason_text refused.Label = codes "line.6"
 line_reason_text refused.NoMemory = []
 

@@ -2,7 +2,7 @@
 
 ghost use Rattle.std.specs.Prelude.{◌≡◌, ◌≢◌, ◌⊎◌, ◌++◌, ℕ, [], Some, None, IfSome, IfNone, IsSomeAnd};
 ghost use Rattle.ras_daemon.specs.Causes.{BoardCause, SourceCause};
-ghost use Rattle.ras_daemon.specs.Command.{command_of};
+ghost use Rattle.ras_daemon.specs.Task.{task_of};
 ghost use Rattle.ras_daemon.specs.Ended.{IsAcceptedScript, IsQuiet, IsQuietBoard, LeavesDevice, OnAnswer, OverBoth, OverTold, PrintsPart};
 ghost use Rattle.ras_daemon.specs.Event.{FileEndsAt};
 ghost use Rattle.ras_daemon.specs.FileAndCalls.{calls_of, file_after};
@@ -10,11 +10,11 @@ ghost use Rattle.ras_daemon.specs.Output.{output_of, output_upto};
 ghost use Rattle.ras_daemon.specs.Progress.{FollowsCall, call_course, start_course};
 ghost use Rattle.ras_daemon.specs.Reports.{reads_of};
 ghost use Rattle.ras_daemon.specs.Status.{exit_of, script_refusal};
-ghost use Rattle.ras_daemon.specs.declared.word.Command.TheVariants.{Run};
+ghost use Rattle.ras_daemon.specs.declared.word.Task.TheVariants.{Run};
 
 use crate::run::{last_line, refuse, run_script};
 use crate::script::{LONGEST_SCRIPT, read_script};
-use crate::{Command, Exit, RasWord, command_of};
+use crate::{Exit, RasWord, Task, task_of};
 use board_core::{Board, Failed, FileNo, Source};
 use std::alloc::Global;
 
@@ -56,7 +56,7 @@ pub fn rasd<S: Source, B: Board>(
 
     // Over an empty file an accepted script is taken to its end, unless a fault came, the account
     // is full, or memory ran out.
-    ensures complete { command_of words.now ≡ Some Run
+    ensures complete { task_of words.now ≡ Some Run
         → IsQuiet (S.faults source.old) (S.faults source.new)
         → IsQuietBoard (B.faults board.old) (B.faults board.new)
         → OverTold (λ script told. told.here.file0 ≡ [] → IsAcceptedScript script → result ≢ Exit.Full
@@ -75,10 +75,10 @@ pub fn rasd<S: Source, B: Board>(
 
     // Words of no listed form take no memory and leave the source alone, and no other words are
     // such.
-    ensures usage { IfNone (command_of words.now)
+    ensures usage { IfNone (task_of words.now)
         ((result ≡ Exit.Usage) ⊎ (result ≡ Exit.PrintFault)) }
-    ensures listed { IfSome (command_of words.now) (λ command. result ≡ Exit.Usage → ⊥) }
-    ensures untouched { IfNone (command_of words.now) (source.new ≡ source.old) }
+    ensures listed { IfSome (task_of words.now) (λ task. result ≡ Exit.Usage → ⊥) }
+    ensures untouched { IfNone (task_of words.now) (source.new ≡ source.old) }
 {
     call(alloc, words, source, board)
 }
@@ -91,7 +91,7 @@ fn call<S: Source, B: Board>(
     board: &mut B,
 ) -> Exit
     ensures takes { OverTold (λ script told. FollowsCall
-        (call_course (command_of words.now) script told.here.file0)
+        (call_course (task_of words.now) script told.here.file0)
         result (B.told board.old) (B.told board.new))
         (S.left source.old) (B.told board.old) }
     ensures ended { result ≡ Exit.Done
@@ -100,13 +100,13 @@ fn call<S: Source, B: Board>(
     ensures faults { BoardCause result (B.faults board.old) (B.faults board.new) }
     ensures device { LeavesDevice (B.told board.old) (B.told board.new)
         (B.clock board.old) (B.clock board.new) }
-    ensures usage { IfNone (command_of words.now)
+    ensures usage { IfNone (task_of words.now)
         ((result ≡ Exit.Usage) ⊎ (result ≡ Exit.PrintFault)) }
-    ensures listed { IfSome (command_of words.now) (λ command. result ≡ Exit.Usage → ⊥) }
-    ensures untouched { IfNone (command_of words.now) (source.new ≡ source.old) }
+    ensures listed { IfSome (task_of words.now) (λ task. result ≡ Exit.Usage → ⊥) }
+    ensures untouched { IfNone (task_of words.now) (source.new ≡ source.old) }
 {
-    match command_of(words) {
-        Some(Command::Run) => run(alloc, source, board),
+    match task_of(words) {
+        Some(Task::Run) => run(alloc, source, board),
         None => last_line(b"stop 1 usage\n", Exit::Usage, board),
     }
 }

@@ -5,11 +5,13 @@ ghost use Rattle.std.specs.Bool.{IsFalse};
 ghost use Rattle.std.specs.List.{IsDistinct};
 ghost use Rattle.dimm_topology.specs.declared.row.Row.{Row};
 ghost use Rattle.mca_status.specs.Registers.{valid};
+ghost use Rattle.ras_facts.specs.declared.bank.BankReport.{BankReport};
 ghost use Rattle.ras_facts.specs.declared.name.Name.{Name};
-ghost use Rattle.ras_facts.specs.declared.name.Name.TheVariants.{Bank as BankName};
+ghost use Rattle.ras_facts.specs.Facts.{bank_name, status_in};
 ghost use Rattle.ras_facts.specs.Names.{same_name};
 ghost use Rattle.ras_account.specs.Account.{names_of};
-ghost use Rattle.ras_script.specs.declared.line.Line.TheVariants.{Bank};
+ghost use Rattle.ras_script.specs.declared.line.ErrorReport.TheVariants.{Bank};
+ghost use Rattle.ras_script.specs.declared.line.Line.TheVariants as asks;
 ghost use Rattle.ras_daemon.specs.Reports.{event_in, entries_in};
 ghost use Rattle.ras_daemon.specs.FileAndCalls.{script_log, script_reports};
 
@@ -23,10 +25,8 @@ pub fn logging_laws()
 
     // A bank line reports one fact under its name where VAL, bit 63 of its status register, is 1,
     // and else nothing.
-    ensures reported { (rows : List Row) (boot seconds cpu bank tsc cap mcg status addr misc : ℕ)
-        → IsTrue (valid (record { 0 = status }))
-        → names_of (entries_in (event_in rows (Bank boot seconds cpu bank tsc cap mcg status addr misc))) ≡ BankName boot cpu bank tsc ∷ [] }
-    ensures silent { (rows : List Row) (boot seconds cpu bank tsc cap mcg status addr misc : ℕ)
-        → IsFalse (valid (record { 0 = status }))
-        → entries_in (event_in rows (Bank boot seconds cpu bank tsc cap mcg status addr misc)) ≡ [] }
+    ensures reported { (rows : List Row) (bank : BankReport) → IsTrue (valid (status_in bank))
+        → names_of (entries_in (event_in rows (asks.Report (Bank bank)))) ≡ bank_name bank ∷ [] }
+    ensures silent { (rows : List Row) (bank : BankReport) → IsFalse (valid (status_in bank))
+        → entries_in (event_in rows (asks.Report (Bank bank))) ≡ [] }
 {}

@@ -4,6 +4,7 @@
 mod daemon;
 mod event;
 mod exit;
+mod later_kinds;
 mod laws;
 mod ledger;
 mod run;
@@ -16,4 +17,4 @@ pub use daemon::rasd;
 pub use exit::{Exit, Reason};
 pub use laws::logging_laws;
 pub use script::LONGEST_SCRIPT;
-pub use word::{Command, RasWord, command_of};
+pub use word::{RasWord, Task, task_of};

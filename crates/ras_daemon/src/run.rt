@@ -5,7 +5,6 @@ ghost use Rattle.std.specs.Option.{option_to_list};
 ghost use Rattle.dimm_topology.specs.Refusals.{Answers};
 ghost use Rattle.dimm_topology.specs.declared.topology.TopologyRefused.{TopologyRefused};
 ghost use Rattle.ras_facts.specs.declared.entry.Entry.{Entry};
-ghost use Rattle.ras_script.specs.Line.{line_of};
 ghost use Rattle.ras_texts.specs.Detail.{bank_detail};
 ghost use Rattle.ras_texts.specs.Orders.{standing_lines};
 ghost use Rattle.ras_texts.specs.Text.{done_line, end_line};
@@ -13,22 +12,23 @@ ghost use Rattle.ras_daemon.specs.Causes.{BoardCause, Causes};
 ghost use Rattle.ras_daemon.specs.Ended.{LeavesDevice};
 ghost use Rattle.ras_daemon.specs.Event.{AreFit, FileEndsAt, IsLedgerOf, IsRunAfter, longest_entry};
 ghost use Rattle.ras_daemon.specs.Event.{Reopened, TakesEntries, TakesLine, TakesRow};
+ghost use Rattle.ras_daemon.specs.LaterKinds.{taken_line};
 ghost use Rattle.ras_daemon.specs.Progress.{Follows, ends, lines_course};
 ghost use Rattle.ras_daemon.specs.Reports.{Read, bank_entries, reads_of, reports};
 ghost use Rattle.ras_daemon.specs.Run.{TakesLines, IsAnswer, IsRefusal, IsStop, Refuses, RefusesLine};
 
 use crate::event::{commit, prepare};
+use crate::later_kinds::read_taken_line;
 use crate::ledger::{Ledger, OpenRefused, reopen};
 use crate::step::say_done;
 use crate::stop::stop_line;
 use crate::{Exit, LONGEST_SCRIPT, Reason};
 use board_core::{Board, Failed};
 use dimm_topology::{Topology, TopologyRefused};
-use page_policy::Limit;
 use ras_account::Account;
 use ras_base::NoMemory;
 use ras_facts::{BankReport, Entry, fact_of_bank};
-use ras_script::{Line, LineRefused, first_line, read_line};
+use ras_script::{ErrorReport, Line, LineRefused, first_line};
 use ras_texts::{bank_detail, done_line, end_line, standing_lines};
 use std::alloc::Global;
 
@@ -120,7 +120,7 @@ fn take_line<B: Board>(
     requires small { run.old.ledger.end + longest_entry < 2 ^ 64 }
     requires fits { FileEndsAt (B.told board.old) run.old.ledger.end }
     ensures takes { (before : List Read) → IsRunAfter before run.old (B.told board.old)
-        → TakesLine before (number, line_of bytes.now) result (B.told board.old)
+        → TakesLine before (number, taken_line bytes.now) result (B.told board.old)
         (B.told board.new) run.new }
     ensures grows { OnOk result (run.new.ledger.end ≤ max run.old.ledger.end (2 ^ 63) + longest_entry) }
     ensures fits { OnOk result (FileEndsAt (B.told board.new) run.new.ledger.end) }
@@ -129,60 +129,27 @@ fn take_line<B: Board>(
     ensures device { LeavesDevice (B.told board.old) (B.told board.new)
         (B.clock board.old) (B.clock board.new) }
 {
-    let line = match read_line(alloc, bytes) {
+    let line = match read_taken_line(alloc, bytes) {
         Ok(line) => line,
         Err(refused) => return Err(refuse_line(alloc, number, refused, board)),
     };
     match line {
-        Line::Empty => Ok(()),
-        Line::Comment => Ok(()),
-        Line::Cpu { cpu, socket } => {
-            let added = run.topology.add_cpu(cpu, socket);
+        Line::Nothing => Ok(()),
+        Line::Row(row) => {
+            let added = run.topology.add(row);
             take_row(alloc, number, added, board)
         }
-        Line::Module {
-            label,
-            socket,
-            bank,
-            channel,
-        } => {
-            let added = run.topology.add_module(label, socket, bank, channel);
-            take_row(alloc, number, added, board)
-        }
-        Line::Range { label, first, last } => {
-            let added = run.topology.add_range(label, first, last);
-            take_row(alloc, number, added, board)
-        }
-        Line::Limit { capacity, period } => {
-            let entry = Entry::Limit(Limit { capacity, period });
+        Line::Report(report) => match report {
+            ErrorReport::Bank(bank) => take_bank(alloc, number, &bank, run, board),
+            ErrorReport::Block { .. } | ErrorReport::Boot { .. } => unreachable!(),
+        },
+        Line::Entry(entry) => {
             take_entry(alloc, number, b"", Some(entry), &mut run.ledger, board)
         }
         Line::Restart => take_restart(alloc, number, &mut run.ledger, board),
-        Line::Bank {
-            boot,
-            seconds,
-            cpu,
-            bank,
-            tsc,
-            cap,
-            mcg,
-            status,
-            addr,
-            misc,
-        } => {
-            let report = BankReport {
-                boot,
-                seconds,
-                cpu,
-                bank,
-                tsc,
-                cap,
-                mcg,
-                status,
-                addr,
-                misc,
-            };
-            take_bank(alloc, number, &report, run, board)
+        // Lines of later kinds were refused above.
+        Line::Table(_) | Line::Put { .. } | Line::Panic { .. } | Line::Poll { .. } => {
+            unreachable!()
         }
     }
 }
@@ -351,12 +318,14 @@ fn refuse_line<B: Board>(alloc: Global, number: u64, refused: LineRefused, board
 {
     let exit = match refused {
         LineRefused::NoMemory => Exit::NoMemory,
-        LineRefused::Kind | LineRefused::Words | LineRefused::Number | LineRefused::Label => {
-            Exit::BadLine {
-                line: number,
-                reason: Reason::Line(refused),
-            }
-        }
+        LineRefused::Kind
+        | LineRefused::Words
+        | LineRefused::Number
+        | LineRefused::Hex
+        | LineRefused::Label => Exit::BadLine {
+            line: number,
+            reason: Reason::Line(refused),
+        },
     };
     refuse(alloc, exit, board)
 }

@@ -46,6 +46,7 @@ fn reason_word(reason: Reason) -> &'static [u8]
         Reason::Line(LineRefused::Kind) => b"line.1",
         Reason::Line(LineRefused::Words) => b"line.2",
         Reason::Line(LineRefused::Number) => b"line.3",
+        Reason::Line(LineRefused::Hex) => b"line.4",
         Reason::Line(LineRefused::Label) => b"line.6",
         Reason::Topology(TopologyRefused::Label) => b"topology.1",
         Reason::Topology(TopologyRefused::Overlap) => b"topology.2",

@@ -1,7 +1,7 @@
 //! The words of a call.
 
 ghost use Rattle.std.specs.Prelude.{◌≡◌, IfOk};
-ghost use Rattle.ras_daemon.specs.Command.{command_of};
+ghost use Rattle.ras_daemon.specs.Task.{task_of};
 
 use ras_base::NoMemory;
 use std::alloc::Global;
@@ -41,17 +41,17 @@ impl RasWord {
 
 /// What the words of a call ask for.
 #[derive(Clone, Copy, Debug, PartialEq, Eq)]
-pub enum Command {
+pub enum Task {
     /// Take a script.
     Run,
 }
 
 /// What these words ask for, where they are a form of a call: the one word `run`.
-pub fn command_of(words: &[RasWord]) -> Option<Command>
-    ensures { result ≡ command_of words.now }
+pub fn task_of(words: &[RasWord]) -> Option<Task>
+    ensures { result ≡ task_of words.now }
 {
     match words {
-        [word] if word.bytes() == b"run".as_slice() => Some(Command::Run),
+        [word] if word.bytes() == b"run".as_slice() => Some(Task::Run),
         _ => None,
     }
 }

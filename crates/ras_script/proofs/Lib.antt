@@ -1,6 +1,8 @@
 pub mod NumberLemmas
+pub mod ByteLemmas
 pub mod SplittingLemmas
 pub mod LineAndWordLemmas
+pub mod FieldLemmas
 pub mod LineRangeLemmas
 pub mod WrittenNumberLemmas
 pub mod LineTextLemmas

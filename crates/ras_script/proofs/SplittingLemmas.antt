@@ -1,11 +1,12 @@
 -- The first line of a script, and the lines after it.
-use Rattle.std.proofs.Common.{◌≡◌, ℕ, ◌+◌, ◌-◌, ◌<◌, ◌≤◌, ◌==◌, false, cond, nat_lt, List, [], ◌∷◌, length, take, drop, refl, ap, sym, ◌∙◌, arith, Some, None, length-drop}
+use Rattle.std.proofs.Common.{◌≡◌, ℕ, ◌+◌, ◌-◌, ◌<◌, ◌≤◌, ◌==◌, Bool, false, cond, nat_lt, List, [], ◌∷◌, length, take, drop, refl, ap, sym, ◌∙◌, arith, Some, None, length-drop}
 use Rattle.std.proofs.Math.Seq.{take-length}
 use Rattle.std.proofs.Math.Nat.{sub_self}
 use Rattle.std.proofs.lemmas.Bool.Decides.{nat_tests}
+use Rattle.std.proofs.lemmas.Grind.{common_steps}
 use Rattle.std.proofs.lemmas.List.Splits.{slice_split_first, slice_split_none, length-slice_split}
 use Rattle.std.proofs.lemmas.List.Sums.{fails_before_first}
-use Rattle.std.specs.List.{slice_split, position_or_len, All}
+use Rattle.std.specs.List.{All, filter, find, position_or_len, slice_get, slice_split}
 use Rattle.ras_script.specs.Splitting.{lines_of, without_empty_last}
 
 -- a part in front of others is a line, whatever it holds
@@ -43,3 +44,8 @@ line_unended script some h =
     let none : All (λ b. (b == 10) ≡ false) script = λ k d inside. fails_before_first (λ b. b == 10) script k d (omega arith) in
     let empty : take (length script - length script) (drop (length script) script) ≡ [] = rw (sub_self (length script)) refl in
     ap without_empty_last (slice_split_none (λ b. b == 10) script none) ∙ last_line script some ∙ ap (λ rest. script ∷ lines_of rest) (sym empty)
+
+-- the first element that passes a test
+pub find_first : (test : List ℕ → Bool) (parts : List (List ℕ)) → find test parts ≡ slice_get (filter test parts) 0
+find_first test [] = refl
+find_first test (part ∷ parts) = grind (arith, common_steps, find_first test parts)

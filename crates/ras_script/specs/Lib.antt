@@ -1,5 +1,8 @@
 pub mod Number
+pub mod Bytes
 pub mod Splitting
+pub mod Fields
+pub mod Kinds
 pub mod Line
 pub mod SplittingLaws
 pub mod LineLaws

@@ -1,15 +1,21 @@
-//! The lines of a script: where each ends, its words, and what it says.
+//! The lines of a script: where each ends, its words, and what it asks for.
 #![tactic(auto)]
 
+mod bytes;
+mod fields;
+mod kinds;
 mod line;
 mod number;
 mod reader;
 mod splitting;
 mod window;
 
+pub use bytes::{bytes_of, written_bytes_are_read};
+pub use fields::{BANK_WORDS, LIMIT_WORDS};
+pub use kinds::LAST_CHANNEL;
 pub use line::{
-    LAST_CHANNEL, Line, LineRefused, numbers_are_in_range, read_line, refused_lines_have_words,
-    written_lines_are_read,
+    ErrorReport, Line, LineRefused, Table, numbers_are_in_range, read_line,
+    refused_lines_have_words, written_lines_are_read,
 };
 pub use number::{
     DECIMAL_DIGITS, HEXADECIMAL_DIGITS, decimal, hexadecimal, written_numbers_are_read,
@@ -18,7 +24,9 @@ pub use reader::{
     LONGEST_LINE, LONGEST_SCRIPT, LineReader, NextRefused, line_feeds_cut_scripts,
     lines_within_limits_are_the_script,
 };
-pub use splitting::{first_line, lines_are_the_script, spaces_separate_words, words};
+pub use splitting::{first_line, first_word, lines_are_the_script, spaces_separate_words, words};
 
 #[cfg(test)]
-mod tests;
+mod line_tests;
+#[cfg(test)]
+mod reader_tests;

@@ -1,6 +1,8 @@
 //! The lines of a script, and the words of a line.
 
 ghost use Rattle.std.specs.Prelude.{◌≡◌, ℕ, ◌+◌, ◌<◌, ◌≤◌, List, [], ◌∷◌, ◌++◌, length, map, IfOk};
+ghost use Rattle.std.specs.List.{slice_get};
+ghost use Rattle.std.specs.Option.{option_map};
 ghost use Rattle.std.specs.List.{AllByRecursion, join_with_byte};
 ghost use Rattle.ras_script.specs.Splitting.{lines_of, words_of};
 ghost use Rattle.ras_script.specs.SplittingLaws.{Lacks, IsWord, script_of, with_last_line_feed};
@@ -34,6 +36,14 @@ pub fn words(alloc: Global, line: &[u8]) -> Result<Vec<&[u8]>, NoMemory>
         .filter(|word| !word.is_empty())
         .collect(alloc)?;
     Ok(words)
+}
+
+/// The first word of a line, where it has words. It takes no memory.
+pub fn first_word(line: &[u8]) -> Option<&[u8]>
+    ensures { option_map (λ word. word.now) result ≡ slice_get (words_of line.now) 0 }
+{
+    line.split(|byte| *byte == b' ')
+        .find(|word| !word.is_empty())
 }
 
 /// The lines of a script, each with a line feed at its end, are the script, which gets one where
@@ -113,5 +123,18 @@ mod tests {
             assert_eq!(rt; words_with_commas(rt.alloc(), line)?.as_slice(), want);
         }
         Ok(())
+    }
+
+    #[test]
+    fn gives_first_words(rt: HostRuntime) {
+        let cases: [(&[u8], Option<&[u8]>); 4] = [
+            (b"", None),
+            (b"  ", None),
+            (b"restart", Some(b"restart")),
+            (b"  cpu 0 1", Some(b"cpu")),
+        ];
+        for (line, word) in cases {
+            assert_eq!(rt; first_word(line), word);
+        }
     }
 }
