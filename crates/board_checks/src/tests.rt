@@ -4,5 +4,6 @@
 mod calls;
 mod devices;
 mod files;
+mod sources;
 mod steps;
 mod stores;

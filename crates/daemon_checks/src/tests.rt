@@ -1,16 +1,19 @@
-//! The helpers that the tests go through, and the lines that many of them give.
+//! What the tests go through, and the lines that many of them give.
+//!
+//! Nothing here states anything, so that the clauses of the daemon's top call come into the proof
+//! of one short function, `exit_over`. A test sees plain bytes and an exit.
 
 mod calls;
+mod disks;
 mod exchanged;
 mod faults;
 mod lines;
 mod modules;
 
-use board_core::{MemBoard, MemSource};
-use erst_store::Store;
+use board_core::{DiskCall, FileNo, MemSource};
+use disks::TestBoard;
 use ras_daemon::{Exit, RasWord, rasd};
 use std::alloc::Global;
-use std::process::Abort;
 use std::test::Fail;
 
 // The everyday bank line.
@@ -24,46 +27,112 @@ const LOGGED: &str = concat!(
 
 const REPEATED: &str = "repeat bank=1/0/7/1000\n";
 
-// A board with empty files and no record.
-fn empty_board(alloc: Global) -> Result<MemBoard, Fail> {
-    Ok(MemBoard::new(alloc, Store::new(alloc), 0)?)
+// How a run is begun: its word, the most bytes that the source gives a call, the read and the call
+// of the board that fail (0 for none), and whether the disk is exchanged at the first sync.
+#[derive(Clone, Copy)]
+struct Start {
+    word: &'static [u8],
+    piece: usize,
+    failing_read: u64,
+    fails: u64,
+    is_to_be_exchanged: bool,
 }
 
-// The exit of a call over a board in memory. Every test over such a board goes through this.
-fn exit_in_memory(
+const PLAIN: Start = Start {
+    word: b"run",
+    piece: 7,
+    failing_read: 0,
+    fails: 0,
+    is_to_be_exchanged: false,
+};
+
+// How a run ended, what it printed, both files of the first disk and file 0 of the second, and the
+// calls on the first disk.
+#[derive(Drop)]
+struct Seen {
+    exit: Exit,
+    out: Vec<u8>,
+    file0: Vec<u8>,
+    file1: Vec<u8>,
+    second: Vec<u8>,
+    disk_calls: Vec<DiskCall>,
+}
+
+// The only call of the daemon.
+fn exit_over(
     alloc: Global,
     words: &[RasWord],
     source: &mut MemSource,
-    board: &mut MemBoard,
+    board: &mut TestBoard,
 ) -> Exit {
     rasd(alloc, words, source, board)
 }
 
-// The exit of `run` over a script that comes in pieces.
-fn run(alloc: Global, script: &str, piece: usize, board: &mut MemBoard) -> Result<Exit, Fail> {
-    let words = vec![in alloc; RasWord::new(alloc, b"run")?]?;
-    let bytes = Vec::from_slice(alloc, script.as_bytes())?;
-    let mut source = MemSource::new(bytes, piece.max(1), Vec::new(alloc));
-    Ok(exit_in_memory(alloc, &words, &mut source, board))
+fn words_of(alloc: Global, word: &[u8]) -> Result<Vec<RasWord>, Fail> {
+    Ok(vec![in alloc; RasWord::new(alloc, word)?]?)
 }
 
-// What is printed over an empty board, and the status.
-fn check_run(
-    rt: &impl Abort,
-    alloc: Global,
-    script: &str,
-    output: &str,
-    status: u8,
-) -> Result<(), Fail> {
-    for piece in [1, 7, usize::MAX] {
-        let mut board = empty_board(alloc)?;
-        let exit = run(alloc, script, piece, &mut board)?;
-        assert_eq!(rt; exit.status(), status, "{script} in pieces of {piece}");
-        assert_eq!(rt;
-            board.out(),
-            output.as_bytes(),
-            "{script} in pieces of {piece}"
-        );
+fn source_of(alloc: Global, script: &[&str], start: Start) -> Result<MemSource, Fail> {
+    let mut bytes = Vec::new(alloc);
+    for part in script {
+        bytes.extend_from_slice(part.as_bytes())?;
     }
-    Ok(())
+    let fails = vec![in alloc; start.failing_read]?;
+    Ok(MemSource::new(bytes, start.piece.max(1), fails))
+}
+
+fn see(alloc: Global, exit: Exit, board: &TestBoard) -> Result<Seen, Fail> {
+    Ok(Seen {
+        exit,
+        out: board.out().to_vec(alloc)?,
+        file0: board.file(FileNo::Zero).to_vec(alloc)?,
+        file1: board.file(FileNo::One).to_vec(alloc)?,
+        second: board.second_file().to_vec(alloc)?,
+        disk_calls: board.disk_calls().to_vec(alloc)?,
+    })
+}
+
+// A run over a script, given in parts.
+fn play(alloc: Global, script: &[&str], start: Start) -> Result<Seen, Fail> {
+    let words = words_of(alloc, start.word)?;
+    let mut source = source_of(alloc, script, start)?;
+    let mut board = TestBoard::new(alloc, start.fails, start.is_to_be_exchanged)?;
+    let exit = exit_over(alloc, &words, &mut source, &mut board);
+    see(alloc, exit, &board)
+}
+
+// Whether bytes are these parts, one after the other.
+fn is_joined(bytes: &[u8], parts: &[&[u8]]) -> bool {
+    let mut rest = bytes;
+    for part in parts {
+        match rest.strip_prefix(*part) {
+            Some(after) => rest = after,
+            None => return false,
+        }
+    }
+    rest.is_empty()
+}
+
+// The same of texts.
+fn is_text(bytes: &[u8], parts: &[&str]) -> bool {
+    let mut rest = bytes;
+    for part in parts {
+        match rest.strip_prefix(part.as_bytes()) {
+            Some(after) => rest = after,
+            None => return false,
+        }
+    }
+    rest.is_empty()
+}
+
+// Whether a run over empty files prints this and ends with this status, however the source cuts the
+// script into pieces.
+fn does(alloc: Global, script: &[&str], output: &[&str], status: u8) -> Result<bool, Fail> {
+    for piece in [1, 7, usize::MAX] {
+        let seen = play(alloc, script, Start { piece, ..PLAIN })?;
+        if seen.exit.status() != status || !is_text(&seen.out, output) {
+            return Ok(false);
+        }
+    }
+    Ok(true)
 }

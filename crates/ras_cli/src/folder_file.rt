@@ -1,5 +1,5 @@
 //! A journal file of the working folder.
-ghost use Rattle.std.specs.Prelude.{IsTrue};
+ghost use Rattle.std.specs.Prelude.{◌≡◌, Some, None, IfOk, OnOk, IsSome, IsSomeAnd, IsTrue, is_some};
 ghost use Rattle.std.specs.Option.{ForSome};
 ghost use Rattle.std.specs.Io.{ReadsAtMost};
 
@@ -16,11 +16,17 @@ pub struct FolderFile<S: System> {
     opened: Option<Opened<S::File>>,
     is_folder_synced: bool,
     ghost locked: { IsTrue is_exclusive → ForSome opened (λ it. IsTrue (S.is_locked it.file)) },
+    ghost entered: { IsTrue is_folder_synced → ForSome opened (λ it. IsTrue (S.has_entries it.folder)) },
+    ghost synced_when_open: { IsTrue is_folder_synced → IsTrue (is_some opened) },
 }
 
 impl<S: System> FolderFile<S> {
     /// The file of this name. Nothing is opened yet.
-    pub fn new(name: &'static str, is_exclusive: bool) -> FolderFile<S> {
+    pub fn new(name: &'static str, is_exclusive: bool) -> FolderFile<S>
+        ensures name { result.name ≡ name.entry }
+        ensures exclusive { result.is_exclusive ≡ is_exclusive }
+        ensures closed { result.opened ≡ None }
+    {
         FolderFile {
             name,
             is_exclusive,
@@ -30,7 +36,9 @@ impl<S: System> FolderFile<S> {
     }
 
     /// Opens the file, if it isn't open yet, with a lock where it is to be this program's alone.
-    pub fn open(&mut self, system: &mut S) -> io::Result<()> {
+    pub fn open(&mut self, system: &mut S) -> io::Result<()>
+        ensures { OnOk result (IsSome self.new.opened) }
+    {
         if self.opened.is_none() {
             let opened = system.open(self.name)?;
             if self.is_exclusive {
@@ -55,7 +63,9 @@ impl<S: System> FolderFile<S> {
     }
 
     /// Writes all the bytes at `place`.
-    pub fn write_at(&self, system: &mut S, place: u64, bytes: &[u8]) -> io::Result<()> {
+    pub fn write_at(&self, system: &mut S, place: u64, bytes: &[u8]) -> io::Result<()>
+        ensures { OnOk result (IsSomeAnd self.now.opened (λ it. IsTrue (S.took it.file place bytes.now))) }
+    {
         write_full(system, &self.opened()?.file, place, bytes)
     }
 
@@ -63,7 +73,10 @@ impl<S: System> FolderFile<S> {
     /// run may have made the file, or an earlier one that ended before it could make the entry
     /// durable. A sync that failed isn't tried again, since the system may then say that all is
     /// well though the bytes are not on the disk.
-    pub fn sync(&mut self, system: &mut S) -> io::Result<()> {
+    pub fn sync(&mut self, system: &mut S) -> io::Result<()>
+        ensures data { OnOk result (IsSomeAnd self.new.opened (λ it. IsTrue (S.is_synced it.file))) }
+        ensures folder { OnOk result (IsSomeAnd self.new.opened (λ it. IsTrue (S.has_entries it.folder))) }
+    {
         let opened = self.opened()?;
         system.sync_data(&opened.file)?;
         if !self.is_folder_synced {
@@ -73,7 +86,9 @@ impl<S: System> FolderFile<S> {
         Ok(())
     }
 
-    fn opened(&self) -> io::Result<&Opened<S::File>> {
+    fn opened(&self) -> io::Result<&Opened<S::File>>
+        ensures { IfOk result (λ it. self.now.opened ≡ Some it.now) }
+    {
         match &self.opened {
             Some(opened) => Ok(opened),
             None => Err(io::Error::from(ErrorKind::NotFound)),
@@ -113,13 +128,18 @@ pub fn write_full<S: System>(
     file: &S::File,
     place: u64,
     bytes: &[u8],
-) -> io::Result<()> {
+) -> io::Result<()>
+    ensures { OnOk result (IsTrue (S.took file.now place bytes.now)) }
+{
     let mut count = 0;
     for _ in 0..u64::MAX {
         if count >= bytes.len() {
             return Ok(());
         }
-        match system.write_at(file, place.saturating_add(count as u64), &bytes[count..]) {
+        let Some(next) = place.checked_add(count as u64) else {
+            return Err(io::Error::from(ErrorKind::FileTooLarge));
+        };
+        match system.write_at(file, next, &bytes[count..]) {
             Ok(0) => return Err(io::Error::from(ErrorKind::WriteZero)),
             Ok(n) => count += n,
             Err(e) if e.kind() == ErrorKind::Interrupted => {}

@@ -1,5 +1,5 @@
 //! The standard streams.
-ghost use Rattle.std.specs.Prelude.{◌≡◌, IsErr, IsNone};
+ghost use Rattle.std.specs.Prelude.{◌≡◌, IfSome, IsErr, IsNone};
 ghost use Rattle.std.specs.IoError.{error_kind};
 
 use crate::system::{room_of_output, size_limit};
@@ -11,7 +11,9 @@ use std::os::fd::AsFd;
 ///
 /// It is asked before any file is opened: the system gives a file the lowest free number, so the
 /// file would be taken for the closed stream.
-pub fn if_open<S: AsFd + Drop>(stream: S) -> Option<S> {
+pub fn if_open<S: AsFd + Drop>(stream: S) -> Option<S>
+    ensures { IfSome result (λ it. it ≡ stream) }
+{
     if stream.as_fd().try_clone_to_owned().is_ok() {
         Some(stream)
     } else {

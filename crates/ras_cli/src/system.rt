@@ -1,5 +1,5 @@
 //! What the program asks of the system's files, so that a test can answer in its place.
-ghost use Rattle.std.specs.Prelude.{◌≤◌, length, Bool, true, IfOk, OnOk, IsTrue};
+ghost use Rattle.std.specs.Prelude.{◌≡◌, ◌≤◌, ◌+◌, ◌++◌, [], ℕ, List, length, take, Bool, true, IfOk, OnOk, IsTrue, refl};
 ghost use Rattle.std.specs.Io.{ReadsAtMost, WritesAtMost};
 
 use std::fs::{
@@ -26,6 +26,21 @@ pub trait System: Drop {
     /// That this program has the lock on a file. Only `lock` shows it.
     ghost is_locked: { Self.File → Bool };
 
+    /// That the system took these bytes at this place of a file. Only `write_at` shows it, and
+    /// bytes that were taken one after the other were taken together.
+    ghost took: { Self.File → ℕ → List ℕ → Bool };
+
+    ghost took_none: { (file : Self.File) (place : ℕ) → IsTrue (took file place []) };
+
+    ghost took_more: { (file : Self.File) (place : ℕ) (front more : List ℕ) → IsTrue (took file place front)
+        → IsTrue (took file (place + length front) more) → IsTrue (took file place (front ++ more)) };
+
+    /// That the system made a file durable. Only `sync_data` shows it.
+    ghost is_synced: { Self.File → Bool };
+
+    /// That the system made the entries of a folder durable. Only `sync_folder` shows it.
+    ghost has_entries: { Self.File → Bool };
+
     /// Opens a file for reads and writes, and makes it where it is missing. Where a link has its
     /// name, this is the file that the link leads to, with that file's folder.
     fn open(&mut self, name: &str) -> io::Result<Opened<Self::File>>;
@@ -45,13 +60,16 @@ pub trait System: Drop {
 
     /// Writes at a place, maybe fewer bytes than were given.
     fn write_at(&mut self, file: &Self::File, place: u64, bytes: &[u8]) -> io::Result<usize>
-        ensures { WritesAtMost result bytes.now };
+        ensures within { WritesAtMost result bytes.now }
+        ensures took { IfOk result (λ count. IsTrue (took file.now place (take count bytes.now))) };
 
     /// Makes a file's bytes and its length durable.
-    fn sync_data(&mut self, file: &Self::File) -> io::Result<()>;
+    fn sync_data(&mut self, file: &Self::File) -> io::Result<()>
+        ensures { OnOk result (IsTrue (is_synced file.now)) };
 
     /// Makes a folder's entries durable.
-    fn sync_folder(&mut self, folder: &Self::File) -> io::Result<()>;
+    fn sync_folder(&mut self, folder: &Self::File) -> io::Result<()>
+        ensures { OnOk result (IsTrue (has_entries folder.now)) };
 
     /// Takes an exclusive lock on a file, and fails where another program has one.
     fn lock(&mut self, file: &Self::File) -> io::Result<()>
@@ -105,6 +123,16 @@ impl System for Host {
     type File = File;
 
     ghost is_locked = { λ _. true };
+
+    ghost took = { λ _ _ _. true };
+
+    ghost took_none = { λ _ _. refl };
+
+    ghost took_more = { λ _ _ _ _ _ _. refl };
+
+    ghost is_synced = { λ _. true };
+
+    ghost has_entries = { λ _. true };
 
     fn open(&mut self, name: &str) -> io::Result<Opened<File>> {
         let file = OpenOptions::new()

@@ -1,73 +1,95 @@
 //! Calls of every kind, numbered together: the chosen one fails, and so do all past a stop.
-use super::steps::{Step, board_with, left, make, new_board, print, size, sync, write};
-use crate::write_sync_print;
-use board_core::{Access, DiskCall, Failed, FileNo, MemBoard, MemSource, Pick, Reg, Source};
+use super::steps::{PLAIN, Start, Step, play};
+use board_core::{Access, DiskCall, FileNo, Pick, Reg};
+use std::alloc::Global;
 use std::test::Fail;
 
-// One call of each kind.
-const STEPS: [Step; 10] = [
+// One call of each kind. The range holds 0 at 1.
+const STEPS: [Step<'static>; 10] = [
     Step::Size(FileNo::One),
-    Step::Read(FileNo::One, 0),
+    Step::Read(FileNo::One, 0, b"abc"),
     Step::Write(FileNo::One, 3, b"d"),
     Step::Sync(FileNo::One),
     Step::Get(Reg::Value),
     Step::Set(Reg::Value, 7),
-    Step::RangeRead(1),
+    Step::RangeRead(1, &[0; 3]),
     Step::RangeWrite(2, b"xy"),
     Step::Put(6, b"record"),
     Step::Print(b"e"),
 ];
 
+const ANSWERS: [u64; 10] = [3, 1, 0, 0, 0, 0, 1, 0, 0, 0];
+
+const DISK_CALLS: [DiskCall; 4] = [
+    DiskCall::Size(FileNo::One),
+    DiskCall::ReadAt(FileNo::One, 0, 3),
+    DiskCall::WriteAt(FileNo::One, 3, 1),
+    DiskCall::Sync(FileNo::One),
+];
+
+const ACCESSES: [Access; 4] = [
+    Access::Read(Reg::Value, 0),
+    Access::Write(Reg::Value, 7),
+    Access::RangeRead(1, 3),
+    Access::RangeWrite(2, 2),
+];
+
+// The answers where the calls from one number to another fail.
+fn answers(alloc: Global, first: u64, last: u64) -> Result<Vec<Option<u64>>, Fail> {
+    let mut answers = Vec::new(alloc);
+    for (call, answer) in (1..).zip(ANSWERS) {
+        let fails = first <= call && call <= last;
+        answers.push(if fails { None } else { Some(answer) })?;
+    }
+    Ok(answers)
+}
+
 // The call that fails changes neither files nor device nor output, and all are listed.
+fn fails_as_chosen(alloc: Global, chosen: u64) -> Result<bool, Fail> {
+    let start = Start {
+        one: b"abc",
+        fails: chosen,
+        ..PLAIN
+    };
+    let seen = play(alloc, start, &STEPS)?;
+    let one: &[u8] = if chosen == 3 { b"abc" } else { b"abcd" };
+    let out: &[u8] = if chosen == 10 { b"" } else { b"e" };
+    Ok(
+        seen.answers == answers(alloc, chosen, chosen)?
+            && seen.one.as_slice() == one
+            && seen.out.as_slice() == out
+            && seen.records == if chosen == 9 { 0 } else { 1 }
+            && seen.disk_calls.as_slice() == DISK_CALLS.as_slice()
+            && seen.accesses.as_slice() == ACCESSES.as_slice()
+            && seen.starved == 0,
+    )
+}
+
 #[test]
 fn fails_at_the_chosen_call(rt: HostRuntime) -> Result<(), Fail> {
     for chosen in 1..=10 {
-        let mut board = board_with(rt.alloc(), FileNo::One, b"abc")?;
-        board.fail_at(chosen)?;
-        for (call, step) in (1..).zip(STEPS) {
-            assert_eq!(rt;
-                make(&rt, &mut board, step),
-                call != chosen,
-                "call {call}, chosen {chosen}"
-            );
-        }
-        let file: &[u8] = if chosen == 3 { b"abc" } else { b"abcd" };
-        let out: &[u8] = if chosen == 10 { b"" } else { b"e" };
-        assert_eq!(rt; board.file(FileNo::One), file);
-        assert_eq!(rt; board.out(), out);
-        assert_eq!(rt; board.store().len(), if chosen == 9 { 0 } else { 1 });
-        let disk_calls = [
-            DiskCall::Size(FileNo::One),
-            DiskCall::ReadAt(FileNo::One, 0, 3),
-            DiskCall::WriteAt(FileNo::One, 3, 1),
-            DiskCall::Sync(FileNo::One),
-        ];
-        let accesses = [
-            Access::Read(Reg::Value, 0),
-            Access::Write(Reg::Value, 7),
-            Access::RangeRead(1, 3),
-            Access::RangeWrite(2, 2),
-        ];
-        assert_eq!(rt; board.disk_calls(), disk_calls.as_slice());
-        assert_eq!(rt; board.accesses(), accesses.as_slice());
-        assert_eq!(rt; board.starved(), 0);
+        assert!(rt; fails_as_chosen(rt.alloc(), chosen)?, "call {chosen}");
     }
     Ok(())
+}
+
+fn stops_as_allowed(alloc: Global, calls: u64) -> Result<bool, Fail> {
+    let start = Start {
+        one: b"abc",
+        allowed: calls,
+        ..PLAIN
+    };
+    let seen = play(alloc, start, &STEPS)?;
+    Ok(
+        seen.answers == answers(alloc, calls.saturating_add(1), 10)?
+            && seen.records == if calls < 9 { 0 } else { 1 },
+    )
 }
 
 #[test]
 fn stops_after_each_call(rt: HostRuntime) -> Result<(), Fail> {
     for calls in 0..=10 {
-        let mut board = board_with(rt.alloc(), FileNo::One, b"abc")?;
-        board.stop_after(calls);
-        for (call, step) in (1..).zip(STEPS) {
-            assert_eq!(rt;
-                make(&rt, &mut board, step),
-                call <= calls,
-                "call {call} of {calls}"
-            );
-        }
-        assert_eq!(rt; board.store().len(), if calls < 9 { 0 } else { 1 });
+        assert!(rt; stops_as_allowed(rt.alloc(), calls)?, "after {calls} calls");
     }
     Ok(())
 }
@@ -75,68 +97,47 @@ fn stops_after_each_call(rt: HostRuntime) -> Result<(), Fail> {
 // A read that failed is listed with 0, whatever the register holds.
 #[test]
 fn failed_read_is_listed_with_0(rt: HostRuntime) -> Result<(), Fail> {
-    let mut board = new_board(rt.alloc(), 0)?;
-    board.fail_at(2)?;
-    assert!(rt; make(&rt, &mut board, Step::Set(Reg::Value, 7)));
-    assert!(rt; !make(&rt, &mut board, Step::Get(Reg::Value)));
-    assert!(rt; make(&rt, &mut board, Step::Get(Reg::Value)));
+    let steps = [
+        Step::Set(Reg::Value, 7),
+        Step::Get(Reg::Value),
+        Step::Get(Reg::Value),
+    ];
+    let seen = play(rt.alloc(), Start { fails: 2, ..PLAIN }, &steps)?;
     let accesses = [
         Access::Write(Reg::Value, 7),
         Access::Read(Reg::Value, 0),
         Access::Read(Reg::Value, 7),
     ];
-    assert_eq!(rt; board.accesses(), accesses.as_slice());
+    assert!(rt; seen.answers.as_slice() == [Some(0), None, Some(7)].as_slice());
+    assert!(rt; seen.accesses.as_slice() == accesses.as_slice());
     Ok(())
 }
 
-fn entry_printed(board: &mut MemBoard) -> bool {
-    write_sync_print(0, b"entry", b"line\n", board).is_ok()
+// Where the line was printed, a stop leaves the entry.
+fn leaves_the_entry(alloc: Global, calls: u64, pick: Pick) -> Result<bool, Fail> {
+    let start = Start {
+        allowed: calls,
+        ..PLAIN
+    };
+    let printed = play(alloc, start, &[Step::Entry])?;
+    let left = play(alloc, start, &[Step::Entry, Step::Stop(pick)])?;
+    let has_line = !printed.out.is_empty();
+    Ok(
+        printed.answers.as_slice() == [if calls < 3 { None } else { Some(0) }].as_slice()
+            && has_line == (calls >= 3)
+            && (!has_line || left.zero.as_slice() == b"entry".as_slice()),
+    )
 }
 
 #[test]
 fn entry_is_left_with_its_line(rt: HostRuntime) -> Result<(), Fail> {
     for calls in 0..=4 {
         for pick in [Pick::Old, Pick::New, Pick::Fill(0xa5)] {
-            let mut board = new_board(rt.alloc(), 0)?;
-            board.stop_after(calls);
-            assert_eq!(rt;
-                entry_printed(&mut board),
-                calls >= 3,
+            assert!(rt;
+                leaves_the_entry(rt.alloc(), calls, pick)?,
                 "stopped after call {calls}"
             );
-            let has_line = !board.out().is_empty();
-            let found = left(board, rt.alloc(), pick)?;
-            if has_line {
-                assert_eq!(rt; found.file(FileNo::Zero), b"entry".as_slice());
-            }
         }
-    }
-    Ok(())
-}
-
-const SCRIPT: &[u8] = b"bank 1 100 0 7 1000 1000c14 0 9c00004000010092 12345678 86 0";
-
-fn take(source: &mut MemSource, buf: &mut [u8; 40]) -> Result<usize, Failed> {
-    source.read(buf)
-}
-
-// However the source cuts its bytes, they come in order, and a failing read takes nothing.
-#[test]
-fn gives_its_bytes_in_pieces(rt: HostRuntime) -> Result<(), Fail> {
-    for piece in [1, 7, SCRIPT.len()] {
-        let fails = [2].to_vec(rt.alloc())?;
-        let mut source = MemSource::new(SCRIPT.to_vec(rt.alloc())?, piece, fails);
-        let mut taken = Vec::new(rt.alloc());
-        let mut failed_at = None;
-        let mut buf = [0; 40];
-        for call in 1..80 {
-            match take(&mut source, &mut buf) {
-                Ok(count) => taken.extend_from_slice(&buf[..count.min(40)])?,
-                Err(Failed) => failed_at = Some(call),
-            }
-        }
-        assert_eq!(rt; taken.as_slice(), SCRIPT, "in pieces of {piece}");
-        assert_eq!(rt; failed_at, Some(2));
     }
     Ok(())
 }
@@ -144,13 +145,15 @@ fn gives_its_bytes_in_pieces(rt: HostRuntime) -> Result<(), Fail> {
 // A sync that fails settles nothing.
 #[test]
 fn failed_sync_settles_nothing(rt: HostRuntime) -> Result<(), Fail> {
-    let mut board = new_board(rt.alloc(), 0)?;
-    board.fail_at(2)?;
-    assert!(rt; write(&rt, &mut board, FileNo::One, 0, b"ab"));
-    assert!(rt; !sync(&mut board, FileNo::One));
-    assert!(rt; print(&mut board, b"c"));
-    assert_eq!(rt; size(&mut board, FileNo::One), Some(2));
-    let found = left(board, rt.alloc(), Pick::Old)?;
-    assert_eq!(rt; found.file(FileNo::One), b"".as_slice());
+    let steps = [
+        Step::Write(FileNo::One, 0, b"ab"),
+        Step::Sync(FileNo::One),
+        Step::Print(b"c"),
+        Step::Size(FileNo::One),
+        Step::Stop(Pick::Old),
+    ];
+    let seen = play(rt.alloc(), Start { fails: 2, ..PLAIN }, &steps)?;
+    assert!(rt; seen.answers.as_slice() == [Some(0), None, Some(0), Some(2)].as_slice());
+    assert!(rt; seen.one.is_empty());
     Ok(())
 }

@@ -1,13 +1,12 @@
 //! The device of a board in memory: each action, busy answers, and what a stop leaves of the record
 //! store.
-use super::steps::{Step, get, left, make, new_board, put, range_read, range_write, set};
-use board_core::{BoardPut, MemBoard, Pick, Reg};
-use erst_store::PutRefused;
+use super::steps::{PLAIN, RESERVED_ID, Seen, Start, Step, play};
+use board_core::{Access, Pick, Reg};
 use erst_store::actions::{
     BEGIN_CLEAR_OPERATION, CHECK_BUSY_STATUS, EXECUTE_OPERATION, GET_RECORD_IDENTIFIER,
     SET_RECORD_IDENTIFIER,
 };
-use std::process::Abort;
+use std::alloc::Global;
 use std::test::Fail;
 
 // An action with the value before it and the value after it, on a device that is busy twice after
@@ -57,55 +56,64 @@ const ACTIONS: [(u64, u64, u64); 41] = [
     (7, 16, 7),
 ];
 
-// Does an action with a value, and gives the value after it.
-fn act(rt: &impl Abort, board: &mut MemBoard, value: u64, action: u64) -> Option<u64> {
-    assert!(rt; set(board, Reg::Value, value) && set(board, Reg::Action, action));
-    get(board, Reg::Value)
-}
+// Its length stands at 20, and its identifier at 96.
+const RECORD: [u8; 128] = [
+    0, 0, 0, 0, 0, 0, 0, 0, 0, 0, 0, 0, 0, 0, 0, 0, 0, 0, 0, 0, 128, 0, 0, 0, 0, 0, 0, 0, 0, 0, 0,
+    0, 0, 0, 0, 0, 0, 0, 0, 0, 0, 0, 0, 0, 0, 0, 0, 0, 0, 0, 0, 0, 0, 0, 0, 0, 0, 0, 0, 0, 0, 0, 0,
+    0, 0, 0, 0, 0, 0, 0, 0, 0, 0, 0, 0, 0, 0, 0, 0, 0, 0, 0, 0, 0, 0, 0, 0, 0, 0, 0, 0, 0, 0, 0, 0,
+    0, 6, 0, 0, 0, 0, 0, 0, 0, 0, 0, 0, 0, 0, 0, 0, 0, 0, 0, 0, 0, 0, 0, 0, 0, 0, 0, 0, 0, 0, 0, 0,
+    0,
+];
 
+// The record is laid into the range, and after the actions it also lies where the second read put
+// it, while the store is empty again.
 #[test]
 fn does_each_action(rt: HostRuntime) -> Result<(), Fail> {
-    let mut board = new_board(rt.alloc(), 2)?;
-    let mut record = [0; 128];
-    record[20] = 128;
-    record[96] = 6;
-    assert!(rt; range_write(&rt, &mut board, 0, &record));
+    let mut steps = vec![in rt.alloc(); Step::RangeWrite(0, &RECORD)]?;
+    let mut wanted = vec![in rt.alloc(); Some(0)]?;
     for (before, action, after) in ACTIONS {
-        assert_eq!(rt;
-            act(&rt, &mut board, before, action),
-            Some(after),
-            "after action {action}"
-        );
-        assert_eq!(rt; get(&mut board, Reg::Action), Some(action));
+        steps.push(Step::Act(before, action))?;
+        steps.push(Step::Get(Reg::Action))?;
+        wanted.push(Some(after))?;
+        wanted.push(Some(action))?;
     }
-    let mut copy = [1; 128];
-    assert!(rt; range_read(&rt, &mut board, 16_256, &mut copy));
-    assert_eq!(rt; copy.as_slice(), record.as_slice());
-    assert_eq!(rt; board.store().len(), 0);
+    steps.push(Step::RangeRead(16_256, &RECORD))?;
+    wanted.push(Some(1))?;
+    let seen = play(rt.alloc(), Start { slow: 2, ..PLAIN }, &steps)?;
+    for (place, (answer, wanted)) in seen.answers.iter().zip(wanted.iter()).enumerate() {
+        assert!(rt; *answer == *wanted, "at step {place}");
+    }
+    assert!(rt; seen.answers.len() == wanted.len() && seen.records == 0);
     Ok(())
+}
+
+const BUSY: Step<'static> = Step::Act(0, CHECK_BUSY_STATUS);
+
+const EXECUTE: Step<'static> = Step::Act(0, EXECUTE_OPERATION);
+
+// It is busy so often after a command, and then no more; and a board that is left is as slow.
+fn is_busy_so_often(alloc: Global, slow: u64) -> Result<bool, Fail> {
+    let mut steps = vec![in alloc; EXECUTE]?;
+    let mut wanted = vec![in alloc; Some(0)]?;
+    for _ in 0..slow {
+        steps.push(BUSY)?;
+        wanted.push(Some(1))?;
+    }
+    steps.extend_from_slice(&[BUSY, Step::Stop(Pick::New), BUSY, EXECUTE, BUSY])?;
+    wanted.extend_from_slice(&[Some(0), Some(0), Some(0), Some(slow.min(1))])?;
+    Ok(play(alloc, Start { slow, ..PLAIN }, &steps)?.answers == wanted)
 }
 
 #[test]
 fn is_as_busy_as_it_is_slow(rt: HostRuntime) -> Result<(), Fail> {
     for slow in [0, 1, 999] {
-        let mut board = new_board(rt.alloc(), slow)?;
-        assert_eq!(rt; act(&rt, &mut board, 0, EXECUTE_OPERATION), Some(0));
-        for _ in 0..slow {
-            assert_eq!(rt; act(&rt, &mut board, 0, CHECK_BUSY_STATUS), Some(1));
-        }
-        assert_eq!(rt; act(&rt, &mut board, 0, CHECK_BUSY_STATUS), Some(0));
-        // A board that is left is as slow.
-        let mut again = left(board, rt.alloc(), Pick::New)?;
-        assert_eq!(rt; act(&rt, &mut again, 0, CHECK_BUSY_STATUS), Some(0));
-        assert_eq!(rt; act(&rt, &mut again, 0, EXECUTE_OPERATION), Some(0));
-        let want = if slow == 0 { 0 } else { 1 };
-        assert_eq!(rt; act(&rt, &mut again, 0, CHECK_BUSY_STATUS), Some(want));
+        assert!(rt; is_busy_so_often(rt.alloc(), slow)?, "{slow} times");
     }
     Ok(())
 }
 
 // A record is put, and then cleared.
-const STEPS: [Step; 5] = [
+const STEPS: [Step<'static>; 5] = [
     Step::Put(5, b"record"),
     Step::Set(Reg::Action, BEGIN_CLEAR_OPERATION),
     Step::Set(Reg::Value, 5),
@@ -113,43 +121,75 @@ const STEPS: [Step; 5] = [
     Step::Set(Reg::Action, EXECUTE_OPERATION),
 ];
 
+// What a stop leaves after so many of them. The device is new then: nothing is set, and nothing was
+// asked but for the value.
+fn left_after(alloc: Global, calls: u64, pick: Pick) -> Result<Seen, Fail> {
+    let mut steps = STEPS.to_vec(alloc)?;
+    steps.push(Step::Stop(pick))?;
+    steps.push(Step::Get(Reg::Value))?;
+    let start = Start {
+        allowed: calls,
+        ..PLAIN
+    };
+    play(alloc, start, &steps)
+}
+
+fn is_new(seen: &Seen) -> bool {
+    seen.answers.get(5) == Some(&Some(0))
+        && seen.accesses.as_slice() == [Access::Read(Reg::Value, 0)].as_slice()
+}
+
+fn has_record(seen: &Seen) -> bool {
+    seen.records == 1 && seen.first_id == 5 && seen.first_bytes.as_slice() == b"record".as_slice()
+}
+
 // Before the put and after the clear a stop leaves no record, and in between the one, whatever it
-// leaves of the files. The device is new then: nothing is set.
+// leaves of the files.
+fn leaves_the_record(alloc: Global, calls: u64, pick: Pick) -> Result<bool, Fail> {
+    let seen = left_after(alloc, calls, pick)?;
+    let is_as_put = if calls == 0 || calls == 5 {
+        seen.records == 0
+    } else {
+        has_record(&seen)
+    };
+    Ok(is_as_put && is_new(&seen))
+}
+
 #[test]
 fn leaves_the_store_as_it_is(rt: HostRuntime) -> Result<(), Fail> {
     for calls in 0..=5 {
         for pick in [Pick::Old, Pick::New, Pick::Fill(0xa5)] {
-            let mut board = new_board(rt.alloc(), 0)?;
-            board.stop_after(calls);
-            for step in STEPS {
-                let _ = make(&rt, &mut board, step);
-            }
-            let mut found = left(board, rt.alloc(), pick)?;
-            let want = if calls == 0 || calls == 5 { 0 } else { 1 };
-            assert_eq!(rt; found.store().len(), want, "{pick:?} after {calls} calls");
-            if found.store().len() == 1 {
-                assert_eq!(rt; found.store().id(0), 5);
-                assert_eq!(rt; found.store().bytes(0), b"record".as_slice());
-            }
-            assert_eq!(rt; found.accesses().len(), 0);
-            assert_eq!(rt; get(&mut found, Reg::Value), Some(0));
+            assert!(rt;
+                leaves_the_record(rt.alloc(), calls, pick)?,
+                "{pick:?} after {calls} calls"
+            );
         }
     }
     Ok(())
 }
 
+const NEXT: Step<'static> = Step::Act(0, GET_RECORD_IDENTIFIER);
+
+const PUTS: [Step<'static>; 7] = [
+    Step::Put(5, b"one"),
+    Step::Put(6, b"two"),
+    NEXT,
+    Step::Put(0, b"none"),
+    NEXT,
+    Step::Put(5, b"new"),
+    NEXT,
+];
+
+const LISTED: [u64; 7] = [0, 0, 5, RESERVED_ID, 6, 0, 5];
+
 // A put that is refused changes nothing, the cursor neither, and one that goes well lists from the
 // first identifier.
 #[test]
 fn put_lists_from_the_first(rt: HostRuntime) -> Result<(), Fail> {
-    let mut board = new_board(rt.alloc(), 0)?;
-    assert_eq!(rt; put(&mut board, 5, b"one"), Ok(()));
-    assert_eq!(rt; put(&mut board, 6, b"two"), Ok(()));
-    assert_eq!(rt; act(&rt, &mut board, 0, GET_RECORD_IDENTIFIER), Some(5));
-    let refused = Err(BoardPut::Refused(PutRefused::ReservedId));
-    assert_eq!(rt; put(&mut board, 0, b"none"), refused);
-    assert_eq!(rt; act(&rt, &mut board, 0, GET_RECORD_IDENTIFIER), Some(6));
-    assert_eq!(rt; put(&mut board, 5, b"new"), Ok(()));
-    assert_eq!(rt; act(&rt, &mut board, 0, GET_RECORD_IDENTIFIER), Some(5));
+    let seen = play(rt.alloc(), PLAIN, &PUTS)?;
+    for (place, (answer, wanted)) in seen.answers.iter().zip(LISTED).enumerate() {
+        assert!(rt; *answer == Some(wanted), "at step {place}");
+    }
+    assert!(rt; seen.answers.len() == 7);
     Ok(())
 }

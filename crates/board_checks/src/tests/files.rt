@@ -1,43 +1,52 @@
 //! The two files of a board in memory: what reads give, and what a stop leaves.
-use super::steps::{board_with, left, new_board, print, read, size, sync, write};
-use board_core::{DiskCall, FileNo, MemBoard, Pick, write_through};
+use super::steps::{PLAIN, Seen, Start, Step, play};
+use board_core::{DiskCall, FileNo, Pick};
 use std::alloc::Global;
-use std::process::Abort;
 use std::test::Fail;
+
+const ZERO: FileNo = FileNo::Zero;
+
+// Writes in the middle, across the end and at the end; then reads within the file, across its end,
+// at its end and past it, which give what they are to give.
+const READS_AND_WRITES: [Step<'static>; 16] = [
+    Step::Size(ZERO),
+    Step::Write(ZERO, 1, b"X"),
+    Step::Read(ZERO, 0, b"aXc"),
+    Step::Write(ZERO, 2, b"YZ"),
+    Step::Read(ZERO, 1, b"XYZ"),
+    Step::Size(ZERO),
+    Step::Write(ZERO, 4, b"!"),
+    Step::Size(ZERO),
+    Step::Read(ZERO, 0, b"aXY"),
+    Step::Read(ZERO, 1, b"XYZ"),
+    Step::Read(ZERO, 3, b"Z!"),
+    Step::Read(ZERO, 5, b""),
+    Step::Read(ZERO, 9, b""),
+    Step::Sync(ZERO),
+    Step::Print(b"done "),
+    Step::Print(b"1\n"),
+];
+
+const ANSWERS: [u64; 16] = [3, 0, 1, 0, 1, 4, 0, 5, 1, 1, 1, 1, 1, 0, 0, 0];
 
 #[test]
 fn reads_and_writes(rt: HostRuntime) -> Result<(), Fail> {
-    let mut board = board_with(rt.alloc(), FileNo::Zero, b"abc")?;
-    assert_eq!(rt; size(&mut board, FileNo::Zero), Some(3));
-
-    // In the middle, across the end, and at the end.
-    let writes: [(u64, &[u8], &[u8]); 3] = [
-        (1, b"X", b"aXc"),
-        (2, b"YZ", b"aXYZ"),
-        (4, b"!", b"aXYZ!"),
-    ];
-    for (place, bytes, after) in writes {
-        assert!(rt; write(&rt, &mut board, FileNo::Zero, place, bytes));
-        assert_eq!(rt; board.file(FileNo::Zero), after);
+    let start = Start {
+        zero: b"abc",
+        ..PLAIN
+    };
+    let seen = play(rt.alloc(), start, &READS_AND_WRITES)?;
+    assert!(rt; seen.answers.len() == 16);
+    for (place, (answer, wanted)) in seen.answers.iter().zip(ANSWERS).enumerate() {
+        assert!(rt; *answer == Some(wanted), "step {place}");
     }
-
-    // Within the file, across its end, at its end and past it.
-    let reads: [(u64, &[u8]); 4] = [(1, b"XYZ"), (3, b"Z!"), (5, b""), (9, b"")];
-    for (place, want) in reads {
-        let mut buf = [0; 3];
-        let count = read(&mut board, FileNo::Zero, place, &mut buf);
-        assert_eq!(rt; count, Some(want.len()), "at {place}");
-        assert_eq!(rt; &buf[..want.len().min(3)], want, "at {place}");
-    }
-    assert!(rt; sync(&mut board, FileNo::Zero));
-    assert!(rt; print(&mut board, b"done ") && print(&mut board, b"1\n"));
-    assert_eq!(rt; board.out(), b"done 1\n".as_slice());
-    assert_eq!(rt; board.file(FileNo::One), b"".as_slice());
+    assert!(rt; seen.zero.as_slice() == b"aXYZ!".as_slice() && seen.one.is_empty());
+    assert!(rt; seen.out.as_slice() == b"done 1\n".as_slice());
     Ok(())
 }
 
-// A call on a file, and what a stop after it leaves of the file: as last synced, as a read gives
-// it, and with every byte written since set to A5.
+// A call on a file, a write or where there is none a sync, and what a stop after it leaves of the
+// file: as last synced, as a read gives it, and with every byte written since set to A5.
 type Row = (
     Option<(u64, &'static [u8])>,
     &'static [u8],
@@ -67,74 +76,92 @@ fn other(file: FileNo) -> FileNo {
     }
 }
 
-// A board on which the first of these calls were made on a file, a write or where there is none a
-// sync.
-fn board_after(
-    rt: &impl Abort,
+// The first of these calls on a file. After each comes what settles nothing of it: a sync of the
+// other file, and a line that is printed.
+fn steps_of(alloc: Global, file: FileNo, rows: &[Row]) -> Result<Vec<Step<'static>>, Fail> {
+    let mut steps = Vec::new(alloc);
+    for (change, ..) in rows {
+        steps.push(match change {
+            Some((place, bytes)) => Step::Write(file, *place, bytes),
+            None => Step::Sync(file),
+        })?;
+        steps.push(Step::Sync(other(file)))?;
+        steps.push(Step::Print(b"a line\n"))?;
+    }
+    Ok(steps)
+}
+
+// Whether a stop after these steps leaves these bytes of the file and all of the other one, with
+// nothing printed and no call listed, and so again where a write came after it.
+fn leaves(
     alloc: Global,
     file: FileNo,
-    rows: &[Row],
-) -> Result<MemBoard, Fail> {
-    let mut board = MemBoard::new(alloc, erst_store::Store::new(alloc), 0)?;
-    board.set_file(file, b"ab".to_vec(alloc)?);
-    board.set_file(other(file), OTHER.to_vec(alloc)?);
-    for (change, ..) in rows {
-        let done = match change {
-            Some((place, bytes)) => write(rt, &mut board, file, *place, bytes),
-            None => sync(&mut board, file),
-        };
-        assert!(rt; done);
-        // What is done to the other file, and what is printed, settles nothing.
-        assert!(rt; sync(&mut board, other(file)) && print(&mut board, b"a line\n"));
+    made: usize,
+    pick: Pick,
+    wanted: &[u8],
+) -> Result<bool, Fail> {
+    let mut start = Start {
+        zero: b"ab",
+        one: OTHER,
+        ..PLAIN
+    };
+    if file == FileNo::One {
+        start.zero = OTHER;
+        start.one = b"ab";
     }
-    Ok(board)
+    let mut steps = steps_of(alloc, file, ROWS.get(..made).unwrap_or(&ROWS))?;
+    steps.push(Step::Stop(pick))?;
+    let left = play(alloc, start, &steps)?;
+    steps.push(Step::Write(file, 0, b"!"))?;
+    steps.push(Step::Stop(Pick::Old))?;
+    let again = play(alloc, start, &steps)?;
+    Ok(
+        has_files(&left, file, wanted)
+            && left.out.is_empty()
+            && left.disk_calls.is_empty()
+            && again.answers.last() == Some(&Some(0))
+            && has_files(&again, file, wanted),
+    )
+}
+
+// Whether a file has these bytes and the other one its own.
+fn has_files(seen: &Seen, file: FileNo, bytes: &[u8]) -> bool {
+    match file {
+        FileNo::Zero => seen.zero.as_slice() == bytes && seen.one.as_slice() == OTHER,
+        FileNo::One => seen.one.as_slice() == bytes && seen.zero.as_slice() == OTHER,
+    }
 }
 
 #[test]
 fn leaves_what_a_stop_may_leave(rt: HostRuntime) -> Result<(), Fail> {
-    let alloc = rt.alloc();
     for file in [FileNo::Zero, FileNo::One] {
-        for made in 1..=ROWS.len() {
-            let rows = &ROWS[..made];
-            let (_, old, new, filled) = rows[made - 1];
-            for (pick, want) in [
+        for (made, (_, old, new, filled)) in (1..).zip(ROWS) {
+            for (pick, wanted) in [
                 (Pick::Old, old),
                 (Pick::New, new),
                 (Pick::Fill(0xa5), filled),
             ] {
-                let mut found = left(board_after(&rt, alloc, file, rows)?, alloc, pick)?;
-                assert_eq!(rt; found.file(file), want, "{pick:?} after {made} calls");
-                assert_eq!(rt; found.file(other(file)), OTHER);
-                assert_eq!(rt; found.out(), b"".as_slice());
-                assert_eq!(rt; found.disk_calls().len(), 0);
-                // It is a board like any other.
-                assert!(rt; write(&rt, &mut found, file, 0, b"!"));
-                let again = left(found, alloc, Pick::Old)?;
-                assert_eq!(rt; again.file(file), want);
+                assert!(rt;
+                    leaves(rt.alloc(), file, made, pick, wanted)?,
+                    "{pick:?} after {made} calls"
+                );
             }
         }
     }
     Ok(())
 }
 
-fn through(rt: &impl Abort, board: &mut MemBoard) -> bool {
-    assert!(rt; board.file(FileNo::One).is_empty());
-    write_through(FileNo::One, 0, b"ab", board).is_ok()
-}
-
 #[test]
 fn writes_through(rt: HostRuntime) -> Result<(), Fail> {
-    let mut board = new_board(rt.alloc(), 0)?;
-    assert!(rt; through(&rt, &mut board));
-    assert_eq!(rt;
-        board.disk_calls(),
-        [
-            DiskCall::WriteAt(FileNo::One, 0, 2),
-            DiskCall::Sync(FileNo::One)
-        ]
-        .as_slice()
-    );
-    let found = left(board, rt.alloc(), Pick::Old)?;
-    assert_eq!(rt; found.file(FileNo::One), b"ab".as_slice());
+    let calls = [
+        DiskCall::WriteAt(FileNo::One, 0, 2),
+        DiskCall::Sync(FileNo::One),
+    ];
+    let through = Step::Through(b"ab");
+    let seen = play(rt.alloc(), PLAIN, &[through])?;
+    assert!(rt; seen.answers.as_slice() == [Some(0)].as_slice());
+    assert!(rt; seen.disk_calls.as_slice() == calls.as_slice());
+    let left = play(rt.alloc(), PLAIN, &[through, Step::Stop(Pick::Old)])?;
+    assert!(rt; left.one.as_slice() == b"ab".as_slice());
     Ok(())
 }

@@ -1,11 +1,11 @@
 //! The disk calls of a run, and what it leaves in both files.
-
-use super::{EVERYDAY, empty_board, run};
+use super::{EVERYDAY, PLAIN, is_joined, play};
+use board_core::DiskCall::{ReadAt, Size, Sync, WriteAt};
 use board_core::{DiskCall, FileNo};
 use ras_daemon::Exit;
-use std::alloc::Global;
-use std::process::Abort;
 use std::test::Fail;
+
+const ZERO: FileNo = FileNo::Zero;
 
 // The everyday line's entry: the mark of a fact, the mark of a bank's name, boot, cpu, bank and
 // time-stamp counter, the seconds, the number of items, and of the item its class, no label, the
@@ -30,66 +30,69 @@ const LIMIT_ENTRIES: [u8; 34] = [
     0x96, 0x98, 0, 0, 0, 0, 0,
 ];
 
-// What a run over an empty board leaves in file 0, and the disk calls that it makes.
-fn check_calls(
-    rt: &impl Abort,
-    alloc: Global,
-    script: &str,
-    file: &[u8],
-    calls: &[DiskCall],
-) -> Result<(), Fail> {
-    let mut board = empty_board(alloc)?;
-    assert_eq!(rt; run(alloc, script, 7, &mut board)?, Exit::Done);
-    assert_eq!(rt; board.file(FileNo::Zero), file);
-    assert_eq!(rt; board.file(FileNo::One), b"".as_slice());
-    assert_eq!(rt; board.disk_calls(), calls);
+// What a run over empty files leaves in file 0, and the disk calls that it makes.
+struct Row {
+    script: &'static [&'static str],
+    file: &'static [&'static [u8]],
+    calls: &'static [DiskCall],
+}
+
+const ROWS: [Row; 3] = [
+    // A fresh entry is written once.
+    Row {
+        script: &[EVERYDAY, EVERYDAY],
+        file: &[&ENTRY],
+        calls: &[Size(ZERO), WriteAt(ZERO, 0, 44), Sync(ZERO)],
+    },
+    Row {
+        script: &["limit 10 86400\nlimit 2 60\nlimit 2 60\nlimit 1000000 10000000\nrestart\n"],
+        file: &[&LIMIT_ENTRIES],
+        calls: &[
+            Size(ZERO),
+            WriteAt(ZERO, 0, 17),
+            Sync(ZERO),
+            WriteAt(ZERO, 17, 17),
+            Sync(ZERO),
+            Size(ZERO),
+            ReadAt(ZERO, 0, 34),
+        ],
+    },
+    // Entries of both lengths stand one after the other, also after a restart, which reads all of
+    // them.
+    Row {
+        script: &[
+            "restart\n",
+            PAGELESS,
+            "restart\n",
+            EVERYDAY,
+            "restart\n",
+            PAGELESS,
+        ],
+        file: &[&PAGELESS_ENTRY, &ENTRY],
+        calls: &[
+            Size(ZERO),
+            Size(ZERO),
+            ReadAt(ZERO, 0, 0),
+            WriteAt(ZERO, 0, 36),
+            Sync(ZERO),
+            Size(ZERO),
+            ReadAt(ZERO, 0, 36),
+            WriteAt(ZERO, 36, 44),
+            Sync(ZERO),
+            Size(ZERO),
+            ReadAt(ZERO, 0, 80),
+        ],
+    },
+];
+
+#[test]
+fn writes_each_fresh_entry_once(rt: HostRuntime) -> Result<(), Fail> {
+    for (number, row) in ROWS.iter().enumerate() {
+        let seen = play(rt.alloc(), row.script, PLAIN)?;
+        assert!(rt; seen.exit == Exit::Done, "row {number}");
+        assert!(rt; is_joined(&seen.file0, row.file), "row {number}");
+        assert!(rt; seen.file1.is_empty(), "row {number}");
+        assert!(rt; seen.disk_calls.as_slice() == row.calls, "row {number}");
+    }
     Ok(())
-}
-
-#[test]
-fn a_fresh_entry_is_written_once(rt: HostRuntime) -> Result<(), Fail> {
-    let alloc = rt.alloc();
-    let zero = FileNo::Zero;
-    let script = format!(in alloc; "{EVERYDAY}{EVERYDAY}")?;
-    let calls = [
-        DiskCall::Size(zero),
-        DiskCall::WriteAt(zero, 0, 44),
-        DiskCall::Sync(zero),
-    ];
-    check_calls(&rt, alloc, script.as_str(), &ENTRY, &calls)?;
-    let script = "limit 10 86400\nlimit 2 60\nlimit 2 60\nlimit 1000000 10000000\nrestart\n";
-    let calls = [
-        DiskCall::Size(zero),
-        DiskCall::WriteAt(zero, 0, 17),
-        DiskCall::Sync(zero),
-        DiskCall::WriteAt(zero, 17, 17),
-        DiskCall::Sync(zero),
-        DiskCall::Size(zero),
-        DiskCall::ReadAt(zero, 0, 34),
-    ];
-    check_calls(&rt, alloc, script, &LIMIT_ENTRIES, &calls)
-}
-
-// Entries of both lengths stand one after the other, also after a restart, which reads all of them.
-#[test]
-fn a_restart_reads_the_whole_file(rt: HostRuntime) -> Result<(), Fail> {
-    let alloc = rt.alloc();
-    let script = format!(in alloc; "restart\n{PAGELESS}restart\n{EVERYDAY}restart\n{PAGELESS}")?;
-    let mut entries = Vec::from_slice(alloc, &PAGELESS_ENTRY)?;
-    entries.extend_from_slice(&ENTRY)?;
-    let zero = FileNo::Zero;
-    let calls = [
-        DiskCall::Size(zero),
-        DiskCall::Size(zero),
-        DiskCall::ReadAt(zero, 0, 0),
-        DiskCall::WriteAt(zero, 0, 36),
-        DiskCall::Sync(zero),
-        DiskCall::Size(zero),
-        DiskCall::ReadAt(zero, 0, 36),
-        DiskCall::WriteAt(zero, 36, 44),
-        DiskCall::Sync(zero),
-        DiskCall::Size(zero),
-        DiskCall::ReadAt(zero, 0, 80),
-    ];
-    check_calls(&rt, alloc, script.as_str(), entries.as_slice(), &calls)
 }

@@ -1,7 +1,9 @@
-//! The record store's file, over a scripted system and in a real folder.
+//! The record store's file, over a scripted system and in a real folder. The device is used through
+//! functions of one call each that state nothing.
 use super::scripted::{Call, Named, Scripted};
 use crate::store_file::StoredDevice;
 use crate::system::{Host, System};
+use std::alloc::Global;
 use std::test::Fail;
 use std::{fs, io};
 
@@ -10,39 +12,94 @@ const ONE_RECORD: &[u8] = b"RASERST1\x01\0\0\0\x06\0\0\0\0\0\0\0\x01\0\0\0\0";
 
 const COUNT: u64 = 10;
 
+fn device(alloc: Global) -> StoredDevice {
+    StoredDevice::new(alloc)
+}
+
 // How many records the store has, by the device.
 fn count<S: System>(device: &mut StoredDevice, system: &mut S) -> io::Result<u64> {
     device.act(system, COUNT)?;
     device.value(system)
 }
 
-fn put<S: System>(device: &mut StoredDevice, system: &mut S, id: u64, bytes: &[u8]) -> bool {
-    matches!(device.put(system, id, bytes), Ok(Ok(())))
+// Puts the record (6, 00).
+fn put<S: System>(device: &mut StoredDevice, system: &mut S) -> bool {
+    matches!(device.put(system, 6, &[0]), Ok(Ok(())))
 }
 
+// A step on the device.
+#[derive(Clone, Copy)]
+enum Step {
+    Count,
+    Put,
+}
+
+// The system's call that fails, from 1, the file that lies there, and its length as it is told.
+#[derive(Clone, Copy)]
+struct Start {
+    fails: usize,
+    store: Option<&'static [u8]>,
+    length: u64,
+}
+
+// What each step answers, a put with how many calls there were by then, and the calls.
+fn play(
+    alloc: Global,
+    start: Start,
+    steps: &[Step],
+) -> Result<(Vec<Option<u64>>, Vec<Call>), Fail> {
+    let mut device = device(alloc);
+    let mut system = system_of(alloc, start)?;
+    let mut answers = Vec::new(alloc);
+    for step in steps {
+        answers.push(take(&mut device, &mut system, *step))?;
+    }
+    Ok((answers, system.calls))
+}
+
+fn system_of(alloc: Global, start: Start) -> Result<Scripted, Fail> {
+    let mut system = Scripted::new(alloc, start.fails, 99);
+    if let Some(bytes) = start.store {
+        system.store = Some(bytes.to_vec(alloc)?);
+    }
+    system.told_length = start.length;
+    Ok(system)
+}
+
+fn take(device: &mut StoredDevice, system: &mut Scripted, step: Step) -> Option<u64> {
+    match step {
+        Step::Count => count(device, system).ok(),
+        Step::Put if put(device, system) => Some(system.calls.len() as u64),
+        Step::Put => None,
+    }
+}
+
+const EMPTY: Start = Start {
+    fails: 0,
+    store: None,
+    length: 0,
+};
+
 // The file is read at the first use and not made. Each change makes a new one, which is durable
-// before it takes the old one's place, and the folder after that.
+// before it takes the old one's place, and the folder after that. A count asks the system nothing
+// more.
+const CALLS: [Call; 6] = [
+    Call::OpenIfThere(Named::Store),
+    Call::Make(Named::NewStore),
+    Call::WriteAt(Named::NewStore, 0, 25),
+    Call::SyncData(Named::NewStore),
+    Call::Rename(Named::NewStore, Named::Store),
+    Call::SyncFolder,
+];
+
 #[test]
 fn writes_each_change(rt: HostRuntime) -> Result<(), Fail> {
-    let mut device = StoredDevice::new(rt.alloc());
-    let mut system = Scripted::new(rt.alloc(), 0, 99);
-    assert_eq!(rt; count(&mut device, &mut system).ok(), Some(0));
-    assert_eq!(rt;
-        system.calls.as_slice(),
-        [Call::OpenIfThere(Named::Store)].as_slice()
-    );
-    assert!(rt; put(&mut device, &mut system, 6, &[0]));
-    let calls = [
-        Call::OpenIfThere(Named::Store),
-        Call::Make(Named::NewStore),
-        Call::WriteAt(Named::NewStore, 0, 25),
-        Call::SyncData(Named::NewStore),
-        Call::Rename(Named::NewStore, Named::Store),
-        Call::SyncFolder,
-    ];
-    assert_eq!(rt; system.calls.as_slice(), calls.as_slice());
-    assert_eq!(rt; count(&mut device, &mut system).ok(), Some(1));
-    assert_eq!(rt; system.calls.len(), 6);
+    let (answers, calls) = play(rt.alloc(), EMPTY, &[Step::Count])?;
+    assert!(rt; answers.as_slice() == [Some(0)].as_slice());
+    assert!(rt; calls.as_slice() == &CALLS[..1]);
+    let (answers, calls) = play(rt.alloc(), EMPTY, &[Step::Count, Step::Put, Step::Count])?;
+    assert!(rt; answers.as_slice() == [Some(0), Some(6), Some(1)].as_slice());
+    assert!(rt; calls.as_slice() == CALLS.as_slice());
     Ok(())
 }
 
@@ -50,40 +107,41 @@ fn writes_each_change(rt: HostRuntime) -> Result<(), Fail> {
 #[test]
 fn failed_change_ends_the_device(rt: HostRuntime) -> Result<(), Fail> {
     for fails in 2..=6 {
-        let mut device = StoredDevice::new(rt.alloc());
-        let mut system = Scripted::new(rt.alloc(), fails, 99);
-        assert!(rt; !put(&mut device, &mut system, 6, &[0]), "call {fails}");
-        assert_eq!(rt; system.calls.len(), fails);
-        assert!(rt; count(&mut device, &mut system).is_err());
-        assert!(rt; !put(&mut device, &mut system, 6, &[0]));
-        assert_eq!(rt; system.calls.len(), fails);
+        let steps = [Step::Put, Step::Count, Step::Put];
+        let (answers, calls) = play(rt.alloc(), Start { fails, ..EMPTY }, &steps)?;
+        assert!(rt;
+            answers.as_slice() == [None, None, None].as_slice(),
+            "call {fails}"
+        );
+        assert!(rt; calls.len() == fails, "call {fails}");
     }
     Ok(())
 }
 
-// A file that is no store fails, at each use; one that is too long is not read.
+// A file, its length, and the count of its records; None where it is no store. Of one that is too
+// long nothing is read: there are two calls.
+const FILES: [(&[u8], u64, Option<u64>); 5] = [
+    (ONE_RECORD, 25, Some(1)),
+    (ONE_RECORD, 24, None),
+    (ONE_RECORD, 26, None),
+    (b"", 0, None),
+    (ONE_RECORD, 16_789_517, None),
+];
+
 #[test]
 fn malformed_file_fails(rt: HostRuntime) -> Result<(), Fail> {
-    let rows: [(&[u8], u64, Option<u64>); 5] = [
-        (ONE_RECORD, 25, Some(1)),
-        (ONE_RECORD, 24, None),
-        (ONE_RECORD, 26, None),
-        (b"", 0, None),
-        (ONE_RECORD, 16_789_517, None),
-    ];
-    for (bytes, length, want) in rows {
-        let mut device = StoredDevice::new(rt.alloc());
-        let mut system = Scripted::new(rt.alloc(), 0, 99);
-        system.store = Some(bytes.to_vec(rt.alloc())?);
-        system.told_length = length;
-        assert_eq!(rt;
-            count(&mut device, &mut system).ok(),
-            want,
+    for (bytes, length, wanted) in FILES {
+        let start = Start {
+            store: Some(bytes),
+            length,
+            ..EMPTY
+        };
+        let (answers, calls) = play(rt.alloc(), start, &[Step::Count])?;
+        assert!(rt;
+            answers.as_slice() == [wanted].as_slice(),
             "of {length} bytes"
         );
-        if length > 26 {
-            assert_eq!(rt; system.calls.len(), 2);
-        }
+        assert!(rt; length <= 26 || calls.len() == 2);
     }
     Ok(())
 }
@@ -94,8 +152,21 @@ fn remove_files(rt: &HostRuntime) {
     }
 }
 
+fn host(rt: HostRuntime) -> Host {
+    Host::new(rt)
+}
+
 fn count_anew(rt: HostRuntime, system: &mut Host) -> Option<u64> {
-    count(&mut StoredDevice::new(rt.alloc()), system).ok()
+    count(&mut device(rt.alloc()), system).ok()
+}
+
+// Whether the file holds the one record.
+fn holds_one(rt: &HostRuntime) -> Result<bool, Fail> {
+    Ok(fs::read(rt, "rasd.store")?.as_slice() == ONE_RECORD)
+}
+
+fn is_missing(rt: &HostRuntime, name: &str) -> bool {
+    fs::metadata(rt, name).is_err()
 }
 
 // In a real folder: a missing file, one that is made and replaced, one beside what a killed run
@@ -103,23 +174,20 @@ fn count_anew(rt: HostRuntime, system: &mut Host) -> Option<u64> {
 #[test]
 fn keeps_the_store_in_a_folder(rt: HostRuntime) -> Result<(), Fail> {
     remove_files(&rt);
-    let mut system = Host::new(rt);
-    assert_eq!(rt; count_anew(rt, &mut system), Some(0));
-    assert!(rt; fs::metadata(&rt, "rasd.store").is_err());
-    let mut device = StoredDevice::new(rt.alloc());
-    assert!(rt; put(&mut device, &mut system, 6, &[0]));
-    assert_eq!(rt; fs::read(&rt, "rasd.store")?.as_slice(), ONE_RECORD);
-    assert_eq!(rt; count_anew(rt, &mut system), Some(1));
+    let mut system = host(rt);
+    assert!(rt; count_anew(rt, &mut system) == Some(0) && is_missing(&rt, "rasd.store"));
+    let mut device = device(rt.alloc());
+    assert!(rt; put(&mut device, &mut system) && holds_one(&rt)?);
+    assert!(rt; count_anew(rt, &mut system) == Some(1));
     fs::write(
         &rt,
         "rasd.new",
         b"a longer file that a killed run left behind",
     )?;
-    assert!(rt; put(&mut device, &mut system, 6, &[0]));
-    assert_eq!(rt; fs::read(&rt, "rasd.store")?.as_slice(), ONE_RECORD);
-    assert!(rt; fs::metadata(&rt, "rasd.new").is_err());
+    assert!(rt; put(&mut device, &mut system) && holds_one(&rt)?);
+    assert!(rt; is_missing(&rt, "rasd.new"));
     fs::write(&rt, "rasd.store", &ONE_RECORD[..24])?;
-    assert_eq!(rt; count_anew(rt, &mut system), None);
+    assert!(rt; count_anew(rt, &mut system) == None);
     remove_files(&rt);
     Ok(())
 }

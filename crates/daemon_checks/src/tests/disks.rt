@@ -1,0 +1,176 @@
+//! The board that all runs go over.
+
+ghost use Rattle.std.specs.Prelude.{◌≡◌, None, IfOk, OnErr, IsErr};
+ghost use Rattle.board_core.specs.Cause.{HasCause};
+ghost use Rattle.board_core.specs.Clock.{untold};
+ghost use Rattle.board_core.specs.ClockLemmas.{not_told};
+
+use board_core::{Board, BoardPut, DiskCall, Failed, FileNo, MemBoard, Reg};
+use erst_store::Store;
+use std::alloc::Global;
+use std::test::Fail;
+
+/// A board that tells nothing, as one over real files does, so that the clauses of a run say little
+/// of it, and whose device fails at each call.
+///
+/// It has one disk in memory, or two: then its disk is exchanged for the second at its first sync,
+/// and every later disk call goes there. All is printed to the first.
+#[derive(Drop)]
+pub struct TestBoard {
+    disks: Disks,
+    disk_faults: u64,
+    device_faults: u64,
+    print_faults: u64,
+}
+
+// The two disks, apart from the counts, which so stay as they are where a disk is used.
+#[derive(Drop)]
+struct Disks {
+    first: MemBoard,
+    second: MemBoard,
+    is_to_be_exchanged: bool,
+    is_exchanged: bool,
+}
+
+impl TestBoard {
+    /// A board with empty files whose call of this number fails, from 1, and none where it is 0.
+    pub fn new(alloc: Global, fails: u64, is_to_be_exchanged: bool) -> Result<TestBoard, Fail> {
+        let mut first = MemBoard::new(alloc, Store::new(alloc), 0)?;
+        first.fail_at(fails)?;
+        Ok(TestBoard {
+            disks: Disks {
+                first,
+                second: MemBoard::new(alloc, Store::new(alloc), 0)?,
+                is_to_be_exchanged,
+                is_exchanged: false,
+            },
+            disk_faults: 0,
+            device_faults: 0,
+            print_faults: 0,
+        })
+    }
+
+    /// A file of the first disk.
+    pub fn file(&self, file: FileNo) -> &[u8] {
+        self.disks.first.file(file)
+    }
+
+    /// File 0 of the second disk.
+    pub fn second_file(&self) -> &[u8] {
+        self.disks.second.file(FileNo::Zero)
+    }
+
+    /// What was printed.
+    pub fn out(&self) -> &[u8] {
+        self.disks.first.out()
+    }
+
+    /// The calls on the first disk.
+    pub fn disk_calls(&self) -> &[DiskCall] {
+        self.disks.first.disk_calls()
+    }
+}
+
+impl Disks {
+    // The disk that is there.
+    fn disk(&mut self) -> &mut MemBoard {
+        if self.is_exchanged {
+            &mut self.second
+        } else {
+            &mut self.first
+        }
+    }
+
+    fn sync(&mut self, file: FileNo) -> Result<(), Failed> {
+        let synced = self.disk().sync(file);
+        self.is_exchanged = self.is_to_be_exchanged;
+        synced
+    }
+}
+
+impl Board for TestBoard {
+    ghost told = { λ _. None };
+
+    ghost clock = { λ _. untold };
+
+    ghost faults = { λ b. record { disk = b.disk_faults; registers = b.device_faults; prints = b.print_faults } };
+
+    ghost told_may_be_left = { λ _ t told. not_told t told };
+
+    ghost text_is_left = { λ _ t left told now. absurd now };
+
+    ghost store_is_left = { λ _ t left told now. absurd now };
+
+    ghost counts_earlier = { λ _ s t left within may. may };
+
+    fn size(&mut self, file: FileNo) -> Result<u64, Failed> {
+        count_failure(self.disks.disk().size(file), &mut self.disk_faults)
+    }
+
+    fn read_at(&mut self, file: FileNo, place: u64, buf: &mut [u8]) -> Result<usize, Failed> {
+        let read = self.disks.disk().read_at(file, place, buf);
+        count_failure(read, &mut self.disk_faults)
+    }
+
+    fn write_at(&mut self, file: FileNo, place: u64, bytes: &[u8]) -> Result<(), Failed> {
+        let written = write_inside(self.disks.disk(), file, place, bytes);
+        count_failure(written, &mut self.disk_faults)
+    }
+
+    fn sync(&mut self, file: FileNo) -> Result<(), Failed> {
+        count_failure(self.disks.sync(file), &mut self.disk_faults)
+    }
+
+    fn reg_read(&mut self, _: Reg) -> Result<u64, Failed> {
+        count_failure(Err(Failed), &mut self.device_faults)
+    }
+
+    fn reg_write(&mut self, _: Reg, _: u64) -> Result<(), Failed> {
+        count_failure(Err(Failed), &mut self.device_faults)
+    }
+
+    fn range_read(&mut self, _: u32, _: &mut [u8]) -> Result<(), Failed> {
+        count_failure(Err(Failed), &mut self.device_faults)
+    }
+
+    fn range_write(&mut self, _: u32, _: &[u8]) -> Result<(), Failed> {
+        count_failure(Err(Failed), &mut self.device_faults)
+    }
+
+    fn put(&mut self, _: u64, _: &[u8]) -> Result<(), BoardPut> {
+        self.device_faults = self.device_faults.saturating_add(1);
+        Err(BoardPut::Failed)
+    }
+
+    fn print(&mut self, bytes: &[u8]) -> Result<(), Failed> {
+        count_failure(self.disks.first.print(bytes), &mut self.print_faults)
+    }
+}
+
+// A write that begins past the file's end fails.
+fn write_inside(
+    board: &mut MemBoard,
+    file: FileNo,
+    place: u64,
+    bytes: &[u8],
+) -> Result<(), Failed> {
+    if place > board.file(file).len() as u64 {
+        return Err(Failed);
+    }
+    board.write_at(file, place, bytes)
+}
+
+// What a call answered, with the count of its faults raised where it failed.
+fn count_failure<T>(answer: Result<T, Failed>, faults: &mut u64) -> Result<T, Failed>
+    ensures ok { IfOk answer (λ value. result ≡ Ok value) }
+    ensures err { OnErr answer (IsErr result) }
+    ensures cause { HasCause faults.old faults.new result }
+{
+    match answer {
+        Ok(value) => Ok(value),
+        Err(Failed) => {
+            *faults = faults.saturating_add(1);
+            Err(Failed)
+        }
+    }
+}

@@ -1,0 +1,27 @@
+use Rattle.std.proofs.Common.{◌≡◌, ℕ, ◌+◌, ◌-◌, ◌≤◌, List, ◌++◌, length, take, drop, Bool, IsTrue, sym, arith, length-drop}
+use Rattle.std.proofs.Math.Seq.{take-add}
+use Rattle.std.proofs.lemmas.Grind.{common_steps}
+use Rattle.std.proofs.lemmas.List.{length-take-le, take_all}
+use Rattle.ras_cli.proofs.folder_file.write_full.Goals as goal
+use Rattle.ras_cli.proofs.folder_file.write_full.Goals.{in-Ok, in-Err}
+
+-- What was taken first and what was taken after it are taken together.
+took_on : {File : Type 0} (took : File → ℕ → List ℕ → Bool)
+    → ((file : File) (place : ℕ) (front more : List ℕ) → IsTrue (took file place front) → IsTrue (took file (place + length front) more) → IsTrue (took file place (front ++ more)))
+    → (file : File) (place next n m : ℕ) (bytes : List ℕ) → next ≡ place + length (take n bytes)
+    → IsTrue (took file place (take n bytes)) → IsTrue (took file next (take m (drop n bytes))) → IsTrue (took file place (take (n + m) bytes))
+took_on took law file place next n m bytes at front more =
+    rw (take-add n m bytes) (law file place (take n bytes) (take m (drop n bytes)) front (rw (sym at) more))
+
+pub loop-preserved : goal.loop-preserved
+loop-preserved g c = elim c.match-write_at.branch [
+  | in-Ok w ↦
+      let front : length (take c.loop.count c.args.bytes.now) ≡ c.loop.count = length-take-le _ _ c.loop.invariant.inside in
+      let at : c.in-Some.next ≡ c.args.place + length (take c.loop.count c.args.bytes.now) = omega (arith, front, c.in-Some.ensures) in
+      let rest : take (length c.args.bytes.now - c.loop.count) (drop c.loop.count c.args.bytes.now) ≡ drop c.loop.count c.args.bytes.now = take_all _ _ (omega (arith, length-drop c.loop.count c.args.bytes.now)) in
+      rw w.count-is record {
+        inside = grind (arith, common_steps, c.loop.invariant.inside, w.in-Ok.ensures.within);
+        taken = took_on g.S.System.took g.S.System.took_more _ _ _ _ _ _ at c.loop.invariant.taken (rw rest at w.in-Ok.ensures.took);
+      }
+  | in-Err w ↦ rw w.count-is c.loop.invariant
+]
