@@ -4,7 +4,7 @@ use Rattle.std.specs.Result.{is_ok, is_err, IsOk}
 use Rattle.cper_sections.specs.Sections.{section_of}
 use Rattle.std.specs.List.{list_any}
 use Rattle.std.proofs.lemmas.List.Folds.{list_any_at}
-use Rattle.apei_sources.specs.Entries.{has_entry, is_refused, first_of, rest_of, entry_guid, entry_bytes}
+use Rattle.apei_sources.specs.Entries.{has_entry, is_refused, first_of, rest_of, entry_guid, entry_data}
 use Rattle.apei_sources.specs.Cut.{cut, AreInside}
 
 cut_suc : (more left : ℕ) (bytes : List ℕ) → more ≡ suc left → cut more bytes ≡ first_of bytes ∷ cut left (rest_of bytes)
@@ -92,6 +92,6 @@ not_err (Err y) is = cc
 
 -- so the section of an entry of a block can be read
 pub section_read : (count i : ℕ) (bytes : List ℕ) → list_any is_refused (cut count bytes) ≡ false → i < count
-    → IsOk (section_of (entry_guid (get_or (cut count bytes) i [])) (entry_bytes (get_or (cut count bytes) i [])))
+    → IsOk (section_of (entry_guid (get_or (cut count bytes) i [])) (entry_data (get_or (cut count bytes) i [])))
 unfolding is_refused
 section_read count i bytes none below = not_err _ (readable_at count i bytes none below)

@@ -30,12 +30,12 @@ abbrev pub entry_severity : List ℕ → ℕ
 entry_severity entry = number_at 16 4 entry
 
 -- the section that an entry holds: its data, which follows its header
-abbrev pub entry_bytes : List ℕ → List ℕ
-entry_bytes entry = drop (header_length entry) entry
+abbrev pub entry_data : List ℕ → List ℕ
+entry_data entry = drop (header_length entry) entry
 
 -- whether an entry's section can't be read
 unfoldable pub is_refused : List ℕ → Bool
-is_refused entry = is_err (section_of (entry_guid entry) (entry_bytes entry))
+is_refused entry = is_err (section_of (entry_guid entry) (entry_data entry))
 
 -- whether the entry at the front of data lies inside it, its header first
 abbrev pub has_entry : List ℕ → Bool

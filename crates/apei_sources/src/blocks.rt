@@ -2,7 +2,7 @@
 
 ghost use Rattle.std.specs.Prelude.{◌≡◌, ◌<◌, length, Ok};
 ghost use Rattle.cper_sections.specs.Sections.{section_of};
-ghost use Rattle.apei_sources.specs.Entries.{entry_guid, entry_severity, entry_bytes, entries_of};
+ghost use Rattle.apei_sources.specs.Entries.{entry_guid, entry_severity, entry_data, entries_of};
 ghost use Rattle.apei_sources.specs.Blocks.{entry_at, block_with, block_of};
 
 use crate::BlockRefused;
@@ -102,7 +102,7 @@ impl<'a> Block<'a> {
         requires { i < length self.now.entries }
         ensures severity { result.severity ≡ entry_severity (entry_at self.now i) }
         ensures guid { result.guid ≡ entry_guid (entry_at self.now i) }
-        ensures bytes { result.bytes.now ≡ entry_bytes (entry_at self.now i) }
+        ensures bytes { result.bytes.now ≡ entry_data (entry_at self.now i) }
         ensures section { section_of result.guid result.bytes.now ≡ Ok result.section }
     {
         entry_section(nth_entry(self.bytes, self.count, i)).read()

@@ -3,7 +3,7 @@
 ghost use Rattle.std.specs.Prelude.{◌≡◌, ◌≤◌, ◌<◌, [], length, get_or, IfSome, IsTrue};
 ghost use Rattle.std.specs.Option.{option_map};
 ghost use Rattle.std.specs.List.{list_any};
-ghost use Rattle.apei_sources.specs.Entries.{header_length, entry_length, first_of, rest_of, entry_guid, entry_severity, entry_bytes, has_entry, is_refused, entries_of};
+ghost use Rattle.apei_sources.specs.Entries.{header_length, entry_length, first_of, rest_of, entry_guid, entry_severity, entry_data, has_entry, is_refused, entries_of};
 ghost use Rattle.apei_sources.specs.Laid.{IsEntry};
 ghost use Rattle.apei_sources.specs.Cut.{cut, AreInside};
 
@@ -125,7 +125,7 @@ pub(crate) fn entry_section(entry: &[u8]) -> RawSection<'_>
     requires { IsEntry entry.now }
     ensures severity { result.severity ≡ entry_severity entry.now }
     ensures guid { result.guid ≡ entry_guid entry.now }
-    ensures bytes { result.bytes.now ≡ entry_bytes entry.now }
+    ensures bytes { result.bytes.now ≡ entry_data entry.now }
 {
     RawSection::new(entry, u32_at(entry, 16), &entry[header_length(entry)..])
 }

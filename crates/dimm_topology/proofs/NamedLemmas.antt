@@ -10,13 +10,13 @@ use Rattle.dimm_topology.specs.Labels.{Bytes}
 use Rattle.dimm_topology.specs.declared.row.Location.{Location}
 use Rattle.dimm_topology.specs.declared.row.Row.{Row}
 use Rattle.dimm_topology.specs.declared.row.Row.TheVariants.{Cpu, Module, Range, Place}
-use Rattle.dimm_topology.specs.Rows.{labels_in, names_module, is_module_label, is_at, holds}
+use Rattle.dimm_topology.specs.Rows.{labels_of_rows, names_module, is_module_label, is_at, holds}
 use Rattle.dimm_topology.specs.Owners.{the_one, owner_by_rows, owner_of_address, owner_at}
 use Rattle.dimm_topology.specs.Topology.{IsTopology}
 
 -- the labels of rows that pass a test are those of module rows
 fits_named : (rows xs : List Row) (test : Row → Bool) → ((label : Bytes) → is_module_label xs label ≡ true → is_module_label rows label ≡ true)
-    → list_all (names_module rows) xs ≡ true → list_all (is_module_label rows) (labels_in (filter test xs)) ≡ true
+    → list_all (names_module rows) xs ≡ true → list_all (is_module_label rows) (labels_of_rows (filter test xs)) ≡ true
 fits_named rows [] test among named = refl
 fits_named rows (Cpu cpu socket ∷ xs) test among named =
     grind (arith, common_steps, fits_named rows xs test among)
@@ -32,8 +32,8 @@ one_passes : (test : Bytes → Bool) (labels : List Bytes) → list_all test lab
 one_passes test [] all = tt
 one_passes test (label ∷ labels) all = grind (arith, common_steps)
 
-fitting : (rows : List Row) (test : Row → Bool) → IsTopology rows → IfSome (the_one (labels_in (filter test rows))) (λ label. IsTrue (is_module_label rows label))
-fitting rows test topology = one_passes (is_module_label rows) (labels_in (filter test rows)) (fits_named rows rows test (λ label held. held) topology.named)
+fitting : (rows : List Row) (test : Row → Bool) → IsTopology rows → IfSome (the_one (labels_of_rows (filter test rows))) (λ label. IsTrue (is_module_label rows label))
+fitting rows test topology = one_passes (is_module_label rows) (labels_of_rows (filter test rows)) (fits_named rows rows test (λ label held. held) topology.named)
 
 -- an owner is the label of a module row
 pub owner_named : (rows : List Row) (address : Option ℕ) (location : Option Location) → IsTopology rows

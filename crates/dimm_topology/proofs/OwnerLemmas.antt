@@ -9,7 +9,7 @@ use Rattle.dimm_topology.specs.Labels.{Bytes, same_label}
 use Rattle.dimm_topology.specs.declared.row.Location.{Location}
 use Rattle.dimm_topology.specs.declared.row.Row.{Row}
 use Rattle.dimm_topology.specs.declared.row.Row.TheVariants.{Cpu, Module, Range, Place}
-use Rattle.dimm_topology.specs.Rows.{label_in, labels_in, is_at, names, holds, overlap}
+use Rattle.dimm_topology.specs.Rows.{label_in, labels_of_rows, is_at, names, holds, overlap}
 use Rattle.dimm_topology.specs.Owners.{the_one, owner_of_address, owner_at}
 use Rattle.dimm_topology.specs.Topology.{IsApart}
 
@@ -44,7 +44,7 @@ find_filter test [] = refl
 find_filter test (row ∷ rows) = grind (arith, common_steps, find_filter test rows)
 
 -- of one row at most, the label is the one label
-the_one_of_one : (rows : List Row) → length rows ≤ 1 → the_one (labels_in rows) ≡ option_and_then label_in (slice_get rows 0)
+the_one_of_one : (rows : List Row) → length rows ≤ 1 → the_one (labels_of_rows rows) ≡ option_and_then label_in (slice_get rows 0)
 the_one_of_one [] small = refl
 the_one_of_one (Cpu cpu socket ∷ []) small = refl
 the_one_of_one (Module label socket bank channel ∷ []) small = refl
@@ -59,7 +59,7 @@ address_owner address rows apart =
 
 -- of the rows of a location, the labels are the same as one where each row names it
 same_at : (label : Bytes) (location : Location) (rows : List Row)
-    → list_all (names label) (filter (is_at location) rows) ≡ list_all (same_label label) (labels_in (filter (is_at location) rows))
+    → list_all (names label) (filter (is_at location) rows) ≡ list_all (same_label label) (labels_of_rows (filter (is_at location) rows))
 same_at label location [] = refl
 same_at label location (Cpu cpu socket' ∷ rows) = same_at label location rows
 same_at label location (Range label' first last ∷ rows) = same_at label location rows
@@ -68,7 +68,7 @@ same_at label location (Module label' socket' bank' channel' ∷ rows) = grind (
 
 -- the first label of the rows of a location
 pub first_at : (location : Location) (rows : List Row)
-    → slice_get (labels_in (filter (is_at location) rows)) 0 ≡ option_and_then label_in (find (is_at location) rows)
+    → slice_get (labels_of_rows (filter (is_at location) rows)) 0 ≡ option_and_then label_in (find (is_at location) rows)
 first_at location [] = refl
 first_at location (Cpu cpu socket' ∷ rows) = first_at location rows
 first_at location (Range label' first last ∷ rows) = first_at location rows
@@ -76,17 +76,17 @@ first_at location (Place label' node card module' ∷ rows) = grind (arith, comm
 first_at location (Module label' socket' bank' channel' ∷ rows) = grind (arith, common_steps, first_at location rows)
 
 -- no owner where no row fits
-pub none_at : (location : Location) (rows : List Row) → slice_get (labels_in (filter (is_at location) rows)) 0 ≡ None → owner_at rows location ≡ None
-none_at location rows = by (labels_in (filter (is_at location) rows))
+pub none_at : (location : Location) (rows : List Row) → slice_get (labels_of_rows (filter (is_at location) rows)) 0 ≡ None → owner_at rows location ≡ None
+none_at location rows = by (labels_of_rows (filter (is_at location) rows))
   where
     by : (labels : List Bytes) → slice_get labels 0 ≡ None → the_one labels ≡ None
     by [] e = refl
     by (label ∷ labels) e = cc
 
 -- the owner is the first label, where all rows that fit name it
-pub one_at : (label : Bytes) (location : Location) (rows : List Row) → Some label ≡ slice_get (labels_in (filter (is_at location) rows)) 0
+pub one_at : (label : Bytes) (location : Location) (rows : List Row) → Some label ≡ slice_get (labels_of_rows (filter (is_at location) rows)) 0
     → owner_at rows location ≡ (if list_all (names label) (filter (is_at location) rows) then Some label else None)
-one_at label location rows e = rw (same_at label location rows) (by (labels_in (filter (is_at location) rows)) e)
+one_at label location rows e = rw (same_at label location rows) (by (labels_of_rows (filter (is_at location) rows)) e)
   where
     by : (labels : List Bytes) → Some label ≡ slice_get labels 0 → the_one labels ≡ (if list_all (same_label label) labels then Some label else None)
     by [] e = cc

@@ -7,7 +7,7 @@ use Rattle.mca_codes.specs.declared.codes.Code.{Code}
 use Rattle.mca_codes.specs.declared.codes.Code.TheVariants.{Memory}
 use Rattle.cper_sections.specs.declared.memory.MemSection.{MemSection}
 use Rattle.dimm_topology.specs.Labels.{Bytes, same_label}
-use Rattle.dimm_topology.specs.Rows.{socket_of, labels_in, is_at, holds}
+use Rattle.dimm_topology.specs.Rows.{socket_of, labels_of_rows, is_at, holds}
 use Rattle.dimm_topology.specs.declared.row.Location.{Location}
 use Rattle.dimm_topology.specs.declared.row.Location.TheVariants.{Channel, Numbers}
 use Rattle.dimm_topology.specs.declared.row.Row.{Row}
@@ -23,11 +23,11 @@ ranges_over rows address = filter (holds address) rows
 
 -- the label of the range that holds an address
 abbrev pub owner_of_address : List Row → ℕ → Option Bytes
-owner_of_address rows address = the_one (labels_in (ranges_over rows address))
+owner_of_address rows address = the_one (labels_of_rows (ranges_over rows address))
 
 -- the one label that the rows of a location name
 abbrev pub owner_at : List Row → Location → Option Bytes
-owner_at rows location = the_one (labels_in (filter (is_at location) rows))
+owner_at rows location = the_one (labels_of_rows (filter (is_at location) rows))
 
 -- the owner of an error: that of its address, else that of its location
 abbrev pub owner_by_rows : List Row → Option ℕ → Option Location → Option Bytes

@@ -21,8 +21,8 @@ label_in (Range label first last) = Some label
 label_in (Place label node card module') = Some label
 
 -- the labels that rows name, in order
-abbrev pub labels_in : List Row → List Bytes
-labels_in rows = filter_map label_in rows
+abbrev pub labels_of_rows : List Row → List Bytes
+labels_of_rows rows = filter_map label_in rows
 
 -- whether a row says which module is at a location: module rows for memory channels, place rows for
 -- the places that firmware names

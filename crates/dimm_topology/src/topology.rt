@@ -4,7 +4,7 @@ ghost use Rattle.std.specs.Prelude.{◌≡◌, ◌≤◌, ◌↔◌, ℕ, List, 
 ghost use Rattle.std.specs.List.{list_any, list_all, find};
 ghost use Rattle.std.specs.Option.{option_copied};
 ghost use Rattle.dimm_topology.specs.declared.row.Row.{Row};
-ghost use Rattle.dimm_topology.specs.Rows.{names_module, labels_in, overlap, is_at, names, holds, is_module_label};
+ghost use Rattle.dimm_topology.specs.Rows.{names_module, labels_of_rows, overlap, is_at, names, holds, is_module_label};
 ghost use Rattle.dimm_topology.specs.Refusals.{refusal_of, Answers, SharesAddress};
 ghost use Rattle.dimm_topology.specs.Owners.{owner_by_rows, owner_of_address, owner_at, socket_by_rows, channel_of, bank_location, section_location, ranges_over};
 ghost use Rattle.dimm_topology.specs.Topology.{is_upright, IsApart, IsTopology};
@@ -313,7 +313,7 @@ impl Topology {
 
     // The label of the first row of a location.
     fn label_at(&self, location: Location) -> Option<&Label>
-        ensures { option_copied result ≡ slice_get (labels_in (filter (is_at location) self.now)) 0 }
+        ensures { option_copied result ≡ slice_get (labels_of_rows (filter (is_at location) self.now)) 0 }
     {
         self.row_at(location)?.label()
     }

@@ -11,7 +11,7 @@ use Rattle.page_policy.specs.declared.rows.Order as Ordered
 use Rattle.page_policy.specs.declared.rows.PageState.{PageState}
 use Rattle.page_policy.specs.declared.rows.PageState.TheVariants.{Kept, Soft, Hard}
 use Rattle.page_policy.specs.declared.rows.PageRow.{PageRow}
-use Rattle.page_policy.specs.Rows.{Report, height, higher, new_row, row_after, state_called_for, state_called_by, order_between}
+use Rattle.page_policy.specs.Rows.{PageReport, height, higher, new_row, row_after, state_called_for, state_called_by, order_between}
 use Rattle.page_policy.specs.Buckets.{trips}
 use Rattle.row_tables.specs.Tables.{added_keys, distinct_keys}
 use Rattle.row_tables.specs.Held.{Held, is_held, is_ready}
@@ -23,17 +23,17 @@ use Rattle.std.proofs.lemmas.List.Folds.{list_any-append}
 use Rattle.ras_base.specs.ExactLemmas.{nat_exact, nat_own}
 use Rattle.page_policy.proofs.PageLemmas.{row_for}
 
-page_row-more : (rs : List Report) (r : Report) → 0 < length rs → page_row (rs ++ r ∷ []) ≡ row_after (page_row rs) r
+page_row-more : (rs : List PageReport) (r : PageReport) → 0 < length rs → page_row (rs ++ r ∷ []) ≡ row_after (page_row rs) r
 page_row-more [] r some = absurd (omega arith)
 page_row-more (q ∷ rs) r some = fold-append row_after (new_row q.seconds) (q ∷ rs) (r ∷ [])
 
 -- the rows of a history with one report more are those of the history, continued by the report
-pub page_rows_of-more : (history : List Report) (r : Report) → page_rows_of (history ++ r ∷ []) ≡ rows_after (page_rows_of history) r
+pub page_rows_of-more : (history : List PageReport) (r : PageReport) → page_rows_of (history ++ r ∷ []) ≡ rows_after (page_rows_of history) r
 page_rows_of-more history r =
-    table-more nat_eq nat_exact nat_own page_in page_row (λ (r : Report). row_after (new_row r.seconds) r) row_after (λ r. refl) page_row-more history r
+    table-more nat_eq nat_exact nat_own page_in page_row (λ (r : PageReport). row_after (new_row r.seconds) r) row_after (λ r. refl) page_row-more history r
 
 -- a page's state in the rows of a history is that of the row that its own reports give
-pub state_in-rows_of : (history : List Report) (page : ℕ) → state_in (page_rows_of history) page ≡ (page_row (page_history history page)).state
+pub state_in-rows_of : (history : List PageReport) (page : ℕ) → state_in (page_rows_of history) page ≡ (page_row (page_history history page)).state
 state_in-rows_of history page =
     ap (λ o. option_map_or (λ (row : PageRow). row.state) o Kept) (lookup-table nat_eq nat_exact nat_own page_in page_row history page)
     ∙ by (list_any (nat_eq page) (filter_map page_in history)) refl
@@ -45,24 +45,24 @@ state_in-rows_of history page =
     by true there = refl
     by false none = ap (λ rs. (page_row rs).state) (sym (of_key-unnamed nat_eq nat_exact nat_own page_in page history none))
 
-pub page_history-more : (history : List Report) (r : Report) → page_history (history ++ r ∷ []) r.page ≡ page_history history r.page ++ r ∷ []
+pub page_history-more : (history : List PageReport) (r : PageReport) → page_history (history ++ r ∷ []) r.page ≡ page_history history r.page ++ r ∷ []
 page_history-more history r = of_key-own nat_eq nat_exact nat_own page_in history r r.page refl
 
-pub order-history : (history : List Report) (r : Report)
+pub order-history : (history : List PageReport) (r : PageReport)
     → order_between r.page (state_in (page_rows_of history) r.page) (state_in (page_rows_of (history ++ r ∷ [])) r.page) ≡ order_behind r.page (page_history history r.page) r
 order-history history r = λ i. order_between r.page (state_in-rows_of history r.page i) (later i)
   where
     later : state_in (page_rows_of (history ++ r ∷ [])) r.page ≡ (page_row (page_history history r.page ++ r ∷ [])).state
     later = state_in-rows_of (history ++ r ∷ []) r.page ∙ ap (λ rs. (page_row rs).state) (page_history-more history r)
 
-pub state_in-before : (rows : List (ℕ × PageRow)) (r : Report) → (row_for rows r).state ≡ state_in rows r.page
+pub state_in-before : (rows : List (ℕ × PageRow)) (r : PageReport) → (row_for rows r).state ≡ state_in rows r.page
 state_in-before rows r = by (lookup (nat_eq r.page) rows)
   where
     by : (o : Option PageRow) → (unwrap_or o (new_row r.seconds)).state ≡ option_map_or (λ (row : PageRow). row.state) o Kept
     by None = refl
     by (Some row) = refl
 
-pub state_in-after : (rows : List (ℕ × PageRow)) (r : Report) → (row_after (row_for rows r) r).state ≡ state_in (rows_after rows r) r.page
+pub state_in-after : (rows : List (ℕ × PageRow)) (r : PageReport) → (row_after (row_for rows r) r).state ≡ state_in (rows_after rows r) r.page
 state_in-after rows r =
     by (lookup (nat_eq r.page) rows)
     ∙ ap (λ o. option_map_or (λ (row : PageRow). row.state) o Kept) (sym (lookup-updated-own nat_eq nat_exact nat_own r.page (row_after (new_row r.seconds) r) (λ row. row_after row r) rows))
@@ -72,7 +72,7 @@ state_in-after rows r =
     by (Some row) = refl
 
 -- a report changes no other page's row
-pub lookup-rows_after : (rows : List (ℕ × PageRow)) (r : Report) (other : ℕ) → nat_eq other r.page ≡ false → lookup (nat_eq other) (rows_after rows r) ≡ lookup (nat_eq other) rows
+pub lookup-rows_after : (rows : List (ℕ × PageRow)) (r : PageReport) (other : ℕ) → nat_eq other r.page ≡ false → lookup (nat_eq other) (rows_after rows r) ≡ lookup (nat_eq other) rows
 lookup-rows_after rows r other apart =
     lookup-updated-other nat_eq nat_exact nat_own other r.page (row_after (new_row r.seconds) r) (λ row. row_after row r) rows apart
 
@@ -88,7 +88,7 @@ rises Hard Kept = omega arith
 rises Hard Soft = omega arith
 rises Hard Hard = omega arith
 
-pub never_falls : (rows : List (ℕ × PageRow)) (r : Report) (other : ℕ) → height (state_in rows other) ≤ height (state_in (rows_after rows r) other)
+pub never_falls : (rows : List (ℕ × PageRow)) (r : PageReport) (other : ℕ) → height (state_in rows other) ≤ height (state_in (rows_after rows r) other)
 never_falls rows r other = by (nat_eq other r.page) refl
   where
     by : (b : Bool) → nat_eq other r.page ≡ b → height (state_in rows other) ≤ height (state_in (rows_after rows r) other)
@@ -133,14 +133,14 @@ hard-class Recoverable trip is = is
 hard-class Fatal trip is = is
 hard-class Informational trip is = is
 
-pub hard-order : (page : ℕ) (row : PageRow) (r : Report) → order_between page row.state (row_after row r).state ≡ Some (Ordered.TheVariants.Hard page) → state_called_for r.class false ≡ Hard
+pub hard-order : (page : ℕ) (row : PageRow) (r : PageReport) → order_between page row.state (row_after row r).state ≡ Some (Ordered.TheVariants.Hard page) → state_called_for r.class false ≡ Hard
 hard-order page row r is = hard-class r.class (trips r.limit r.seconds r.weight row.bucket) (hard-called page row.state (state_called_by row r) is)
 
 -- the pages of a list that wait for their reports
-pub keys-rows_after : (rows : List (ℕ × PageRow)) (r : Report) → keys_of (rows_after rows r) ≡ (if is_held nat_eq rows r.page then keys_of rows else keys_of rows ++ r.page ∷ [])
+pub keys-rows_after : (rows : List (ℕ × PageRow)) (r : PageReport) → keys_of (rows_after rows r) ≡ (if is_held nat_eq rows r.page then keys_of rows else keys_of rows ++ r.page ∷ [])
 keys-rows_after rows r = keys-updated nat_eq nat_exact nat_own r.page (row_after (new_row r.seconds) r) (λ row. row_after row r) rows
 
-pub in_turn : (pages : Held ℕ PageRow) (r : Report) (more : List ℕ) → pages.waiting ≡ added_keys nat_eq (keys_of pages.rows) (r.page ∷ more)
+pub in_turn : (pages : Held ℕ PageRow) (r : PageReport) (more : List ℕ) → pages.waiting ≡ added_keys nat_eq (keys_of pages.rows) (r.page ∷ more)
     → (pages_after pages r).waiting ≡ added_keys nat_eq (keys_of (pages_after pages r).rows) more
 in_turn pages r more wait =
     by (is_held nat_eq pages.rows r.page) wait ∙ ap (λ ks. added_keys nat_eq ks more) (sym (keys-rows_after pages.rows r))
@@ -160,21 +160,21 @@ ready pages first more wait = list_any-append (nat_eq first) (keys_of pages.rows
         (λ i. new i || list_any (nat_eq first) (take 1 (wait i))) ∙ ap (λ b. b || false) (nat_own first)
 
 -- the pages of a history
-pages_named : (history : List Report) → filter_map page_in history ≡ map (λ (r : Report). r.page) history
+pages_named : (history : List PageReport) → filter_map page_in history ≡ map (λ (r : PageReport). r.page) history
 pages_named [] = refl
 pages_named (r ∷ rs) = ap (λ ps. r.page ∷ ps) (pages_named rs)
 
-keys-rows_of : (history : List Report) → keys_of (page_rows_of history) ≡ distinct_keys nat_eq (filter_map page_in history)
+keys-rows_of : (history : List PageReport) → keys_of (page_rows_of history) ≡ distinct_keys nat_eq (filter_map page_in history)
 keys-rows_of history = keys-table nat_eq nat_exact nat_own page_in page_row history
 
-pub page_rows_of-once : (history : List Report) → IsDistinct nat_eq (keys_of (page_rows_of history))
+pub page_rows_of-once : (history : List PageReport) → IsDistinct nat_eq (keys_of (page_rows_of history))
 page_rows_of-once history = subst (IsDistinct nat_eq) (sym (keys-rows_of history)) (distinct-once nat_eq nat_exact nat_own (filter_map page_in history))
 
-pub page_rows_of-named : (history : List Report) (page : ℕ) → Contains (keys_of (page_rows_of history)) page ↔ Contains (map (λ (r : Report). r.page) history) page
+pub page_rows_of-named : (history : List PageReport) (page : ℕ) → Contains (keys_of (page_rows_of history)) page ↔ Contains (map (λ (r : PageReport). r.page) history) page
 page_rows_of-named history page = (
-  λ there. Contains-list_any nat_eq nat_exact (map (λ (r : Report). r.page) history) page (sym same ∙ list_any-from_Contains nat_eq_equiv page (keys_of (page_rows_of history)) there),
-  λ there. Contains-list_any nat_eq nat_exact (keys_of (page_rows_of history)) page (same ∙ list_any-from_Contains nat_eq_equiv page (map (λ (r : Report). r.page) history) there),
+  λ there. Contains-list_any nat_eq nat_exact (map (λ (r : PageReport). r.page) history) page (sym same ∙ list_any-from_Contains nat_eq_equiv page (keys_of (page_rows_of history)) there),
+  λ there. Contains-list_any nat_eq nat_exact (keys_of (page_rows_of history)) page (same ∙ list_any-from_Contains nat_eq_equiv page (map (λ (r : PageReport). r.page) history) there),
 )
   where
-    same : list_any (nat_eq page) (keys_of (page_rows_of history)) ≡ list_any (nat_eq page) (map (λ (r : Report). r.page) history)
+    same : list_any (nat_eq page) (keys_of (page_rows_of history)) ≡ list_any (nat_eq page) (map (λ (r : PageReport). r.page) history)
     same = ap (list_any (nat_eq page)) (keys-rows_of history) ∙ any-distinct nat_eq nat_exact nat_own page (filter_map page_in history) ∙ ap (list_any (nat_eq page)) (pages_named history)

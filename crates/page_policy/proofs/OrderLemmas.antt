@@ -15,7 +15,7 @@ use Rattle.page_policy.specs.declared.rows.PageState.{PageState}
 use Rattle.page_policy.specs.declared.rows.PageState.TheVariants.{Kept, Soft, Hard}
 use Rattle.page_policy.specs.declared.rows.PageRow.{PageRow}
 use Rattle.page_policy.specs.Buckets.{IsLimit, leak, aged_bucket, trips, bucket_after}
-use Rattle.page_policy.specs.Rows.{Report, higher, new_row, row_after, is_corrected, state_called_for, state_called_by, order_between}
+use Rattle.page_policy.specs.Rows.{PageReport, higher, new_row, row_after, is_corrected, state_called_for, state_called_by, order_between}
 use Rattle.page_policy.specs.Histories.{first_seconds, page_history, page_row, order_behind, orders_of, AreOnceInOrder, IsSingle}
 
 -- the orders that a page in a state may still be given
@@ -39,14 +39,14 @@ left_before page Hard Soft rest left = left
 left_before page Hard Hard rest left = left
 
 -- one report more raises the state to one that it calls for
-state-more : (earlier : List Report) (r : Report) → (called : PageState) × ((page_row (earlier ++ r ∷ [])).state ≡ higher (page_row earlier).state called)
+state-more : (earlier : List PageReport) (r : PageReport) → (called : PageState) × ((page_row (earlier ++ r ∷ [])).state ≡ higher (page_row earlier).state called)
 state-more [] r = (state_called_by (new_row r.seconds) r, refl)
 state-more (q ∷ rs) r = (state_called_by (page_row (q ∷ rs)) r, ap (λ (row : PageRow). row.state) (fold-append row_after (new_row q.seconds) (q ∷ rs) (r ∷ [])))
 
-orders_from : ℕ → List Report → List Report → List Order
+orders_from : ℕ → List PageReport → List PageReport → List Order
 orders_from page earlier rs = filter_map (λ p. order_behind page p.0 p.1) (places_behind earlier rs)
 
-left_from : (page : ℕ) (earlier rs : List Report) → AreLeft page (page_row earlier).state (orders_from page earlier rs)
+left_from : (page : ℕ) (earlier rs : List PageReport) → AreLeft page (page_row earlier).state (orders_from page earlier rs)
 unfolding orders_from
 left_from page earlier [] = none (page_row earlier).state
   where
@@ -60,7 +60,7 @@ left_from page earlier (r ∷ rs) =
     subst (λ state. AreLeft page (page_row earlier).state (cons_option (order_between page (page_row earlier).state state) rest)) (sym more.1)
     (left_before page (page_row earlier).state more.0 rest (subst (λ state. AreLeft page state rest) more.1 (left_from page (earlier ++ r ∷ []) rs)))
 
-pub once_in_order : (history : List Report) (page : ℕ) → AreOnceInOrder page (orders_of history page)
+pub once_in_order : (history : List PageReport) (page : ℕ) → AreOnceInOrder page (orders_of history page)
 unfolding orders_from
 once_in_order history page = left_from page [] (page_history history page)
 
@@ -103,7 +103,7 @@ module _ (limit : Limit) (from : ℕ) (valid : IsLimit limit) where
     count : new.bucket.count ≡ (if reaches old.bucket.count then 0 else old.bucket.count + 1)
     state : new.state ≡ higher old.state (if reaches old.bucket.count then Soft else Kept)
 
-  goes : (row : PageRow) (r : Report) → row.bucket.stamp ≡ from → IsSingle limit from r → Goes row (row_after row r)
+  goes : (row : PageRow) (r : PageReport) → row.bucket.stamp ≡ from → IsSingle limit from r → Goes row (row_after row r)
   goes row r stamped single =
       let early : r.seconds < row.bucket.stamp + limit.period = omega (arith, single.within, stamped) in
       let still : aged_bucket limit r.seconds row.bucket ≡ row.bucket = unaged limit r.seconds row.bucket valid early in
@@ -177,7 +177,7 @@ module _ (limit : Limit) (from : ℕ) (valid : IsLimit limit) where
   steady-new : Steady 0 (new_row from)
   steady-new = record { stamp = refl; below = λ h. (refl, refl); reached = λ h. absurd (omega (arith, valid.capacity_from)) }
 
-  steady-all : (rs : List Report) (n : ℕ) (row : PageRow) → Steady n row → AllByRecursion (IsSingle limit from) rs → Steady (length rs + n) (fold row_after row rs)
+  steady-all : (rs : List PageReport) (n : ℕ) (row : PageRow) → Steady n row → AllByRecursion (IsSingle limit from) rs → Steady (length rs + n) (fold row_after row rs)
   steady-all [] n row steady all = subst (λ m. Steady m row) (sym (zero-add n)) steady
   steady-all (r ∷ rs) n row steady all =
       let next : Steady (n + 1) (row_after row r) = steady-more n row (row_after row r) steady (goes row r steady.stamp all.0) in
@@ -193,7 +193,7 @@ split : {X : Type 0} (P : X → Type 0) (xs : List X) (y : X) → AllByRecursion
 split P [] y all = (tt, all.0)
 split P (x ∷ xs) y all = let rest : AllByRecursion P xs × P y = split P xs y all.1 in ((all.0, rest.0), rest.1)
 
-pub order-at_capacity : (limit : Limit) (page : ℕ) (earlier : List Report) (last : Report) → IsLimit limit
+pub order-at_capacity : (limit : Limit) (page : ℕ) (earlier : List PageReport) (last : PageReport) → IsLimit limit
     → All (IsSingle limit (first_seconds (earlier ++ last ∷ []))) (earlier ++ last ∷ [])
     → order_behind page earlier last ≡ (if length earlier + 1 == limit.capacity then Some (Ordered.TheVariants.Soft page) else None)
 order-at_capacity limit page earlier last valid all =
@@ -206,7 +206,7 @@ order-at_capacity limit page earlier last valid all =
     (λ i. order_between page (before earlier i) (after i).state)
     ∙ order-single limit from valid (length earlier) row (row_after row last) steady (goes limit from valid row last steady.stamp parts.1) page
   where
-    before : (rs : List Report) → (page_row rs).state ≡ (fold row_after (new_row (first_seconds (rs ++ last ∷ []))) rs).state
+    before : (rs : List PageReport) → (page_row rs).state ≡ (fold row_after (new_row (first_seconds (rs ++ last ∷ []))) rs).state
     before [] = refl
     before (r ∷ rs) = refl
 

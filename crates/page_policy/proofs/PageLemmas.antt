@@ -6,16 +6,16 @@ use Rattle.row_tables.specs.Held.{Held, with_row}
 use Rattle.row_tables.proofs.TableLemmas.{updated-looked}
 use Rattle.page_policy.specs.declared.rows.PageRow.{PageRow}
 use Rattle.page_policy.specs.Buckets.{most_count}
-use Rattle.page_policy.specs.Rows.{Report, new_row, row_after}
+use Rattle.page_policy.specs.Rows.{PageReport, new_row, row_after}
 use Rattle.page_policy.specs.Pages.{pages_after}
 use Rattle.page_policy.specs.AreSmall.{AreSmall}
 
 -- the row that is known of a report's page, or a new one
-abbrev pub row_for : List (ℕ × PageRow) → Report → PageRow
+abbrev pub row_for : List (ℕ × PageRow) → PageReport → PageRow
 row_for rows r = unwrap_or (lookup (nat_eq r.page) rows) (new_row r.seconds)
 
 -- the pages once the row after a report is put at its page
-pub with_row-after : (held : Held ℕ PageRow) (r : Report) (row : PageRow) → row ≡ row_after (row_for held.rows r) r → with_row nat_eq held r.page row ≡ pages_after held r
+pub with_row-after : (held : Held ℕ PageRow) (r : PageReport) (row : PageRow) → row ≡ row_after (row_for held.rows r) r → with_row nat_eq held r.page row ≡ pages_after held r
 with_row-after held r row is =
     ap (λ (rows : List (ℕ × PageRow)). record (with_row nat_eq held r.page row) { rows = rows })
     (updated-looked nat_eq r.page (new_row r.seconds) (λ (row : PageRow). row_after row r) row held.rows is)

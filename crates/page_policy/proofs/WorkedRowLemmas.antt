@@ -4,17 +4,17 @@ use Rattle.mca_status.specs.declared.classes.ItemClass.TheVariants.{Ce, Ucna, Sr
 use Rattle.page_policy.specs.declared.buckets.Limit.{Limit}
 use Rattle.page_policy.specs.declared.rows.Order.TheVariants.{Soft as OrderSoft, Hard as OrderHard}
 use Rattle.page_policy.specs.declared.rows.PageState.TheVariants.{Kept, Soft}
-use Rattle.page_policy.specs.Rows.{Report, report}
+use Rattle.page_policy.specs.Rows.{PageReport, report}
 use Rattle.page_policy.specs.Histories.{page_rows_of, orders_of, order_behind}
 
 -- ten errors a day
 abbrev ten_a_day : Limit
 ten_a_day = record { capacity = 10; period = 86400 }
 
-abbrev corrected : ℕ → Report
+abbrev corrected : ℕ → PageReport
 corrected seconds = report 74565 Ce seconds 1 ten_a_day
 
-abbrev nine : List Report
+abbrev nine : List PageReport
 nine = map corrected (1000 ∷ 1000 ∷ 1000 ∷ 1000 ∷ 1000 ∷ 1000 ∷ 1000 ∷ 1000 ∷ 1000 ∷ [])
 
 -- the tenth within a day trips the bucket

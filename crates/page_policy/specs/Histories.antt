@@ -10,33 +10,33 @@ use Rattle.page_policy.specs.declared.rows.Order.TheVariants.{Soft, Hard}
 use Rattle.page_policy.specs.declared.rows.PageState.{PageState}
 use Rattle.page_policy.specs.declared.rows.PageState.TheVariants.{Kept}
 use Rattle.page_policy.specs.declared.rows.PageRow.{PageRow}
-use Rattle.page_policy.specs.Rows.{Report, height, new_row, row_after, is_corrected, order_between}
+use Rattle.page_policy.specs.Rows.{PageReport, height, new_row, row_after, is_corrected, order_between}
 use Rattle.row_tables.specs.Tables.{of_key, table, updated_rows}
 
 -- the page that a report names
-abbrev pub page_in : Report → Option ℕ
+abbrev pub page_in : PageReport → Option ℕ
 page_in r = Some r.page
 
 -- the reports of a page in a history, in order
-abbrev pub page_history : List Report → ℕ → List Report
+abbrev pub page_history : List PageReport → ℕ → List PageReport
 page_history history page = of_key nat_eq page_in history page
 
 -- the pages that reports name, in order
-abbrev pub pages_named : List Report → List ℕ
-pages_named reports = map (λ (r : Report). r.page) reports
+abbrev pub pages_named : List PageReport → List ℕ
+pages_named reports = map (λ (r : PageReport). r.page) reports
 
 -- the time of the first report of a list
-abbrev pub first_seconds : List Report → ℕ
+abbrev pub first_seconds : List PageReport → ℕ
 first_seconds [] = 0
 first_seconds (r ∷ rs) = r.seconds
 
 -- the row that the reports of one page give: they are taken in order, from a new row at the first
 -- one's time
-abbrev pub page_row : List Report → PageRow
+abbrev pub page_row : List PageReport → PageRow
 page_row reports = fold row_after (new_row (first_seconds reports)) reports
 
 -- the rows of a history: each page in first-seen order, with the row that its own reports give
-abbrev pub page_rows_of : List Report → List (ℕ × PageRow)
+abbrev pub page_rows_of : List PageReport → List (ℕ × PageRow)
 page_rows_of history = table nat_eq page_in page_row history
 
 -- the state of a page in a table: one that isn't there is Kept
@@ -44,7 +44,7 @@ abbrev pub state_in : List (ℕ × PageRow) → ℕ → PageState
 state_in rows page = option_map_or (λ (row : PageRow). row.state) (lookup (nat_eq page) rows) Kept
 
 -- a table of rows continued by a report: it changes its page's row, or begins one behind the others
-abbrev pub rows_after : List (ℕ × PageRow) → Report → List (ℕ × PageRow)
+abbrev pub rows_after : List (ℕ × PageRow) → PageReport → List (ℕ × PageRow)
 rows_after rows r = updated_rows nat_eq r.page (row_after (new_row r.seconds) r) (λ row. row_after row r) rows
 
 -- the order for a page whose table was the first and is now the other
@@ -61,15 +61,15 @@ OthersStay page before now =
 
 -- the order of a report behind the earlier reports of its page: it comes where the page's state
 -- rises
-abbrev pub order_behind : ℕ → List Report → Report → Option Order
+abbrev pub order_behind : ℕ → List PageReport → PageReport → Option Order
 order_behind page earlier r = order_between page (page_row earlier).state (page_row (earlier ++ r ∷ [])).state
 
 -- the order of a report behind a history: that behind its page's reports
-abbrev pub order_in : List Report → Report → Option Order
+abbrev pub order_in : List PageReport → PageReport → Option Order
 order_in history r = order_behind r.page (page_history history r.page) r
 
 -- the orders of a page in a history, in order
-abbrev pub orders_of : List Report → ℕ → List Order
+abbrev pub orders_of : List PageReport → ℕ → List Order
 orders_of history page = filter_map (λ p. order_behind page p.0 p.1) (places (page_history history page))
 
 -- the orders that a page may be given in all its time: at most one Soft and one Hard, the Soft
@@ -82,12 +82,12 @@ AreOnceInOrder page orders =
     ⊎ (orders ≡ Soft page ∷ Hard page ∷ [])
 
 -- a report of one corrected error, under a limit and within the period from a time
-pub record IsSingle (limit : Limit) (from : ℕ) (r : Report) : Type 0 where
+pub record IsSingle (limit : Limit) (from : ℕ) (r : PageReport) : Type 0 where
   pub corrected : is_corrected r.class ≡ true
   pub one : r.weight ≡ 1
   pub limit_is : r.limit ≡ limit
   pub within : r.seconds < from + limit.period
 
 -- reports of one corrected error each, under a limit and within a period of the first
-abbrev pub AreSingle : Limit → List Report → Type 0
+abbrev pub AreSingle : Limit → List PageReport → Type 0
 AreSingle limit reports = All (IsSingle limit (first_seconds reports)) reports

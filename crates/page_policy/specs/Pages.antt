@@ -4,11 +4,11 @@ use Rattle.row_tables.specs.Held.{Held, is_held, new_keys}
 use Rattle.page_policy.specs.declared.buckets.Bucket.{Bucket}
 use Rattle.page_policy.specs.declared.rows.PageRow.{PageRow}
 use Rattle.page_policy.specs.declared.rows.PageState.{PageState}
-use Rattle.page_policy.specs.Rows.{Report}
+use Rattle.page_policy.specs.Rows.{PageReport}
 use Rattle.page_policy.specs.Histories.{rows_after}
 
 -- the pages after a report is taken: a page that waited is held now, and the others wait as before
-abbrev pub pages_after : Held ℕ PageRow → Report → Held ℕ PageRow
+abbrev pub pages_after : Held ℕ PageRow → PageReport → Held ℕ PageRow
 pages_after held r = record {
   rows = rows_after held.rows r;
   waiting = if is_held nat_eq held.rows r.page then held.waiting else drop 1 held.waiting;

@@ -14,14 +14,14 @@ use Rattle.page_policy.specs.declared.rows.PageRow.{PageRow}
 use Rattle.page_policy.specs.Buckets.{trips, bucket_after}
 
 -- a report of a page: an item that names it, with its time in seconds and the limit in force
-pub record Report : Type 0 where
+pub record PageReport : Type 0 where
   pub page : ℕ
   pub class : ItemClass
   pub seconds : ℕ
   pub weight : ℕ
   pub limit : Limit
 
-abbrev pub report : ℕ → ItemClass → ℕ → ℕ → Limit → Report
+abbrev pub report : ℕ → ItemClass → ℕ → ℕ → Limit → PageReport
 report page class seconds weight limit = record { page = page; class = class; seconds = seconds; weight = weight; limit = limit }
 
 -- whether an item tells of corrected errors, which fill the page's bucket
@@ -69,11 +69,11 @@ abbrev pub new_row : ℕ → PageRow
 new_row seconds = record { bucket = record { count = 0; stamp = seconds }; state = Kept }
 
 -- the state that a report of a page with this row calls for
-abbrev pub state_called_by : PageRow → Report → PageState
+abbrev pub state_called_by : PageRow → PageReport → PageState
 state_called_by row r = state_called_for r.class (trips r.limit r.seconds r.weight row.bucket)
 
 -- the row after a report of its page: corrected errors fill the bucket, and the state only rises
-abbrev pub row_after : PageRow → Report → PageRow
+abbrev pub row_after : PageRow → PageReport → PageRow
 row_after row r = record {
   bucket = if is_corrected r.class then bucket_after r.limit r.seconds r.weight row.bucket else row.bucket;
   state = higher row.state (state_called_by row r);

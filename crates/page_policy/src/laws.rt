@@ -7,7 +7,7 @@ ghost use Rattle.page_policy.specs.declared.buckets.Limit.{Limit};
 ghost use Rattle.page_policy.specs.declared.buckets.Bucket.{Bucket};
 ghost use Rattle.page_policy.specs.declared.rows.Order.{Order};
 ghost use Rattle.page_policy.specs.Buckets.{IsLimit, aged_bucket};
-ghost use Rattle.page_policy.specs.Rows.{Report};
+ghost use Rattle.page_policy.specs.Rows.{PageReport};
 ghost use Rattle.page_policy.specs.Histories.{page_rows_of, pages_named, orders_of, order_behind, AreOnceInOrder, AreSingle};
 ghost use Rattle.page_policy.specs.Pages.{AreReservedFor};
 ghost use Rattle.page_policy.specs.declared.rows.PageRow.{PageRow};
@@ -17,18 +17,18 @@ ghost use Rattle.row_tables.specs.Held.{Held, is_ready};
 /// what it is for.
 pub fn page_laws()
     // The pages that have a row are exactly those that a report names, and each has one.
-    ensures named { (history : List Report) (page : ℕ)
+    ensures named { (history : List PageReport) (page : ℕ)
         → Contains (keys_of (page_rows_of history)) page ↔ Contains (pages_named history) page }
-    ensures once { (history : List Report) → IsDistinct nat_eq (keys_of (page_rows_of history)) }
+    ensures once { (history : List PageReport) → IsDistinct nat_eq (keys_of (page_rows_of history)) }
 
     // A page is ordered away at most once softly and at most once hard, and never softly after
     // hard.
-    ensures orders { (history : List Report) (page : ℕ)
+    ensures orders { (history : List PageReport) (page : ℕ)
         → AreOnceInOrder page (orders_of history page) }
 
     // Single corrected errors of a page within one period give an order exactly where their number
     // reaches the capacity.
-    ensures capacity { (limit : Limit) (page : ℕ) (earlier : List Report) (last : Report)
+    ensures capacity { (limit : Limit) (page : ℕ) (earlier : List PageReport) (last : PageReport)
         → IsLimit limit → AreSingle limit (earlier ++ last ∷ [])
         → order_behind page earlier last
         ≡ (if length earlier + 1 == limit.capacity then Some (Order.Soft page) else None) }

@@ -5,7 +5,7 @@ ghost use Rattle.row_tables.specs.Held.{is_held, is_ready, new_keys};
 ghost use Rattle.row_tables.specs.declared.row_table.RowRefused.TheVariants.{Repeated};
 ghost use Rattle.page_policy.specs.Buckets.{IsLimit, most_count};
 ghost use Rattle.page_policy.specs.declared.rows.PageState.TheVariants.{Kept};
-ghost use Rattle.page_policy.specs.Rows.{Report, report, CallsForHard};
+ghost use Rattle.page_policy.specs.Rows.{PageReport, report, CallsForHard};
 ghost use Rattle.page_policy.specs.Histories.{page_rows_of, state_in, order_at, order_in, NeverFalls, OthersStay};
 ghost use Rattle.page_policy.specs.Pages.{pages_after, page_entry, AreReservedFor};
 
@@ -98,10 +98,10 @@ impl Pages {
 
         // The rows of a history become those of the history with this report, and the order is the
         // one there.
-        ensures history { (history : List Report) → self.old.rows ≡ page_rows_of history
+        ensures history { (history : List PageReport) → self.old.rows ≡ page_rows_of history
             → self.new.rows
             ≡ page_rows_of (history ++ report page class seconds weight limit ∷ []) }
-        ensures history_order { (history : List Report) → self.old.rows ≡ page_rows_of history
+        ensures history_order { (history : List PageReport) → self.old.rows ≡ page_rows_of history
             → result ≡ order_in history (report page class seconds weight limit) }
     {
         let (place, known) = self.table.find(&page);

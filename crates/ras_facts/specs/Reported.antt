@@ -11,7 +11,7 @@ use Rattle.cper_sections.specs.declared.sections.Section.TheVariants.{Memory}
 use Rattle.cper_sections.specs.declared.sections.SectionRefused.{SectionRefused}
 use Rattle.cper_records.specs.Header.{record_id, section_count}
 use Rattle.cper_records.specs.Descriptors.{section_severity, section_at}
-use Rattle.apei_sources.specs.Entries.{entry_severity, entry_guid, entry_bytes}
+use Rattle.apei_sources.specs.Entries.{entry_severity, entry_guid, entry_data}
 use Rattle.apei_sources.specs.Blocks.{BlockParts}
 use Rattle.dimm_topology.specs.Labels.{Bytes}
 use Rattle.dimm_topology.specs.Owners.{owner_by_rows, section_location}
@@ -63,7 +63,7 @@ record_fact rows seconds bytes = record {
 
 -- the item of an entry of a status block
 abbrev pub entry_item : List Row → List ℕ → Item
-entry_item rows entry = section_item rows (entry_severity entry) (section_of (entry_guid entry) (entry_bytes entry))
+entry_item rows entry = section_item rows (entry_severity entry) (section_of (entry_guid entry) (entry_data entry))
 
 -- the fact of a status block of this name that was read at this time, where its status isn't 0
 abbrev pub block_fact : List Row → Name → ℕ → BlockParts → Option Fact

@@ -5,7 +5,7 @@ use Rattle.row_tables.specs.Tables.{added_keys}
 use Rattle.row_tables.specs.Held.{Held, with_row}
 use Rattle.page_policy.specs.declared.rows.PageRow.{PageRow}
 use Rattle.page_policy.specs.Buckets.{most_count}
-use Rattle.page_policy.specs.Rows.{Report, report, height, row_after, state_called_by, order_between}
+use Rattle.page_policy.specs.Rows.{PageReport, report, height, row_after, state_called_by, order_between}
 use Rattle.page_policy.specs.Histories.{rows_after, state_in}
 use Rattle.page_policy.specs.Pages.{pages_after}
 use Rattle.page_policy.proofs.PageLemmas.{row_for, with_row-after, small-lookup, small-with_row}
@@ -23,7 +23,7 @@ invariant_of-self c =
     small-with_row c.self.inside.table c.put.new.self c.args.page c.after-after.result (c.put.ensures c.args.page c.find-place.ensures.place) c.after-after.ensures.count c.self.invariant
 
 module _ (c : goal.After-order_for) where
-  abbrev taken_in : Report
+  abbrev taken_in : PageReport
   taken_in = report c.args.page c.args.class c.args.seconds c.args.weight c.args.limit
 
   known : c.unwrap_or-before.result ≡ row_for c.args.self.now.rows taken_in
