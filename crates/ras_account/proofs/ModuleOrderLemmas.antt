@@ -1,6 +1,6 @@
 -- The orders of a history for one module: at most one since the last mark, and by its own errors
 -- alone.
-use Rattle.std.proofs.Common.{◌≡◌, ◌≤◌, ◌<◌, ℕ, suc, Bool, true, false, not, cond, ◌&&◌, ◌||◌, if◌then◌else◌, nat_eq, nat_lt, List, [], ◌∷◌, ◌++◌, length, map, Option, Some, None, refl, sym, ap, subst, ◌∙◌, append_assoc, append-nil, true≢false, arith, length-append}
+use Rattle.std.proofs.Common.{◌≡◌, ◌≤◌, ◌<◌, ℕ, suc, Bool, true, false, not, cond, ◌&&◌, ◌||◌, if◌then◌else◌, nat_eq, nat_lt, List, [], ◌∷◌, ◌++◌, length, map, drop, Option, Some, None, refl, sym, ap, subst, ◌∙◌, append_assoc, append-nil, true≢false, arith, length-append}
 use Rattle.std.specs.Prelude.{option_to_list}
 use Rattle.std.specs.List.{list_any}
 use Rattle.std.specs.Map.{keys_of}
@@ -14,16 +14,17 @@ use Rattle.page_policy.specs.declared.rows.Order.TheVariants.{Module}
 use Rattle.page_policy.specs.declared.rows.PageState.{PageState}
 use Rattle.page_policy.specs.declared.rows.PageState.TheVariants.{Kept, Soft, Hard}
 use Rattle.page_policy.specs.Rows.{report, height, order_to, order_between}
-use Rattle.row_tables.specs.Tables.{distinct_keys}
+use Rattle.row_tables.specs.Tables.{added_keys, distinct_keys}
 use Rattle.page_policy.specs.Histories.{page_history, page_row}
-use Rattle.row_tables.proofs.TableLemmas.{distinct-known, distinct-new, any-distinct}
+use Rattle.row_tables.proofs.TableLemmas.{added-append, distinct-known, distinct-new, any-distinct}
 use Rattle.ras_base.specs.ExactLemmas.{nat_own}
+use Rattle.ras_facts.specs.declared.entry.Entry.{Entry}
 use Rattle.ras_account.specs.History.{History, empty, with_entry, with_mark}
 use Rattle.ras_account.specs.Sightings.{Sighting, sightings, sightings_since_mark, sightings_behind, label_of, reports_of}
 use Rattle.ras_account.specs.Modules.{is_labeled, fills_bucket, errors_of, bucket_over, trips_at, has_tripped}
 use Rattle.ras_account.specs.Account.{account_of, module_errors}
 use Rattle.ras_account.specs.Orders.{place_of, page_order, module_order, trips_first, item_orders, orders_behind, orders_since_mark}
-use Rattle.ras_account.specs.Asked.{is_for_module, orders_for_module, module_place}
+use Rattle.ras_account.specs.Asked.{is_for_module, orders_for_module, module_place, trips_with}
 use Rattle.ras_account.proofs.KeyLemmas.{same_label-exact, same_label-refl}
 use Rattle.ras_account.proofs.AccountLemmas.{AreLast, at_page, errors-own, errors-other, errors-none, none-last, last-more, since-last, has_tripped-more}
 use Rattle.ras_account.proofs.OrderLemmas.{orders_from, labels-modules}
@@ -51,6 +52,15 @@ module _ (label : Bytes) where
           → (if b then 0 else suc (place_of label (ls ++ label ∷ []))) ≡ suc (length ls)
       by true h ih = absurd (true≢false h)
       by false h ih = ap suc (ih h)
+
+  place-behind : (labels more : List Bytes) → list_any (same_label label) labels ≡ false → length labels ≤ place_of label (labels ++ more)
+  place-behind [] more none = omega arith
+  place-behind (l ∷ ls) more none = by (same_label label l) none (place-behind ls more)
+    where
+      by : (b : Bool) → (b || list_any (same_label label) ls) ≡ false → (list_any (same_label label) ls ≡ false → length ls ≤ place_of label (ls ++ more))
+          → length (l ∷ ls) ≤ (if b then 0 else suc (place_of label (ls ++ more)))
+      by true h ih = absurd (true≢false h)
+      by false h ih = let behind : length ls ≤ place_of label (ls ++ more) = ih h in omega arith
 
   place-below : (labels : List Bytes) → list_any (same_label label) labels ≡ true → place_of label labels < length labels
   place-below [] there = absurd (true≢false (sym there))
@@ -288,3 +298,41 @@ module-orders h label there =
     (sym (labels-modules (sightings h) (sightings_since_mark h)))
     ((asked-history h).known label
     (sym (any-distinct same_label same_label-exact same_label-refl label (map label_of (sightings h))) ∙ ap (list_any (same_label label)) (sym (labels-modules (sightings h) (sightings_since_mark h))) ∙ there))
+
+-- what comes after the orders before, where both together are known
+front_gone : (t t' : Bool) (o : Order) (os : List Order) → (if t then o ∷ [] else []) ++ os ≡ (if t' then o ∷ [] else [])
+    → os ≡ (if not t && t' then o ∷ [] else [])
+front_gone true true o os is = ap (drop 1) is
+front_gone true false o os is = absurd cc
+front_gone false t' o os is = is
+
+-- the law of one entry
+pub module-orders_at : (h : History) (e : Entry) (label : Bytes) → list_any (same_label label) (keys_of (account_of (with_entry h e)).modules) ≡ true
+    → orders_for_module (module_place (with_entry h e) label) (orders_behind h e) ≡ (if trips_with h e label then Module (module_place (with_entry h e) label) ∷ [] else [])
+module-orders_at h e label there =
+    front_gone (has_tripped (module_errors h label)) (has_tripped (module_errors (with_entry h e) label)) (Module place) (orders_for_module place (orders_behind h e))
+    (ap (λ os. os ++ orders_for_module place (orders_behind h e)) (sym (by (list_any (same_label label) (map label_of (sightings h))) refl))
+    ∙ sym (filter-append (is_for_module place) (orders_since_mark h) (orders_behind h e))
+    ∙ module-orders (with_entry h e) label there)
+  where
+    place : ℕ
+    place = module_place (with_entry h e) label
+
+    more : List Bytes
+    more = added_keys same_label (labels (sightings h)) (map label_of (sightings_behind h e))
+
+    places : place ≡ place_of label (labels (sightings h) ++ more)
+    places =
+        ap (place_of label) (labels-modules (sightings h ++ sightings_behind h e) (sightings_since_mark h ++ sightings_behind h e)
+        ∙ ap (distinct_keys same_label) (map-append label_of (sightings h) (sightings_behind h e))
+        ∙ added-append same_label same_label-exact same_label-refl [] (map label_of (sightings h)) (map label_of (sightings_behind h e)))
+
+    by : (b : Bool) → list_any (same_label label) (map label_of (sightings h)) ≡ b
+        → orders_for_module place (orders_since_mark h) ≡ (if has_tripped (module_errors h label) then Module place ∷ [] else [])
+    by true known =
+        subst (λ p. orders_for_module p (orders_since_mark h) ≡ (if has_tripped (module_errors h label) then Module p ∷ [] else []))
+        (sym (places ∙ place-append label (labels (sightings h)) more (in_labels (sightings h) label known))) ((asked-history h).known label known)
+    by false new =
+        let behind : length (labels (sightings h)) ≤ place_of label (labels (sightings h) ++ more) = place-behind label (labels (sightings h)) more (any-distinct same_label same_label-exact same_label-refl label (map label_of (sightings h)) ∙ new) in
+        (asked-history h).above place (omega (arith, places, behind))
+        ∙ sym (ap (λ b. if b then Module place ∷ [] else []) (ap has_tripped (errors-none (sightings_since_mark h) label (none-last (sightings h) (sightings_since_mark h) label (since-last h) new))))

@@ -8,7 +8,7 @@ use Rattle.ras_base.specs.Places.{places_behind}
 use Rattle.dimm_topology.specs.Labels.{Bytes, same_label}
 use Rattle.page_policy.specs.declared.rows.Order.{Order}
 use Rattle.page_policy.specs.declared.rows.Order as Ordered
-use Rattle.page_policy.specs.Rows.{Report, report, order_between}
+use Rattle.page_policy.specs.Rows.{PageReport, report, order_between}
 use Rattle.page_policy.specs.Histories.{page_rows_of, state_in}
 use Rattle.row_tables.specs.Tables.{distinct_keys}
 use Rattle.page_policy.proofs.HistoryLemmas.{page_rows_of-more, order-history}
@@ -34,7 +34,7 @@ page_order_in-rows ss s = by s.item.page
     by : (page : Option ℕ) → page_order_in (page_rows_of (reports_of ss)) (at_page s page) ≡ page_order ss (at_page s page)
     by None = refl
     by (Some page) =
-        let r : Report = report page s.item.class s.seconds s.item.weight s.limit in
+        let r : PageReport = report page s.item.class s.seconds s.item.weight s.limit in
         ap (λ rows. order_between page (state_in (page_rows_of (reports_of ss)) page) (state_in rows page)) (sym (page_rows_of-more (reports_of ss) r))
         ∙ order-history (reports_of ss) r
 

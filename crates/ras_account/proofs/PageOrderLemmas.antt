@@ -9,7 +9,7 @@ use Rattle.page_policy.specs.declared.rows.Order.{Order}
 use Rattle.page_policy.specs.declared.rows.Order as Ordered
 use Rattle.page_policy.specs.declared.rows.PageState.{PageState}
 use Rattle.page_policy.specs.declared.rows.PageState.TheVariants.{Kept, Soft, Hard}
-use Rattle.page_policy.specs.Rows.{Report, report, height, order_to, order_between}
+use Rattle.page_policy.specs.Rows.{PageReport, report, height, order_to, order_between}
 use Rattle.row_tables.specs.Tables.{distinct_keys}
 use Rattle.dimm_topology.specs.Labels.{same_label}
 use Rattle.page_policy.specs.Histories.{page_in, page_history, page_row, order_behind, orders_of}
@@ -43,7 +43,7 @@ module _ (page : ℕ) where
       by false now = refl
 
   -- a report more of this page, and of another
-  report-own : (rs : List Report) (r : Report) → nat_eq page r.page ≡ true
+  report-own : (rs : List PageReport) (r : PageReport) → nat_eq page r.page ≡ true
       → orders_of rs page ++ orders_for_page page (option_to_list (order_behind r.page (page_history rs r.page) r)) ≡ orders_of (rs ++ r ∷ []) page
   report-own rs r own =
       ap (λ p. orders_of rs page ++ orders_for_page page (option_to_list (order_behind p (page_history rs p) r))) (sym (nat_exact page r.page own))
@@ -56,15 +56,15 @@ module _ (page : ℕ) where
       single None = refl
       single (Some order) = refl
 
-  report-other : (rs : List Report) (r : Report) → nat_eq page r.page ≡ false
+  report-other : (rs : List PageReport) (r : PageReport) → nat_eq page r.page ≡ false
       → orders_of rs page ++ orders_for_page page (option_to_list (order_behind r.page (page_history rs r.page) r)) ≡ orders_of (rs ++ r ∷ []) page
   report-other rs r apart =
       ap (λ os. orders_of rs page ++ os) (between-other r.page (page_row (page_history rs r.page)).state (page_row (page_history rs r.page ++ r ∷ [])).state apart)
       ∙ append-nil (orders_of rs page)
-      ∙ ap (λ (own : List Report). filter_map (λ p. order_behind page p.0 p.1) (places own)) (sym unchanged)
+      ∙ ap (λ (own : List PageReport). filter_map (λ p. order_behind page p.0 p.1) (places own)) (sym unchanged)
     where
       unchanged : page_history (rs ++ r ∷ []) page ≡ page_history rs page
-      unchanged = filter-append (λ (q : Report). nat_eq page q.page) rs (r ∷ []) ∙ ap (λ b. page_history rs page ++ cond b (r ∷ []) []) apart ∙ append-nil (page_history rs page)
+      unchanged = filter-append (λ (q : PageReport). nat_eq page q.page) rs (r ∷ []) ∙ ap (λ b. page_history rs page ++ cond b (r ∷ []) []) apart ∙ append-nil (page_history rs page)
 
   -- an item more
   item-page : (earlier since : List Sighting) (s : Sighting)
@@ -84,7 +84,7 @@ module _ (page : ℕ) where
       by None = append-nil (orders_of (reports_of earlier) page) ∙ ap (λ rs. orders_of rs page) (sym (append-nil (reports_of earlier)))
       by (Some p) = at (nat_eq page p) refl
         where
-          r : Report
+          r : PageReport
           r = report p s.item.class s.seconds s.item.weight s.limit
 
           at : (b : Bool) → nat_eq page p ≡ b → orders_of (reports_of earlier) page ++ orders_for_page page (option_to_list (order_behind p (page_history (reports_of earlier) p) r)) ≡ orders_of (reports_of earlier ++ r ∷ []) page

@@ -17,7 +17,7 @@ use Rattle.page_policy.specs.declared.buckets.Bucket.{Bucket}
 use Rattle.page_policy.specs.declared.buckets.Limit.{Limit}
 use Rattle.page_policy.specs.declared.rows.PageRow.{PageRow}
 use Rattle.page_policy.specs.Buckets.{IsLimit, leak, count_with, trips, bucket_after}
-use Rattle.page_policy.specs.Rows.{Report, report, new_row, row_after, is_corrected}
+use Rattle.page_policy.specs.Rows.{PageReport, report, new_row, row_after, is_corrected}
 use Rattle.row_tables.specs.Tables.{updated_rows}
 use Rattle.page_policy.specs.Histories.{rows_after}
 use Rattle.page_policy.proofs.HistoryLemmas.{keys-rows_after}
@@ -192,7 +192,7 @@ weight-after (row ∷ rows) s all = by (same_label (label_of s) row.0) (weight-a
     by false ih = omega (arith, sum_by-cons (λ (r : Bytes × Module). sum r.1.sums) row (modules_after rows s), sum_by-cons (λ (r : Bytes × Module). sum r.1.sums) row rows, ih)
 
 -- rows of pages
-module _ (r : Report) (page : IsPage r.page) (time : r.seconds < 2 ^ 64) (limit : IsLimit r.limit) where
+module _ (r : PageReport) (page : IsPage r.page) (time : r.seconds < 2 ^ 64) (limit : IsLimit r.limit) where
   report-sound : (key : ℕ) (row : PageRow) → nat_eq r.page key ≡ true → IsPageRow (key, row) → IsPageRow (key, row_after row r)
   report-sound key row own sound = record { page = sound.page; bucket = by (is_corrected r.class) }
     where

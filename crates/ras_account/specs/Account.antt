@@ -9,7 +9,7 @@ use Rattle.mca_status.specs.declared.classes.ItemClass.{ItemClass}
 use Rattle.dimm_topology.specs.Labels.{Bytes, same_label}
 use Rattle.page_policy.specs.declared.buckets.Limit.{Limit}
 use Rattle.page_policy.specs.declared.rows.PageRow.{PageRow}
-use Rattle.page_policy.specs.Rows.{Report}
+use Rattle.page_policy.specs.Rows.{PageReport}
 use Rattle.row_tables.specs.Tables.{distinct_keys}
 use Rattle.page_policy.specs.Histories.{page_rows_of, page_history as page_history_of}
 use Rattle.ras_facts.specs.declared.name.Name.{Name}
@@ -45,7 +45,7 @@ module_count history label class = class_weight (module_items history label) cla
 
 -- the items of a history's fresh entries that name a page, in order, each with its time and the
 -- limit in force for pages at it
-abbrev pub page_history : History → ℕ → List Report
+abbrev pub page_history : History → ℕ → List PageReport
 page_history history page = page_history_of (reports_of (sightings history)) page
 
 -- the modules that all items and those since the last mark give: each label in first-seen order

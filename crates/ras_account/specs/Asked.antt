@@ -1,13 +1,15 @@
 -- What the laws on orders speak of: the orders for one page, and those for one module.
-use Rattle.std.specs.Prelude.{ℕ, Bool, false, nat_eq, List, filter, IsTrue}
+use Rattle.std.specs.Prelude.{ℕ, Bool, false, not, ◌&&◌, nat_eq, List, filter, IsTrue}
 use Rattle.std.specs.List.{list_any}
 use Rattle.std.specs.Map.{keys_of}
 use Rattle.dimm_topology.specs.Labels.{Bytes, same_label}
 use Rattle.page_policy.specs.declared.rows.Order.{Order}
 use Rattle.page_policy.specs.declared.rows.Order.TheVariants.{Soft, Hard, Module}
-use Rattle.ras_account.specs.History.{History}
-use Rattle.ras_account.specs.Account.{account_of}
-use Rattle.ras_account.specs.Orders.{place_of, orders_since_mark}
+use Rattle.ras_facts.specs.declared.entry.Entry.{Entry}
+use Rattle.ras_account.specs.History.{History, with_entry}
+use Rattle.ras_account.specs.Modules.{has_tripped}
+use Rattle.ras_account.specs.Account.{account_of, module_errors}
+use Rattle.ras_account.specs.Orders.{place_of, orders_behind, orders_since_mark}
 
 -- whether an order is for a page
 abbrev pub is_for_page : ℕ → Order → Bool
@@ -37,6 +39,18 @@ module_place history label = place_of label (keys_of (account_of history).module
 abbrev pub HasRow : History → Bytes → Type 0
 HasRow history label =
     IsTrue (list_any (same_label label) (keys_of (account_of history).modules))
+
+-- whether an entry behind a history makes a module's bucket trip the first time since the last
+-- mark, by the module's own corrected errors
+abbrev pub trips_with : History → Entry → Bytes → Bool
+trips_with history entry label =
+    not (has_tripped (module_errors history label))
+    && has_tripped (module_errors (with_entry history entry) label)
+
+-- the orders of an entry behind a history to replace a label's module
+abbrev pub replace_orders_at : History → Entry → Bytes → List Order
+replace_orders_at history entry label =
+    orders_for_module (module_place (with_entry history entry) label) (orders_behind history entry)
 
 -- the order to replace a label's module, and such orders since the last mark
 abbrev pub replace_order : History → Bytes → Order

@@ -9,7 +9,7 @@ use Rattle.dimm_topology.specs.Labels.{Bytes, same_label}
 use Rattle.page_policy.specs.declared.rows.Order.{Order}
 use Rattle.page_policy.specs.declared.rows.Order as Ordered
 use Rattle.page_policy.specs.declared.rows.PageRow.{PageRow}
-use Rattle.page_policy.specs.Rows.{Report, order_between}
+use Rattle.page_policy.specs.Rows.{PageReport, order_between}
 use Rattle.row_tables.specs.Tables.{distinct_keys}
 use Rattle.page_policy.specs.Histories.{page_history, state_in, rows_after, order_behind}
 use Rattle.ras_facts.specs.declared.entry.Entry.{Entry}
@@ -27,7 +27,7 @@ place_of label (other ∷ labels) = if same_label label other then zero else suc
 -- the order for the page of an item behind all earlier items: by those of the page alone
 abbrev pub page_order : List Sighting → Sighting → Option Order
 page_order earlier s =
-    option_and_then (λ (r : Report). order_behind r.page (page_history (reports_of earlier) r.page) r) (report_of s)
+    option_and_then (λ (r : PageReport). order_behind r.page (page_history (reports_of earlier) r.page) r) (report_of s)
 
 -- whether an item is the one at which its module's bucket trips the first time since the last mark:
 -- by the earlier errors of the module alone
@@ -78,7 +78,7 @@ is_replaced modules label = option_map_or (λ (m : Module). m.replace) (lookup (
 abbrev pub page_order_in : List (ℕ × PageRow) → Sighting → Option Order
 page_order_in pages s =
     option_and_then
-    (λ (r : Report). order_between r.page (state_in pages r.page) (state_in (rows_after pages r) r.page))
+    (λ (r : PageReport). order_between r.page (state_in pages r.page) (state_in (rows_after pages r) r.page))
     (report_of s)
 
 -- the order for the module of an item, by the rows of modules before it

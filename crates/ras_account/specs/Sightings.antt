@@ -2,7 +2,7 @@
 use Rattle.std.specs.Prelude.{ℕ, Option, if◌then◌else◌, List, [], ◌++◌, map, filter_map, option_map}
 use Rattle.dimm_topology.specs.Labels.{Bytes}
 use Rattle.page_policy.specs.declared.buckets.Limit.{Limit}
-use Rattle.page_policy.specs.Rows.{Report, report}
+use Rattle.page_policy.specs.Rows.{PageReport, report}
 use Rattle.ras_facts.specs.declared.items.Item.{Item}
 use Rattle.ras_facts.specs.declared.entry.Entry.{Entry}
 use Rattle.ras_facts.specs.declared.entry.Entry.TheVariants.{Fact}
@@ -52,9 +52,9 @@ abbrev pub sighting_weight : Sighting → ℕ
 sighting_weight s = s.item.weight
 
 -- the report of a page that an item is, if it names a page
-abbrev pub report_of : Sighting → Option Report
+abbrev pub report_of : Sighting → Option PageReport
 report_of s = option_map (λ page. report page s.item.class s.seconds s.item.weight s.limit) s.item.page
 
 -- the reports of pages among items, in order
-abbrev pub reports_of : List Sighting → List Report
+abbrev pub reports_of : List Sighting → List PageReport
 reports_of ss = filter_map report_of ss

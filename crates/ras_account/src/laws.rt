@@ -23,7 +23,7 @@ ghost use Rattle.ras_account.specs.Modules.{has_tripped, bucket_with, trips_at, 
 ghost use Rattle.ras_account.specs.Account.{State, account_of, module_errors, weight_in, is_seen, module_of, AreSame, ChangesNothing, IsKeptAfter};
 ghost use Rattle.ras_account.specs.Continued.{is_fresh_in, account_after, account_after_all, account_after_history, account_after_mark};
 ghost use Rattle.ras_account.specs.Orders.{orders_at, orders_behind, orders};
-ghost use Rattle.ras_account.specs.Asked.{orders_for_page, replace_order, replace_orders, HasRow};
+ghost use Rattle.ras_account.specs.Asked.{orders_for_page, replace_order, replace_orders, replace_orders_at, trips_with, HasRow};
 ghost use Rattle.ras_account.specs.Numbers.{are_past, IsWithin, StaysWithin, HasRoomFor, numbers_of, numbers_with};
 ghost use Rattle.ras_account.specs.Rows.{account_from_rows};
 ghost use Rattle.ras_account.specs.View.{View, WaitsFirst, IsReservedFor, then_waits, added_by};
@@ -128,6 +128,14 @@ pub fn order_laws()
         → replace_orders history label
         ≡ (if has_tripped (module_errors history label)
         then replace_order history label ∷ [] else []) }
+
+    // An entry asks for a module exactly where, with the entry's items, the module's own corrected
+    // errors make its bucket trip the first time since the last mark.
+    ensures module_at { (history : History) (entry : Entry) (label : Bytes)
+        → HasRow (with_entry history entry) label
+        → replace_orders_at history entry label
+        ≡ (if trips_with history entry label
+        then replace_order (with_entry history entry) label ∷ [] else []) }
 {}
 
 /// The laws of the buckets of modules. The function does nothing: its clauses are what it is for.

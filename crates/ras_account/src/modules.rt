@@ -82,11 +82,10 @@ impl ModuleRow {
     fn without_bucket(&self) -> ModuleRow
         ensures { result ≡ record self.now { bucket = None; replace = false } }
     {
-        ModuleRow {
-            bucket: None,
-            replace: false,
-            ..*self
-        }
+        let mut row = *self;
+        row.bucket = None;
+        row.replace = false;
+        row
     }
 }
 

@@ -4,7 +4,7 @@ use Rattle.page_policy.proofs.OrderLemmas.{once_in_order}
 use Rattle.ras_account.specs.Sightings.{sightings, reports_of}
 use Rattle.ras_account.proofs.OrderLemmas.{orders_at-account_of}
 use Rattle.ras_account.proofs.PageOrderLemmas.{page-orders}
-use Rattle.ras_account.proofs.ModuleOrderLemmas.{module-orders}
+use Rattle.ras_account.proofs.ModuleOrderLemmas.{module-orders, module-orders_at}
 use Rattle.ras_account.proofs.laws.order_laws.Goals as goal
 
 pub returns-clause-ordered : goal.returns-clause-ordered
@@ -18,3 +18,6 @@ returns-clause-page_once c = λ history page. subst (AreOnceInOrder page) (sym (
 
 pub returns-clause-module : goal.returns-clause-module
 returns-clause-module c = module-orders
+
+pub returns-clause-module_at : goal.returns-clause-module_at
+returns-clause-module_at c = module-orders_at
