@@ -1,5 +1,5 @@
 -- How many bytes an entry has at most.
-use Rattle.std.proofs.Common.{◌≡◌, ℕ, ◌≤◌, true, subst, List, [], ◌∷◌, ◌++◌, length, Option, Some, None, ap, ◌∙◌, arith, length-append, append-nil}
+use Rattle.std.proofs.Common.{◌≡◌, ℕ, ◌*◌, ◌≤◌, true, subst, List, [], ◌∷◌, ◌++◌, length, Option, Some, None, ap, ◌∙◌, arith, length-append, append-nil}
 use Rattle.std.specs.List.{flat_map, AllByRecursion}
 use Rattle.std.proofs.lemmas.Bool.Decides.{nat_tests}
 use Rattle.std.proofs.lemmas.List.Elements.{recursion_from_All}
@@ -11,7 +11,9 @@ use Rattle.ras_facts.specs.declared.name.Name.TheVariants.{Bank, Record, Block, 
 use Rattle.ras_facts.specs.declared.items.Item.{Item}
 use Rattle.ras_facts.specs.declared.fact.Fact.{Fact}
 use Rattle.page_policy.specs.declared.buckets.Limit.{Limit}
+use Rattle.ras_facts.specs.declared.entry.Entry.{Entry}
 use Rattle.ras_facts.specs.declared.entry.Entry.TheVariants as entry
+use Rattle.ras_facts.specs.Entries.{IsValidEntry}
 use Rattle.ras_facts.specs.Valid.{IsValidItem, IsValidFact}
 use Rattle.entry_format.specs.Spelling.{name_bytes, label_bytes, page_bytes, item_bytes, fact_bytes, limit_bytes, entry_bytes}
 
@@ -63,6 +65,37 @@ one_item_most fact item valid one =
 pub limit_size : (limit : Limit) → length (entry_bytes (entry.Limit limit)) ≡ 17
 unfolding entry_bytes limit_bytes
 limit_size limit = omega (arith, length-append (u64_bytes limit.capacity) (u64_bytes limit.period), length-u64_bytes limit.capacity, length-u64_bytes limit.period)
+
+items_most : (items : List Item) → AllByRecursion IsValidItem items → length (flat_map item_bytes items) ≤ 45 * length items
+items_most [] all = omega arith
+items_most (item ∷ items) all =
+    omega (arith, length-append (item_bytes item) (flat_map item_bytes items), item_most item all.0, items_most items all.1)
+
+fact_most : (fact : Fact) → IsValidFact fact → length (fact_bytes fact) ≤ 3000000
+unfolding fact_bytes
+fact_most fact valid =
+    let name = name_bytes fact.name in
+    let seconds = u64_bytes fact.seconds in
+    let count = u16_bytes (length fact.items) in
+    omega (
+      arith,
+      length-append (name ++ seconds ++ count) (flat_map item_bytes fact.items),
+      length-append (name ++ seconds) count,
+      length-append name seconds,
+      name_most fact.name,
+      length-u64_bytes fact.seconds,
+      length-u16_bytes (length fact.items),
+      valid.count,
+      items_most fact.items (recursion_from_All IsValidItem fact.items valid.items),
+    )
+
+-- an entry is far shorter than a link may be
+pub entry_most : (e : Entry) → IsValidEntry e → length (entry_bytes e) ≤ 3000001
+unfolding entry_bytes limit_bytes
+entry_most (entry.Fact fact) valid = omega (arith, fact_most fact valid)
+entry_most (entry.Limit limit) valid = omega (arith, length-append (u64_bytes limit.capacity) (u64_bytes limit.period), length-u64_bytes limit.capacity, length-u64_bytes limit.period)
+entry_most (entry.Retire boot) valid = omega (arith, length-u64_bytes boot)
+entry_most (entry.ModuleLimit limit) valid = omega (arith, length-append (u64_bytes limit.capacity) (u64_bytes limit.period), length-u64_bytes limit.capacity, length-u64_bytes limit.period)
 
 -- how many bytes the parts of spellings have
 pub ruleset name_sizes = (length-append, length-u16_bytes, length-u64_bytes)
