@@ -7,6 +7,7 @@ ghost use Rattle.ras_account.specs.Accounts.{IsModuleRow};
 ghost use Rattle.entry_format.specs.Reading.{Gives, u64_at, many_at};
 ghost use Rattle.ras_account.specs.Rows.{row_of};
 ghost use Rattle.journal_format.specs.CheckpointReading.{replace_of, replace_at, bucket_at, replacement_at, module_at, page_state_of, page_state_at, page_row_at, entries_at, front_at, end_floor_at, floor_in};
+ghost use Rattle.journal_format.specs.Fronts.{front_of};
 
 use entry_format::{EntryRefused, Version, byte_at, label_at, limit_at, page_number_at, u64_at};
 use mca_status::CLASS_COUNT;
@@ -179,7 +180,7 @@ fn entries_at(bytes: &[u8]) -> Result<(u64, &[u8]), EntryRefused>
 // The numbers at the front, as they are read.
 #[tactic(auto, unfolding(crate::specs::CheckpointReading::front_at))]
 fn read_front(version: Version, bytes: &[u8]) -> Result<(CheckpointFront, &[u8]), EntryRefused>
-    ensures { Gives (λ x. ((x.0.limit, (x.0.module_limit, (x.0.entries, x.0.floor))), x.1.now)) result (front_at version bytes.now) }
+    ensures { Gives (λ x. (front_of x.0, x.1.now)) result (front_at version bytes.now) }
 {
     let (limit, rest) = limit_at(bytes)?;
     match version {
@@ -213,7 +214,7 @@ pub(crate) fn front_at(
     version: Version,
     bytes: &[u8],
 ) -> Result<(CheckpointFront, &[u8]), EntryRefused>
-    ensures read { Gives (λ x. ((x.0.limit, (x.0.module_limit, (x.0.entries, x.0.floor))), x.1.now)) result (front_at version bytes.now) }
+    ensures read { Gives (λ x. (front_of x.0, x.1.now)) result (front_at version bytes.now) }
     ensures limit { IfOk result (λ x. IsLimit x.0.limit) }
     ensures module_limit { IfOk result (λ x. IsLimit x.0.module_limit) }
     ensures entries { IfOk result (λ x. x.0.entries ≤ MOST_ENTRIES) }
