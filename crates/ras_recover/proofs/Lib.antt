@@ -4,3 +4,5 @@ pub mod ReadingLemmas
 pub mod PairLemmas
 pub mod KeepingLemmas
 pub mod OpeningLemmas
+pub mod LifeLemmas
+pub mod CountingLemmas

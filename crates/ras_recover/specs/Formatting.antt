@@ -5,9 +5,10 @@
 -- synced. Then all behind that gate is written and synced, up to and with the first closed gate of
 -- the chain. Then the gate at the front is opened and synced. What a longer file had behind that
 -- closed gate stays there, and doesn't count.
-use Rattle.std.specs.Prelude.{◌≡◌, ℕ, ◌⊎◌, Bool, false, if◌then◌else◌, List, [], ◌∷◌, ◌++◌, length}
+use Rattle.std.specs.Prelude.{◌≡◌, ℕ, ◌≤◌, ◌⊎◌, Bool, false, if◌then◌else◌, List, [], ◌∷◌, ◌++◌, length}
 use Rattle.ras_base.specs.LittleEndian.{u64_bytes}
 use Rattle.board_core.specs.declared.board.FileNo.{FileNo}
+use Rattle.board_core.specs.declared.board.DiskCall.{DiskCall}
 use Rattle.board_core.specs.Told.{Told, Torn, overlay, after_write_through, FailsThrough}
 use Rattle.entry_format.specs.declared.version.Version.TheVariants.{Two}
 use Rattle.ras_journal.specs.declared.limits.TheConstants.{OPEN_GATE, CLOSED_GATE}
@@ -40,6 +41,12 @@ FailsFormatting file shut bytes old new =
     FailsClosing file shut old new
     ⊎ (FailsThrough file 1 bytes (after_closing file shut old) new
     ⊎ FailsThrough file 0 (OPEN_GATE ∷ []) (after_writing file shut bytes old) new)
+
+-- At most so many disk calls were made: they are listed behind those made before.
+pub record MakesAtMost (most : ℕ) (old new : Told) : Type 0 where
+  pub made : List DiskCall
+  pub listed : new.disk_calls ≡ old.disk_calls ++ made
+  pub few : length made ≤ most
 
 -- ---- what a stop leaves of the file: one of the steps may be torn, and those before it are done
 

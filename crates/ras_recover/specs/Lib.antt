@@ -3,3 +3,4 @@ pub mod Switching
 pub mod Reading
 pub mod Recovering
 pub mod Opening
+pub mod Life

@@ -5,6 +5,7 @@
 mod fields;
 mod file;
 mod formatting;
+mod laws;
 mod links;
 mod opening;
 mod pair;
@@ -13,6 +14,7 @@ mod recovering;
 mod refused;
 mod switching;
 
+pub use laws::life_laws;
 pub use opening::open_journal;
 pub use pair::Recovered;
 pub use recovering::recover;

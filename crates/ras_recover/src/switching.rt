@@ -8,7 +8,7 @@ ghost use Rattle.journal_format.specs.Checkpoints.{checkpoint_bytes, IsCheckpoin
 ghost use Rattle.ras_account.specs.Account.{State};
 ghost use Rattle.ras_journal.specs.Recovered.{other, is_shut};
 ghost use Rattle.ras_journal.specs.Appending.{Before};
-ghost use Rattle.ras_recover.specs.Formatting.{behind_gate};
+ghost use Rattle.ras_recover.specs.Formatting.{behind_gate, MakesAtMost};
 ghost use Rattle.ras_recover.specs.Switching.{switched, next_bytes, after_switch, FailsSwitch, has_no_room, IsFullBy, disk_failure, OnNothingCalled, OnDisk, Switching};
 
 use crate::SwitchRefused;
@@ -104,6 +104,7 @@ pub fn switch_file<B: Board>(
         (λ t. journal.new.standing.length < length (file_of journal.new.standing.file t))) }
     ensures told { OnOk result (Steps (after_switch journal.old.standing account.now.state)
         (B.told board.old) (B.told board.new)) }
+    ensures calls { Relates (MakesAtMost 6) (B.told board.old) (B.told board.new) }
 
     ensures full { IsFullBy result (has_no_room journal.old.standing account.now.state link.now) }
     ensures nothing_called { OnNothingCalled result (board.new ≡ board.old) }
