@@ -33,7 +33,7 @@ use Rattle.ras_daemon.specs.Status.{room_refusal, refusal_at}
 use Rattle.ras_daemon.specs.EventText.{entries_text, event_orders}
 use Rattle.ras_texts.specs.Text.{done_line}
 use Rattle.ras_texts.specs.Orders.{standing_lines, order_lines}
-use Rattle.ras_texts.specs.OrderRoom.{HasRoomFor}
+use Rattle.ras_texts.specs.OrderRoom.{HasOrderRoom}
 
 -- how many bytes the entry of an event has at most: a bank's with a label of 32 bytes and a page
 abbrev pub longest_entry : ℕ
@@ -112,7 +112,7 @@ pub record CanTake (account : View) (fresh : FreshEntry) : Type 0 where
 -- an event that is prepared can be done with no memory
 pub record CanDo (account : View) (event : Prepared) : Type 0 where
   pub fresh : IfSome event.fresh (CanTake account)
-  pub room : IfSome event.fresh (λ fresh. HasRoomFor fresh.orders.room event.text)
+  pub room : IfSome event.fresh (λ fresh. HasOrderRoom fresh.orders.room event.text)
 
 -- how preparing an event may end
 abbrev pub PrepareExit : List Entry → List Entry → Exit → Type 0

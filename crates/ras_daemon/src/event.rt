@@ -8,7 +8,7 @@ ghost use Rattle.ras_account.specs.Numbers.{AreWithin, numbers_with};
 ghost use Rattle.ras_account.specs.Continued.{account_after};
 ghost use Rattle.ras_account.specs.Orders.{orders_at};
 ghost use Rattle.ras_account.specs.View.{added_by};
-ghost use Rattle.ras_texts.specs.OrderRoom.{HasRoomFor};
+ghost use Rattle.ras_texts.specs.OrderRoom.{HasOrderRoom};
 ghost use Rattle.ras_texts.specs.Orders.{order_lines};
 ghost use Rattle.ras_texts.specs.Text.{done_line, log_lines};
 ghost use Rattle.ras_daemon.specs.Causes.{BoardCause, Causes};
@@ -146,7 +146,7 @@ fn fresh_text(
 ) -> Result<Vec<u8>, NoMemory>
     requires { orders ≤ 2 }
     ensures text { IfOk result (λ text. text.items ≡ log_lines detail.now account.now.state entry.now) }
-    ensures room { IfOk result (HasRoomFor orders) }
+    ensures room { IfOk result (HasOrderRoom orders) }
 {
     let mut text = Vec::new(alloc);
     push_fresh(&mut text, detail, account, entry)?;
@@ -162,7 +162,8 @@ pub fn commit<B: Board>(event: Prepared, ledger: &mut Ledger, board: &mut B) -> 
     requires can_do { CanDo ledger.old.account event }
     requires small { ledger.old.end + longest_entry < 2 ^ 64 }
     requires fits { FileEndsAt (B.told board.old) ledger.old.end }
-    ensures performs { Performs (prepared_steps ledger.old.end ledger.old.account.state event) result (B.told board.old) (B.told board.new) }
+    ensures performs { Performs (prepared_steps ledger.old.end ledger.old.account.state event)
+        result (B.told board.old) (B.told board.new) }
     ensures account { OnOk result (ledger.new.account.state
         ≡ state_after event.fresh ledger.old.account.state) }
     ensures end { OnOk result (ledger.new.end ≡ end_after event.fresh ledger.old.end) }
@@ -192,7 +193,7 @@ fn count<B: Board>(
     board: &mut B,
 ) -> Result<(), Exit>
     requires can_take { CanTake ledger.old.account fresh }
-    requires room { HasRoomFor fresh.orders.room text.old }
+    requires room { HasOrderRoom fresh.orders.room text.old }
     requires small { ledger.old.end + longest_entry < 2 ^ 64 }
     requires fits { FileEndsAt (B.told board.old) ledger.old.end }
     ensures performs { Performs (appends ledger.old.end fresh.bytes.items ∷ []) result

@@ -8,7 +8,7 @@ use Rattle.cper_sections.specs.declared.sections.Section as Sections
 use Rattle.cper_records.specs.Header.{section_count}
 use Rattle.cper_records.specs.Descriptors.{section_at}
 use Rattle.apei_sources.specs.Blocks.{BlockParts}
-use Rattle.apei_sources.specs.Entries.{entry_guid, entry_bytes}
+use Rattle.apei_sources.specs.Entries.{entry_guid, entry_data}
 use Rattle.dimm_topology.specs.declared.row.Row.{Row}
 use Rattle.ras_facts.specs.Reported.{Read, entry_item, record_item, section_label}
 use Rattle.ras_facts.specs.declared.items.Item.{Item}
@@ -44,4 +44,4 @@ block_labels rows name seconds block = by (block.status == 0)
         → IfSome (option_map (λ fact. record { fact = fact; details = block_details block })
         (if silent then None else Some (record { name = name; seconds = seconds; items = map (entry_item rows) block.entries }))) (OwnLabels rows)
     by true = tt
-    by false = labels_of_reads rows (entry_item rows) (λ entry. section_of (entry_guid entry) (entry_bytes entry)) block.entries (λ entry. refl)
+    by false = labels_of_reads rows (entry_item rows) (λ entry. section_of (entry_guid entry) (entry_data entry)) block.entries (λ entry. refl)

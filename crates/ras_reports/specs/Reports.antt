@@ -7,7 +7,7 @@ use Rattle.cper_sections.specs.declared.sections.Section as Sections
 use Rattle.cper_sections.specs.declared.sections.Section.{Section}
 use Rattle.cper_records.specs.Header.{section_count}
 use Rattle.cper_records.specs.Descriptors.{section_at}
-use Rattle.apei_sources.specs.Entries.{entry_guid, entry_bytes}
+use Rattle.apei_sources.specs.Entries.{entry_guid, entry_data}
 use Rattle.apei_sources.specs.Blocks.{BlockParts}
 use Rattle.dimm_topology.specs.Labels.{Bytes}
 use Rattle.dimm_topology.specs.declared.row.Row.{Row}
@@ -48,7 +48,7 @@ record_report rows seconds own = record { fact = record_fact rows seconds own; d
 
 -- what is told of an entry of a status block, and of all its entries
 abbrev pub entry_detail : List ℕ → Detail
-entry_detail entry = section_detail (section_of (entry_guid entry) (entry_bytes entry))
+entry_detail entry = section_detail (section_of (entry_guid entry) (entry_data entry))
 
 abbrev pub block_details : BlockParts → List Detail
 block_details block = map entry_detail block.entries

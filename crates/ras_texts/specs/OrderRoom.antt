@@ -5,8 +5,8 @@ use Rattle.std.specs.Vec.{vec_capacity, vec_len}
 use Rattle.ras_texts.specs.declared.order.TheConstants.{ORDER_LENGTH}
 
 -- the text has room for the lines of so many orders
-abbrev pub HasRoomFor : ℕ → Vec ℕ → Type 0
-HasRoomFor orders text = vec_len text + ORDER_LENGTH * orders ≤ vec_capacity text
+abbrev pub HasOrderRoom : ℕ → Vec ℕ → Type 0
+HasOrderRoom orders text = vec_len text + ORDER_LENGTH * orders ≤ vec_capacity text
 
 -- a text took one line at most, and kept its room
 pub record StaysWithin (old new : Vec ℕ) : Type 0 where

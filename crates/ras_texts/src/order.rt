@@ -2,7 +2,7 @@
 
 ghost use Rattle.std.specs.Prelude.{◌≡◌, ◌++◌, ◌+◌, ◌≤◌, IfOk, OnOk, length, vec_capacity, vec_len};
 ghost use Rattle.std.specs.List.{flat_map};
-ghost use Rattle.ras_texts.specs.OrderRoom.{HasRoomFor, StaysWithin};
+ghost use Rattle.ras_texts.specs.OrderRoom.{HasOrderRoom, StaysWithin};
 ghost use Rattle.ras_texts.specs.Orders.{module_label, module_line, order_line, order_lines, page_line};
 ghost use Rattle.ras_texts.specs.Orders.{replaced_line, standing_lines, state_line};
 ghost use Rattle.ras_texts.specs.Text.{address_text, label_text, line_with};
@@ -20,7 +20,7 @@ pub const ORDER_LENGTH: usize = 52;
 /// Adds the lines of orders to a text that has room for them, with the labels of an account. It
 /// takes no memory.
 pub fn push_orders(text: &mut Vec<u8>, orders: &Orders, account: &Account)
-    requires { HasRoomFor (length orders.now.orders) text.old }
+    requires { HasOrderRoom (length orders.now.orders) text.old }
     ensures { text.new.items
         ≡ text.old.items ++ order_lines account.now.state.modules orders.now.orders }
 {
@@ -75,7 +75,7 @@ fn push_standing_modules(text: &mut Vec<u8>, account: &Account) -> Result<(), No
 
 // Adds the line of an order to a text that has room for it.
 fn push_order(text: &mut Vec<u8>, order: Order, account: &Account)
-    requires { HasRoomFor 1 text.old }
+    requires { HasOrderRoom 1 text.old }
     ensures line { text.new.items ≡ text.old.items ++ order_line account.now.state.modules order }
     ensures room { StaysWithin text.old text.new }
 {
@@ -99,7 +99,7 @@ fn module_label(account: &Account, place: usize) -> Label
 
 // Adds the line of a page in a state to a text that has room for it.
 fn push_state(text: &mut Vec<u8>, page: u64, state: PageState)
-    requires { HasRoomFor 1 text.old }
+    requires { HasOrderRoom 1 text.old }
     ensures line { text.new.items ≡ text.old.items ++ state_line page state }
     ensures room { StaysWithin text.old text.new }
 {
@@ -113,7 +113,7 @@ fn push_state(text: &mut Vec<u8>, page: u64, state: PageState)
 // Adds a line that ends with a page to a text that has room for it.
 fn push_page_line(text: &mut Vec<u8>, head: &[u8], page: u64)
     requires head { length head.now ≤ 16 }
-    requires room { HasRoomFor 1 text.old }
+    requires room { HasOrderRoom 1 text.old }
     ensures line { text.new.items ≡ text.old.items ++ line_with (head.now ++ address_text page) }
     ensures room { StaysWithin text.old text.new }
 {
@@ -125,7 +125,7 @@ fn push_page_line(text: &mut Vec<u8>, head: &[u8], page: u64)
 
 // Adds the line of a module that is to be replaced to a text that has room for it.
 fn push_module(text: &mut Vec<u8>, label: &Label)
-    requires { HasRoomFor 1 text.old }
+    requires { HasOrderRoom 1 text.old }
     ensures line { text.new.items ≡ text.old.items ++ module_line label.now }
     ensures room { StaysWithin text.old text.new }
 {

@@ -2,7 +2,7 @@ use Rattle.std.proofs.Common.{[], ◌∷◌, refl, sym, subst, arith}
 use Rattle.ras_account.specs.History.{history_of}
 use Rattle.ras_account.proofs.AgainLemmas.{waits_alone}
 use Rattle.ras_account.proofs.NumberLemmas.{front-within}
-use Rattle.ras_texts.specs.OrderRoom.{HasRoomFor}
+use Rattle.ras_texts.specs.OrderRoom.{HasOrderRoom}
 use Rattle.ras_daemon.proofs.EventLemmas.{prepared_repeat, prepared_fresh}
 use Rattle.ras_daemon.proofs.FileLemmas.{short_entry}
 use Rattle.ras_daemon.proofs.event.prepare_entry.Goals as goal
@@ -29,5 +29,5 @@ returns-clause-can_do c = record {
     none = c.in_ok-orders.ensures.orders;
     room = rw (c.in_ok-orders.ensures.room, c.most_orders-count.ensures) (omega arith);
   };
-  room = subst (λ n. HasRoomFor n c.in_ok-text-2.text) (sym c.in_ok-orders.ensures.room) c.in_ok-text-2.ensures.room;
+  room = subst (λ n. HasOrderRoom n c.in_ok-text-2.text) (sym c.in_ok-orders.ensures.room) c.in_ok-text-2.ensures.room;
 }
