@@ -25,8 +25,3 @@ pub use reader::{
     lines_within_limits_are_the_script,
 };
 pub use splitting::{first_line, first_word, lines_are_the_script, spaces_separate_words, words};
-
-#[cfg(test)]
-mod line_tests;
-#[cfg(test)]
-mod reader_tests;

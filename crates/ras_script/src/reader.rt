@@ -135,6 +135,7 @@ impl LineReader {
     }
 
     // Reads until a line feed is held, and tells its place. There is none at the script's end.
+    #[tactic(auto, using(crate::proofs::ReaderLemmas::lacks_not_contains))]
     fn find_line<S: Source>(&mut self, source: &mut S) -> Result<Option<usize>, NextRefused>
         ensures finds { Finds result self.new (S.left source.new) }
         ensures moves { Moves [] self.old self.new (S.left source.old) (S.left source.new) }
@@ -142,13 +143,24 @@ impl LineReader {
         ensures held_first { Contains self.old.held 10 → source.new ≡ source.old }
         ensures cause { HasSourceCause result (S.faults source.old) (S.faults source.new) }
     {
-        let mut from = 0;
+        if let Some(place) = self.first_line_feed(0) {
+            return Ok(Some(place));
+        }
+        self.read_to_line_feed(source)
+    }
+
+    // Reads until a line feed is held, where none is yet, and tells its place. There is none at the
+    // script's end.
+    fn read_to_line_feed<S: Source>(&mut self, source: &mut S) -> Result<Option<usize>, NextRefused>
+        requires { Lacks 10 self.old.held }
+        ensures finds { Finds result self.new (S.left source.new) }
+        ensures moves { Moves [] self.old self.new (S.left source.old) (S.left source.new) }
+        ensures holds { IsHeld self.new }
+        ensures cause { HasSourceCause result (S.faults source.old) (S.faults source.new) }
+    {
         loop {
-            if let Some(place) = self.first_line_feed(from) {
-                return Ok(Some(place));
-            }
-            from = self.held_len();
-            if from > LONGEST_LINE {
+            let searched = self.held_len();
+            if searched > LONGEST_LINE {
                 return Err(NextRefused::LineTooLong);
             }
             if self.taken_len() > LONGEST_SCRIPT {
@@ -156,6 +168,9 @@ impl LineReader {
             }
             if self.read_more(source)? == 0 {
                 return Ok(None);
+            }
+            if let Some(place) = self.first_line_feed(searched) {
+                return Ok(Some(place));
             }
         }
     }
