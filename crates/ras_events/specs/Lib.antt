@@ -1,0 +1,7 @@
+pub mod Making
+pub mod Events
+pub mod Sizes
+pub mod Texts
+pub mod Reports
+pub mod Preparing
+pub mod Beside

@@ -1,0 +1,57 @@
+-- An event that has all its memory, by the account that it is prepared for.
+use Rattle.std.specs.Prelude.{◌≡◌, ℕ, ◌≤◌, List, [], ◌∷◌, ◌++◌, Option, None, Some, IfSome, All, length, if◌then◌else◌}
+use Rattle.std.specs.List.{sum_by}
+use Rattle.page_policy.specs.declared.rows.Order.{Order}
+use Rattle.ras_facts.specs.declared.entry.Entry.{Entry}
+use Rattle.ras_facts.specs.Entries.{IsValidEntry, most_orders}
+use Rattle.ras_account.specs.Account.{State}
+use Rattle.ras_account.specs.Continued.{account_after, is_fresh_in}
+use Rattle.ras_account.specs.Numbers.{StaysWithin, fresh_entries_in}
+use Rattle.ras_account.specs.Orders.{orders_at}
+use Rattle.ras_account.specs.View.{View, IsReservedFor}
+use Rattle.journal_format.specs.Links.{link_bytes}
+use Rattle.ras_texts.specs.OrderRoom.{HasOrderRoom}
+use Rattle.ras_texts.specs.Reports.{entry_lines}
+use Rattle.ras_texts.specs.Text.{done_line, repeat_line}
+use Rattle.ras_events.specs.declared.preparing.News.{News}
+use Rattle.ras_events.specs.declared.preparing.Prepared.{Prepared}
+use Rattle.ras_events.specs.Making.{Piece, Pieces, pieces_in}
+
+-- the lines of entries by which an account is continued in turn
+abbrev pub text_along : State → List Piece → List ℕ
+text_along account [] = []
+text_along account (piece ∷ pieces) =
+    (if is_fresh_in account piece.0 then entry_lines piece.1 account piece.0 else repeat_line account piece.0)
+    ++ text_along (account_after account piece.0) pieces
+
+-- the orders of entries by which an account is continued in turn
+abbrev pub orders_along_entries : State → List Entry → List Order
+orders_along_entries account [] = []
+orders_along_entries account (entry ∷ entries) =
+    orders_at account entry ++ orders_along_entries (account_after account entry) entries
+
+-- the entries of an event that are news, or none
+abbrev pub news_entries : Option News → List Entry
+news_entries None = []
+news_entries (Some news) = news.entries.items
+
+-- an event is prepared: its news are the fresh entries, its link is theirs, and its texts are those
+-- of what it makes
+pub record IsPrepared (account : State) (number : ℕ) (made : Pieces) (event : Prepared) : Type 0 where
+  pub news : news_entries event.news ≡ fresh_entries_in account made.entries
+  pub some : IfSome event.news (λ news. 1 ≤ length news.entries.items)
+  pub link : IfSome event.news (λ news. news.link ≡ link_bytes news.entries.items)
+  pub text : event.text.items ≡ text_along account (pieces_in made)
+  pub done : event.done.items ≡ done_line number
+
+-- The account can take the news in turn with no memory, and there is room for their orders.
+pub record CanTake (account : View) (news : News) : Type 0 where
+  pub reserved : IsReservedFor account news.entries.items
+  pub valid : All IsValidEntry news.entries.items
+  pub within : StaysWithin account.state news.entries.items
+  pub none : news.orders.orders ≡ []
+  pub room : sum_by most_orders news.entries.items ≤ news.orders.room
+
+pub record IsReady (account : View) (event : Prepared) : Type 0 where
+  pub news : IfSome event.news (CanTake account)
+  pub room : IfSome event.news (λ news. HasOrderRoom news.orders.room event.text)

@@ -1,0 +1,42 @@
+-- Which lines are short, and which events can be counted: what they make can be one link.
+use Rattle.std.specs.Prelude.{◌≤◌, ◌⊎◌, length, All, ⊤}
+use Rattle.ras_facts.specs.declared.entry.Entry.{Entry}
+use Rattle.ras_facts.specs.declared.entry.Entry.TheVariants.{Fact}
+use Rattle.ras_facts.specs.Entries.{IsValidEntry}
+use Rattle.journal_format.specs.declared.link.TheConstants.{MOST_LINK_ENTRIES, MOST_PAYLOAD}
+use Rattle.journal_format.specs.Links.{payload_bytes}
+use Rattle.ras_script.specs.declared.reader.TheConstants.{LONGEST_LINE}
+use Rattle.ras_script.specs.declared.line.ErrorReport.{ErrorReport}
+use Rattle.ras_script.specs.declared.line.ErrorReport.TheVariants.{Bank, Block, Boot}
+use Rattle.ras_script.specs.declared.line.Line.{Line}
+use Rattle.ras_script.specs.declared.line.Line.TheVariants as asks
+use Rattle.ras_events.specs.declared.event.Event.{Event}
+use Rattle.ras_events.specs.declared.event.Event.TheVariants.{Counted}
+use Rattle.ras_events.specs.Making.{Pieces}
+
+-- the bytes that a line tells are no more than a line may have
+abbrev pub IsShortReport : ErrorReport → Type 0
+IsShortReport (Bank bank) = ⊤
+IsShortReport (Block boot seconds source number bytes) = length bytes ≤ LONGEST_LINE
+IsShortReport (Boot boot seconds table region) = length region ≤ LONGEST_LINE
+
+abbrev pub IsShortLine : Line → Type 0
+IsShortLine (asks.Report report) = IsShortReport report
+IsShortLine line = ⊤
+
+-- an entry that is a fact
+abbrev pub IsFact : Entry → Type 0
+IsFact (Fact fact) = ⊤
+IsFact entry = ⊥
+
+-- What is made can be one link: valid entries, not too many or too long. They are facts, or one
+-- entry alone.
+pub record IsFit (made : Pieces) : Type 0 where
+  pub valid : All IsValidEntry made.entries
+  pub few : length made.entries ≤ MOST_LINK_ENTRIES
+  pub short : length (payload_bytes made.entries) ≤ MOST_PAYLOAD
+  pub alike : All IsFact made.entries ⊎ (length made.entries ≤ 1)
+
+abbrev pub IsFitEvent : Event → Type 0
+IsFitEvent (Counted made) = IsFit made
+IsFitEvent event = ⊤

@@ -1,0 +1,18 @@
+//! Events: what a line asks a run to do, under what the lines before it tell of the machine, and
+//! all that an event prints, counts and appends, made before any of it is done.
+#![tactic(auto)]
+
+mod beside;
+mod event;
+mod laws;
+mod made;
+mod preparing;
+mod reason;
+mod settings;
+
+pub use event::{Event, EventRefused};
+pub use laws::{event_laws, report_laws};
+pub use made::Made;
+pub use preparing::{News, PrepareRefused, Prepared, count, prepare};
+pub use reason::Reason;
+pub use settings::Settings;

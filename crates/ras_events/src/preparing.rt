@@ -1,0 +1,192 @@
+//! An event that counts entries: all that takes memory, before anything is done.
+
+ghost use Rattle.std.specs.Prelude.{◌≡◌, ◌+◌, ◌*◌, ◌≤◌, ◌++◌, length, All, Err, IfOk, IfSome, OnOk};
+ghost use Rattle.std.specs.List.{sum_by};
+ghost use Rattle.ras_facts.specs.Entries.{IsValidEntry, most_orders};
+ghost use Rattle.ras_account.specs.Numbers.{HasNoRoomFor, HasRoomFor};
+ghost use Rattle.ras_account.specs.Continued.{account_after_all};
+ghost use Rattle.ras_account.specs.View.{added_by};
+ghost use Rattle.journal_format.specs.Links.{payload_bytes};
+ghost use Rattle.ras_texts.specs.OrderRoom.{HasOrderRoom};
+ghost use Rattle.ras_texts.specs.Orders.{order_lines};
+ghost use Rattle.ras_events.specs.Beside.{CanTakeAll, IsNewsOf};
+ghost use Rattle.ras_events.specs.Preparing.{CanTake, IsPrepared, IsReady, news_entries};
+ghost use Rattle.ras_events.specs.Preparing.{orders_along_entries};
+ghost use Rattle.ras_events.specs.Sizes.{IsFit};
+
+use crate::Made;
+use crate::beside::{lines_of, news_of};
+use journal_format::{Link, MOST_LINK_ENTRIES, MOST_PAYLOAD, encode_link};
+use ras_account::{Account, Orders, ReserveRefused};
+use ras_base::NoMemory;
+use ras_facts::{Entry, MOST_ITEMS};
+use ras_texts::{ORDER_LENGTH, done_line, push_orders};
+use std::alloc::Global;
+use thiserror::Error;
+
+/// An event that has all its memory: what it appends and counts, and what it prints.
+#[derive(Drop)]
+pub struct Prepared {
+    /// What is news of the event, if anything is.
+    pub news: Option<News>,
+    /// The event's lines but for those of its orders, for which it has room.
+    pub text: Vec<u8>,
+    /// The line that the event ends with.
+    pub done: Vec<u8>,
+}
+
+/// The entries of an event that are news: at least one, their link, and room for their orders.
+#[derive(Drop)]
+pub struct News {
+    pub entries: Vec<Entry>,
+    pub link: Link,
+    pub orders: Orders,
+}
+
+/// Why an event can't be prepared.
+#[derive(Clone, Copy, Debug, Error, PartialEq, Eq)]
+pub enum PrepareRefused {
+    /// The account has no room for all that is news of the event.
+    #[error("the account is full")]
+    Full,
+    /// Memory ran out.
+    #[error("memory ran out")]
+    NoMemory,
+}
+
+impl From<NoMemory> for PrepareRefused {
+    ghost use Rattle.ras_events.specs.declared.preparing.PrepareRefused.TheVariants as RefusedFor;
+
+    ghost from_gives = { λ _ refused. refused ≡ RefusedFor.NoMemory };
+
+    fn from(_: NoMemory) -> Self {
+        PrepareRefused::NoMemory
+    }
+}
+
+/// Takes all the memory of an event: that of its entries in the account, the link of those that are
+/// news, and its texts, which end with the number of its line. What the account counts stays.
+///
+/// # Errors
+///
+/// `Full` comes exactly where the account has no room for all that is news of the entries, and
+/// `NoMemory` for want of memory alone.
+pub fn prepare(
+    alloc: Global,
+    number: u64,
+    made: Made,
+    account: &mut Account,
+) -> Result<Prepared, PrepareRefused>
+    requires fit { IsFit made }
+    ensures prepared { IfOk result (IsPrepared account.old.state number made) }
+    ensures ready { IfOk result (IsReady account.new) }
+    ensures state { account.new.state ≡ account.old.state }
+    ensures room { OnOk result (HasRoomFor account.old.state made.entries) }
+    ensures full { result ≡ Err PrepareRefused.Full → HasNoRoomFor account.old.state made.entries }
+{
+    reserve(account, made.entries())?;
+    Ok(prepare_reserved(alloc, number, made, account)?)
+}
+
+// Makes room in the account for what an event makes.
+fn reserve(account: &mut Account, entries: &[Entry]) -> Result<(), PrepareRefused>
+    ensures state { account.new.state ≡ account.old.state }
+    ensures waits { OnOk result (account.new.waiting ≡ added_by account.new.state entries.now) }
+    ensures within { OnOk result (HasRoomFor account.new.state entries.now) }
+    ensures full { result ≡ Err PrepareRefused.Full → HasNoRoomFor account.old.state entries.now }
+{
+    match account.reserve(entries) {
+        Ok(()) => Ok(()),
+        Err(ReserveRefused::Full) => Err(PrepareRefused::Full),
+        Err(ReserveRefused::NoMemory) => Err(PrepareRefused::NoMemory),
+    }
+}
+
+// Takes the memory of an event that makes what the account has room for.
+fn prepare_reserved(
+    alloc: Global,
+    number: u64,
+    made: Made,
+    account: &Account,
+) -> Result<Prepared, NoMemory>
+    requires fit { IsFit made }
+    requires waits { account.now.waiting ≡ added_by account.now.state made.entries }
+    requires within { HasRoomFor account.now.state made.entries }
+    ensures prepared { IfOk result (IsPrepared account.now.state number made) }
+    ensures ready { IfOk result (IsReady account.now) }
+{
+    let done = done_line(alloc, number)?;
+    let mut text = lines_of(alloc, account, &made)?;
+    let entries = news_of(alloc, account, made.into_entries())?;
+    let orders = orders_len(&entries);
+    text.reserve(ORDER_LENGTH * orders)?;
+    let news = link_news(alloc, entries, orders)?;
+    Ok(Prepared { news, text, done })
+}
+
+// How many orders the entries of a link give at most.
+fn orders_len(entries: &[Entry]) -> usize
+    requires few { length entries.now ≤ MOST_LINK_ENTRIES }
+    requires valid { All IsValidEntry entries.now }
+    ensures sum { result ≡ sum_by most_orders entries.now }
+    ensures most { result ≤ 2 * MOST_ITEMS * MOST_LINK_ENTRIES }
+{
+    let mut total = 0;
+    for entry in entries {
+        total += entry.most_orders();
+    }
+    total
+}
+
+// The news that entries are, if there are some: with their link, and room for so many orders.
+fn link_news(alloc: Global, entries: Vec<Entry>, orders: usize) -> Result<Option<News>, NoMemory>
+    requires few { length entries.items ≤ MOST_LINK_ENTRIES }
+    requires valid { All IsValidEntry entries.items }
+    requires payload { length (payload_bytes entries.items) ≤ MOST_PAYLOAD }
+    ensures entries { IfOk result (λ news. news_entries news ≡ entries.items) }
+    ensures news { IfOk result (λ news. IfSome news (IsNewsOf orders)) }
+{
+    if entries.is_empty() {
+        return Ok(None);
+    }
+    let link = encode_link(alloc, &entries)?;
+    let orders = Orders::new(alloc, orders)?;
+    Ok(Some(News {
+        entries,
+        link,
+        orders,
+    }))
+}
+
+/// Counts the news of an event, and puts the lines of the orders that they give after its text. It
+/// takes no memory.
+pub fn count(news: News, text: &mut Vec<u8>, account: &mut Account)
+    requires can_take { CanTake account.old news }
+    requires room { HasOrderRoom news.orders.room text.old }
+    ensures state { account.new.state ≡ account_after_all account.old.state news.entries.items }
+    ensures text { text.new.items ≡ text.old.items
+        ++ order_lines account.new.state.modules
+        (orders_along_entries account.old.state news.entries.items) }
+{
+    let News {
+        entries,
+        mut orders,
+        ..
+    } = news;
+    take_all(entries, &mut orders, account);
+    push_orders(text, &orders, account);
+}
+
+// Counts entries in turn, and puts the orders that they give behind others.
+fn take_all(entries: Vec<Entry>, orders: &mut Orders, account: &mut Account)
+    requires { CanTakeAll account.old orders.old entries.items }
+    ensures state { account.new.state ≡ account_after_all account.old.state entries.items }
+    ensures orders { orders.new.orders
+        ≡ orders.old.orders ++ orders_along_entries account.old.state entries.items }
+    ensures room { orders.new.room + length orders.new.orders
+        ≡ orders.old.room + length orders.old.orders }
+{
+    for entry in entries {
+        account.take(entry, orders);
+    }
+}

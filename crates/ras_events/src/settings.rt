@@ -1,0 +1,186 @@
+//! What the lines of a run tell of the machine.
+
+ghost use Rattle.std.specs.Prelude.{◌≡◌, ℕ, List, [], ◌∷◌, ◌++◌, IfOk, OnErr, OnOk};
+ghost use Rattle.dimm_topology.specs.declared.row.Row.{Row};
+ghost use Rattle.ras_facts.specs.Valid.{IsValidName};
+ghost use Rattle.ras_script.specs.LineLaws.{IsInRange, IsReportInRange, IsRowInRange};
+ghost use Rattle.ras_script.specs.declared.reader.TheConstants.{LONGEST_LINE};
+ghost use Rattle.apei_sources.specs.Hest.{hest_of};
+ghost use Rattle.std.specs.Prelude.{length, ◌≤◌, ◌<◌, ◌^◌};
+ghost use Rattle.ras_events.specs.Events.{AnswersEvent, block_event, event_of, has_source};
+ghost use Rattle.ras_events.specs.Events.{hest_event, no_settings, report_event, row_event};
+ghost use Rattle.ras_events.specs.Events.{settings_after, with_sources};
+ghost use Rattle.ras_events.specs.Sizes.{IsFitEvent, IsShortLine, IsShortReport};
+
+use crate::{Event, EventRefused, Made, Reason};
+use apei_sources::{Hest, TableRefused, read_bert, read_block, read_hest};
+use dimm_topology::{Row, Topology, TopologyRefused};
+use ras_facts::Name;
+use ras_reports::{report_of_bank, report_of_block};
+use ras_script::{ErrorReport, Line, Table};
+use std::alloc::Global;
+
+/// What the lines of a run have told of the machine: the rows of its topology, and the error
+/// sources that the last table of them lists.
+#[derive(Drop)]
+pub struct Settings {
+    pub topology: Topology,
+    pub sources: Option<Hest>,
+}
+
+impl Settings {
+    /// Nothing is told yet.
+    pub fn new(alloc: Global) -> Settings
+        ensures { result ≡ no_settings }
+    {
+        Settings {
+            topology: Topology::new(alloc),
+            sources: None,
+        }
+    }
+
+    /// Takes a line: what it tells of the machine from now on, and what else it asks for. A later
+    /// table of error sources takes the place of the one before. The settings stay after a refusal.
+    ///
+    /// # Errors
+    ///
+    /// `Refused` with the first reason that applies: of a row `Topology`; of a table of error
+    /// sources `Hest`; of a status block first `Source`, and then `Block`; of boot errors first
+    /// `Bert`, and then `Block`. `NoMemory` comes for want of memory alone.
+    pub fn take(&mut self, alloc: Global, line: Line) -> Result<Event, EventRefused>
+        requires range { IsInRange line }
+        requires short { IsShortLine line }
+        ensures event { AnswersEvent result (event_of self.old line) }
+        ensures settings { OnOk result (self.new ≡ settings_after self.old line) }
+        ensures stays { OnErr result (self.new ≡ self.old) }
+        ensures fit { IfOk result IsFitEvent }
+    {
+        match line {
+            Line::Row(row) => self.take_row(row),
+            Line::Table(Table::Hest(bytes)) => self.take_sources(alloc, bytes.bytes()),
+            Line::Report(report) => self.event_of_report(alloc, &report),
+            Line::Entry(entry) => Ok(Event::Counted(Made::of_entry(alloc, entry)?)),
+            Line::Restart => Ok(Event::Reopened),
+            Line::Nothing
+            | Line::Table(Table::Erst(_))
+            | Line::Put { .. }
+            | Line::Panic { .. }
+            | Line::Poll { .. } => Ok(Event::Nothing),
+        }
+    }
+
+    // Takes a row of the machine.
+    fn take_row(&mut self, row: Row) -> Result<Event, EventRefused>
+        requires { IsRowInRange row }
+        ensures event { AnswersEvent result (row_event self.old.topology row) }
+        ensures settings { OnOk result
+            (self.new ≡ record self.old { topology = self.old.topology ++ row ∷ [] }) }
+        ensures stays { OnErr result (self.new ≡ self.old) }
+        ensures fit { IfOk result IsFitEvent }
+    {
+        match self.topology.add(row) {
+            Ok(()) => Ok(Event::Settled),
+            Err(TopologyRefused::NoMemory) => Err(EventRefused::NoMemory),
+            Err(refused) => Err(EventRefused::Refused(Reason::Topology(refused))),
+        }
+    }
+
+    // Takes a table of error sources.
+    fn take_sources(&mut self, alloc: Global, bytes: &[u8]) -> Result<Event, EventRefused>
+        ensures event { AnswersEvent result (hest_event bytes.now) }
+        ensures settings { OnOk result (self.new ≡ with_sources self.old (hest_of bytes.now)) }
+        ensures stays { OnErr result (self.new ≡ self.old) }
+        ensures fit { IfOk result IsFitEvent }
+    {
+        match read_hest(alloc, bytes) {
+            Ok(sources) => {
+                self.sources = Some(sources);
+                Ok(Event::Settled)
+            }
+            Err(TableRefused::NoMemory) => Err(EventRefused::NoMemory),
+            Err(refused) => Err(EventRefused::Refused(Reason::Hest(refused))),
+        }
+    }
+
+    // The event of a report.
+    fn event_of_report(&self, alloc: Global, report: &ErrorReport) -> Result<Event, EventRefused>
+        requires range { IsReportInRange report.now }
+        requires short { IsShortReport report.now }
+        ensures event { AnswersEvent result (report_event self.now report.now) }
+        ensures fit { IfOk result IsFitEvent }
+    {
+        match report {
+            ErrorReport::Bank(bank) => {
+                let report = report_of_bank(alloc, bank, &self.topology)?;
+                Ok(Event::Counted(Made::of_report(alloc, report)?))
+            }
+            ErrorReport::Block {
+                boot,
+                seconds,
+                source,
+                number,
+                bytes,
+            } => {
+                if !self.has_source(*source) {
+                    return Err(EventRefused::Refused(Reason::Source));
+                }
+                let name = Name::Block {
+                    boot: *boot,
+                    source: *source,
+                    number: *number,
+                };
+                self.event_of_block(alloc, name, *seconds, bytes.bytes())
+            }
+            ErrorReport::Boot {
+                boot,
+                seconds,
+                table,
+                region,
+            } => {
+                let bert = match read_bert(table.bytes()) {
+                    Ok(bert) => bert,
+                    Err(refused) => return Err(EventRefused::Refused(Reason::Bert(refused))),
+                };
+                let region = region.bytes();
+                let length = region.len().min(bert.length as usize);
+                self.event_of_block(
+                    alloc,
+                    Name::Boot { boot: *boot },
+                    *seconds,
+                    &region[..length],
+                )
+            }
+        }
+    }
+
+    // Whether a table of error sources was read, and lists this identifier.
+    fn has_source(&self, id: u16) -> bool
+        ensures { result ≡ has_source self.now.sources id }
+    {
+        match &self.sources {
+            Some(sources) => sources.source(id).is_some(),
+            None => false,
+        }
+    }
+
+    // The event of a status block, which counts under a name and at a time.
+    fn event_of_block(
+        &self,
+        alloc: Global,
+        name: Name,
+        seconds: u64,
+        bytes: &[u8],
+    ) -> Result<Event, EventRefused>
+        requires short { length bytes.now ≤ LONGEST_LINE }
+        ensures event { AnswersEvent result (block_event self.now.topology name seconds bytes.now) }
+        ensures fit { IfOk result IsFitEvent }
+    {
+        match read_block(bytes) {
+            Ok(block) => {
+                let report = report_of_block(alloc, name, seconds, &block, &self.topology)?;
+                Ok(Event::Counted(Made::of_report(alloc, report)?))
+            }
+            Err(refused) => Err(EventRefused::Refused(Reason::Block(refused))),
+        }
+    }
+}
