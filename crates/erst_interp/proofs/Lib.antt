@@ -10,3 +10,5 @@ pub mod FaithfulLemmas
 pub mod AdmittedRunLemmas
 pub mod WalkLemmas
 pub mod ShiftedLemmas
+pub mod BreakLemmas
+pub mod StraightLemmas

@@ -18,8 +18,8 @@ use Rattle.erst_interp.specs.declared.refusals.RunRefused.{RunRefused}
 use Rattle.erst_interp.specs.declared.refusals.RunRefused.TheVariants.{Register, Fuel, BadInstruction, BadRegister, BadRange}
 use Rattle.erst_interp.specs.Machine.{State, Outcome, goes, stops, turn, End, end_from, end_of, at_entry, after_turn, most_turns, with_variables, with_register, next, after_register_read, after_register_write, after_field, after_move, after_range_read, after_range_write_at, field_in, with_field, alone, moved, is_inside, start}
 use Rattle.erst_interp.specs.Parts.{turn_by, used_by, taken, given, changed, work_of}
-use Rattle.erst_interp.specs.Run.{told_after, IsRun, PassesStore, AtNext, AfterTurn, StoreInRun}
-use Rattle.erst_interp.specs.Steps.{start_over, end_over, told_over, RunsOver, StoreOver}
+use Rattle.erst_interp.specs.Run.{told_after, IsRun, IsCutShort, PassesStore, AtNext, AfterTurn, StoreInRun}
+use Rattle.erst_interp.specs.Steps.{start_over, end_over, told_over, RunsOver, StoreOver, state_of}
 use Rattle.erst_interp.proofs.TurnLemmas.{by_kind}
 
 -- a state with these accesses before its own
@@ -90,13 +90,13 @@ module _ (before : List Access) where
       by None = refl
       by (Some reg) = used-shifted how i e v reg s
 
-  turn-shifted : (e : Entry) (s : State) → turn e (shifted before s) ≡ shifted_outcome before (turn e s)
+  pub turn-shifted : (e : Entry) (s : State) → turn e (shifted before s) ≡ shifted_outcome before (turn e s)
   turn-shifted e s =
       by_kind e.instruction e (shifted before s)
       ∙ by-shifted (work_of e.instruction) e.instruction e s.variables s
       ∙ ap (shifted_outcome before) (sym (by_kind e.instruction e s))
 
-  end-shifted : (turns : ℕ) (list : List Entry) (s : State) → end_from turns list (shifted before s) ≡ shifted_end before (end_from turns list s)
+  pub end-shifted : (turns : ℕ) (list : List Entry) (s : State) → end_from turns list (shifted before s) ≡ shifted_end before (end_from turns list s)
   unfolding end_from
   end-shifted zero list s = by (slice_get list s.variables.index)
     where
@@ -122,6 +122,34 @@ over_alone list input t =
     ap (λ (made : List Access). end_from most_turns list (record (start_over input t) { accesses = made })) (sym (append-nil t.accesses))
     ∙ end-shifted t.accesses most_turns list (start input (device_of t))
 
+-- ---- the accesses of a turn and of a run, which come after those that were made before
+
+bare : State → State
+bare s = record s { accesses = [] }
+
+is_shifted : (s : State) → s ≡ shifted s.accesses (bare s)
+unfolding bare
+is_shifted s = ap (λ (made : List Access). record s { accesses = made }) (sym (append-nil s.accesses))
+
+outcome_made : (before : List Access) (o : Outcome) → (state_of (shifted_outcome before o)).accesses ≡ before ++ (state_of o).accesses
+outcome_made before (goes s) = refl
+outcome_made before (stops why s) = refl
+
+pub turn_made : (e : Entry) (s : State) → (more : List Access) × ((state_of (turn e s)).accesses ≡ s.accesses ++ more)
+turn_made e s = (
+  (state_of (turn e (bare s))).accesses,
+  ap (λ (t : State). (state_of (turn e t)).accesses) (is_shifted s)
+      ∙ ap (λ (o : Outcome). (state_of o).accesses) (turn-shifted s.accesses e (bare s))
+      ∙ outcome_made s.accesses (turn e (bare s)),
+)
+
+pub end_made : (turns : ℕ) (list : List Entry) (s : State) → (more : List Access) × ((end_from turns list s).state.accesses ≡ s.accesses ++ more)
+end_made turns list s = (
+  (end_from turns list (bare s)).state.accesses,
+  ap (λ (t : State). (end_from turns list t).state.accesses) (is_shifted s)
+      ∙ ap (λ (e : End). e.state.accesses) (end-shifted s.accesses turns list (bare s)),
+)
+
 -- ---- what a board tells
 
 runs_told : (list : List Entry) (input : ℕ) (result : Result ℕ RunRefused) (t : Told) (new : Option Told) → RunsOver result (end_over list input t) t new → IsRun result (end_of list input (device_of t)) t new
@@ -134,7 +162,7 @@ runs_told list input result t new ran = by result ran
 
     by : (r : Result ℕ RunRefused) → RunsOver r (end_over list input t) t new → IsRun r (end_of list input (device_of t)) t new
     by (Ok x) ran = both (Ok x) ran
-    by (Err Register) ran = tt
+    by (Err Register) ran = subst (λ (e : End). IsCutShort e.state.accesses t new) (over_alone list input t) ran
     by (Err Fuel) ran = both (Err Fuel) ran
     by (Err BadInstruction) ran = both (Err BadInstruction) ran
     by (Err BadRegister) ran = both (Err BadRegister) ran

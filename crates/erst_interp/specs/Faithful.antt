@@ -47,3 +47,9 @@ abbrev pub DoesRun : ℕ → ℕ → Result ℕ RunRefused → Told → Option T
 DoesRun action input (Ok answer) t new = ActsOn action input answer t new
 DoesRun action input (Err Register) t new = Unit {0}
 DoesRun action input (Err why) t new = ⊥
+
+-- a run that isn't refused, or only since a call of the board failed
+abbrev pub IsRegisterAlone : Result ℕ RunRefused → Type 0
+IsRegisterAlone (Ok answer) = Unit {0}
+IsRegisterAlone (Err Register) = Unit {0}
+IsRegisterAlone (Err why) = ⊥

@@ -1,5 +1,5 @@
 -- Only for proofs: the instructions by kinds, and what those of each kind do with the variables.
-use Rattle.std.specs.Prelude.{ℕ, nat_eq, if◌then◌else◌}
+use Rattle.std.specs.Prelude.{◌≡◌, ℕ, ◌+◌, Bool, true, false, Option, Some, None, Result, Ok, Err, nat_eq, if◌then◌else◌}
 use Rattle.board_core.specs.declared.board.Reg.{Reg}
 use Rattle.erst_interp.specs.declared.entries.Instruction.{Instruction}
 use Rattle.erst_interp.specs.declared.entries.Instruction.TheVariants.{ReadRegister, ReadRegisterValue, WriteRegister, WriteRegisterValue, Noop, LoadVar1, LoadVar2, StoreVar1, Add, Subtract, AddValue, SubtractValue, Stall, StallWhileTrue, SkipNextInstructionIfTrue, Goto, SetSrcAddressBase, SetDstAddressBase, MoveData, Unknown}
@@ -9,7 +9,8 @@ use Rattle.erst_interp.specs.declared.machine.Work.{Work}
 use Rattle.erst_interp.specs.declared.machine.Work as Work
 use Rattle.erst_interp.specs.declared.machine.Use.{Use}
 use Rattle.erst_interp.specs.declared.machine.Use.TheVariants.{Reads, Writes, Changes, Moves}
-use Rattle.erst_interp.specs.declared.refusals.RunRefused.TheVariants.{BadInstruction}
+use Rattle.erst_interp.specs.declared.refusals.RunRefused.{RunRefused}
+use Rattle.erst_interp.specs.declared.refusals.RunRefused.TheVariants.{BadInstruction, Register}
 use Rattle.erst_interp.specs.Machine.{State, Outcome, goes, stops, next, truth, wrapped_sum, wrapped_difference, computes, uses, with_variables, field_in, after_register_read, after_field, moved}
 
 abbrev pub work_of : Instruction → Work
@@ -68,3 +69,35 @@ abbrev pub turn_by : Work → Instruction → Entry → Variables → State → 
 turn_by Work.TheVariants.Unknown i e v s = stops BadInstruction s
 turn_by Work.TheVariants.Computes i e v s = computes (computed i e v) s
 turn_by (Work.TheVariants.Uses how) i e v s = uses e s (λ reg. used_by how i e v reg s)
+
+-- ---- entries after which the one that follows is the next, whatever the board answers
+
+abbrev pub is_straight_use : Use → Instruction → Bool
+is_straight_use Reads StallWhileTrue = false
+is_straight_use Reads SkipNextInstructionIfTrue = false
+is_straight_use Reads i = true
+is_straight_use Writes i = true
+is_straight_use Changes i = true
+is_straight_use Moves i = false
+
+abbrev pub is_straight_computed : Instruction → Bool
+is_straight_computed Goto = false
+is_straight_computed i = true
+
+abbrev pub is_straight_at : Use → Instruction → Option Reg → Bool
+is_straight_at how i None = false
+is_straight_at how i (Some reg) = is_straight_use how i
+
+abbrev pub is_straight_by : Work → Instruction → Option Reg → Bool
+is_straight_by Work.TheVariants.Unknown i register = false
+is_straight_by Work.TheVariants.Computes i register = is_straight_computed i
+is_straight_by (Work.TheVariants.Uses how) i register = is_straight_at how i register
+
+abbrev pub is_straight : Entry → Bool
+is_straight e = is_straight_by (work_of e.instruction) e.instruction e.register
+
+-- the turn of such an entry
+abbrev pub GoesOn : Variables → Result Variables RunRefused → Type 0
+GoesOn v (Ok after) = after.index ≡ v.index + 1
+GoesOn v (Err Register) = Unit {0}
+GoesOn v (Err why) = ⊥

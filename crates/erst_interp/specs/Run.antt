@@ -1,6 +1,8 @@
 -- What a run does to a board, whether or not a call of the board fails.
-use Rattle.std.specs.Prelude.{◌≡◌, ℕ, zero, suc, ◌≤◌, ◌⊎◌, List, ◌++◌, slice_get, Option, Some, None, Result, Err}
+use Rattle.std.specs.Prelude.{◌≡◌, ℕ, zero, suc, ◌≤◌, ◌⊎◌, List, [], ◌∷◌, ◌++◌, slice_get, Option, Some, None, Result, Err}
 use Rattle.erst_store.specs.Store.{Stored}
+use Rattle.board_core.specs.declared.board.Access.{Access}
+use Rattle.board_core.specs.declared.board.Access.TheVariants.{Read}
 use Rattle.board_core.specs.Cause.{Rose, Faults}
 use Rattle.board_core.specs.Told.{Told, device_of, with_device}
 use Rattle.erst_interp.specs.declared.entries.Entry.{Entry}
@@ -13,10 +15,29 @@ use Rattle.erst_interp.specs.Machine.{State, Outcome, goes, stops, turn, End, st
 abbrev pub told_after : State → Told → Told
 told_after s t = record (with_device s.device t) { accesses = t.accesses ++ s.accesses }
 
+-- what a call that fails lists: a read of a register that failed is listed with the number 0
+abbrev pub as_failed : Access → Access
+as_failed (Read reg number) = Read reg 0
+as_failed access = access
+
+-- Of a list of accesses those before were made, some more, and then the next one failed. It is
+-- listed or isn't.
+pub record EndsEarly (all before now : List Access) : Type 0 where
+  pub done : List Access
+  pub next : Access
+  pub later : List Access
+  pub splits : all ≡ before ++ (done ++ next ∷ later)
+  pub listed : (now ≡ before ++ done) ⊎ (now ≡ before ++ (done ++ as_failed next ∷ []))
+
+abbrev pub IsCutShort : List Access → Told → Option Told → Type 0
+IsCutShort all old None = ⊥
+IsCutShort all old (Some new) = EndsEarly all old.accesses new.accesses
+
 -- Where no call of the board failed, the run is the machine's: it answers what the machine does,
--- and what is told is as that end has it.
+-- and what is told is as that end has it. Where one failed, the accesses are those of that end up
+-- to this call.
 abbrev pub IsRun : Result ℕ RunRefused → End → Told → Option Told → Type 0
-IsRun (Err Register) end old new = Unit {0}
+IsRun (Err Register) end old new = IsCutShort (told_after end.state old).accesses old new
 IsRun answer end old new = (answer ≡ end.answer) × (new ≡ Some (told_after end.state old))
 
 -- Of what is told, the record store, the rest of the device and the accesses alone change.

@@ -1,9 +1,10 @@
 -- Only for proofs: what private functions of a run say of what a board tells, keeps and counts.
-use Rattle.std.specs.Prelude.{◌≡◌, ℕ, ◌+◌, ◌-◌, ◌≤◌, ◌⊎◌, true, false, List, [], Option, Some, None, Result, Ok, Err}
+use Rattle.std.specs.Prelude.{◌≡◌, ℕ, ◌+◌, ◌-◌, ◌≤◌, ◌⊎◌, true, false, List, [], ◌++◌, Option, Some, None, Result, Ok, Err, IfSome}
 use Rattle.std.specs.Option.{option_map}
 use Rattle.erst_store.specs.Store.{Stored}
 use Rattle.erst_store.specs.Actions.{range_address, range_length}
 use Rattle.board_core.specs.declared.board.Reg.{Reg}
+use Rattle.board_core.specs.declared.board.Access.{Access}
 use Rattle.board_core.specs.declared.board.Access.TheVariants.{Read}
 use Rattle.board_core.specs.Told.{Told, device_of, with_device, register_in, with_access, Relates, StoreBy}
 use Rattle.board_core.specs.Stop.{InStore, Becomes}
@@ -14,7 +15,7 @@ use Rattle.erst_interp.specs.declared.machine.Variables.{Variables}
 use Rattle.erst_interp.specs.declared.refusals.RunRefused.{RunRefused}
 use Rattle.erst_interp.specs.declared.refusals.RunRefused.TheVariants.{Register}
 use Rattle.erst_interp.specs.Machine.{State, Outcome, goes, stops, new_variables, field_of, is_inside, End, end_from, most_turns}
-use Rattle.erst_interp.specs.Run.{Keeps, Raises, PassesStore}
+use Rattle.erst_interp.specs.Run.{Keeps, Raises, PassesStore, IsCutShort}
 
 -- what a board tells, what stops leave of it, and its counts
 pub record Seen : Type 1 where
@@ -70,21 +71,31 @@ IsFieldRead e reg x (Some t) new =
 abbrev pub start_over : ℕ → Told → State
 start_over input t = state_in (new_variables input) t
 
+abbrev pub end_within : ℕ → List Entry → ℕ → Told → End
+end_within turns list input t = end_from turns list (start_over input t)
+
 abbrev pub end_over : List Entry → ℕ → Told → End
-end_over list input t = end_from most_turns list (start_over input t)
+end_over list input t = end_within most_turns list input t
 
 -- what is told in such a state
 abbrev pub told_over : State → Told → Told
 told_over s t = record (with_device s.device t) { accesses = s.accesses }
 
--- a run of the machine, where no call of the board failed
+-- a part of a turn in which a call failed
+abbrev pub BreaksIn : (State → State) → Option Told → Option Told → Type 0
+BreaksIn part old new = IfSome old (λ t. IsCutShort (part (state_in (new_variables 0) t)).accesses t new)
+
+-- a run of the machine, or a beginning of one where a call of the board failed
 abbrev pub RunsOver : Result ℕ RunRefused → End → Told → Option Told → Type 0
-RunsOver (Err Register) end old new = Unit {0}
+RunsOver (Err Register) end old new = IsCutShort end.state.accesses old new
 RunsOver answer end old new = (answer ≡ end.answer) × (new ≡ Some (told_over end.state old))
 
+abbrev pub StoreWithin : ℕ → List Entry → ℕ → Option Told → List Stored → List Stored → Type 0
+StoreWithin turns list input None old new = Unit {0}
+StoreWithin turns list input (Some t) old new = (new ≡ old) ⊎ PassesStore turns list (start_over input t) new
+
 abbrev pub StoreOver : List Entry → ℕ → Option Told → List Stored → List Stored → Type 0
-StoreOver list input None old new = Unit {0}
-StoreOver list input (Some t) old new = (new ≡ old) ⊎ PassesStore most_turns list (start_over input t) new
+StoreOver list input told = StoreWithin most_turns list input told
 
 -- what is told goes on by a part of a turn
 abbrev pub told_by : (State → State) → Told → Told
@@ -101,12 +112,12 @@ abbrev pub state_of : Outcome → State
 state_of (goes s) = s
 state_of (stops why s) = s
 
--- A turn that went well, or was refused, is the machine's. Of one whose board failed this says
--- nothing.
+-- A turn that went well, or was refused, is the machine's, and one whose board failed is a
+-- beginning of it.
 abbrev pub Turns : Result Variables RunRefused → Outcome → Told → Option Told → Type 0
 Turns (Ok v) (goes s) t new = (v ≡ s.variables) × (new ≡ Some (told_over s t))
 Turns (Ok v) (stops why s) t new = ⊥
-Turns (Err Register) outcome t new = Unit {0}
+Turns (Err Register) outcome t new = IsCutShort (state_of outcome).accesses t new
 Turns (Err why) (goes s) t new = ⊥
 Turns (Err why) (stops cause s) t new = (cause ≡ why) × (new ≡ Some (told_over s t))
 
@@ -114,7 +125,7 @@ Turns (Err why) (stops cause s) t new = (cause ≡ why) × (new ≡ Some (told_o
 abbrev pub Moves : Result (Unit {0}) RunRefused → Outcome → Told → Option Told → Type 0
 Moves (Ok done) (goes s) t new = new ≡ Some (told_over s t)
 Moves (Ok done) (stops why s) t new = ⊥
-Moves (Err Register) outcome t new = Unit {0}
+Moves (Err Register) outcome t new = IsCutShort (state_of outcome).accesses t new
 Moves (Err why) (goes s) t new = ⊥
 Moves (Err why) (stops cause s) t new = (cause ≡ why) × (new ≡ Some (told_over s t))
 

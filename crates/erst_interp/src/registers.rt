@@ -1,11 +1,11 @@
 //! The accesses that instructions make.
 
-ghost use Rattle.std.specs.Prelude.{◌≡◌, ◌+◌, ◌<◌, ◌≤◌, ◌^◌, IfOk, IfSome, OnOk};
+ghost use Rattle.std.specs.Prelude.{◌≡◌, ◌+◌, ◌<◌, ◌≤◌, ◌^◌, IfOk, IfSome, OnOk, OnErr};
 ghost use Rattle.board_core.specs.Told.{device_of};
 ghost use Rattle.erst_store.specs.Actions.{range_length};
 ghost use Rattle.erst_store.specs.DeviceLaws.{IsDevice};
-ghost use Rattle.erst_interp.specs.Machine.{after_register_write, after_field, after_move, moved};
-ghost use Rattle.erst_interp.specs.Steps.{seen, Touches, TouchesAs, Stays, IsRead, IsFieldRead, Does, StoreIn, IsPlace, Moves, state_in};
+ghost use Rattle.erst_interp.specs.Machine.{after_register_read, after_register_write, after_field, after_move, moved};
+ghost use Rattle.erst_interp.specs.Steps.{seen, Touches, TouchesAs, Stays, IsRead, IsFieldRead, Does, StoreIn, BreaksIn, IsPlace, Moves, state_in};
 
 use crate::entries::Entry;
 use crate::machine::Variables;
@@ -17,6 +17,8 @@ use erst_store::actions::RANGE_ADDRESS;
 // Reads a register.
 pub(crate) fn read<B: Board>(reg: Reg, board: &mut B) -> Result<u64, Failed>
     ensures told { IfOk result (λ n. IsRead reg n (B.told board.old) (B.told board.new)) }
+    ensures breaks { OnErr result (BreaksIn (after_register_read reg) (B.told board.old)
+        (B.told board.new)) }
     ensures touches { Touches Stays result
         (seen (B.told board.old) (B.clock board.old) (B.faults board.old))
         (seen (B.told board.new) (B.clock board.new) (B.faults board.new)) }
@@ -31,6 +33,8 @@ pub(crate) fn read<B: Board>(reg: Reg, board: &mut B) -> Result<u64, Failed>
 // Writes a number to a register.
 fn write<B: Board>(reg: Reg, number: u64, board: &mut B) -> Result<(), Failed>
     ensures told { OnOk result (Does (after_register_write reg number) (B.told board.old)
+        (B.told board.new)) }
+    ensures breaks { OnErr result (BreaksIn (after_register_write reg number) (B.told board.old)
         (B.told board.new)) }
     ensures touches { Touches (StoreIn (after_register_write reg number) (B.told board.old)) result
         (seen (B.told board.old) (B.clock board.old) (B.faults board.old))
@@ -53,6 +57,8 @@ pub(crate) fn write_field<B: Board>(
 ) -> Result<(), Failed>
     ensures told { OnOk result (Does (after_field entry.now reg number) (B.told board.old)
         (B.told board.new)) }
+    ensures breaks { OnErr result (BreaksIn (after_field entry.now reg number) (B.told board.old)
+        (B.told board.new)) }
     ensures touches { Touches (StoreIn (after_field entry.now reg number) (B.told board.old)) result
         (seen (B.told board.old) (B.clock board.old) (B.faults board.old))
         (seen (B.told board.new) (B.clock board.new) (B.faults board.new)) }
@@ -70,6 +76,8 @@ pub(crate) fn write_field<B: Board>(
 // Reads an entry's field of a register.
 pub(crate) fn read_field<B: Board>(entry: &Entry, reg: Reg, board: &mut B) -> Result<u64, Failed>
     ensures told { IfOk result (λ x. IsFieldRead entry.now reg x (B.told board.old)
+        (B.told board.new)) }
+    ensures breaks { OnErr result (BreaksIn (after_register_read reg) (B.told board.old)
         (B.told board.new)) }
     ensures touches { Touches Stays result
         (seen (B.told board.old) (B.clock board.old) (B.faults board.old))
@@ -99,6 +107,8 @@ fn move_inside<B: Board>(from: u32, to: u32, count: usize, board: &mut B) -> Res
     requires from { from + count ≤ range_length }
     requires to { to + count ≤ range_length }
     ensures told { OnOk result (Does (after_move from to count) (B.told board.old)
+        (B.told board.new)) }
+    ensures breaks { OnErr result (BreaksIn (after_move from to count) (B.told board.old)
         (B.told board.new)) }
     ensures touches { Touches Stays result
         (seen (B.told board.old) (B.clock board.old) (B.faults board.old))

@@ -1,16 +1,17 @@
 //! Runs of an action's list.
 
-ghost use Rattle.std.specs.Prelude.{◌≡◌, ◌<◌, ◌≤◌, ◌+◌, ◌^◌, ◌⊎◌, IfSome, IfOk, OnOk};
+ghost use Rattle.std.specs.Prelude.{◌≡◌, ◌<◌, ◌≤◌, ◌+◌, ◌^◌, ◌⊎◌, length, IfSome, IfOk, OnOk, IsTrue};
+ghost use Rattle.std.specs.List.{list_all};
 ghost use Rattle.board_core.specs.Clock.{Passes};
 ghost use Rattle.board_core.specs.Stop.{InStore};
 ghost use Rattle.board_core.specs.Told.{Relates, StoreBy, device_of};
 ghost use Rattle.erst_store.specs.DeviceLaws.{IsDevice};
 ghost use Rattle.erst_interp.specs.Admission.{IsAdmitted};
-ghost use Rattle.erst_interp.specs.Faithful.{input_limit, device_after, DoesRun};
+ghost use Rattle.erst_interp.specs.Faithful.{input_limit, device_after, DoesRun, IsRegisterAlone};
 ghost use Rattle.erst_interp.specs.Machine.{turn, end_of};
-ghost use Rattle.erst_interp.specs.Parts.{use_of};
+ghost use Rattle.erst_interp.specs.Parts.{use_of, is_straight, is_straight_use, GoesOn};
 ghost use Rattle.erst_interp.specs.Run.{IsRun, Keeps, RunCause, StoreInRun};
-ghost use Rattle.erst_interp.specs.Steps.{seen, end_over, RunsOver, StoreOver, Turns, TouchesAs, StoreInTurn, state_in};
+ghost use Rattle.erst_interp.specs.Steps.{seen, end_over, end_within, RunsOver, StoreOver, StoreWithin, Turns, TouchesAs, StoreInTurn, state_in};
 ghost use Rattle.erst_interp.specs.Table.{list_of};
 
 use crate::entries::Entry;
@@ -31,7 +32,8 @@ impl Table {
     /// and there is a next entry, with `BadInstruction` where the next entry's instruction isn't
     /// known, with `BadRegister` where it uses a register that isn't good, and with `BadRange`
     /// where it moves bytes that aren't all in the range. `Register` comes only where a call of the
-    /// board failed, which is then the last one. What was done before a refusal stays done.
+    /// board failed, which is then the last one: the accesses before it are the first of those that
+    /// the list makes. What was done before a refusal stays done.
     ///
     /// The list of an admitted table does its action, and is refused with `Register` alone.
     pub fn run<B: Board>(&self, action: u8, input: u64, board: &mut B) -> Result<u64, RunRefused>
@@ -46,6 +48,8 @@ impl Table {
 
         ensures does { IsAdmitted action (list_of action self.now) → input < input_limit action
             → IfSome (B.told board.old) (λ t. DoesRun action input result t (B.told board.new)) }
+        ensures only_register { IsAdmitted action (list_of action self.now)
+            → IsRegisterAlone result }
         ensures stores { IsAdmitted action (list_of action self.now) → input < input_limit action
             → Passes (InStore (StoreBy (device_after action input) (B.told board.old)))
             (B.clock board.old) (B.clock board.new) }
@@ -63,9 +67,31 @@ fn run_list<B: Board>(list: &[Entry], input: u64, board: &mut B) -> Result<u64, 
         (seen (B.told board.new) (B.clock board.new) (B.faults board.new)) }
     ensures device { (B.told board.new ≡ B.told board.old)
         ⊎ IfSome (B.told board.old) (λ t. IsDevice (device_of t)) }
+    ensures straight { IsTrue (list_all is_straight list.now) → length list.now ≤ MOST_TURNS
+        → IsRegisterAlone result }
+{
+    run_turns(list, MOST_TURNS, input, board)
+}
+
+// Runs a list from an input on, for so many turns at most.
+fn run_turns<B: Board>(
+    list: &[Entry],
+    turns: u32,
+    input: u64,
+    board: &mut B,
+) -> Result<u64, RunRefused>
+    ensures runs { IfSome (B.told board.old)
+        (λ t. RunsOver result (end_within turns list.now input t) t (B.told board.new)) }
+    ensures touches { TouchesAs (StoreWithin turns list.now input (B.told board.old)) result
+        (seen (B.told board.old) (B.clock board.old) (B.faults board.old))
+        (seen (B.told board.new) (B.clock board.new) (B.faults board.new)) }
+    ensures device { (B.told board.new ≡ B.told board.old)
+        ⊎ IfSome (B.told board.old) (λ t. IsDevice (device_of t)) }
+    ensures straight { IsTrue (list_all is_straight list.now) → length list.now ≤ turns
+        → IsRegisterAlone result }
 {
     let mut variables = Variables::new(input);
-    for _ in 0..MOST_TURNS {
+    for _ in 0..turns {
         let Some(entry) = list.get(variables.index as usize) else {
             return Ok(variables.value);
         };
@@ -95,6 +121,7 @@ fn turn<B: Board>(
         (seen (B.told board.new) (B.clock board.new) (B.faults board.new)) }
     ensures device { (B.told board.new ≡ B.told board.old)
         ⊎ IfSome (B.told board.old) (λ t. IsDevice (device_of t)) }
+    ensures straight { IsTrue (is_straight entry.now) → GoesOn variables result }
 {
     match entry.instruction.work() {
         Work::Unknown => Err(RunRefused::BadInstruction),
@@ -123,6 +150,8 @@ fn use_register<B: Board>(
         (seen (B.told board.old) (B.clock board.old) (B.faults board.old))
         (seen (B.told board.new) (B.clock board.new) (B.faults board.new)) }
     ensures device { IfSome (B.told board.old) (λ t. IsDevice (device_of t)) }
+    ensures straight { IsTrue (is_straight_use how entry.now.instruction)
+        → GoesOn variables result }
 {
     match how {
         Use::Reads => take_field(entry, reg, variables, board),
@@ -148,6 +177,8 @@ fn take_field<B: Board>(
         (seen (B.told board.old) (B.clock board.old) (B.faults board.old))
         (seen (B.told board.new) (B.clock board.new) (B.faults board.new)) }
     ensures device { IfSome (B.told board.old) (λ t. IsDevice (device_of t)) }
+    ensures straight { IsTrue (is_straight_use Use.Reads entry.now.instruction)
+        → GoesOn variables result }
 {
     match read_field(entry, reg, board) {
         Ok(number) => Ok(variables.taken(entry.instruction, entry, number)),
@@ -171,6 +202,7 @@ fn give_field<B: Board>(
         (seen (B.told board.old) (B.clock board.old) (B.faults board.old))
         (seen (B.told board.new) (B.clock board.new) (B.faults board.new)) }
     ensures device { IfSome (B.told board.old) (λ t. IsDevice (device_of t)) }
+    ensures straight { GoesOn variables result }
 {
     let number = variables.given(entry.instruction, entry);
     match write_field(entry, reg, number, board) {
@@ -195,6 +227,7 @@ fn change_field<B: Board>(
         (seen (B.told board.old) (B.clock board.old) (B.faults board.old))
         (seen (B.told board.new) (B.clock board.new) (B.faults board.new)) }
     ensures device { IfSome (B.told board.old) (λ t. IsDevice (device_of t)) }
+    ensures straight { GoesOn variables result }
 {
     let Ok(number) = read_field(entry, reg, board) else {
         return Err(RunRefused::Register);

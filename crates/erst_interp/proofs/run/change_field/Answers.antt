@@ -1,3 +1,4 @@
+use Rattle.erst_interp.proofs.BreakLemmas.{change_unread, change_unwritten}
 use Rattle.erst_interp.proofs.FieldLemmas.{stays_in_turn, change_by}
 use Rattle.erst_interp.proofs.TouchLemmas.{read_then_well, read_then_fails}
 use Rattle.erst_interp.specs.declared.machine.Use.TheVariants.{Changes}
@@ -27,3 +28,13 @@ returns-in-Err-clause-touches g c =
     (stays_in_turn turn c.args.variables told_a)
     (change_by e c.args.reg e.instruction c.args.variables c.in-Ok.number c.changed-number.result told_a told_b c.in-Ok.ensures.told c.changed-number.ensures)
     _ _ _ c.in-Ok.ensures.touches c.in-Err.ensures.touches
+
+pub returns-in_default-clause-turns : goal.returns-in_default-clause-turns
+returns-in_default-clause-turns g c =
+    let e = c.args.entry.now in
+    change_unread e c.args.reg e.instruction c.args.variables _ _ c.in_default.ensures.breaks
+
+pub returns-in-Err-clause-turns : goal.returns-in-Err-clause-turns
+returns-in-Err-clause-turns g c =
+    let e = c.args.entry.now in
+    change_unwritten e c.args.reg e.instruction c.args.variables c.in-Ok.number c.changed-number.result _ _ _ c.in-Ok.ensures.told c.changed-number.ensures c.in-Err.ensures.breaks

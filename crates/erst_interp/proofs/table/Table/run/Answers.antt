@@ -4,11 +4,13 @@ use Rattle.board_core.specs.Clock.{Passes}
 use Rattle.board_core.specs.Stop.{InStore}
 use Rattle.board_core.specs.Told.{device_of}
 use Rattle.erst_interp.specs.declared.entries.Entry.{Entry}
+use Rattle.erst_interp.specs.Admission.{IsAdmitted}
 use Rattle.erst_interp.specs.Machine.{end_of}
 use Rattle.erst_interp.specs.Run.{StoreInRun, IsRun}
 use Rattle.erst_interp.specs.Steps.{StoreOver}
 use Rattle.erst_interp.proofs.AdmittedRunLemmas.{does_run, stores_run}
 use Rattle.erst_interp.proofs.ShiftedLemmas.{runs_alone, store_alone}
+use Rattle.erst_interp.proofs.StraightLemmas.{admitted_straight}
 use Rattle.erst_interp.proofs.TouchLemmas.{passes_more}
 use Rattle.erst_interp.proofs.TurnLemmas.{stops_of}
 use Rattle.erst_interp.proofs.table.Table.run.Goals as goal
@@ -43,3 +45,9 @@ returns-clause-stores g c = λ is inside.
     stores_run list c.args.action c.args.input fits inside (rw c.list.ensures is) told (g.B.Board.clock c.args.board.now) (g.B.Board.clock c.run_list.new.board)
     (λ t left. g.met.B.Board.store_is_left c.args.board.now t left)
     (stops_of (StoreOver list c.args.input told) c.run_list.result _ _ c.run_list.ensures.touches)
+
+pub returns-clause-only_register : goal.returns-clause-only_register
+returns-clause-only_register g c = λ is.
+    let list = c.list.result.now in
+    let admitted : IsAdmitted c.args.action list = rw c.list.ensures is in
+    c.run_list.ensures.straight (admitted_straight c.args.action list admitted) admitted.short

@@ -5,9 +5,9 @@ use Rattle.board_core.specs.Told.{Told, device_of}
 use Rattle.erst_store.specs.DeviceLaws.{IsDevice}
 use Rattle.std.proofs.lemmas.Option.{slice_get_past}
 use Rattle.erst_interp.specs.declared.entries.Entry.{Entry}
-use Rattle.erst_interp.specs.Machine.{most_turns}
 use Rattle.erst_interp.proofs.RunLemmas.{Way, way_on, run_on, run_refused, run_ended, run_out, turn_refused}
-use Rattle.erst_interp.proofs.run.run_list.Goals as goal
+use Rattle.erst_interp.proofs.StraightLemmas.{at_place, refused_alone}
+use Rattle.erst_interp.proofs.run.run_turns.Goals as goal
 
 found : (list : List Entry) (i : ℕ) (e : Entry) → i < length list → e ≡ get_or list i e → slice_get list i ≡ Some e
 found [] i e inside is = absurd (omega (arith, inside))
@@ -28,7 +28,7 @@ pub returns-in_default-clause-runs : goal.returns-in_default-clause-runs
 returns-in_default-clause-runs g c =
     let list = c.args.list.now in
     let v = c.loop.variables in
-    run_ended list (most_turns - c.loop.counter) c.args.input v (g.B.Board.told c.args.board.now) (g.B.Board.told c.loop.board)
+    run_ended c.args.turns list (c.args.turns - c.loop.counter) c.args.input v (g.B.Board.told c.args.board.now) (g.B.Board.told c.loop.board)
     (slice_get_past list v.index c.in_default.ensures.lookup.3) c.loop.invariant.way
 
 pub returns-in-Err-clause-runs : goal.returns-in-Err-clause-runs
@@ -36,10 +36,10 @@ returns-in-Err-clause-runs g c =
     let list = c.args.list.now in
     let v = c.loop.variables in
     let e = c.in-Some.entry.now in
-    let left : most_turns - c.loop.counter ≡ suc (most_turns - suc c.loop.counter) = omega (arith, c.loop-test.true) in
-    turn_refused list (most_turns - suc c.loop.counter) c.args.input e v c.in-Err.why (g.B.Board.told c.args.board.now) (g.B.Board.told c.loop.board) (g.B.Board.told c.turn.new.board)
+    let left : c.args.turns - c.loop.counter ≡ suc (c.args.turns - suc c.loop.counter) = omega (arith, c.loop-test.true) in
+    turn_refused c.args.turns list (c.args.turns - suc c.loop.counter) c.args.input e v c.in-Err.why (g.B.Board.told c.args.board.now) (g.B.Board.told c.loop.board) (g.B.Board.told c.turn.new.board)
     (found list v.index e c.in-Some.ensures.lookup.3.0 c.in-Some.ensures.lookup.1)
-    (subst (λ (turns : ℕ). Way list turns c.args.input v (g.B.Board.told c.args.board.now) (g.B.Board.told c.loop.board)) left c.loop.invariant.way)
+    (subst (λ (turns : ℕ). Way c.args.turns list turns c.args.input v (g.B.Board.told c.args.board.now) (g.B.Board.told c.loop.board)) left c.loop.invariant.way)
     c.in-Err.ensures.turns
 
 pub returns-in-Err-clause-touches : goal.returns-in-Err-clause-touches
@@ -47,10 +47,10 @@ returns-in-Err-clause-touches g c =
     let list = c.args.list.now in
     let v = c.loop.variables in
     let e = c.in-Some.entry.now in
-    let left : most_turns - c.loop.counter ≡ suc (most_turns - suc c.loop.counter) = omega (arith, c.loop-test.true) in
-    run_refused list (most_turns - suc c.loop.counter) c.args.input e v _ _ _
+    let left : c.args.turns - c.loop.counter ≡ suc (c.args.turns - suc c.loop.counter) = omega (arith, c.loop-test.true) in
+    run_refused c.args.turns list (c.args.turns - suc c.loop.counter) c.args.input e v _ _ _
     (found list v.index e c.in-Some.ensures.lookup.3.0 c.in-Some.ensures.lookup.1)
-    (subst (λ (turns : ℕ). Way list turns c.args.input v (g.B.Board.told c.args.board.now) (g.B.Board.told c.loop.board)) left c.loop.invariant.way)
+    (subst (λ (turns : ℕ). Way c.args.turns list turns c.args.input v (g.B.Board.told c.args.board.now) (g.B.Board.told c.loop.board)) left c.loop.invariant.way)
     c.in-Err.why c.loop.invariant.touches c.in-Err.ensures.touches
 
 pub loop-preserved : goal.loop-preserved
@@ -58,14 +58,15 @@ loop-preserved g c =
     let list = c.args.list.now in
     let v = c.loop.variables in
     let e = c.in-Some.entry.now in
-    let left : most_turns - c.loop.counter ≡ suc (most_turns - (c.loop.counter + 1)) = omega (arith, c.loop-test.true) in
+    let left : c.args.turns - c.loop.counter ≡ suc (c.args.turns - (c.loop.counter + 1)) = omega (arith, c.loop-test.true) in
     let next : slice_get list v.index ≡ Some e = found list v.index e c.in-Some.ensures.lookup.3.0 c.in-Some.ensures.lookup.1 in
-    let way = subst (λ (turns : ℕ). Way list turns c.args.input v (g.B.Board.told c.args.board.now) (g.B.Board.told c.loop.board)) left c.loop.invariant.way in
+    let way = subst (λ (turns : ℕ). Way c.args.turns list turns c.args.input v (g.B.Board.told c.args.board.now) (g.B.Board.told c.loop.board)) left c.loop.invariant.way in
     record {
-      way = way_on list (most_turns - (c.loop.counter + 1)) c.args.input e v c.in-Ok.after (g.B.Board.told c.args.board.now) (g.B.Board.told c.loop.board) (g.B.Board.told c.turn.new.board)
+      way = way_on c.args.turns list (c.args.turns - (c.loop.counter + 1)) c.args.input e v c.in-Ok.after (g.B.Board.told c.args.board.now) (g.B.Board.told c.loop.board) (g.B.Board.told c.turn.new.board)
           next way c.in-Ok.ensures.turns c.in-Ok.ensures.touches.kept;
-      touches = run_on list (most_turns - (c.loop.counter + 1)) c.args.input e v _ _ _ next way c.loop.invariant.touches c.in-Ok.ensures.touches;
+      touches = run_on c.args.turns list (c.args.turns - (c.loop.counter + 1)) c.args.input e v _ _ _ next way c.loop.invariant.touches c.in-Ok.ensures.touches;
       device = still_device _ _ _ c.loop.invariant.device c.turn.ensures.device;
+      straight = λ are. (let here = c.loop.invariant.straight are in let on = c.in-Ok.ensures.straight (at_place list v.index e next are) in omega (arith, here, on));
     }
 
 pub returns-in-Some-get-clause-runs : goal.returns-in-Some-get-clause-runs
@@ -73,14 +74,26 @@ returns-in-Some-get-clause-runs g c =
     let list = c.args.list.now in
     let v = c.loop.variables in
     let e = c.in-Some-get.field-0.now in
-    let left : most_turns - c.loop.counter ≡ zero = omega (arith, c.loop-test.false) in
-    run_out list c.args.input e v (g.B.Board.told c.args.board.now) (g.B.Board.told c.loop.board)
+    let left : c.args.turns - c.loop.counter ≡ zero = omega (arith, c.loop-test.false) in
+    run_out c.args.turns list c.args.input e v (g.B.Board.told c.args.board.now) (g.B.Board.told c.loop.board)
     (found list v.index e c.in-Some-get.ensures.lookup.3.0 c.in-Some-get.ensures.lookup.1)
-    (subst (λ (turns : ℕ). Way list turns c.args.input v (g.B.Board.told c.args.board.now) (g.B.Board.told c.loop.board)) left c.loop.invariant.way)
+    (subst (λ (turns : ℕ). Way c.args.turns list turns c.args.input v (g.B.Board.told c.args.board.now) (g.B.Board.told c.loop.board)) left c.loop.invariant.way)
 
 pub returns-in-None-clause-runs : goal.returns-in-None-clause-runs
 returns-in-None-clause-runs g c =
     let list = c.args.list.now in
     let v = c.loop.variables in
-    run_ended list (most_turns - c.loop.counter) c.args.input v (g.B.Board.told c.args.board.now) (g.B.Board.told c.loop.board)
+    run_ended c.args.turns list (c.args.turns - c.loop.counter) c.args.input v (g.B.Board.told c.args.board.now) (g.B.Board.told c.loop.board)
     (slice_get_past list v.index c.in-None.ensures.lookup.3) c.loop.invariant.way
+
+pub returns-in-Err-clause-straight : goal.returns-in-Err-clause-straight
+returns-in-Err-clause-straight g c = λ are short.
+    let list = c.args.list.now in
+    let v = c.loop.variables in
+    let e = c.in-Some.entry.now in
+    refused_alone v c.in-Err.why (c.in-Err.ensures.straight (at_place list v.index e (found list v.index e c.in-Some.ensures.lookup.3.0 c.in-Some.ensures.lookup.1) are))
+
+pub returns-in-Some-get-clause-straight : goal.returns-in-Some-get-clause-straight
+returns-in-Some-get-clause-straight g c = λ are short.
+    let here = c.loop.invariant.straight are in
+    absurd (omega (arith, here, short, c.loop-test.false, c.in-Some-get.ensures.lookup.3.0))

@@ -1,18 +1,20 @@
 -- The run is on its way, and its stores are those of the machine.
 use Rattle.std.proofs.Common.{◌≡◌, ◌-◌}
-use Rattle.std.specs.Prelude.{◌⊎◌, IfSome}
+use Rattle.std.specs.Prelude.{◌⊎◌, IfSome, IsTrue}
+use Rattle.std.specs.List.{list_all}
+use Rattle.erst_interp.specs.Parts.{is_straight}
 use Rattle.board_core.specs.Told.{device_of}
 use Rattle.erst_store.specs.DeviceLaws.{IsDevice}
-use Rattle.erst_interp.specs.Machine.{most_turns}
-use Rattle.erst_interp.specs.Steps.{GoesWell, StoreOver}
+use Rattle.erst_interp.specs.Steps.{GoesWell, StoreWithin}
 use Rattle.erst_interp.proofs.RunLemmas.{Way}
-use Rattle.erst_interp.proofs.run.run_list.Given as goal
+use Rattle.erst_interp.proofs.run.run_turns.Given as goal
 
 abbrev pub invariant-loop : goal.invariant-loop
 invariant-loop g l = record {
-  way : Way l.list (most_turns - l.counter) l.input l.variables (g.B.Board.told l.fn.board) (g.B.Board.told l.board);
-  touches : GoesWell (StoreOver l.list l.input (g.B.Board.told l.fn.board))
+  way : Way l.turns l.list (l.turns - l.counter) l.input l.variables (g.B.Board.told l.fn.board) (g.B.Board.told l.board);
+  touches : GoesWell (StoreWithin l.turns l.list l.input (g.B.Board.told l.fn.board))
       (record { told = g.B.Board.told l.fn.board; clock = g.B.Board.clock l.fn.board; faults = g.B.Board.faults l.fn.board })
       (record { told = g.B.Board.told l.board; clock = g.B.Board.clock l.board; faults = g.B.Board.faults l.board });
   device : (g.B.Board.told l.board ≡ g.B.Board.told l.fn.board) ⊎ IfSome (g.B.Board.told l.fn.board) (λ t. IsDevice (device_of t));
+  straight : IsTrue (list_all is_straight l.list) → l.variables.index ≡ l.counter;
 }
