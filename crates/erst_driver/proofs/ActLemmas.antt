@@ -6,32 +6,31 @@ use Rattle.erst_store.specs.Store.{Stored}
 use Rattle.erst_store.specs.Device.{Device}
 use Rattle.erst_store.specs.DeviceLaws.{IsDevice}
 use Rattle.erst_store.specs.KeptLemmas.{IsDevice-act, IsDevice-value}
-use Rattle.board_core.specs.Cause.{Faults}
 use Rattle.board_core.specs.Clock.{Passes}
 use Rattle.board_core.specs.Stop.{InStore}
 use Rattle.board_core.specs.Told.{Told, device_of, Relates, StoreBy}
 use Rattle.erst_interp.specs.declared.entries.Entry.{Entry}
 use Rattle.erst_interp.specs.declared.refusals.RunRefused.{RunRefused}
-use Rattle.erst_interp.specs.declared.refusals.RunRefused.TheVariants.{Register}
+use Rattle.erst_interp.specs.declared.refusals.RunRefused.TheVariants.{Register, Fuel, BadInstruction, BadRegister, BadRange}
 use Rattle.erst_interp.specs.Admission.{takes_input, IsAdmitted, IsAdmittedTable}
-use Rattle.erst_interp.specs.Faithful.{input_limit, with_input, device_after, answer_after, ActsOn, DoesRun}
+use Rattle.erst_interp.specs.Faithful.{input_limit, with_input, device_after, answer_after, ActsOn, DoesRun, IsRegisterAlone}
 use Rattle.erst_interp.specs.Machine.{end_of}
-use Rattle.erst_interp.specs.Run.{told_after, IsRun, Keeps, Raises, RunCause}
+use Rattle.erst_interp.specs.Run.{told_after, IsRun, Keeps, RunCause}
 use Rattle.erst_interp.specs.Steps.{Seen, GoesWell, Fails}
 use Rattle.erst_interp.specs.Table.{list_of}
 use Rattle.erst_interp.proofs.TouchLemmas.{well_more, fails_more}
 use Rattle.erst_driver.specs.declared.step.Step.{Step}
 use Rattle.erst_driver.specs.Operations.{Over, after_step, after_steps, told_by_step, told_by}
-use Rattle.erst_driver.specs.Steps.{Inside, ComesThrough, StoreIn, Tells, Done, FailsIn, Never, Acted}
+use Rattle.erst_driver.specs.Steps.{Plan, Inside, ComesThrough, StoreIn, Tells, Done, CutIn, FailsIn, Acted}
 
 some_is : (x y : Told) → Some x ≡ Some y → x ≡ y
 some_is x y e = cc
 
-pub raises_of : (why : RunRefused) (before now : Faults) → why ≡ Register → RunCause (Err why) before now → Raises before now
-raises_of why before now is cause = subst (λ (w : RunRefused). RunCause (Err w) before now) is cause
-
 pub acted_as : (table lists : List (List Entry)) (s : Step) (value : ℕ) (a b : Seen) → table ≡ lists → Acted table s value a b → Acted lists s value a b
 acted_as table lists s value a b is acted = subst (λ (l : List (List Entry)). Acted l s value a b) is acted
+
+pub failed_as : (table lists : List (List Entry)) (plan : Plan) (a b : Seen) → table ≡ lists → FailsIn table plan a b → FailsIn lists plan a b
+failed_as table lists plan a b is fails = subst (λ (l : List (List Entry)). FailsIn l plan a b) is fails
 
 -- the device after an action is one
 input_fits : (action input : ℕ) → input < input_limit action → input < 2 ^ 64
@@ -63,9 +62,23 @@ module _ (lists : List (List Entry)) (s : Step) (a b : Seen) (kept : Relates Kee
   well faults = well_more (StoreBy (device_after s.action s.input) a.told) (StoreIn (λ d. s ∷ []) a.told) store_in a b
       (record { kept = kept; stops = stops; faults = faults })
 
-  pub failed : Raises a.faults b.faults → FailsIn (λ d. s ∷ []) a b
-  failed raises = fails_more (StoreBy (device_after s.action s.input) a.told) (StoreIn (λ d. s ∷ []) a.told) store_in a b
-      (record { kept = kept; stops = stops; raises = raises })
+  -- a refusal: an admitted list comes to Register alone
+  pub failed : (why : RunRefused) → IsRegisterAlone (Err why) → RunCause (Err why) a.faults b.faults
+      → IfSome a.told (λ t. IsRun (Err why) (end_of (list_of s.action lists) s.input (device_of t)) t b.told) → FailsIn lists (λ d. s ∷ []) a b
+  unfolding told_by
+  failed Register alone raises runs = record {
+    fails = fails_more (StoreBy (device_after s.action s.input) a.told) (StoreIn (λ d. s ∷ []) a.told) store_in a b
+        (record { kept = kept; stops = stops; raises = raises });
+    cut = cut a.told runs;
+  }
+    where
+      cut : (o : Option Told) → IfSome o (λ t. IsRun (Err Register) (end_of (list_of s.action lists) s.input (device_of t)) t b.told) → CutIn lists (λ d. s ∷ []) o b.told
+      cut None runs = tt
+      cut (Some t) runs = λ device. runs
+  failed Fuel alone raises runs = absurd alone
+  failed BadInstruction alone raises runs = absurd alone
+  failed BadRegister alone raises runs = absurd alone
+  failed BadRange alone raises runs = absurd alone
 
   tells_one : (value : ℕ) (t : Told) → Inside s → IsRun (Ok value) (end_of (list_of s.action lists) s.input (device_of t)) t b.told → IsDevice (device_of t)
       → ActsOn s.action s.input value t b.told → Tells lists (s ∷ []) t b.told
@@ -98,15 +111,3 @@ module _ (lists : List (List Entry)) (s : Step) (a b : Seen) (kept : Relates Kee
           → Over (λ t. value ≡ answer_after s.action s.input (device_of t)) o
       gives None acts = tt
       gives (Some t) acts = λ device. acts.answer
-
-  -- a refusal that an admitted list doesn't come to
-  pub never : (why : RunRefused) → Inside s → IsAdmittedTable lists → b.faults ≡ a.faults
-      → ((t : Told) → DoesRun s.action s.input (Err why) t b.told → ⊥)
-      → (IsAdmitted s.action (list_of s.action lists) → s.input < input_limit s.action
-      → IfSome a.told (λ t. DoesRun s.action s.input (Err why) t b.told))
-      → Never (λ d. s ∷ []) a b
-  never why inside admitted faults none does = record { well = well faults; never = by a.told (does (admitted s.action inside.action) inside.input) }
-    where
-      by : (o : Option Told) → IfSome o (λ t. DoesRun s.action s.input (Err why) t b.told) → Over (λ t. ⊥) o
-      by None acts = tt
-      by (Some t) acts = λ device. none t acts

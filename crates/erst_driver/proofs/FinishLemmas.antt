@@ -4,7 +4,6 @@ use Rattle.std.specs.Prelude.{Result, Ok, Err}
 use Rattle.erst_store.specs.declared.device.CommandStatus.{CommandStatus}
 use Rattle.erst_store.specs.declared.device.CommandStatus.TheVariants.{Success, NotEnoughSpace, StoreEmpty, NotFound}
 use Rattle.erst_store.specs.Actions.{get_command_status, end_operation}
-use Rattle.erst_store.specs.Store.{Stored}
 use Rattle.erst_store.specs.Device.{Device, act, status_number}
 use Rattle.board_core.specs.Told.{Told, device_of}
 use Rattle.erst_interp.specs.declared.entries.Entry.{Entry}
@@ -16,8 +15,8 @@ use Rattle.erst_driver.specs.declared.refusals.DriverRefused.TheVariants.{Regist
 use Rattle.erst_driver.specs.declared.step.Step.{Step}
 use Rattle.erst_driver.specs.Operations.{Over, plain, checks, is_free_in_time, asks, ends, finishes, actions_of, after_step, after_steps}
 use Rattle.erst_driver.specs.Answers.{by_status, answer_within, answer_at, answer_of}
-use Rattle.erst_driver.specs.Steps.{ComesThrough, Done, Acted, Acts, Runs, Operates, Answered}
-use Rattle.erst_driver.proofs.PlanLemmas.{through_first, done_then, fails_then, fails_as, done_as, never_as, never_done, never_over, refused_in_operation, over_both, over_more, over_after, everywhere}
+use Rattle.erst_driver.specs.Steps.{IsBeginning, Done, Acted, Acts, Runs, Operates, Answered}
+use Rattle.erst_driver.proofs.PlanLemmas.{done_then, fails_then, fails_as, done_as, refused_in_operation, over_both, over_more, over_after, everywhere}
 use Rattle.erst_driver.proofs.WaitLemmas.{checked}
 
 abbrev ask : Step
@@ -72,7 +71,7 @@ module _ (lists : List (List Entry)) (a b : Seen) where
   pub wait_refused : (e : DriverRefused) → Operates lists (λ d. asks d.busy) (λ d. answer_within d.busy) (Err e) a b
       → Operates lists (λ d. finishes d.busy) answer_at (Err e) a b
   wait_refused Register fails = fails_as lists (λ d. asks d.busy) (λ d. finishes d.busy) a b
-      (everywhere _ a.told (λ t store through. through_first (asks (device_of t).busy) (ends (device_of t).busy) (device_of t) store through)) fails
+      (everywhere _ a.told (λ t. (ends (device_of t).busy, refl))) fails
   wait_refused Busy answered = record {
     done = done_as lists (λ d. asks d.busy) (λ d. finishes d.busy) a b
         (over_more _ _ a.told answered.answers (λ t is. finishes_late (device_of t).busy (late_by _ is))) answered.done;
@@ -118,8 +117,7 @@ module _ (lists : List (List Entry)) (a b : Seen) (waited : Operates lists (λ d
 
   pub ask_refused : (c : Seen) (e : DriverRefused) → Acts lists (plain get_command_status) (Err e) b c → Operates lists (λ d. finishes d.busy) answer_at (Err e) a c
   ask_refused c e acts = refused_in_operation lists (λ d. asks d.busy) (λ d. finishes d.busy) ask a b c waited.done
-      (over_more _ _ a.told free (λ t is store through. subst (λ (steps : List Step). ComesThrough steps (device_of t) store) (finishes_free (device_of t).busy is)
-      (through_first (asks (device_of t).busy ++ ask ∷ []) (end ∷ []) (device_of t) store through))) answer_at e acts
+      (over_more _ _ a.told free (λ t is. (end ∷ [], finishes_free (device_of t).busy is))) answer_at e acts
 
   module _ (c : Seen) (value : ℕ) (asked : Acted lists (plain get_command_status) value b c) where
     two : Done lists (λ d. asks d.busy ++ ask ∷ []) a c
@@ -127,7 +125,7 @@ module _ (lists : List (List Entry)) (a b : Seen) (waited : Operates lists (λ d
 
     pub end_refused : (n : Seen) (e : DriverRefused) → Acts lists (plain end_operation) (Err e) c n → Operates lists (λ d. finishes d.busy) answer_at (Err e) a n
     end_refused n e acts = refused_in_operation lists (λ d. asks d.busy ++ ask ∷ []) (λ d. finishes d.busy) end a c n two
-        (over_more _ _ a.told free (λ t is store through. subst (λ (steps : List Step). ComesThrough steps (device_of t) store) (finishes_free (device_of t).busy is) through)) answer_at e acts
+        (over_more _ _ a.told free (λ t is. ([], append-nil ((asks (device_of t).busy ++ ask ∷ []) ++ end ∷ []) ∙ finishes_free (device_of t).busy is))) answer_at e acts
 
     value_is : Over (λ t. value ≡ status_number (device_of t).status) a.told
     value_is = over_more _ _ a.told (over_after lists (λ d. asks d.busy) a b waited.done (λ d. value ≡ answer_after get_command_status 0 d) asked.gives)
@@ -159,14 +157,12 @@ module _ (lists : List (List Entry)) (steps : List Step) (a b : Seen) where
   pub steps_refused : (e : DriverRefused) → Runs lists (λ d. steps) (Err e) a b → Operates lists (actions_of steps) (answer_of steps) (Err e) a b
   steps_refused e runs = by e runs
     where
-      more : Over (λ t. (store : List Stored) → ComesThrough steps (device_of t) store → ComesThrough (actions_of steps (device_of t)) (device_of t) store) a.told
-      more = everywhere _ a.told (λ t store through. through_first steps _ (device_of t) store through)
+      more : Over (λ t. IsBeginning steps (actions_of steps (device_of t))) a.told
+      more = everywhere _ a.told (λ t. (finishes (after_steps steps (device_of t)).busy, refl))
 
       by : (e : DriverRefused) → Runs lists (λ d. steps) (Err e) a b → Operates lists (actions_of steps) (answer_of steps) (Err e) a b
       by Register fails = fails_as lists (λ d. steps) (actions_of steps) a b more fails
-      by Busy never =
-          let never_so = never_as lists (λ d. steps) (actions_of steps) a b more never in
-          record { done = never_done lists (actions_of steps) a b never_so; answers = never_over lists (actions_of steps) a b never_so _ }
+      by Busy runs = absurd runs
       by (EndedWith code) runs = absurd runs
       by NoMemory runs = absurd runs
 

@@ -1,5 +1,5 @@
 -- Identifiers that are listed.
-use Rattle.std.proofs.Common.{◌≡◌, ◌∙◌, ℕ, zero, suc, ◌+◌, ◌-◌, ◌<◌, ◌≤◌, Bool, true, false, min, List, [], ◌∷◌, ◌++◌, length, take, drop, map, Option, Some, None, refl, sym, ap, subst, inl, inr, arith, append-nil}
+use Rattle.std.proofs.Common.{◌≡◌, ◌∙◌, ℕ, zero, suc, ◌+◌, ◌-◌, ◌<◌, ◌≤◌, Bool, true, false, min, List, [], ◌∷◌, ◌++◌, length, take, drop, map, Option, Some, None, refl, sym, ap, subst, inl, inr, arith, append-nil, length-append}
 use Rattle.std.proofs.lemmas.List.{length-drop}
 use Rattle.std.proofs.lemmas.Option.{slice_get_within, slice_get_cases}
 use Rattle.std.specs.Prelude.{◌⊎◌, slice_get, Result, Ok, Err, IfOk}
@@ -21,10 +21,10 @@ use Rattle.erst_driver.specs.declared.refusals.DriverRefused.{DriverRefused}
 use Rattle.erst_driver.specs.declared.refusals.DriverRefused.TheVariants.{Register, Busy, Status, NoMemory}
 use Rattle.erst_driver.specs.declared.step.Step.{Step}
 use Rattle.erst_driver.specs.Operations.{Over, plain, listings, ids_steps, after_step, after_steps, told_by}
-use Rattle.erst_driver.specs.Answers.{IsMemoryOnly, HasCauseIn, Stays}
-use Rattle.erst_driver.specs.Steps.{ComesThrough, StoreIn, Done, FailsIn, Never, Acted, Acts, Quietly, EndsListing, ListsOut, Collected, Collects, ListsAll, Tells}
+use Rattle.erst_driver.specs.Answers.{IsMemoryOnly, Leaves, HasCauseIn, Stays}
+use Rattle.erst_driver.specs.Steps.{Plan, ComesThrough, StoreIn, Done, CutIn, FailsIn, IsBeginning, Acted, Acts, Quietly, FailsQuietly, EndsListing, ListsOut, Collected, Collects, ListsAll, Tells}
 use Rattle.erst_driver.proofs.OperationLemmas.{passes_at}
-use Rattle.erst_driver.proofs.PlanLemmas.{after_both, done_then, done_as, fails_then, never_then, fails_as, never_as, over_device, over_both_device, over_both, over_more, over_after, everywhere}
+use Rattle.erst_driver.proofs.PlanLemmas.{both_plans, after_both, done_then, done_as, fails_then, fails_as, cut_then, cut_as, over_device, over_both_device, over_both, over_more, over_after, everywhere}
 
 abbrev list : Step
 list = plain get_record_identifier
@@ -76,6 +76,12 @@ listings_both (suc one) two =
     let e : suc (one + two) ≡ suc one + two = omega arith in
     ap (λ (steps : List Step). list ∷ steps) (listings_both one two) ∙ ap listings e
 
+begins_listings : (count all : ℕ) → count ≤ all → IsBeginning (listings count) (listings all)
+begins_listings count all fits =
+    let left = all - count in
+    let sums : count + left ≡ all = omega (arith, fits) in
+    (listings left, listings_both count left ∙ ap listings sums)
+
 one_store : (d : Device) → (after_step (plain get_record_identifier) d).store ≡ d.store
 unfolding act
 one_store d = by (slice_get (ids d.store) d.cursor)
@@ -101,6 +107,9 @@ pub record At (count : ℕ) (d : Device) : Type 0 where
   pub cursor : (after_steps (listings count) d).cursor ≡ d.cursor + count
   pub store : (after_steps (listings count) d).store ≡ d.store
   pub within : (count ≡ 0) ⊎ (d.cursor + count ≤ length d.store)
+
+at_left : (count : ℕ) (d : Device) → At count d → count + 1 ≤ left_to_list d
+at_left count d at = elim at.within [ inl none ↦ omega (arith, none) | inr within ↦ omega (arith, within) ]
 
 pub record Listing (lists : List (List Entry)) (count : ℕ) (a b : Seen) : Type 0 where
   pub done : Done lists (λ d. listings count) a b
@@ -146,20 +155,29 @@ module _ (count value : ℕ) (d : Device) (at : At count d)
   end_store = ap (λ (x : Device). x.store) (next_is count d) ∙ one.store ∙ at.store
 
 module _ (lists : List (List Entry)) (count : ℕ) (a b c : Seen) (listing : Listing lists count a b) where
-  pub list_fails : FailsIn (λ d. list ∷ []) b c → Fails (Quietly a.told) a c
-  list_fails fails = fails_more (StoreIn (λ d. listings (count + 1)) a.told) (Quietly a.told) (quiet (count + 1) a.told) a c
-      (fails_as lists (λ d. listings count ++ list ∷ []) (λ d. listings (count + 1)) a c (everywhere _ a.told (λ t store is. rw (sym (listings_both count 1)) is))
-      (fails_then lists (λ d. listings count) (λ d. list ∷ []) a b c listing.done fails))
+  one_fails : FailsIn lists (λ d. list ∷ []) b c → FailsIn lists (λ d. listings (count + 1)) a c
+  one_fails fails = fails_as lists (λ d. listings count ++ list ∷ []) (λ d. listings (count + 1)) a c
+      (everywhere _ a.told (λ t. ([], append-nil (listings count ++ list ∷ []) ∙ listings_both count 1)))
+      (fails_then lists (λ d. listings count) (λ d. list ∷ []) a b c listing.done fails)
 
-  pub list_never : Never (λ d. list ∷ []) b c → GoesWell (Quietly a.told) a c × Over (λ t. ⊥) a.told
-  list_never never =
-      let all = never_as lists (λ d. listings count ++ list ∷ []) (λ d. listings (count + 1)) a c (everywhere _ a.told (λ t store is. rw (sym (listings_both count 1)) is))
-      (never_then lists (λ d. listings count) (λ d. list ∷ []) a b c listing.done never) in
-      (well_more (StoreIn (λ d. listings (count + 1)) a.told) (Quietly a.told) (quiet (count + 1) a.told) a c all.well, all.never)
+  pub list_fails : (p : Plan) → Over (λ t. IsBeginning (listings (count + 1)) (p (device_of t))) a.told → FailsIn lists (λ d. list ∷ []) b c → FailsQuietly lists p a c
+  list_fails p begins fails =
+      let all = one_fails fails in
+      record {
+        fails = fails_more (StoreIn (λ d. listings (count + 1)) a.told) (Quietly a.told) (quiet (count + 1) a.told) a c all.fails;
+        cut = cut_as lists (λ d. listings (count + 1)) p a.told c.told begins all.cut;
+      }
+
+  to_end : Over (λ t. IsBeginning (listings (count + 1)) (listings (left_to_list (device_of t)))) a.told
+  to_end = over_more _ _ a.told listing.at (λ t at. begins_listings (count + 1) (left_to_list (device_of t)) (at_left count (device_of t) at))
+
+  pub to_most : count < most_records → Over (λ t. IsBeginning (listings (count + 1)) (listings (min (left_to_list (device_of t)) most_records))) a.told
+  to_most inside = over_more _ _ a.told listing.at (λ t at.
+      (let fits = at_left count (device_of t) at in begins_listings (count + 1) (min (left_to_list (device_of t)) most_records) (omega (arith, fits, inside))))
 
   pub list_refused : (e : DriverRefused) → Acts lists (plain get_record_identifier) (Err e) b c → ListsOut lists (Err e) a c
-  list_refused Register acts = list_fails acts
-  list_refused Busy acts = list_never acts
+  list_refused Register acts = list_fails (λ d. listings (left_to_list d)) to_end acts
+  list_refused Busy acts = absurd acts
   list_refused (Status code) acts = absurd acts
   list_refused NoMemory acts = absurd acts
 
@@ -207,10 +225,11 @@ listing_gives_up lists count a b listing is = record {
 
 pub record Collecting (lists : List (List Entry)) (count : ℕ) (found : List ℕ) (a b : Seen) : Type 0 where
   pub listing : Listing lists count a b
+  pub few : length found ≤ count
   pub found_is : Over (λ t. found ≡ take count (drop (device_of t).cursor (ids t.here.store))) a.told
 
 pub collecting_begins : (lists : List (List Entry)) (a : Seen) → Done lists (λ d. []) a a → Collecting lists 0 [] a a
-collecting_begins lists a done = record { listing = listing_begins lists a done; found_is = everywhere _ a.told (λ t. refl) }
+collecting_begins lists a done = record { listing = listing_begins lists a done; few = omega arith; found_is = everywhere _ a.told (λ t. refl) }
 
 take_all : (count : ℕ) (xs : List ℕ) → length xs ≤ count → take count xs ≡ xs
 take_all zero [] fits = refl
@@ -227,11 +246,13 @@ take_next count (suc start) x (y ∷ xs) is =
     take_next count start x xs (let e : suc start + count ≡ suc (start + count) = omega arith in subst (λ (n : ℕ). slice_get (y ∷ xs) n ≡ Some x) e is)
 
 module _ (lists : List (List Entry)) (count : ℕ) (found : List ℕ) (a b c : Seen) (collecting : Collecting lists count found a b) where
-  pub collect_refused : {X : Type 0} (view : X → List ℕ) (e : DriverRefused) → Acts lists (plain get_record_identifier) (Err e) b c → Collects {X = X} view lists (Err e) a c
-  collect_refused view Register acts = list_fails lists count a b c collecting.listing acts
-  collect_refused view Busy acts = list_never lists count a b c collecting.listing acts
-  collect_refused view (Status code) acts = absurd acts
-  collect_refused view NoMemory acts = absurd acts
+  pub collect_refused : {X : Type 0} (view : X → List ℕ) (inside : count < most_records) (e : DriverRefused) → Acts lists (plain get_record_identifier) (Err e) b c
+      → Collects {X = X} view lists (Err e) a c
+  collect_refused view inside Register acts =
+      list_fails lists count a b c collecting.listing (λ d. listings (min (left_to_list d) most_records)) (to_most lists count a b c collecting.listing inside) acts
+  collect_refused view inside Busy acts = absurd acts
+  collect_refused view inside (Status code) acts = absurd acts
+  collect_refused view inside NoMemory acts = absurd acts
 
   module _ (value : ℕ) (acted : Acted lists (plain get_record_identifier) value b c) where
     here : Over (λ t. Listed (after_steps (listings count) (device_of t)) (after_step list (after_steps (listings count) (device_of t))) value) a.told
@@ -243,6 +264,7 @@ module _ (lists : List (List Entry)) (count : ℕ) (found : List ℕ) (a b c : S
     pub collecting_next : (value ≡ all_ones → ⊥) → Collecting lists (count + 1) (found ++ value ∷ []) a c
     collecting_next not_end = record {
       listing = listing_next lists count a b c collecting.listing value acted not_end;
+      few = omega (arith, collecting.few, length-append found (value ∷ []));
       found_is = over_both _ _ _ a.told (over_both (λ t. At count (device_of t)) _ (λ t. slice_get (ids t.here.store) ((device_of t).cursor + count) ≡ Some value) a.told collecting.listing.at here
           (λ t at one. there count value (device_of t) at one not_end)) collecting.found_is
           (λ t next is. ap (λ (xs : List ℕ). xs ++ value ∷ []) is ∙ sym (take_next count (device_of t).cursor value (ids t.here.store) next)
@@ -254,6 +276,7 @@ module _ (lists : List (List Entry)) (count : ℕ) (found : List ℕ) (a b c : S
       done = done_as lists (λ d. listings (count + 1)) (λ d. listings (min (left_to_list d) most_records)) a c
           (over_more _ _ a.told (left lists count a b c collecting.listing value acted end) (λ t is. ap listings (omega (arith, is, inside))))
           (next_done lists count a b c collecting.listing value acted);
+      few = omega (arith, collecting.few, inside);
       found_is = over_both _ _ _ a.told (left lists count a b c collecting.listing value acted end) collecting.found_is
           (λ t is found_is.
           (let rest = drop (device_of t).cursor (ids t.here.store) in
@@ -266,6 +289,7 @@ collect_full lists count found a b collecting is = record {
   done = done_as lists (λ d. listings count) (λ d. listings (min (left_to_list d) most_records)) a b
       (over_more _ _ a.told collecting.listing.at (λ t at. ap listings
       (elim at.within [ inl none ↦ absurd (omega (arith, none, is)) | inr within ↦ omega (arith, within, is) ]))) collecting.listing.done;
+  few = omega (arith, collecting.few, is);
   found_is = over_more _ _ a.told collecting.found_is (λ t found_is. found_is ∙ ap (λ (n : ℕ). take n (drop (device_of t).cursor (ids t.here.store))) is);
 }
 
@@ -302,14 +326,23 @@ module _ (lists : List (List Entry)) (a b c : Seen) (ends : EndsListing lists a 
   goes_on : GoesWell (Quietly b.told) b c → GoesWell (Quietly a.told) a c
   goes_on well = well_both (StoreIn (λ d. listings (left_to_list d)) a.told) (Quietly a.told) quiet_first (Quietly b.told) quiet_both a b c ends.done.well well
 
-  all_done : Done lists (λ d. listings (min (left_to_list d) most_records)) b c → Done lists ids_steps a c
-  all_done done = done_as lists (λ d. listings (left_to_list d) ++ listings (min (left_to_list (after_steps (listings (left_to_list d)) d)) most_records)) ids_steps a c
-      (over_both _ _ _ a.told ends.cursor ends.store (λ t cursor store. ap (λ (n : ℕ). listings (left_to_list (device_of t)) ++ listings (min n most_records)) (anew (device_of t) cursor store)))
-      (done_then lists (λ d. listings (left_to_list d)) (λ d. listings (min (left_to_list d) most_records)) a b c ends.done done)
+  -- the listing begins anew
+  same_steps : Over (λ t. both_plans (λ d. listings (left_to_list d)) (λ d. listings (min (left_to_list d) most_records)) (device_of t) ≡ ids_steps (device_of t)) a.told
+  same_steps = over_both _ _ _ a.told ends.cursor ends.store
+      (λ t cursor store. ap (λ (n : ℕ). listings (left_to_list (device_of t)) ++ listings (min n most_records)) (anew (device_of t) cursor store))
     where
       anew : (d : Device) → (after_steps (listings (left_to_list d)) d).cursor ≡ 0 → (after_steps (listings (left_to_list d)) d).store ≡ d.store
           → left_to_list (after_steps (listings (left_to_list d)) d) ≡ length d.store + 1
       anew d cursor store = let size = ap (λ (rs : List Stored). length rs) store in omega (arith, size, cursor)
+
+  all_done : Done lists (λ d. listings (min (left_to_list d) most_records)) b c → Done lists ids_steps a c
+  all_done done = done_as lists (both_plans (λ d. listings (left_to_list d)) (λ d. listings (min (left_to_list d) most_records))) ids_steps a c same_steps
+      (done_then lists (λ d. listings (left_to_list d)) (λ d. listings (min (left_to_list d) most_records)) a b c ends.done done)
+
+  all_cut : CutIn lists (λ d. listings (min (left_to_list d) most_records)) b.told c.told → CutIn lists ids_steps a.told c.told
+  all_cut cut = cut_as lists (both_plans (λ d. listings (left_to_list d)) (λ d. listings (min (left_to_list d) most_records))) ids_steps a.told c.told
+      (over_more _ _ a.told same_steps (λ t same. ([], append-nil _ ∙ same)))
+      (cut_then lists (λ d. listings (left_to_list d)) (λ d. listings (min (left_to_list d) most_records)) a b c ends.done c.told cut)
 
   all_found : (found : List ℕ) → Over (λ t. found ≡ take most_records (drop (device_of t).cursor (ids t.here.store))) b.told → Over (λ t. found ≡ ids t.here.store) a.told
   all_found found over = over_both_device _ _ _ a.told (over_both (λ t. (after_steps (listings (left_to_list (device_of t))) (device_of t)).cursor ≡ 0) _
@@ -320,18 +353,22 @@ module _ (lists : List (List Entry)) (a b c : Seen) (ends : EndsListing lists a 
       is ∙ ap (λ (rs : List Stored). take most_records (ids rs)) store ∙ take_all most_records (ids t.here.store) (omega (arith, count_is, length-ids t.here.store))))
 
   pub lists_then : {X : Type 0} (view : X → List ℕ) (result : Result X DriverRefused) → Collects view lists result b c → ListsAll view lists result a c
-  lists_then view (Ok found) collected = record { done = all_done collected.done; found_is = all_found (view found) collected.found_is }
-  lists_then view (Err Register) fails = well_fails (StoreIn (λ d. listings (left_to_list d)) a.told) (Quietly a.told) quiet_first (Quietly b.told) quiet_both a b c ends.done.well fails
-  lists_then view (Err Busy) never = (goes_on never.0, nowhere never.1)
-    where
-      nowhere : Over (λ t. ⊥) b.told → Over (λ t. ⊥) a.told
-      nowhere over = over_after lists (λ d. listings (left_to_list d)) a b ends.done (λ d. ⊥) over
+  lists_then view (Ok found) collected = record { done = all_done collected.done; few = collected.few; found_is = all_found (view found) collected.found_is }
+  lists_then view (Err Register) fails = record {
+    fails = well_fails (StoreIn (λ d. listings (left_to_list d)) a.told) (Quietly a.told) quiet_first (Quietly b.told) quiet_both a b c ends.done.well fails.fails;
+    cut = all_cut fails.cut;
+  }
+  lists_then view (Err Busy) collected = absurd collected
   lists_then view (Err (Status code)) collected = absurd collected
   lists_then view (Err NoMemory) well = goes_on well
 
 pub lists_refused : {X : Type 0} (view : X → List ℕ) (lists : List (List Entry)) (a b : Seen) (e : DriverRefused) → ListsOut lists (Err e) a b → ListsAll {X = X} view lists (Err e) a b
-lists_refused view lists a b Register fails = fails
-lists_refused view lists a b Busy never = never
+lists_refused view lists a b Register fails = record {
+  fails = fails.fails;
+  cut = cut_as lists (λ d. listings (left_to_list d)) ids_steps a.told b.told
+      (everywhere _ a.told (λ t. (listings (min (length t.here.store + 1) most_records), refl))) fails.cut;
+}
+lists_refused view lists a b Busy is = absurd is
 lists_refused view lists a b (Status code) is = absurd is
 lists_refused view lists a b NoMemory is = absurd is
 
@@ -342,28 +379,35 @@ module _ {X : Type 0} (view : X → List ℕ) (lists : List (List Entry)) (a b :
   all_ids (Ok found) all = all.found_is
   all_ids (Err why) all = tt
 
-  pub all_told : (result : Result X DriverRefused) → ListsAll view lists result a b → IfOk result (λ v. Over (λ t. b.told ≡ Some (told_by lists (ids_steps (device_of t)) t)) a.told)
-  all_told (Ok found) all = over_more _ _ a.told all.done.tells (λ t tells. tells.told)
-  all_told (Err why) all = tt
+  pub all_few : (result : Result X DriverRefused) → ListsAll view lists result a b → IfOk result (λ v. length (view v) ≤ most_records)
+  all_few (Ok found) all = all.few
+  all_few (Err why) all = tt
 
-  pub all_refused : (result : Result X DriverRefused) → ListsAll view lists result a b → Over (λ t. IsMemoryOnly result) a.told
-  all_refused (Ok found) all = everywhere _ a.told (λ t. tt)
-  all_refused (Err Register) all = everywhere _ a.told (λ t. tt)
-  all_refused (Err Busy) all = over_more _ _ a.told all.1 (λ t none. absurd none)
+  pub all_told : (result : Result X DriverRefused) → ListsAll view lists result a b → Over (λ t. Leaves result t b.told (told_by lists (ids_steps (device_of t)) t)) a.told
+  all_told (Ok found) all = over_more _ _ a.told all.done.tells (λ t tells. tells.told)
+  all_told (Err Register) all = all.cut
+  all_told (Err Busy) all = absurd all
+  all_told (Err (Status code)) all = absurd all
+  all_told (Err NoMemory) all = everywhere _ a.told (λ t. tt)
+
+  pub all_refused : (result : Result X DriverRefused) → ListsAll view lists result a b → IsMemoryOnly result
+  all_refused (Ok found) all = tt
+  all_refused (Err Register) all = tt
+  all_refused (Err Busy) all = absurd all
   all_refused (Err (Status code)) all = absurd all
-  all_refused (Err NoMemory) all = everywhere _ a.told (λ t. tt)
+  all_refused (Err NoMemory) all = tt
 
   pub all_kept : (result : Result X DriverRefused) → ListsAll view lists result a b → Relates Keeps a.told b.told
   all_kept (Ok found) all = all.done.well.kept
-  all_kept (Err Register) all = all.kept
-  all_kept (Err Busy) all = all.0.kept
+  all_kept (Err Register) all = all.fails.kept
+  all_kept (Err Busy) all = absurd all
   all_kept (Err (Status code)) all = absurd all
   all_kept (Err NoMemory) all = all.kept
 
   pub all_cause : (result : Result X DriverRefused) → ListsAll view lists result a b → HasCauseIn result a.faults b.faults
   all_cause (Ok found) all = all.done.well.faults
-  all_cause (Err Register) all = all.raises
-  all_cause (Err Busy) all = all.0.faults
+  all_cause (Err Register) all = all.fails.raises
+  all_cause (Err Busy) all = absurd all
   all_cause (Err (Status code)) all = absurd all
   all_cause (Err NoMemory) all = all.faults
 
@@ -377,8 +421,8 @@ module _ {X : Type 0} (view : X → List ℕ) (lists : List (List Entry)) (a b :
 
   all_stops : (result : Result X DriverRefused) → ListsAll view lists result a b → Passes (InStore (Quietly a.told)) a.clock b.clock
   all_stops (Ok found) all = (well_more (StoreIn ids_steps a.told) (Quietly a.told) (quiet_ids a.told) a b all.done.well).stops
-  all_stops (Err Register) all = all.stops
-  all_stops (Err Busy) all = all.0.stops
+  all_stops (Err Register) all = all.fails.stops
+  all_stops (Err Busy) all = absurd all
   all_stops (Err (Status code)) all = absurd all
   all_stops (Err NoMemory) all = all.stops
 

@@ -58,9 +58,9 @@ module _ (lists : List (List Entry)) (plan : Plan) (answer : Device → Answer) 
   leaves : (result : Answer) → Done lists plan a b → Over (λ t. b.told ≡ Some (told_by lists (plan (device_of t)) t)) a.told
   leaves result done = over_more _ _ a.told done.tells (λ t tells. tells.told)
 
-  pub leaves_of : (result : Answer) → Operates lists plan answer result a b → Over (λ t. Leaves result b.told (told_by lists (plan (device_of t)) t)) a.told
+  pub leaves_of : (result : Answer) → Operates lists plan answer result a b → Over (λ t. Leaves result t b.told (told_by lists (plan (device_of t)) t)) a.told
   leaves_of (Ok tt) operates = leaves (Ok tt) operates.done
-  leaves_of (Err Register) operates = everywhere _ a.told (λ t. tt)
+  leaves_of (Err Register) operates = operates.cut
   leaves_of (Err Busy) operates = leaves (Err Busy) operates.done
   leaves_of (Err (EndedWith code)) operates = leaves (Err Busy) operates.done
   leaves_of (Err NoMemory) operates = absurd operates
@@ -79,21 +79,21 @@ module _ (lists : List (List Entry)) (plan : Plan) (answer : Device → Answer) 
 
   pub kept_of : (result : Answer) → Operates lists plan answer result a b → Relates Keeps a.told b.told
   kept_of (Ok tt) operates = operates.done.well.kept
-  kept_of (Err Register) operates = operates.kept
+  kept_of (Err Register) operates = operates.fails.kept
   kept_of (Err Busy) operates = operates.done.well.kept
   kept_of (Err (EndedWith code)) operates = operates.done.well.kept
   kept_of (Err NoMemory) operates = absurd operates
 
   pub cause_of : (result : Answer) → Operates lists plan answer result a b → HasCauseIn result a.faults b.faults
   cause_of (Ok tt) operates = operates.done.well.faults
-  cause_of (Err Register) operates = operates.raises
+  cause_of (Err Register) operates = operates.fails.raises
   cause_of (Err Busy) operates = operates.done.well.faults
   cause_of (Err (EndedWith code)) operates = operates.done.well.faults
   cause_of (Err NoMemory) operates = absurd operates
 
   pub stops : (result : Answer) → Operates lists plan answer result a b → Passes (InStore (StoreIn plan a.told)) a.clock b.clock
   stops (Ok tt) operates = operates.done.well.stops
-  stops (Err Register) operates = operates.stops
+  stops (Err Register) operates = operates.fails.stops
   stops (Err Busy) operates = operates.done.well.stops
   stops (Err (EndedWith code)) operates = operates.done.well.stops
   stops (Err NoMemory) operates = absurd operates

@@ -1,19 +1,24 @@
 -- Actions one after another.
-use Rattle.std.proofs.Common.{◌≡◌, ◌∙◌, ℕ, zero, suc, ◌+◌, ◌<◌, ◌≤◌, List, [], ◌∷◌, ◌++◌, length, take, drop, get_or, Option, Some, None, refl, sym, ap, subst, inl, inr, arith}
+use Rattle.std.proofs.Common.{◌≡◌, ◌∙◌, ℕ, zero, suc, ◌+◌, ◌<◌, ◌≤◌, List, [], ◌∷◌, ◌++◌, length, take, drop, get_or, Option, Some, None, refl, sym, ap, subst, inl, inr, arith, append_assoc, append-nil}
 use Rattle.std.proofs.lemmas.List.{take-append-drop}
 use Rattle.std.specs.Prelude.{◌⊎◌, Result, Ok, Err}
 use Rattle.erst_store.specs.Store.{Stored}
 use Rattle.erst_store.specs.Device.{Device}
 use Rattle.erst_store.specs.DeviceLaws.{IsDevice}
 use Rattle.board_core.specs.Told.{Told, device_of}
+use Rattle.board_core.specs.declared.board.Access.{Access}
 use Rattle.erst_interp.specs.declared.entries.Entry.{Entry}
+use Rattle.erst_interp.specs.Machine.{end_of}
+use Rattle.erst_interp.specs.Run.{IsCutShort}
+use Rattle.erst_interp.specs.Table.{list_of}
 use Rattle.erst_interp.specs.Steps.{Seen, GoesWell, Fails}
+use Rattle.erst_interp.proofs.BreakLemmas.{off_as, off_more, off_after}
 use Rattle.erst_interp.proofs.TouchLemmas.{well_both, well_fails, well_more, fails_more, none_made}
 use Rattle.erst_driver.specs.declared.refusals.DriverRefused.{DriverRefused}
 use Rattle.erst_driver.specs.declared.refusals.DriverRefused.TheVariants.{Register, Busy, Status, NoMemory}
 use Rattle.erst_driver.specs.declared.step.Step.{Step}
-use Rattle.erst_driver.specs.Operations.{Over, after_step, after_steps, told_by}
-use Rattle.erst_driver.specs.Steps.{Plan, ComesThrough, StoreIn, Tells, Done, FailsIn, Never, Acted, Acts, Runs, Answered, Operates}
+use Rattle.erst_driver.specs.Operations.{Over, after_step, after_steps, told_by_step, told_by}
+use Rattle.erst_driver.specs.Steps.{Plan, ComesThrough, StoreIn, Tells, Done, CutIn, FailsIn, IsBeginning, Acted, Acts, Runs, Answered, Operates}
 
 -- one plan, and then another over the device after it
 abbrev pub both_plans : Plan → Plan → Plan
@@ -28,6 +33,15 @@ told_both : (lists : List (List Entry)) (one two : List Step) (t : Told) → tol
 unfolding told_by
 told_both lists [] two t = refl
 told_both lists (s ∷ one) two t = told_both lists one two _
+
+-- actions make their accesses after those that were made before
+pub told_made : (lists : List (List Entry)) (steps : List Step) (t : Told) → (more : List Access) × ((told_by lists steps t).accesses ≡ t.accesses ++ more)
+unfolding told_by
+told_made lists [] t = ([], sym (append-nil t.accesses))
+told_made lists (s ∷ steps) t =
+    let own = (end_of (list_of s.action lists) s.input (device_of t)).state.accesses in
+    let rest = told_made lists steps (told_by_step lists s t) in
+    (own ++ rest.0, rest.1 ∙ append_assoc t.accesses own rest.0)
 
 -- ---- the stores that a device comes through
 
@@ -45,6 +59,10 @@ through_second : (one two : List Step) (d : Device) (store : List Stored) → Co
 unfolding ComesThrough after_steps
 through_second [] two d store is = is
 through_second (s ∷ one) two d store is = inr (through_second one two (after_step s d) store is)
+
+pub through_beginning : (some all : List Step) (d : Device) (store : List Stored) → IsBeginning some all → ComesThrough some d store → ComesThrough all d store
+through_beginning some all d store begins through =
+    subst (λ (steps : List Step). ComesThrough steps d store) begins.1 (through_first some begins.0 d store through)
 
 -- ---- what is told
 
@@ -68,6 +86,28 @@ tells_both lists one q t mid new first over =
       device = ap (λ (v : Told). device_of v) told_is ∙ second.device ∙ device_is;
       is = subst IsDevice device_is second.is;
     }
+
+-- the same where a call failed
+cut_both : (lists : List (List Entry)) (one : List Step) (q : Plan) (t : Told) (mid new : Option Told) → Tells lists one t mid → CutIn lists q mid new
+    → IsCutShort (told_by lists (one ++ q (after_steps one (device_of t))) t).accesses t new
+cut_both lists one q t mid new first over =
+    let u = told_by lists one t in
+    let two = q (after_steps one (device_of t)) in
+    let device : IsDevice (device_of u) = subst IsDevice (sym first.device) first.is in
+    let made = told_made lists one t in
+    let second : IsCutShort (told_by lists two u).accesses u new =
+    subst (λ (d : Device). IsCutShort (told_by lists (q d) u).accesses u new) first.device
+    (over_at (λ v. IsCutShort (told_by lists (q (device_of v)) v).accesses v new) mid u over first.told device) in
+    off_as (told_by lists two u).accesses (told_by lists (one ++ two) t).accesses t new (ap (λ (v : Told). v.accesses) (sym (told_both lists one two t)))
+    (off_after (told_by lists two u).accesses made.0 t u new made.1 second)
+
+cut_more : (lists : List (List Entry)) (some all : List Step) (t : Told) (new : Option Told) → IsBeginning some all → IsCutShort (told_by lists some t).accesses t new
+    → IsCutShort (told_by lists all t).accesses t new
+cut_more lists some all t new begins cut =
+    let later = told_made lists begins.0 (told_by lists some t) in
+    off_as ((told_by lists some t).accesses ++ later.0) (told_by lists all t).accesses t new
+    (sym later.1 ∙ ap (λ (v : Told). v.accesses) (sym (told_both lists some begins.0 t)) ∙ ap (λ (steps : List Step). (told_by lists steps t).accesses) begins.1)
+    (off_more (told_by lists some t).accesses later.0 t new cut)
 
 -- ---- two plans
 
@@ -100,9 +140,19 @@ module _ (lists : List (List Entry)) (p q : Plan) (a b c : Seen) (one : Done lis
   well_then two = well_both (StoreIn p a.told) (StoreIn (both_plans p q) a.told) (store_first lists p q a.told b.told one.tells)
       (StoreIn q b.told) (store_both lists p q a.told b.told one.tells) a b c one.well two
 
-  pub fails_then : FailsIn q b c → FailsIn (both_plans p q) a c
-  fails_then two = well_fails (StoreIn p a.told) (StoreIn (both_plans p q) a.told) (store_first lists p q a.told b.told one.tells)
-      (StoreIn q b.told) (store_both lists p q a.told b.told one.tells) a b c one.well two
+  pub cut_then : (told : Option Told) → CutIn lists q b.told told → CutIn lists (both_plans p q) a.told told
+  cut_then told cut = by a.told one.tells
+    where
+      by : (o : Option Told) → Over (λ t. Tells lists (p (device_of t)) t b.told) o → CutIn lists (both_plans p q) o told
+      by None first = tt
+      by (Some t) first = λ device. cut_both lists (p (device_of t)) q t b.told told (first device) cut
+
+  pub fails_then : FailsIn lists q b c → FailsIn lists (both_plans p q) a c
+  fails_then two = record {
+    fails = well_fails (StoreIn p a.told) (StoreIn (both_plans p q) a.told) (store_first lists p q a.told b.told one.tells)
+        (StoreIn q b.told) (store_both lists p q a.told b.told one.tells) a b c one.well two.fails;
+    cut = cut_then c.told two.cut;
+  }
 
   pub done_then : Done lists q b c → Done lists (both_plans p q) a c
   done_then two = record { well = well_then two.well; tells = by a.told one.tells }
@@ -111,60 +161,44 @@ module _ (lists : List (List Entry)) (p q : Plan) (a b c : Seen) (one : Done lis
       by None first = tt
       by (Some t) first = λ device. tells_both lists (p (device_of t)) q t b.told c.told (first device) two.tells
 
-  pub never_then : Never q b c → Never (both_plans p q) a c
-  never_then two = record { well = well_then two.well; never = by a.told one.tells }
-    where
-      by : (o : Option Told) → Over (λ t. Tells lists (p (device_of t)) t b.told) o → Over (λ t. ⊥) o
-      by None first = tt
-      by (Some t) first = λ device.
-          (let tells : Tells lists (p (device_of t)) t b.told = first device in
-          over_at (λ u. ⊥) b.told (told_by lists (p (device_of t)) t) two.never tells.told (subst IsDevice (sym tells.device) tells.is))
-
 -- ---- the same of another plan
 
+pub cut_as : (lists : List (List Entry)) (p q : Plan) (old new : Option Told) → Over (λ t. IsBeginning (p (device_of t)) (q (device_of t))) old → CutIn lists p old new → CutIn lists q old new
+cut_as lists p q None new begins cut = tt
+cut_as lists p q (Some t) new begins cut = λ device. cut_more lists (p (device_of t)) (q (device_of t)) t new (begins device) (cut device)
+
 module _ (lists : List (List Entry)) (p q : Plan) (a b : Seen) where
-  module _ (more : Over (λ t. (store : List Stored) → ComesThrough (p (device_of t)) (device_of t) store → ComesThrough (q (device_of t)) (device_of t) store) a.told) where
+  module _ (begins : Over (λ t. IsBeginning (p (device_of t)) (q (device_of t))) a.told) where
     store_more : (x y : List Stored) → StoreIn p a.told x y → StoreIn q a.told x y
-    store_more x y is = by a.told more is
+    store_more x y is = by a.told begins is
       where
-        by : (o : Option Told) → Over (λ t. (store : List Stored) → ComesThrough (p (device_of t)) (device_of t) store → ComesThrough (q (device_of t)) (device_of t) store) o
-            → StoreIn p o x y → StoreIn q o x y
-        by None more is = tt
-        by (Some t) more is = λ device. elim (is device) [ inl same ↦ inl same | inr through ↦ inr (more device y through) ]
+        by : (o : Option Told) → Over (λ t. IsBeginning (p (device_of t)) (q (device_of t))) o → StoreIn p o x y → StoreIn q o x y
+        by None begins is = tt
+        by (Some t) begins is = λ device. elim (is device) [
+          | inl same ↦ inl same
+          | inr through ↦ inr (through_beginning (p (device_of t)) (q (device_of t)) (device_of t) y (begins device) through)
+        ]
 
-    pub fails_as : FailsIn p a b → FailsIn q a b
-    fails_as fails = fails_more (StoreIn p a.told) (StoreIn q a.told) store_more a b fails
-
-    pub never_as : Never p a b → Never q a b
-    never_as never = record { well = well_more (StoreIn p a.told) (StoreIn q a.told) store_more a b never.well; never = never.never }
+    pub fails_as : FailsIn lists p a b → FailsIn lists q a b
+    fails_as fails = record {
+      fails = fails_more (StoreIn p a.told) (StoreIn q a.told) store_more a b fails.fails;
+      cut = cut_as lists p q a.told b.told begins fails.cut;
+    }
 
   pub done_as : Over (λ t. p (device_of t) ≡ q (device_of t)) a.told → Done lists p a b → Done lists q a b
   done_as same done = record {
-    well = well_more (StoreIn p a.told) (StoreIn q a.told) (store_more (more a.told same)) a b done.well;
+    well = well_more (StoreIn p a.told) (StoreIn q a.told) (store_more (begins a.told same)) a b done.well;
     tells = by a.told same done.tells;
   }
     where
-      more : (o : Option Told) → Over (λ t. p (device_of t) ≡ q (device_of t)) o
-          → Over (λ t. (store : List Stored) → ComesThrough (p (device_of t)) (device_of t) store → ComesThrough (q (device_of t)) (device_of t) store) o
-      more None same = tt
-      more (Some t) same = λ device store through. subst (λ (steps : List Step). ComesThrough steps (device_of t) store) (same device) through
+      begins : (o : Option Told) → Over (λ t. p (device_of t) ≡ q (device_of t)) o → Over (λ t. IsBeginning (p (device_of t)) (q (device_of t))) o
+      begins None same = tt
+      begins (Some t) same = λ device. ([], append-nil (p (device_of t)) ∙ same device)
 
       by : (o : Option Told) → Over (λ t. p (device_of t) ≡ q (device_of t)) o → Over (λ t. Tells lists (p (device_of t)) t b.told) o
           → Over (λ t. Tells lists (q (device_of t)) t b.told) o
       by None same tells = tt
       by (Some t) same tells = λ device. subst (λ (steps : List Step). Tells lists steps t b.told) (same device) (tells device)
-
--- what never comes over a board that tells a device
-module _ (lists : List (List Entry)) (p : Plan) (a b : Seen) (never : Never p a b) where
-  pub never_over : (P : Told → Type 0) → Over P a.told
-  never_over P = by a.told never.never
-    where
-      by : (o : Option Told) → Over (λ t. ⊥) o → Over P o
-      by None never = tt
-      by (Some t) never = λ device. absurd (never device)
-
-  pub never_done : Done lists p a b
-  never_done = record { well = never.well; tells = never_over (λ t. Tells lists (p (device_of t)) t b.told) }
 
 -- no action at all
 pub nothing_done : (lists : List (List Entry)) (a : Seen) → Done lists (λ d. []) a a
@@ -215,25 +249,19 @@ over_after lists p a b one Q over = by a.told one.tells
 -- ---- one action more, which is refused
 
 module _ (lists : List (List Entry)) (p q : Plan) (s : Step) (a b c : Seen) (one : Done lists p a b)
-    (more : Over (λ t. (store : List Stored) → ComesThrough (p (device_of t) ++ s ∷ []) (device_of t) store → ComesThrough (q (device_of t)) (device_of t) store) a.told) where
-  never_more : Never (λ d. s ∷ []) b c → Never q a c
-  never_more never = never_as lists (both_plans p (λ d. s ∷ [])) q a c more (never_then lists p (λ d. s ∷ []) a b c one never)
-
-  fails_more_so : FailsIn (λ d. s ∷ []) b c → FailsIn q a c
-  fails_more_so fails = fails_as lists (both_plans p (λ d. s ∷ [])) q a c more (fails_then lists p (λ d. s ∷ []) a b c one fails)
+    (begins : Over (λ t. IsBeginning (p (device_of t) ++ s ∷ []) (q (device_of t))) a.told) where
+  fails_more_so : FailsIn lists (λ d. s ∷ []) b c → FailsIn lists q a c
+  fails_more_so fails = fails_as lists (both_plans p (λ d. s ∷ [])) q a c begins (fails_then lists p (λ d. s ∷ []) a b c one fails)
 
   pub refused_in_run : (e : DriverRefused) → Acts lists s (Err e) b c → Runs lists q (Err e) a c
   refused_in_run Register acts = fails_more_so acts
-  refused_in_run Busy acts = never_more acts
+  refused_in_run Busy acts = absurd acts
   refused_in_run (Status code) acts = absurd acts
   refused_in_run NoMemory acts = absurd acts
 
   pub refused_in_operation : (answer : Device → Result (Unit {0}) DriverRefused) (e : DriverRefused) → Acts lists s (Err e) b c → Operates lists q answer (Err e) a c
   refused_in_operation answer Register acts = fails_more_so acts
-  refused_in_operation answer Busy acts = record {
-    done = never_done lists q a c (never_more acts);
-    answers = never_over lists q a c (never_more acts) _;
-  }
+  refused_in_operation answer Busy acts = absurd acts
   refused_in_operation answer (Status code) acts = absurd acts
   refused_in_operation answer NoMemory acts = absurd acts
 
@@ -244,9 +272,11 @@ take_one i z [] inside = absurd (omega (arith, inside))
 take_one zero z (x ∷ xs) inside = refl
 take_one (suc i) z (x ∷ xs) inside = ap (λ (ys : List Step). x ∷ ys) (take_one i z xs (omega (arith, inside)))
 
-through_part : (i : ℕ) (steps : List Step) (d : Device) (store : List Stored) → ComesThrough (take i steps) d store → ComesThrough steps d store
-through_part i steps d store is =
-    subst (λ (all : List Step). ComesThrough all d store) (take-append-drop i steps) (through_first (take i steps) (drop i steps) d store is)
+part_begins : (i : ℕ) (z : Step) (steps : List Step) → i < length steps → IsBeginning (take i steps ++ get_or steps i z ∷ []) steps
+part_begins i z steps inside = (
+  drop (suc i) steps,
+  ap (λ (some : List Step). some ++ drop (suc i) steps) (take_one i z steps inside) ∙ take-append-drop (suc i) steps,
+)
 
 module _ (lists : List (List Entry)) (steps : List Step) (i : ℕ) (z : Step) (a b c : Seen) (inside : i < length steps)
     (one : Done lists (λ d. take i steps) a b) where
@@ -257,4 +287,4 @@ module _ (lists : List (List Entry)) (steps : List Step) (i : ℕ) (z : Step) (a
 
   pub one_refused : (e : DriverRefused) → Acts lists (get_or steps i z) (Err e) b c → Runs lists (λ d. steps) (Err e) a c
   one_refused e acts = refused_in_run lists (λ d. take i steps) (λ d. steps) (get_or steps i z) a b c one
-      (everywhere _ a.told (λ t store through. through_part (suc i) steps (device_of t) store (rw (sym (take_one i z steps inside)) through))) e acts
+      (everywhere _ a.told (λ t. part_begins i z steps inside)) e acts

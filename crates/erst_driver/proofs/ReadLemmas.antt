@@ -1,7 +1,7 @@
 -- What the actions of a read come to.
 use Rattle.std.proofs.Common.{◌≡◌, ◌∙◌, ℕ, ◌+◌, ◌-◌, ◌≤◌, Bool, true, false, ◌||◌, nat_eq, nat_lt, List, [], ◌∷◌, ◌++◌, length, Option, Some, None, refl, sym, ap, subst, inl, inr, arith, if◌then◌else◌}
 use Rattle.std.proofs.lemmas.Bool.Decides.{nat_tests}
-use Rattle.std.specs.Prelude.{◌⊎◌, replicate, is_some, Result, Ok, Err, OnOk}
+use Rattle.std.specs.Prelude.{◌⊎◌, replicate, is_some, Result, Ok, Err, OnOk, IfSome}
 use Rattle.std.specs.List.{AllByRecursion}
 use Rattle.erst_store.specs.declared.device.Command.TheVariants.{Read}
 use Rattle.erst_store.specs.declared.device.CommandStatus.{CommandStatus}
@@ -12,17 +12,23 @@ use Rattle.erst_store.specs.Device.{Device, act, busy_device, range_with_record,
 use Rattle.erst_store.specs.DeviceLaws.{IsDevice}
 use Rattle.board_core.specs.Clock.{Passes, LeftNow}
 use Rattle.board_core.specs.Stop.{Left, InStore}
-use Rattle.board_core.specs.Told.{Told, device_of, Relates}
+use Rattle.board_core.specs.declared.board.Access.{Access}
+use Rattle.board_core.specs.declared.board.Access.TheVariants.{RangeRead}
+use Rattle.board_core.specs.Told.{Told, device_of, with_access, Relates}
 use Rattle.erst_interp.specs.declared.entries.Entry.{Entry}
-use Rattle.erst_interp.specs.Run.{Keeps}
-use Rattle.erst_interp.specs.Steps.{Seen}
+use Rattle.erst_interp.specs.Run.{Keeps, IsCutShort}
+use Rattle.erst_interp.specs.Steps.{Seen, Fails}
+use Rattle.erst_interp.specs.Steps.{Stays as Unchanged}
+use Rattle.erst_interp.proofs.BreakLemmas.{off_more, off_after}
+use Rattle.erst_interp.proofs.TouchLemmas.{well_fails}
+use Rattle.erst_driver.specs.declared.step.Step.{Step}
 use Rattle.erst_driver.specs.declared.refusals.DriverRefused.{DriverRefused}
 use Rattle.erst_driver.specs.declared.refusals.DriverRefused.TheVariants.{Register, Busy, NoMemory, Status as EndedWith}
-use Rattle.erst_driver.specs.Operations.{Over, is_free_in_time, actions_of, read_steps, after_steps, told_by_read}
+use Rattle.erst_driver.specs.Operations.{Over, is_free_in_time, actions_of, read_steps, after_steps, told_by, fetched_by, told_by_read}
 use Rattle.erst_driver.specs.Answers.{Answer, by_status, found_status, answer_of, answer_on_found, Gives, Leaves, LeavesStore, IsStoreIn, HasCauseIn, Stays, HoldsRecord}
-use Rattle.erst_driver.specs.Steps.{StoreIn, ComesThrough, Done, Reads, Fetched}
-use Rattle.erst_driver.proofs.PlanLemmas.{over_device, over_both_device, everywhere}
-use Rattle.erst_driver.proofs.OperationLemmas.{Carries, through_operation, store_after, range_after, answer_is, passes_at, gives_of, leaves_of, store_of, kept_of, cause_of, stops}
+use Rattle.erst_driver.specs.Steps.{StoreIn, ComesThrough, Done, FailsIn, FailsFetch, Answered, Operates, Reads, Fetched}
+use Rattle.erst_driver.proofs.PlanLemmas.{told_made, over_device, over_both_device, over_both, over_more, everywhere}
+use Rattle.erst_driver.proofs.OperationLemmas.{Carries, through_operation, store_after, range_after, answer_is, passes_at}
 
 -- ---- the record that is found
 
@@ -166,11 +172,75 @@ holds_record id d buffer device answer is =
       is = is ∙ range_after (read_steps id) d ∙ (done id d device).range found.0 found.1 success;
     }
 
+-- ---- an operation and the read after it
+
+fetch_more : (answer : Answer) (u t : Told) (new : Option Told) → IsCutShort u.accesses t new → IsCutShort (fetched_by answer u).accesses t new
+fetch_more (Ok done) u t new cut = off_more u.accesses (RangeRead 0 range_length ∷ []) t new cut
+fetch_more (Err why) u t new cut = cut
+
+pub operate_refused : (lists : List (List Entry)) (steps : List Step) (buffer : List ℕ) (a b : Seen) (why : DriverRefused)
+    → Operates lists (actions_of steps) (answer_of steps) (Err why) a b → Reads lists steps buffer (Err why) a b
+operate_refused lists steps buffer a b Register fails = record {
+  fails = fails.fails;
+  cut = over_more _ _ a.told fails.cut (λ t cut. fetch_more (answer_of steps (device_of t)) (told_by lists (actions_of steps (device_of t)) t) t b.told cut);
+}
+operate_refused lists steps buffer a b Busy operates = operates
+operate_refused lists steps buffer a b (EndedWith code) operates = operates
+operate_refused lists steps buffer a b NoMemory operates = absurd operates
+
+pub fetch_failed : (lists : List (List Entry)) (steps : List Step) (a b c : Seen) → Answered lists (actions_of steps) (answer_of steps) (Ok tt) a b
+    → IfSome b.told (λ t. IsCutShort (with_access (RangeRead 0 range_length) t).accesses t c.told) → Fails Unchanged b c → FailsFetch lists steps a c
+fetch_failed lists steps a b c one breaks fails = record {
+  fails = well_fails (StoreIn (actions_of steps) a.told) (StoreIn (actions_of steps) a.told) (λ x y is. is) Unchanged
+      (λ x y z through same. subst (λ (u : List Stored). StoreIn (actions_of steps) a.told x u) (sym same) through) a b c one.done.well fails;
+  cut = over_both _ _ _ a.told one.done.tells one.answers (λ t tells is.
+      (let u = told_by lists (actions_of steps (device_of t)) t in
+      let made = told_made lists (actions_of steps (device_of t)) t in
+      let off : IsCutShort (with_access (RangeRead 0 range_length) u).accesses u c.told =
+      subst (λ (o : Option Told). IfSome o (λ x. IsCutShort (with_access (RangeRead 0 range_length) x).accesses x c.told)) tells.told breaks in
+      subst (λ (x : Answer). IsCutShort (fetched_by x u).accesses t c.told) is
+      (off_after (with_access (RangeRead 0 range_length) u).accesses made.0 t u c.told made.1 off)));
+}
+
 module _ (lists : List (List Entry)) (id : ℕ) (buffer : List ℕ) (a b : Seen) where
+  gives_on : (why : DriverRefused) → Over (λ t. Err why ≡ answer_of (read_steps id) (device_of t)) a.told → Over (λ t. Err why ≡ answer_on_found id (device_of t)) a.told
+  gives_on why answers = over_device _ _ a.told answers (λ t device is. is ∙ read_answers id (device_of t) device)
+
   pub read_gives : (result : Answer) → Reads lists (read_steps id) buffer result a b → Over (λ t. Gives result (answer_on_found id (device_of t))) a.told
   read_gives (Ok tt) reads = over_device _ _ a.told reads.answers (λ t device is. is ∙ read_answers id (device_of t) device)
-  read_gives (Err why) reads = over_device _ _ a.told (gives_of lists (actions_of (read_steps id)) (answer_of (read_steps id)) a b (Err why) reads)
-      (λ t device is. subst (λ (x : Answer). Gives (Err why) x) (read_answers id (device_of t) device) is)
+  read_gives (Err Register) reads = everywhere _ a.told (λ t. tt)
+  read_gives (Err Busy) reads = gives_on Busy reads.answers
+  read_gives (Err (EndedWith code)) reads = gives_on (EndedWith code) reads.answers
+  read_gives (Err NoMemory) reads = absurd reads
+
+  told_on : (why : DriverRefused) → Done lists (actions_of (read_steps id)) a b → Over (λ t. Err why ≡ answer_of (read_steps id) (device_of t)) a.told
+      → Over (λ t. b.told ≡ Some (told_by_read lists id (answer_on_found id (device_of t)) t)) a.told
+  told_on why done answers = over_both _ _ _ a.told done.tells (gives_on why answers)
+      (λ t tells is. subst (λ (x : Answer). b.told ≡ Some (told_by_read lists id x t)) is tells.told)
+
+  pub read_told : (result : Answer) → Reads lists (read_steps id) buffer result a b
+      → Over (λ t. Leaves result t b.told (told_by_read lists id (answer_on_found id (device_of t)) t)) a.told
+  read_told (Ok tt) reads = over_both_device _ _ _ a.told reads.told reads.answers
+      (λ t device told is. subst (λ (x : Answer). b.told ≡ Some (told_by_read lists id x t)) (is ∙ read_answers id (device_of t) device) told)
+  read_told (Err Register) reads = over_device _ _ a.told reads.cut
+      (λ t device cut. subst (λ (x : Answer). IsCutShort (told_by_read lists id x t).accesses t b.told) (read_answers id (device_of t) device) cut)
+  read_told (Err Busy) reads = told_on Busy reads.done reads.answers
+  read_told (Err (EndedWith code)) reads = told_on (EndedWith code) reads.done reads.answers
+  read_told (Err NoMemory) reads = absurd reads
+
+  pub read_kept : (result : Answer) → Reads lists (read_steps id) buffer result a b → Relates Keeps a.told b.told
+  read_kept (Ok tt) reads = reads.well.kept
+  read_kept (Err Register) reads = reads.fails.kept
+  read_kept (Err Busy) reads = reads.done.well.kept
+  read_kept (Err (EndedWith code)) reads = reads.done.well.kept
+  read_kept (Err NoMemory) reads = absurd reads
+
+  pub read_cause : (result : Answer) → Reads lists (read_steps id) buffer result a b → HasCauseIn result a.faults b.faults
+  read_cause (Ok tt) reads = reads.well.faults
+  read_cause (Err Register) reads = reads.fails.raises
+  read_cause (Err Busy) reads = reads.done.well.faults
+  read_cause (Err (EndedWith code)) reads = reads.done.well.faults
+  read_cause (Err NoMemory) reads = absurd reads
 
   read_holds : Fetched lists (read_steps id) buffer a b → Over (λ t. HoldsRecord id t.here.store buffer) a.told
   read_holds fetched = over_both_device _ _ _ a.told fetched.answers fetched.bytes
@@ -195,7 +265,10 @@ module _ (lists : List (List Entry)) (id : ℕ) (buffer : List ℕ) (a b : Seen)
 
   read_passes : (result : Answer) → Reads lists (read_steps id) buffer result a b → Passes (InStore (StoreIn (actions_of (read_steps id)) a.told)) a.clock b.clock
   read_passes (Ok tt) reads = reads.well.stops
-  read_passes (Err why) reads = stops lists (actions_of (read_steps id)) (answer_of (read_steps id)) a b (Err why) reads
+  read_passes (Err Register) reads = reads.fails.stops
+  read_passes (Err Busy) reads = reads.done.well.stops
+  read_passes (Err (EndedWith code)) reads = reads.done.well.stops
+  read_passes (Err NoMemory) reads = absurd reads
 
   pub read_stays : (result : Answer) → Reads lists (read_steps id) buffer result a b → ((t : Told) (left : Left) → a.told ≡ Some t → LeftNow a.clock left → left.store ≡ t.here.store)
       → Passes (InStore (Stays a.told)) a.clock b.clock

@@ -3,20 +3,17 @@ use Rattle.std.proofs.Common.{◌≡◌, ◌∙◌, ℕ, zero, suc, ◌+◌, ◌
 use Rattle.std.proofs.lemmas.Bool.Decides.{nat_tests}
 use Rattle.std.specs.Prelude.{◌⊎◌, replicate, Result, Ok, Err}
 use Rattle.erst_store.specs.Actions.{check_busy_status}
-use Rattle.erst_store.specs.Store.{Stored}
 use Rattle.erst_store.specs.Device.{Device, act}
 use Rattle.board_core.specs.Told.{Told, device_of}
 use Rattle.erst_interp.specs.declared.entries.Entry.{Entry}
 use Rattle.erst_interp.specs.Faithful.{answer_after}
 use Rattle.erst_interp.specs.Steps.{Seen}
-use Rattle.erst_driver.specs.declared.driver.TheConstants.{MOST_CHECKS}
 use Rattle.erst_driver.specs.declared.refusals.DriverRefused.{DriverRefused}
 use Rattle.erst_driver.specs.declared.refusals.DriverRefused.TheVariants.{Register, Busy, Status, NoMemory}
 use Rattle.erst_driver.specs.declared.step.Step.{Step}
-use Rattle.erst_driver.specs.Operations.{Over, plain, checks, is_free_in_time, asks, after_step, after_steps}
-use Rattle.erst_driver.specs.Answers.{answer_within}
-use Rattle.erst_driver.specs.Steps.{ComesThrough, Done, Acted, Acts, Operates, Answered}
-use Rattle.erst_driver.proofs.PlanLemmas.{through_first, done_then, done_as, refused_in_operation, over_both, over_more, over_after, everywhere}
+use Rattle.erst_driver.specs.Operations.{Over, plain, checks, after_step, after_steps}
+use Rattle.erst_driver.specs.Steps.{asks_within, answers_within, IsBeginning, Done, Acted, Acts, Operates, Answered}
+use Rattle.erst_driver.proofs.PlanLemmas.{done_then, done_as, refused_in_operation, over_both, over_more, over_after, everywhere}
 
 abbrev check : Step
 check = plain check_busy_status
@@ -79,32 +76,31 @@ checks_both (suc one) two =
     let e : suc (one + two) ≡ suc one + two = omega arith in
     ap (λ (steps : List Step). check ∷ steps) (checks_both one two) ∙ ap checks e
 
-asks_free : (busy : ℕ) → busy < MOST_CHECKS → asks busy ≡ checks (busy + 1)
-asks_free busy free = ap (λ (b : Bool). if b then checks (busy + 1) else checks MOST_CHECKS) (free_is busy free)
+asks_free : (most busy : ℕ) → busy < most → asks_within most busy ≡ checks (busy + 1)
+asks_free most busy free = ap (λ (b : Bool). if b then checks (busy + 1) else checks most) (free_is most busy free)
   where
-    free_is : (busy : ℕ) → busy < MOST_CHECKS → is_free_in_time busy ≡ true
-    free_is busy free = grind (arith, nat_tests, free)
+    free_is : (most busy : ℕ) → busy < most → nat_lt busy most ≡ true
+    free_is most busy free = grind (arith, nat_tests, free)
 
-asks_busy : (busy : ℕ) → MOST_CHECKS ≤ busy → asks busy ≡ checks MOST_CHECKS
-asks_busy busy late = ap (λ (b : Bool). if b then checks (busy + 1) else checks MOST_CHECKS) (busy_is busy late)
+asks_busy : (most busy : ℕ) → most ≤ busy → asks_within most busy ≡ checks most
+asks_busy most busy late = ap (λ (b : Bool). if b then checks (busy + 1) else checks most) (busy_is most busy late)
   where
-    busy_is : (busy : ℕ) → MOST_CHECKS ≤ busy → is_free_in_time busy ≡ false
-    busy_is busy late = grind (arith, nat_tests, late)
+    busy_is : (most busy : ℕ) → most ≤ busy → nat_lt busy most ≡ false
+    busy_is most busy late = grind (arith, nat_tests, late)
 
 -- a check more is among those that are asked
-through_asks : (busy count : ℕ) (d : Device) (store : List Stored) → count ≤ busy → count < MOST_CHECKS → ComesThrough (checks count ++ check ∷ []) d store → ComesThrough (asks busy) d store
-through_asks busy count d store within inside through = by (is_free_in_time busy) refl
+begins_asks : (most busy count : ℕ) → count ≤ busy → count < most → IsBeginning (checks count ++ check ∷ []) (asks_within most busy)
+begins_asks most busy count within inside = by (nat_lt busy most)
   where
-    rest : (all : ℕ) → count + 1 ≤ all → ComesThrough (checks all) d store
-    rest all fits =
-        let sums : (count + 1) + (all - (count + 1)) ≡ all = omega (arith, fits) in
-        subst (λ (steps : List Step). ComesThrough steps d store) (checks_both (count + 1) (all - (count + 1)) ∙ ap checks sums)
-        (through_first (checks (count + 1)) (checks (all - (count + 1))) d store
-        (subst (λ (steps : List Step). ComesThrough steps d store) (checks_both count 1) through))
+    begins : (all : ℕ) → count + 1 ≤ all → IsBeginning (checks count ++ check ∷ []) (checks all)
+    begins all fits =
+        let left = all - (count + 1) in
+        let sums : (count + 1) + left ≡ all = omega (arith, fits) in
+        (checks left, ap (λ (steps : List Step). steps ++ checks left) (checks_both count 1) ∙ checks_both (count + 1) left ∙ ap checks sums)
 
-    by : (b : Bool) → is_free_in_time busy ≡ b → ComesThrough (if b then checks (busy + 1) else checks MOST_CHECKS) d store
-    by true is = rest (busy + 1) (omega (arith, within))
-    by false is = rest MOST_CHECKS (omega (arith, inside))
+    by : (b : Bool) → IsBeginning (checks count ++ check ∷ []) (if b then checks (busy + 1) else checks most)
+    by true = begins (busy + 1) (omega (arith, within))
+    by false = begins most (omega (arith, inside))
 
 -- ---- the loop
 
@@ -113,12 +109,12 @@ pub record Waiting (lists : List (List Entry)) (count : ℕ) (a b : Seen) : Type
   pub done : Done lists (λ d. checks count) a b
   pub busy : Over (λ t. count ≤ (device_of t).busy) a.told
 
-module _ (lists : List (List Entry)) (count : ℕ) (a b c : Seen) (waiting : Waiting lists count a b) (inside : count < MOST_CHECKS) where
-  more : Over (λ t. (store : List Stored) → ComesThrough (checks count ++ check ∷ []) (device_of t) store → ComesThrough (asks (device_of t).busy) (device_of t) store) a.told
-  more = over_more (λ t. count ≤ (device_of t).busy) _ a.told waiting.busy (λ t within store through. through_asks (device_of t).busy count (device_of t) store within inside through)
+module _ (most : ℕ) (lists : List (List Entry)) (count : ℕ) (a b c : Seen) (waiting : Waiting lists count a b) (inside : count < most) where
+  more : Over (λ t. IsBeginning (checks count ++ check ∷ []) (asks_within most (device_of t).busy)) a.told
+  more = over_more (λ t. count ≤ (device_of t).busy) _ a.told waiting.busy (λ t within. begins_asks most (device_of t).busy count within inside)
 
-  pub wait_refused : (e : DriverRefused) → Acts lists (plain check_busy_status) (Err e) b c → Operates lists (λ d. asks d.busy) (λ d. answer_within d.busy) (Err e) a c
-  wait_refused e acts = refused_in_operation lists (λ d. checks count) (λ d. asks d.busy) check a b c waiting.done more (λ d. answer_within d.busy) e acts
+  pub wait_refused : (e : DriverRefused) → Acts lists (plain check_busy_status) (Err e) b c → Operates lists (λ d. asks_within most d.busy) (λ d. answers_within most d.busy) (Err e) a c
+  wait_refused e acts = refused_in_operation lists (λ d. checks count) (λ d. asks_within most d.busy) check a b c waiting.done more (λ d. answers_within most d.busy) e acts
 
   module _ (value : ℕ) (acted : Acted lists (plain check_busy_status) value b c) where
     answer_here : Over (λ t. value ≡ answer_after check_busy_status 0 (after_steps (checks count) (device_of t))) a.told
@@ -141,26 +137,26 @@ module _ (lists : List (List Entry)) (count : ℕ) (a b c : Seen) (waiting : Wai
         (let none : (after_steps (checks count) (device_of t)).busy ≡ 0 = busy_answer _ (sym answer ∙ zero_is) in
         omega (arith, none, (checked count (device_of t)).busy, within)))
 
-    pub wait_ends : value ≡ 0 → Operates lists (λ d. asks d.busy) (λ d. answer_within d.busy) (Ok tt) a c
+    pub wait_ends : value ≡ 0 → Operates lists (λ d. asks_within most d.busy) (λ d. answers_within most d.busy) (Ok tt) a c
     wait_ends zero_is = record {
-      done = done_as lists (λ d. checks (count + 1)) (λ d. asks d.busy) a c
-          (over_more _ _ a.told (is_last zero_is) (λ t last. (let free : (device_of t).busy < MOST_CHECKS = omega (arith, last, inside) in
-          ap (λ (n : ℕ). checks (n + 1)) (sym last) ∙ sym (asks_free (device_of t).busy free)))) one_done;
+      done = done_as lists (λ d. checks (count + 1)) (λ d. asks_within most d.busy) a c
+          (over_more _ _ a.told (is_last zero_is) (λ t last. (let free : (device_of t).busy < most = omega (arith, last, inside) in
+          ap (λ (n : ℕ). checks (n + 1)) (sym last) ∙ sym (asks_free most (device_of t).busy free)))) one_done;
       answers = over_more _ _ a.told (is_last zero_is) (λ t last.
-          (let free : is_free_in_time (device_of t).busy ≡ true = grind (arith, nat_tests, last, inside) in
+          (let free : nat_lt (device_of t).busy most ≡ true = grind (arith, nat_tests, last, inside) in
           ap (λ (b : Bool). if b then Ok tt else Err Busy) (sym free)));
     }
 
 pub wait_begins : (lists : List (List Entry)) (a : Seen) → Done lists (λ d. []) a a → Waiting lists 0 a a
 wait_begins lists a none = record { done = none; busy = everywhere _ a.told (λ t. omega arith) }
 
-pub wait_gives_up : (lists : List (List Entry)) (count : ℕ) (a b : Seen) → Waiting lists count a b → count ≡ MOST_CHECKS
-    → Operates lists (λ d. asks d.busy) (λ d. answer_within d.busy) (Err Busy) a b
-wait_gives_up lists count a b waiting is = record {
-  done = done_as lists (λ d. checks count) (λ d. asks d.busy) a b
-      (over_more _ _ a.told waiting.busy (λ t within. (let late : MOST_CHECKS ≤ (device_of t).busy = omega (arith, is, within) in
-      ap checks is ∙ sym (asks_busy (device_of t).busy late)))) waiting.done;
+pub wait_gives_up : (most : ℕ) (lists : List (List Entry)) (count : ℕ) (a b : Seen) → Waiting lists count a b → count ≡ most
+    → Operates lists (λ d. asks_within most d.busy) (λ d. answers_within most d.busy) (Err Busy) a b
+wait_gives_up most lists count a b waiting is = record {
+  done = done_as lists (λ d. checks count) (λ d. asks_within most d.busy) a b
+      (over_more _ _ a.told waiting.busy (λ t within. (let late : most ≤ (device_of t).busy = omega (arith, is, within) in
+      ap checks is ∙ sym (asks_busy most (device_of t).busy late)))) waiting.done;
   answers = over_more _ _ a.told waiting.busy (λ t within.
-      (let late : is_free_in_time (device_of t).busy ≡ false = grind (arith, nat_tests, is, within) in
+      (let late : nat_lt (device_of t).busy most ≡ false = grind (arith, nat_tests, is, within) in
       ap (λ (b : Bool). if b then Ok tt else Err Busy) (sym late)));
 }

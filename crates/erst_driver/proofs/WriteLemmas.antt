@@ -2,7 +2,7 @@
 use Rattle.std.proofs.Common.{◌≡◌, ◌∙◌, ℕ, ◌+◌, ◌≤◌, Bool, true, false, ◌||◌, nat_lt, List, [], ◌∷◌, ◌++◌, length, take, drop, Option, Some, None, refl, sym, ap, subst, inl, inr, arith, if◌then◌else◌}
 use Rattle.std.proofs.Math.Seq.{take-append_seam}
 use Rattle.std.proofs.lemmas.Bool.Decides.{nat_tests}
-use Rattle.std.specs.Prelude.{◌⊎◌, Result, Ok, Err}
+use Rattle.std.specs.Prelude.{◌⊎◌, Result, Ok, Err, IfSome}
 use Rattle.ras_base.specs.LittleEndian.{AreBytes, number_at}
 use Rattle.ras_base.specs.LittleEndianLemmas.{number_at-append}
 use Rattle.erst_store.specs.declared.device.Command.TheVariants.{Write}
@@ -15,17 +15,19 @@ use Rattle.erst_store.specs.DeviceLaws.{IsDevice}
 use Rattle.erst_store.specs.KeptLemmas.{IsDevice-range}
 use Rattle.board_core.specs.Clock.{Passes, LeftNow}
 use Rattle.board_core.specs.Stop.{Left, InStore}
+use Rattle.board_core.specs.declared.board.Access.TheVariants.{RangeWrite}
 use Rattle.board_core.specs.Told.{Told, device_of, Relates, Steps}
 use Rattle.erst_interp.specs.declared.entries.Entry.{Entry}
-use Rattle.erst_interp.specs.Run.{Keeps}
+use Rattle.erst_interp.specs.Run.{Keeps, IsCutShort}
 use Rattle.erst_interp.specs.Steps.{Seen, GoesWell, Fails, Stays}
+use Rattle.erst_interp.proofs.BreakLemmas.{off_as, off_more, off_after}
 use Rattle.erst_interp.proofs.TouchLemmas.{well_both, well_fails, fails_more}
 use Rattle.erst_driver.specs.declared.refusals.DriverRefused.{DriverRefused}
 use Rattle.erst_driver.specs.declared.refusals.DriverRefused.TheVariants.{Register, Busy, NoMemory, Status as EndedWith}
 use Rattle.erst_driver.specs.Operations.{Over, is_free_in_time, actions_of, write_steps, after_steps, told_by, put_in_range, told_by_write}
 use Rattle.erst_driver.specs.Answers.{Answer, by_status, answer_of, written_id, is_put_refused, put_status, store_after_write, answer_on_put, Gives, Leaves, LeavesStore, IsStoreIn, HasCauseIn, Puts}
-use Rattle.erst_driver.specs.Steps.{StoreIn, ComesThrough, Tells, Done, Operates, StoreInWrite, Written, Writes}
-use Rattle.erst_driver.proofs.PlanLemmas.{over_at, over_device, over_more, everywhere}
+use Rattle.erst_driver.specs.Steps.{StoreIn, ComesThrough, Tells, Done, Operates, StoreInWrite, Written, FailsIn, FailsWrite, Writes}
+use Rattle.erst_driver.proofs.PlanLemmas.{told_made, over_at, over_device, over_more, everywhere}
 use Rattle.erst_driver.proofs.OperationLemmas.{Carries, through_operation, store_after, answer_is, passes_at}
 
 -- ---- the record in the range
@@ -146,7 +148,7 @@ module _ (bytes : List ℕ) (long : header_length ≤ length bytes) (short : len
 
     passes : (result : Answer) → Writes lists bytes result a b → Passes (InStore (StoreInWrite bytes a.told)) a.clock b.clock
     passes (Ok done) writes = writes.well.stops
-    passes (Err Register) writes = writes.stops
+    passes (Err Register) writes = writes.fails.stops
     passes (Err Busy) writes = writes.well.stops
     passes (Err (EndedWith code)) writes = writes.well.stops
     passes (Err NoMemory) writes = absurd writes
@@ -156,31 +158,41 @@ module _ (bytes : List ℕ) (long : header_length ≤ length bytes) (short : len
     write_puts result writes law = passes_at (StoreInWrite bytes a.told) (Puts bytes a.told) a.told a.clock b.clock law (write_stops a.told) (passes result writes)
 
 module _ (bytes : List ℕ) (lists : List (List Entry)) (a b : Seen) where
-  pub write_told : (result : Answer) → Writes lists bytes result a b → Over (λ t. Leaves result b.told (told_by_write lists bytes t)) a.told
+  pub write_told : (result : Answer) → Writes lists bytes result a b → Over (λ t. Leaves result t b.told (told_by_write lists bytes t)) a.told
   write_told (Ok done) writes = over_more _ _ a.told writes.tells (λ t tells. tells.told)
-  write_told (Err Register) writes = everywhere _ a.told (λ t. tt)
+  write_told (Err Register) writes = writes.cut
   write_told (Err Busy) writes = over_more _ _ a.told writes.tells (λ t tells. tells.told)
   write_told (Err (EndedWith code)) writes = over_more _ _ a.told writes.tells (λ t tells. tells.told)
   write_told (Err NoMemory) writes = absurd writes
 
   pub write_kept : (result : Answer) → Writes lists bytes result a b → Relates Keeps a.told b.told
   write_kept (Ok done) writes = writes.well.kept
-  write_kept (Err Register) writes = writes.kept
+  write_kept (Err Register) writes = writes.fails.kept
   write_kept (Err Busy) writes = writes.well.kept
   write_kept (Err (EndedWith code)) writes = writes.well.kept
   write_kept (Err NoMemory) writes = absurd writes
 
   pub write_cause : (result : Answer) → Writes lists bytes result a b → HasCauseIn result a.faults b.faults
   write_cause (Ok done) writes = writes.well.faults
-  write_cause (Err Register) writes = writes.raises
+  write_cause (Err Register) writes = writes.fails.raises
   write_cause (Err Busy) writes = writes.well.faults
   write_cause (Err (EndedWith code)) writes = writes.well.faults
   write_cause (Err NoMemory) writes = absurd writes
 
   -- ---- the range is filled, and then the operation is done
 
-  pub fill_fails : Fails Stays a b → Fails (StoreInWrite bytes a.told) a b
-  fill_fails fails = fails_more Stays (StoreInWrite bytes a.told) (λ x y same. by a.told x y same) a b fails
+  fill_more : (o : Option Told) → IfSome o (λ t. IsCutShort (put_in_range bytes t).accesses t b.told) → Over (λ t. IsCutShort (told_by_write lists bytes t).accesses t b.told) o
+  fill_more None breaks = tt
+  fill_more (Some t) breaks = λ device.
+      (let u = put_in_range bytes t in
+      let made = told_made lists (actions_of write_steps (device_of u)) u in
+      off_as (u.accesses ++ made.0) (told_by_write lists bytes t).accesses t b.told (sym made.1) (off_more u.accesses made.0 t b.told breaks))
+
+  pub fill_fails : IfSome a.told (λ t. IsCutShort (put_in_range bytes t).accesses t b.told) → Fails Stays a b → FailsWrite lists bytes a b
+  fill_fails breaks fails = record {
+    fails = fails_more Stays (StoreInWrite bytes a.told) (λ x y same. by a.told x y same) a b fails;
+    cut = fill_more a.told breaks;
+  }
     where
       by : (o : Option Told) (x y : List Stored) → y ≡ x → StoreInWrite bytes o x y
       by None x y same = tt
@@ -219,7 +231,11 @@ module _ (bytes : List ℕ) (lists : List (List Entry)) (a b : Seen) where
 
     pub writes_then : (result : Answer) → Operates lists (actions_of write_steps) (answer_of write_steps) result b c → Writes lists bytes result a c
     writes_then (Ok done) operates = answered (Ok done) operates.done operates.answers
-    writes_then (Err Register) fails = well_fails Stays (StoreInWrite bytes a.told) first (StoreIn (actions_of write_steps) b.told) both a b c filled fails
+    writes_then (Err Register) fails = record {
+      fails = well_fails Stays (StoreInWrite bytes a.told) first (StoreIn (actions_of write_steps) b.told) both a b c filled fails.fails;
+      cut = over_more _ _ a.told (over_put (λ t. IsCutShort (told_by lists (actions_of write_steps (device_of t)) t).accesses t c.told) fails.cut)
+          (λ t cut. off_after (told_by_write lists bytes t).accesses (RangeWrite 0 (length bytes) ∷ []) t (put_in_range bytes t) c.told refl cut);
+    }
     writes_then (Err Busy) operates = answered (Err Busy) operates.done operates.answers
     writes_then (Err (EndedWith code)) operates = answered (Err (EndedWith code)) operates.done operates.answers
     writes_then (Err NoMemory) operates = absurd operates

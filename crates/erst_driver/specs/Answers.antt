@@ -10,7 +10,7 @@ use Rattle.erst_store.specs.DeviceLaws.{IsDevice}
 use Rattle.board_core.specs.Cause.{Faults}
 use Rattle.board_core.specs.Stop.{Becomes}
 use Rattle.board_core.specs.Told.{Told, device_of}
-use Rattle.erst_interp.specs.Run.{Raises}
+use Rattle.erst_interp.specs.Run.{Raises, IsCutShort}
 use Rattle.erst_driver.specs.declared.refusals.DriverRefused.{DriverRefused}
 use Rattle.erst_driver.specs.declared.refusals.DriverRefused.TheVariants.{Register, Busy, NoMemory, Status as EndedWith}
 use Rattle.erst_driver.specs.declared.step.Step.{Step}
@@ -75,10 +75,12 @@ abbrev pub Gives : Answer → Answer → Type 0
 Gives (Err Register) answer = Unit {0}
 Gives result answer = result ≡ answer
 
--- A board tells this.
-abbrev pub Leaves : Answer → Option Told → Told → Type 0
-Leaves (Err Register) new t = Unit {0}
-Leaves result new t = new ≡ Some t
+-- A board that told this tells that. Where a call failed, the accesses are those that would have
+-- come to that, up to this call. Where memory ran out nothing is said.
+abbrev pub Leaves : {T : Type 0} → Result T DriverRefused → Told → Option Told → Told → Type 0
+Leaves (Err Register) before new after = IsCutShort after.accesses before new
+Leaves (Err NoMemory) before new after = Unit {0}
+Leaves result before new after = new ≡ Some after
 
 -- The record store is this one.
 abbrev pub IsStoreIn : Option Told → List Stored → Type 0

@@ -92,11 +92,14 @@ told_by lists (s ∷ steps) t = told_by lists steps (told_by_step lists s t)
 abbrev pub actions_of : List Step → Device → List Step
 actions_of steps d = steps ++ finishes (after_steps steps d).busy
 
--- what a board tells after a read: where it ended well, the range was read too
+-- What a board tells after the actions of a read that comes to this answer: where it ends well, the
+-- range is read too.
+abbrev pub fetched_by : Result (Unit {0}) DriverRefused → Told → Told
+fetched_by (Ok done) t = with_access (RangeRead 0 range_length) t
+fetched_by (Err why) t = t
+
 abbrev pub told_by_read : List (List Entry) → ℕ → Result (Unit {0}) DriverRefused → Told → Told
-told_by_read lists id (Ok done) t =
-    with_access (RangeRead 0 range_length) (told_by lists (actions_of (read_steps id) (device_of t)) t)
-told_by_read lists id (Err why) t = told_by lists (actions_of (read_steps id) (device_of t)) t
+told_by_read lists id answer t = fetched_by answer (told_by lists (actions_of (read_steps id) (device_of t)) t)
 
 -- what a board tells after bytes were written into the range, and after a write of them
 abbrev pub put_in_range : List ℕ → Told → Told

@@ -1,5 +1,5 @@
 -- Only for proofs: what private functions say of the actions that they run.
-use Rattle.std.specs.Prelude.{◌≡◌, ℕ, ◌<◌, ◌≤◌, ◌⊎◌, min, take, drop, List, [], ◌∷◌, Option, Some, None, Result, Ok, Err}
+use Rattle.std.specs.Prelude.{◌≡◌, ℕ, ◌+◌, ◌<◌, ◌≤◌, ◌⊎◌, nat_lt, if◌then◌else◌, min, length, take, drop, List, [], ◌∷◌, ◌++◌, Option, Some, None, Result, Ok, Err}
 use Rattle.std.specs.List.{AllByRecursion}
 use Rattle.erst_store.specs.Actions.{get_record_count, range_length}
 use Rattle.erst_store.specs.Store.{Stored, most_records, ids}
@@ -9,11 +9,12 @@ use Rattle.board_core.specs.declared.board.Access.TheVariants.{RangeRead}
 use Rattle.board_core.specs.Told.{Told, device_of, with_access}
 use Rattle.erst_interp.specs.declared.entries.Entry.{Entry}
 use Rattle.erst_interp.specs.Faithful.{input_limit, answer_after}
+use Rattle.erst_interp.specs.Run.{IsCutShort}
 use Rattle.erst_interp.specs.Steps.{Seen, GoesWell, Fails}
 use Rattle.erst_driver.specs.declared.refusals.DriverRefused.{DriverRefused}
 use Rattle.erst_driver.specs.declared.refusals.DriverRefused.TheVariants.{Register, Busy, NoMemory}
 use Rattle.erst_driver.specs.declared.step.Step.{Step}
-use Rattle.erst_driver.specs.Operations.{Over, after_step, after_steps, actions_of, write_steps, listings, ids_steps, told_by, put_in_range}
+use Rattle.erst_driver.specs.Operations.{Over, after_step, after_steps, actions_of, write_steps, checks, listings, ids_steps, told_by, put_in_range, fetched_by, told_by_write}
 use Rattle.erst_driver.specs.Answers.{answer_of}
 
 -- an action that an admitted table does, with an input that it takes
@@ -37,6 +38,13 @@ abbrev pub StoreIn : Plan → Option Told → List Stored → List Stored → Ty
 StoreIn plan None old new = Unit {0}
 StoreIn plan (Some t) old new = IsDevice (device_of t) → (new ≡ old) ⊎ ComesThrough (plan (device_of t)) (device_of t) new
 
+-- a device that is asked so many times at most, and what comes of that
+abbrev pub asks_within : ℕ → ℕ → List Step
+asks_within most busy = if nat_lt busy most then checks (busy + 1) else checks most
+
+abbrev pub answers_within : ℕ → ℕ → Result (Unit {0}) DriverRefused
+answers_within most busy = if nat_lt busy most then Ok tt else Err Busy
+
 -- what is told after actions that were done
 pub record Tells (lists : List (List Entry)) (steps : List Step) (t : Told) (new : Option Told) : Type 0 where
   pub told : new ≡ Some (told_by lists steps t)
@@ -48,13 +56,17 @@ pub record Done (lists : List (List Entry)) (plan : Plan) (old new : Seen) : Typ
   pub well : GoesWell (StoreIn plan old.told) old new
   pub tells : Over (λ t. Tells lists (plan (device_of t)) t new.told) old.told
 
-abbrev pub FailsIn : Plan → Seen → Seen → Type 0
-FailsIn plan old new = Fails (StoreIn plan old.told) old new
+-- what is told of a plan in which a call failed
+abbrev pub CutIn : List (List Entry) → Plan → Option Told → Option Told → Type 0
+CutIn lists plan old new = Over (λ t. IsCutShort (told_by lists (plan (device_of t)) t).accesses t new) old
 
--- a refusal that doesn't come over a board that tells a device
-pub record Never (plan : Plan) (old new : Seen) : Type 0 where
-  pub well : GoesWell (StoreIn plan old.told) old new
-  pub never : Over (λ t. ⊥) old.told
+pub record FailsIn (lists : List (List Entry)) (plan : Plan) (old new : Seen) : Type 0 where
+  pub fails : Fails (StoreIn plan old.told) old new
+  pub cut : CutIn lists plan old.told new.told
+
+-- some actions of a list, from its first one on
+abbrev pub IsBeginning : List Step → List Step → Type 0
+IsBeginning some all = (rest : List Step) × (some ++ rest ≡ all)
 
 -- one action, with its answer
 pub record Acted (lists : List (List Entry)) (s : Step) (value : ℕ) (old new : Seen) : Type 0 where
@@ -63,15 +75,13 @@ pub record Acted (lists : List (List Entry)) (s : Step) (value : ℕ) (old new :
 
 abbrev pub Acts : List (List Entry) → Step → Result ℕ DriverRefused → Seen → Seen → Type 0
 Acts lists s (Ok value) old new = Acted lists s value old new
-Acts lists s (Err Register) old new = FailsIn (λ d. s ∷ []) old new
-Acts lists s (Err Busy) old new = Never (λ d. s ∷ []) old new
+Acts lists s (Err Register) old new = FailsIn lists (λ d. s ∷ []) old new
 Acts lists s (Err why) old new = ⊥
 
 -- several actions
 abbrev pub Runs : List (List Entry) → Plan → Result (Unit {0}) DriverRefused → Seen → Seen → Type 0
 Runs lists plan (Ok done) old new = Done lists plan old new
-Runs lists plan (Err Register) old new = FailsIn plan old new
-Runs lists plan (Err Busy) old new = Never plan old new
+Runs lists plan (Err Register) old new = FailsIn lists plan old new
 Runs lists plan (Err why) old new = ⊥
 
 -- a plan that was done to its end, with this answer over a board that tells a device
@@ -80,7 +90,7 @@ pub record Answered (lists : List (List Entry)) (plan : Plan) (answer : Device �
   pub answers : Over (λ t. result ≡ answer (device_of t)) old.told
 
 abbrev pub Operates : List (List Entry) → Plan → (Device → Result (Unit {0}) DriverRefused) → Result (Unit {0}) DriverRefused → Seen → Seen → Type 0
-Operates lists plan answer (Err Register) old new = FailsIn plan old new
+Operates lists plan answer (Err Register) old new = FailsIn lists plan old new
 Operates lists plan answer (Err NoMemory) old new = ⊥
 Operates lists plan answer result old new = Answered lists plan answer result old new
 
@@ -92,8 +102,14 @@ pub record Fetched (lists : List (List Entry)) (steps : List Step) (buffer : Lis
   pub answers : Over (λ t. Ok tt ≡ answer_of steps (device_of t)) old.told
   pub bytes : Over (λ t. buffer ≡ (after_steps (actions_of steps (device_of t)) (device_of t)).range) old.told
 
+-- one in which a call failed, maybe that read
+pub record FailsFetch (lists : List (List Entry)) (steps : List Step) (old new : Seen) : Type 0 where
+  pub fails : Fails (StoreIn (actions_of steps) old.told) old new
+  pub cut : Over (λ t. IsCutShort (fetched_by (answer_of steps (device_of t)) (told_by lists (actions_of steps (device_of t)) t)).accesses t new.told) old.told
+
 abbrev pub Reads : List (List Entry) → List Step → List ℕ → Result (Unit {0}) DriverRefused → Seen → Seen → Type 0
 Reads lists steps buffer (Ok done) old new = Fetched lists steps buffer old new
+Reads lists steps buffer (Err Register) old new = FailsFetch lists steps old new
 Reads lists steps buffer (Err why) old new = Operates lists (actions_of steps) (answer_of steps) (Err why) old new
 
 -- ---- listings
@@ -103,6 +119,11 @@ abbrev pub Quietly : Option Told → List Stored → List Stored → Type 0
 Quietly None old new = Unit {0}
 Quietly (Some t) old new = IsDevice (device_of t) → (new ≡ old) ⊎ (new ≡ t.here.store)
 
+-- a listing in which a call failed
+pub record FailsQuietly (lists : List (List Entry)) (plan : Plan) (old new : Seen) : Type 0 where
+  pub fails : Fails (Quietly old.told) old new
+  pub cut : CutIn lists plan old.told new.told
+
 -- a listing that came to its end
 pub record EndsListing (lists : List (List Entry)) (old new : Seen) : Type 0 where
   pub done : Done lists (λ d. listings (left_to_list d)) old new
@@ -111,31 +132,30 @@ pub record EndsListing (lists : List (List Entry)) (old new : Seen) : Type 0 whe
 
 abbrev pub ListsOut : List (List Entry) → Result (Unit {0}) DriverRefused → Seen → Seen → Type 0
 ListsOut lists (Ok done) old new = EndsListing lists old new
-ListsOut lists (Err Register) old new = Fails (Quietly old.told) old new
-ListsOut lists (Err Busy) old new = GoesWell (Quietly old.told) old new × Over (λ t. ⊥) old.told
+ListsOut lists (Err Register) old new = FailsQuietly lists (λ d. listings (left_to_list d)) old new
 ListsOut lists (Err why) old new = ⊥
 
 -- identifiers that were collected
 pub record Collected (lists : List (List Entry)) (found : List ℕ) (old new : Seen) : Type 0 where
   pub done : Done lists (λ d. listings (min (left_to_list d) most_records)) old new
+  pub few : length found ≤ most_records
   pub found_is : Over (λ t. found ≡ take most_records (drop (device_of t).cursor (ids t.here.store))) old.told
 
 abbrev pub Collects : {X : Type 0} → (X → List ℕ) → List (List Entry) → Result X DriverRefused → Seen → Seen → Type 0
 Collects view lists (Ok found) old new = Collected lists (view found) old new
-Collects view lists (Err Register) old new = Fails (Quietly old.told) old new
-Collects view lists (Err Busy) old new = GoesWell (Quietly old.told) old new × Over (λ t. ⊥) old.told
+Collects view lists (Err Register) old new = FailsQuietly lists (λ d. listings (min (left_to_list d) most_records)) old new
 Collects view lists (Err NoMemory) old new = GoesWell (Quietly old.told) old new
 Collects view lists (Err why) old new = ⊥
 
 -- all identifiers of a store
 pub record ListedAll (lists : List (List Entry)) (found : List ℕ) (old new : Seen) : Type 0 where
   pub done : Done lists ids_steps old new
+  pub few : length found ≤ most_records
   pub found_is : Over (λ t. found ≡ ids t.here.store) old.told
 
 abbrev pub ListsAll : {X : Type 0} → (X → List ℕ) → List (List Entry) → Result X DriverRefused → Seen → Seen → Type 0
 ListsAll view lists (Ok found) old new = ListedAll lists (view found) old new
-ListsAll view lists (Err Register) old new = Fails (Quietly old.told) old new
-ListsAll view lists (Err Busy) old new = GoesWell (Quietly old.told) old new × Over (λ t. ⊥) old.told
+ListsAll view lists (Err Register) old new = FailsQuietly lists ids_steps old new
 ListsAll view lists (Err NoMemory) old new = GoesWell (Quietly old.told) old new
 ListsAll view lists (Err why) old new = ⊥
 
@@ -155,7 +175,12 @@ pub record Written (lists : List (List Entry)) (bytes : List ℕ) (result : Resu
   pub tells : Over (λ t. Tells lists (actions_of write_steps (device_of (put_in_range bytes t))) (put_in_range bytes t) new.told) old.told
   pub answers : Over (λ t. result ≡ answer_of write_steps (device_of (put_in_range bytes t))) old.told
 
+-- a call failed, maybe the one that writes the bytes
+pub record FailsWrite (lists : List (List Entry)) (bytes : List ℕ) (old new : Seen) : Type 0 where
+  pub fails : Fails (StoreInWrite bytes old.told) old new
+  pub cut : Over (λ t. IsCutShort (told_by_write lists bytes t).accesses t new.told) old.told
+
 abbrev pub Writes : List (List Entry) → List ℕ → Result (Unit {0}) DriverRefused → Seen → Seen → Type 0
-Writes lists bytes (Err Register) old new = Fails (StoreInWrite bytes old.told) old new
+Writes lists bytes (Err Register) old new = FailsWrite lists bytes old new
 Writes lists bytes (Err NoMemory) old new = ⊥
 Writes lists bytes result old new = Written lists bytes result old new

@@ -1,6 +1,6 @@
 //! The operations on the record store.
 
-ghost use Rattle.std.specs.Prelude.{◌≡◌, ◌≤◌, ◌<◌, length, take, drop, Some, IfSome, IfOk, OnOk};
+ghost use Rattle.std.specs.Prelude.{◌≡◌, ◌≤◌, ◌<◌, length, take, drop, Some, IfSome, IfOk, OnOk, OnErr};
 ghost use Rattle.board_core.specs.Clock.{Passes};
 ghost use Rattle.board_core.specs.Stop.{InStore};
 ghost use Rattle.board_core.specs.Told.{Relates, Steps, device_of, with_access};
@@ -9,22 +9,20 @@ ghost use Rattle.erst_store.specs.Actions.{range_length};
 ghost use Rattle.erst_interp.specs.Steps.{Touches, Stays as Unchanged};
 ghost use Rattle.ras_base.specs.LittleEndian.{AreBytes, number_at};
 ghost use Rattle.erst_store.specs.Device.{header_length, length_place};
-ghost use Rattle.erst_store.specs.Store.{ids, without};
+ghost use Rattle.erst_store.specs.Store.{ids, without, most_records};
 ghost use Rattle.erst_interp.specs.Admission.{IsAdmittedTable};
-ghost use Rattle.erst_interp.specs.Run.{Keeps};
+ghost use Rattle.erst_interp.specs.Run.{Keeps, IsCutShort};
 ghost use Rattle.erst_driver.specs.Operations.{Over, actions_of, asks, finishes, clear_steps, ids_steps, told_by, told_by_read, told_by_write, put_in_range};
 ghost use Rattle.erst_driver.specs.Answers.{answer_within, answer_at, answer_of, answer_on_found, Gives, Leaves, LeavesStore, HasCauseIn, Clears, Stays, HoldsRecord, IsMemoryOnly, written_id, answer_on_put, store_after_write, Puts};
-ghost use Rattle.erst_driver.specs.Steps.{Inside, AreInside, Acts, Runs, Operates, Reads, ListsOut, Collects, ListsAll, Writes};
+ghost use Rattle.erst_driver.specs.Steps.{asks_within, answers_within, Inside, AreInside, Acts, Runs, Operates, Reads, ListsOut, Collects, ListsAll, Writes};
 
 use crate::refusals::DriverRefused;
-use crate::step::Step;
+use crate::step::{Step, clear_steps, read_steps, write_steps};
 use board_core::{Board, Failed};
-use erst_interp::{RunRefused, Table};
+use erst_interp::Table;
 use erst_store::MOST_RECORDS;
 use erst_store::actions::{
-    BEGIN_CLEAR_OPERATION, BEGIN_READ_OPERATION, BEGIN_WRITE_OPERATION, CHECK_BUSY_STATUS,
-    END_OPERATION, EXECUTE_OPERATION, GET_COMMAND_STATUS, GET_RECORD_IDENTIFIER,
-    SET_RECORD_IDENTIFIER, SET_RECORD_OFFSET,
+    CHECK_BUSY_STATUS, END_OPERATION, GET_COMMAND_STATUS, GET_RECORD_IDENTIFIER,
 };
 use std::alloc::Global;
 use std::marker::Model;
@@ -81,27 +79,14 @@ impl Driver {
             (B.told board.old) }
         ensures store { Over (λ t. LeavesStore result (B.told board.new) (without id t.here.store))
             (B.told board.old) }
-        ensures told { Over (λ t. Leaves result (B.told board.new)
+        ensures told { Over (λ t. Leaves result t (B.told board.new)
             (told_by self.now (actions_of (clear_steps id) (device_of t)) t)) (B.told board.old) }
         ensures kept { Relates Keeps (B.told board.old) (B.told board.new) }
         ensures stops { Passes (InStore (Clears id (B.told board.old))) (B.clock board.old)
             (B.clock board.new) }
         ensures cause { HasCauseIn result (B.faults board.old) (B.faults board.new) }
     {
-        let steps = [
-            Step {
-                action: BEGIN_CLEAR_OPERATION,
-                input: 0,
-            },
-            Step {
-                action: SET_RECORD_IDENTIFIER,
-                input: id,
-            },
-            Step {
-                action: EXECUTE_OPERATION,
-                input: 0,
-            },
-        ];
+        let steps = clear_steps(id);
         self.operate(&steps, board)
     }
 
@@ -126,32 +111,14 @@ impl Driver {
             (Over (λ t. HoldsRecord id t.here.store buf.new) (B.told board.old)) }
         ensures store { Over (λ t. LeavesStore result (B.told board.new) t.here.store)
             (B.told board.old) }
-        ensures told { Over
-            (λ t. Leaves result (B.told board.new) (told_by_read self.now id result t))
-            (B.told board.old) }
+        ensures told { Over (λ t. Leaves result t (B.told board.new)
+            (told_by_read self.now id (answer_on_found id (device_of t)) t)) (B.told board.old) }
         ensures kept { Relates Keeps (B.told board.old) (B.told board.new) }
         ensures stops { Passes (InStore (Stays (B.told board.old))) (B.clock board.old)
             (B.clock board.new) }
         ensures cause { HasCauseIn result (B.faults board.old) (B.faults board.new) }
     {
-        let steps = [
-            Step {
-                action: BEGIN_READ_OPERATION,
-                input: 0,
-            },
-            Step {
-                action: SET_RECORD_OFFSET,
-                input: 0,
-            },
-            Step {
-                action: SET_RECORD_IDENTIFIER,
-                input: id,
-            },
-            Step {
-                action: EXECUTE_OPERATION,
-                input: 0,
-            },
-        ];
+        let steps = read_steps(id);
         self.operate_and_fetch(&steps, buf, board)
     }
 
@@ -177,7 +144,7 @@ impl Driver {
             (λ t. LeavesStore result (B.told board.new) (store_after_write bytes.now t.here.store))
             (B.told board.old) }
         ensures told { Over
-            (λ t. Leaves result (B.told board.new) (told_by_write self.now bytes.now t))
+            (λ t. Leaves result t (B.told board.new) (told_by_write self.now bytes.now t))
             (B.told board.old) }
         ensures kept { Relates Keeps (B.told board.old) (B.told board.new) }
         ensures stops { Passes (InStore (Puts bytes.now (B.told board.old))) (B.clock board.old)
@@ -198,20 +165,7 @@ impl Driver {
             Ok(()) => {}
             Err(Failed) => return Err(DriverRefused::Register),
         }
-        let steps = [
-            Step {
-                action: BEGIN_WRITE_OPERATION,
-                input: 0,
-            },
-            Step {
-                action: SET_RECORD_OFFSET,
-                input: 0,
-            },
-            Step {
-                action: EXECUTE_OPERATION,
-                input: 0,
-            },
-        ];
+        let steps = write_steps();
         self.operate(&steps, board)
     }
 
@@ -240,15 +194,15 @@ impl Driver {
     /// from the first one on.
     ///
     /// `Register` comes only where a call of the board failed, which is then the last one, and
-    /// `NoMemory` only for want of memory. Over a board that tells, no other refusal comes. At each
-    /// moment a stop leaves all as it was.
+    /// `NoMemory` only for want of memory. No other refusal comes. At each moment a stop leaves all
+    /// as it was.
     pub fn ids<B: Board>(&self, alloc: Global, board: &mut B) -> Result<Vec<u64>, DriverRefused>
         ensures ids { IfOk result (λ found. Over (λ t. found.items
             ≡ ids t.here.store) (B.told board.old)) }
-        ensures told { IfOk result (λ found. Over (λ t. B.told board.new
-            ≡ Some (told_by self.now (ids_steps (device_of t)) t))
-            (B.told board.old)) }
-        ensures refused { Over (λ t. IsMemoryOnly result) (B.told board.old) }
+        ensures few { IfOk result (λ found. length found.items ≤ most_records) }
+        ensures told { Over (λ t. Leaves result t (B.told board.new)
+            (told_by self.now (ids_steps (device_of t)) t)) (B.told board.old) }
+        ensures refused { IsMemoryOnly result }
         ensures kept { Relates Keeps (B.told board.old) (B.told board.new) }
         ensures stops { Passes (InStore (Stays (B.told board.old))) (B.clock board.old)
             (B.clock board.new) }
@@ -319,9 +273,8 @@ impl Driver {
     {
         match self.table.run(step.action as u8, step.input, board) {
             Ok(value) => Ok(value),
-            Err(RunRefused::Register) => Err(DriverRefused::Register),
-            // An admitted table comes to no other refusal.
-            Err(_) => Err(DriverRefused::Busy),
+            // An admitted list comes to no other refusal.
+            Err(_) => Err(DriverRefused::Register),
         }
     }
 
@@ -344,7 +297,17 @@ impl Driver {
             (record { told = B.told board.old; clock = B.clock board.old; faults = B.faults board.old })
             (record { told = B.told board.new; clock = B.clock board.new; faults = B.faults board.new }) }
     {
-        for _ in 0..MOST_CHECKS {
+        self.check(MOST_CHECKS, board)
+    }
+
+    // Asks the device until it isn't busy, so many times at most.
+    fn check<B: Board>(&self, most: u32, board: &mut B) -> Result<(), DriverRefused>
+        ensures waits { Operates self.now (λ d. asks_within most d.busy)
+            (λ d. answers_within most d.busy) result
+            (record { told = B.told board.old; clock = B.clock board.old; faults = B.faults board.old })
+            (record { told = B.told board.new; clock = B.clock board.new; faults = B.faults board.new }) }
+    {
+        for _ in 0..most {
             let check = Step {
                 action: CHECK_BUSY_STATUS,
                 input: 0,
@@ -398,6 +361,8 @@ fn fetch<B: Board>(buf: &mut [u8], board: &mut B) -> Result<(), Failed>
     requires { length buf.old ≡ range_length }
     ensures read { OnOk result (IfSome (B.told board.old) (λ t. buf.new ≡ take (length buf.old) (drop 0 (device_of t).range))) }
     ensures told { OnOk result (Steps (with_access (RangeRead 0 (length buf.old))) (B.told board.old) (B.told board.new)) }
+    ensures breaks { OnErr result (IfSome (B.told board.old)
+        (λ t. IsCutShort (with_access (RangeRead 0 range_length) t).accesses t (B.told board.new))) }
     ensures touches { Touches Unchanged result
         (record { told = B.told board.old; clock = B.clock board.old; faults = B.faults board.old })
         (record { told = B.told board.new; clock = B.clock board.new; faults = B.faults board.new }) }
@@ -412,6 +377,8 @@ fn fetch<B: Board>(buf: &mut [u8], board: &mut B) -> Result<(), Failed>
 fn fill<B: Board>(bytes: &[u8], board: &mut B) -> Result<(), Failed>
     requires { length bytes.now ≤ range_length }
     ensures told { OnOk result (Steps (put_in_range bytes.now) (B.told board.old) (B.told board.new)) }
+    ensures breaks { OnErr result (IfSome (B.told board.old)
+        (λ t. IsCutShort (put_in_range bytes.now t).accesses t (B.told board.new))) }
     ensures touches { Touches Unchanged result
         (record { told = B.told board.old; clock = B.clock board.old; faults = B.faults board.old })
         (record { told = B.told board.new; clock = B.clock board.new; faults = B.faults board.new }) }

@@ -1,8 +1,60 @@
 //! The steps of operations.
 
+ghost use Rattle.std.specs.Prelude.{◌≡◌};
+ghost use Rattle.erst_driver.specs.Operations.{clear_steps, plain, read_steps, step, write_steps};
+
+use erst_store::actions::{
+    BEGIN_CLEAR_OPERATION, BEGIN_READ_OPERATION, BEGIN_WRITE_OPERATION, EXECUTE_OPERATION,
+    SET_RECORD_IDENTIFIER, SET_RECORD_OFFSET,
+};
+
 // One action of an operation, with its input.
 #[derive(Clone, Copy)]
 pub(crate) struct Step {
     pub(crate) action: u64,
     pub(crate) input: u64,
+}
+
+impl Step {
+    // An action with its input.
+    pub(crate) fn new(action: u64, input: u64) -> Step
+        ensures { result ≡ step action input }
+    {
+        Step { action, input }
+    }
+
+    // An action that takes no input.
+    pub(crate) fn plain(action: u64) -> Step
+        ensures { result ≡ plain action }
+    {
+        Step::new(action, 0)
+    }
+}
+
+// The actions of a clearing, until it is carried out.
+pub(crate) fn clear_steps(id: u64) -> [Step; 3]
+    ensures { result ≡ clear_steps id }
+{
+    let begin = Step::plain(BEGIN_CLEAR_OPERATION);
+    let cleared = Step::new(SET_RECORD_IDENTIFIER, id);
+    [begin, cleared, Step::plain(EXECUTE_OPERATION)]
+}
+
+// The actions of a reading, until it is carried out.
+pub(crate) fn read_steps(id: u64) -> [Step; 4]
+    ensures { result ≡ read_steps id }
+{
+    let begin = Step::plain(BEGIN_READ_OPERATION);
+    let offset = Step::new(SET_RECORD_OFFSET, 0);
+    let read = Step::new(SET_RECORD_IDENTIFIER, id);
+    [begin, offset, read, Step::plain(EXECUTE_OPERATION)]
+}
+
+// The actions of a writing, until it is carried out.
+pub(crate) fn write_steps() -> [Step; 3]
+    ensures { result ≡ write_steps }
+{
+    let begin = Step::plain(BEGIN_WRITE_OPERATION);
+    let offset = Step::new(SET_RECORD_OFFSET, 0);
+    [begin, offset, Step::plain(EXECUTE_OPERATION)]
 }

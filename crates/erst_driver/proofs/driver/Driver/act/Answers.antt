@@ -1,4 +1,5 @@
-use Rattle.erst_driver.proofs.ActLemmas.{acted, acted_as, failed, raises_of}
+use Rattle.std.proofs.Common.{[], ◌∷◌}
+use Rattle.erst_driver.proofs.ActLemmas.{acted, acted_as, failed, failed_as}
 use Rattle.erst_driver.proofs.driver.Driver.act.Goals as goal
 
 pub returns-in-Ok : goal.returns-in-Ok
@@ -9,9 +10,10 @@ returns-in-Ok g c = record {
       c.requires c.self.invariant c.in-Ok.ensures.cause c.in-Ok.ensures.runs c.in-Ok.ensures.does);
 }
 
-pub returns-in-Err-Register : goal.returns-in-Err-Register
-returns-in-Err-Register g c = record {
-  acts = failed c.self.inside.table c.args.step _ _ c.in-Err-Register.ensures.kept
-      (c.in-Err-Register.ensures.stores (c.self.invariant c.args.step.action c.requires.action) c.requires.input)
-      (raises_of c.in-Err-Register.field-0 _ _ c.in-Err-Register.field-0-is c.in-Err-Register.ensures.cause);
+pub returns-in-Err : goal.returns-in-Err
+returns-in-Err g c = record {
+  acts = failed_as c.self.inside.table c.args.self.now (λ d. c.args.step ∷ []) _ _ c.self.view_is
+      (failed c.self.inside.table c.args.step _ _ c.in-Err.ensures.kept
+      (c.in-Err.ensures.stores (c.self.invariant c.args.step.action c.requires.action) c.requires.input) c.in-Err.field-0
+      (c.in-Err.ensures.only_register (c.self.invariant c.args.step.action c.requires.action)) c.in-Err.ensures.cause c.in-Err.ensures.runs);
 }

@@ -12,7 +12,7 @@ pub returns-in_err-id : goal.returns-in_err-id
 returns-in_err-id g c =
     let p = err_from_is_err_and c.from_residual.result c.from_residual.ensures.1 in
     record {
-      collects = rw (p.1, p.2) (collect_refused c.args.self.now c.loop.counter c.loop.found.items _ _ _ c.loop.invariant (λ (v : Vec ℕ Global). v.items)
+      collects = rw (p.1, p.2) (collect_refused c.args.self.now c.loop.counter c.loop.found.items _ _ _ c.loop.invariant (λ (v : Vec ℕ Global). v.items) c.loop-test.true
           c.in_err-id.field-0.0 c.in_err-id.ensures.acts);
     }
 

@@ -1,8 +1,11 @@
-use Rattle.erst_driver.proofs.ListLemmas.{all_ids, all_told, all_refused, all_kept, all_cause, all_stays}
+use Rattle.erst_driver.proofs.ListLemmas.{all_ids, all_few, all_told, all_refused, all_kept, all_cause, all_stays}
 use Rattle.erst_driver.proofs.driver.Driver.ids.Goals as goal
 
 pub returns-clause-ids : goal.returns-clause-ids
 returns-clause-ids g c = all_ids (λ v. v.items) c.args.self.now _ _ c.list_all.result c.list_all.ensures.all
+
+pub returns-clause-few : goal.returns-clause-few
+returns-clause-few g c = all_few (λ v. v.items) c.args.self.now _ _ c.list_all.result c.list_all.ensures.all
 
 pub returns-clause-told : goal.returns-clause-told
 returns-clause-told g c = all_told (λ v. v.items) c.args.self.now _ _ c.list_all.result c.list_all.ensures.all

@@ -1,6 +1,6 @@
 -- So many checks were made, and the device was busy at each.
 use Rattle.erst_driver.proofs.WaitLemmas.{Waiting}
-use Rattle.erst_driver.proofs.driver.Driver.wait.Given as goal
+use Rattle.erst_driver.proofs.driver.Driver.check.Given as goal
 
 abbrev pub invariant-loop : goal.invariant-loop
 invariant-loop g l = Waiting l.self l.counter
