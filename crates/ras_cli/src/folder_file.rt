@@ -49,8 +49,11 @@ impl<S: System> FolderFile<S> {
         Ok(())
     }
 
-    /// The length in bytes.
-    pub fn size(&self, system: &mut S) -> io::Result<u64> {
+    /// The length in bytes, as the system told it.
+    pub fn size(&self, system: &mut S) -> io::Result<u64>
+        ensures { IfOk result (λ length. IsSomeAnd self.now.opened
+            (λ it. IsTrue (S.told_length it.file length))) }
+    {
         system.len(&self.opened()?.file)
     }
 
@@ -104,7 +107,8 @@ pub fn read_full<S: System>(
     place: u64,
     buf: &mut [u8],
 ) -> io::Result<usize>
-    ensures { ReadsAtMost result buf.new }
+    ensures within { ReadsAtMost result buf.new }
+    ensures kept { IsTrue (S.keeps_files system.old system.new) }
 {
     let mut count = 0;
     for _ in 0..u64::MAX {

@@ -1,6 +1,9 @@
 //! The device, whose record store is a file of the working folder.
-ghost use Rattle.std.specs.Prelude.{◌+◌, ◌≤◌, length};
+ghost use Rattle.std.specs.Prelude.{◌≡◌, ◌+◌, ◌≤◌, length, take, drop, codes, None, true, false, IfOk, OnOk, OnErr, IsErr, IsTrue, IsFalse, IfSome, IsSomeAnd};
 ghost use Rattle.erst_store.specs.Actions.{range_length};
+ghost use Rattle.erst_store.specs.Device.{act, range_with, new_device};
+ghost use Rattle.erst_store.specs.StoreFile.{store_bytes};
+ghost use Rattle.ras_cli.specs.StoredDevice.{IsUsed, IsLeft, Does, MayChangeStore, Puts, IsSaved};
 
 use crate::folder_file::{read_full, write_full};
 use crate::system::System;
@@ -8,6 +11,7 @@ use erst_store::{Dev, MOST_BYTES, MOST_RECORDS, PutRefused, Store};
 use std::alloc::Global;
 use std::io;
 use std::io::ErrorKind;
+use std::marker::Model;
 
 const STORE: &str = "rasd.store";
 
@@ -29,9 +33,19 @@ pub struct StoredDevice {
     is_lost: bool,
 }
 
+impl Model for StoredDevice {
+    ghost use Rattle.ras_cli.specs.StoredDevice.{Kept};
+
+    ghost Value = { Kept };
+
+    ghost view = { λ s. record { device = s.device; is_lost = s.is_lost } };
+}
+
 impl StoredDevice {
     /// A device that wasn't used yet.
-    pub fn new(alloc: Global) -> StoredDevice {
+    pub fn new(alloc: Global) -> StoredDevice
+        ensures { result ≡ record { device = None; is_lost = false } }
+    {
         StoredDevice {
             alloc,
             device: None,
@@ -40,20 +54,52 @@ impl StoredDevice {
     }
 
     /// Reads the register Action.
-    pub fn action<S: System>(&mut self, system: &mut S) -> io::Result<u64> {
-        Ok(self.device(system)?.read_action())
+    pub fn action<S: System>(&mut self, system: &mut S) -> io::Result<u64>
+        ensures ok { IfOk result (λ n. Does (λ d. d) self.old self.new
+            × IsSomeAnd self.new.device (λ d. n ≡ d.action)) }
+        ensures err { OnErr result (self.new ≡ self.old) }
+        ensures lost { IsTrue self.old.is_lost → IsErr result }
+        ensures files { IsTrue (S.keeps_files system.old system.new) }
+    {
+        let device = self.take_device(system)?;
+        let action = device.read_action();
+        self.device = Some(device);
+        Ok(action)
     }
 
     /// Reads the register Value.
-    pub fn value<S: System>(&mut self, system: &mut S) -> io::Result<u64> {
-        Ok(self.device(system)?.read_value())
+    pub fn value<S: System>(&mut self, system: &mut S) -> io::Result<u64>
+        ensures ok { IfOk result (λ n. Does (λ d. d) self.old self.new
+            × IsSomeAnd self.new.device (λ d. n ≡ d.value)) }
+        ensures err { OnErr result (self.new ≡ self.old) }
+        ensures lost { IsTrue self.old.is_lost → IsErr result }
+        ensures files { IsTrue (S.keeps_files system.old system.new) }
+    {
+        let device = self.take_device(system)?;
+        let value = device.read_value();
+        self.device = Some(device);
+        Ok(value)
     }
 
-    /// Does an action.
-    pub fn act<S: System>(&mut self, system: &mut S, action: u64) -> io::Result<()> {
-        let device = self.device(system)?;
+    /// Does an action. Where it may change the store, the store is written to its file.
+    pub fn act<S: System>(&mut self, system: &mut S, action: u64) -> io::Result<()>
+        ensures ok { OnOk result (Does (act action) self.old self.new) }
+        ensures err { OnErr result (IsFalse self.new.is_lost
+            → IsLeft self.old.device self.new.device) }
+        ensures lost { IsTrue self.old.is_lost → IsErr result }
+        ensures saved { OnOk result (MayChangeStore action self.old.device
+            → IsSomeAnd self.new.device (λ d. IsSaved S.took S.is_synced S.has_entries
+            (S.is_renamed (codes "rasd.new") (codes "rasd.store")) (store_bytes d.store))) }
+        ensures files { ¬ MayChangeStore action self.old.device
+            → IsTrue (S.keeps_files system.old system.new) }
+        ensures usable { ¬ MayChangeStore action self.old.device
+            → self.new.is_lost ≡ self.old.is_lost }
+    {
+        let mut device = self.take_device(system)?;
         let may_change = device.may_change(action);
-        if device.write_action(action).is_err() {
+        let done = device.write_action(action);
+        self.device = Some(device);
+        if done.is_err() {
             return Err(out_of_memory());
         }
         if may_change {
@@ -64,8 +110,15 @@ impl StoredDevice {
     }
 
     /// Writes a number to the register Value.
-    pub fn set_value<S: System>(&mut self, system: &mut S, value: u64) -> io::Result<()> {
-        self.device(system)?.write_value(value);
+    pub fn set_value<S: System>(&mut self, system: &mut S, value: u64) -> io::Result<()>
+        ensures ok { OnOk result (Does (λ d. record d { value = value }) self.old self.new) }
+        ensures err { OnErr result (self.new ≡ self.old) }
+        ensures lost { IsTrue self.old.is_lost → IsErr result }
+        ensures files { IsTrue (S.keeps_files system.old system.new) }
+    {
+        let mut device = self.take_device(system)?;
+        device.write_value(value);
+        self.device = Some(device);
         Ok(())
     }
 
@@ -77,8 +130,16 @@ impl StoredDevice {
         buf: &mut [u8],
     ) -> io::Result<()>
         requires { place + length buf.old ≤ range_length }
+        ensures ok { OnOk result (Does (λ d. d) self.old self.new
+            × IsSomeAnd self.new.device
+            (λ d. buf.new ≡ take (length buf.old) (drop place d.range))) }
+        ensures err { OnErr result (self.new ≡ self.old) }
+        ensures lost { IsTrue self.old.is_lost → IsErr result }
+        ensures files { IsTrue (S.keeps_files system.old system.new) }
     {
-        self.device(system)?.range_read(place, buf);
+        let device = self.take_device(system)?;
+        device.range_read(place, buf);
+        self.device = Some(device);
         Ok(())
     }
 
@@ -90,39 +151,70 @@ impl StoredDevice {
         bytes: &[u8],
     ) -> io::Result<()>
         requires { place + length bytes.now ≤ range_length }
+        ensures ok { OnOk result (Does
+            (λ d. record d { range = range_with place bytes.now d.range }) self.old self.new) }
+        ensures err { OnErr result (self.new ≡ self.old) }
+        ensures lost { IsTrue self.old.is_lost → IsErr result }
+        ensures files { IsTrue (S.keeps_files system.old system.new) }
     {
-        self.device(system)?.range_write(place, bytes);
+        let mut device = self.take_device(system)?;
+        device.range_write(place, bytes);
+        self.device = Some(device);
         Ok(())
     }
 
-    /// Puts a record, and answers what the store answers.
+    /// Puts a record, and answers what the store answers. Where it was put, the store is written to
+    /// its file.
     pub fn put<S: System>(
         &mut self,
         system: &mut S,
         id: u64,
         bytes: &[u8],
-    ) -> io::Result<Result<(), PutRefused>> {
-        if let Err(refused) = self.device(system)?.put(id, bytes) {
-            return Ok(Err(refused));
+    ) -> io::Result<Result<(), PutRefused>>
+        ensures ok { IfOk result (λ answer. Puts id bytes.now answer self.old self.new) }
+        ensures err { OnErr result (IsFalse self.new.is_lost → self.new ≡ self.old) }
+        ensures lost { IsTrue self.old.is_lost → IsErr result }
+        ensures saved { IfOk result (λ answer. OnOk answer
+            (IsSomeAnd self.new.device (λ d. IsSaved S.took S.is_synced S.has_entries
+            (S.is_renamed (codes "rasd.new") (codes "rasd.store")) (store_bytes d.store)))) }
+        ensures files { IfOk result (λ answer. OnErr answer
+            (IsTrue (S.keeps_files system.old system.new))) }
+    {
+        let mut device = self.take_device(system)?;
+        let answer = device.put(id, bytes);
+        self.device = Some(device);
+        if answer.is_ok() {
+            self.save(system)?;
         }
-        self.save(system)?;
-        Ok(Ok(()))
+        Ok(answer)
     }
 
-    // The device, unless it was lost.
-    fn device<S: System>(&mut self, system: &mut S) -> io::Result<&mut Dev> {
+    // Takes the device out, unless it was lost.
+    fn take_device<S: System>(&mut self, system: &mut S) -> io::Result<Dev>
+        ensures ok { IfOk result (λ d. IsUsed self.old.device d) }
+        ensures usable { OnOk result (IsFalse self.old.is_lost) }
+        ensures kept { self.new.is_lost ≡ self.old.is_lost }
+        ensures err { OnErr result (self.new ≡ self.old) }
+        ensures files { IsTrue (S.keeps_files system.old system.new) }
+    {
         if self.is_lost {
             return Err(io::Error::from(ErrorKind::Other));
         }
-        let device = match self.device.take() {
-            Some(device) => device,
-            None => read_device(self.alloc, system)?,
-        };
-        Ok(self.device.insert(device))
+        match self.device.take() {
+            Some(device) => Ok(device),
+            None => read_device(self.alloc, system),
+        }
     }
 
     // Writes the store to its file. The device is lost until that has gone well.
-    fn save<S: System>(&mut self, system: &mut S) -> io::Result<()> {
+    fn save<S: System>(&mut self, system: &mut S) -> io::Result<()>
+        ensures kept { self.new.device ≡ self.old.device }
+        ensures usable { OnOk result (IsFalse self.new.is_lost) }
+        ensures lost { OnErr result (IsTrue self.new.is_lost) }
+        ensures saved { OnOk result (IfSome self.old.device (λ d. IsSaved S.took S.is_synced
+            S.has_entries (S.is_renamed (codes "rasd.new") (codes "rasd.store"))
+            (store_bytes d.store))) }
+    {
         self.is_lost = true;
         if let Some(device) = &self.device {
             write_store(self.alloc, system, device.store())?;
@@ -133,7 +225,10 @@ impl StoredDevice {
 }
 
 // A new device over the store of the folder, which is empty where there is no file.
-fn read_device<S: System>(alloc: Global, system: &mut S) -> io::Result<Dev> {
+fn read_device<S: System>(alloc: Global, system: &mut S) -> io::Result<Dev>
+    ensures new { IfOk result (λ d. d ≡ new_device d.store 0) }
+    ensures files { IsTrue (S.keeps_files system.old system.new) }
+{
     let store = match system.open_if_there(STORE)? {
         Some(file) => read_store(alloc, system, &file)?,
         None => Store::new(alloc),
@@ -142,7 +237,9 @@ fn read_device<S: System>(alloc: Global, system: &mut S) -> io::Result<Dev> {
 }
 
 // The store of a file, all of it. Its length is compared before memory is taken for it.
-fn read_store<S: System>(alloc: Global, system: &mut S, file: &S::File) -> io::Result<Store> {
+fn read_store<S: System>(alloc: Global, system: &mut S, file: &S::File) -> io::Result<Store>
+    ensures { IsTrue (S.keeps_files system.old system.new) }
+{
     let len = system.len(file)?;
     if len > LONGEST_STORE {
         return Err(malformed());
@@ -159,7 +256,10 @@ fn read_store<S: System>(alloc: Global, system: &mut S, file: &S::File) -> io::R
 }
 
 // Puts a new file with this store in the place of the old one, durably.
-fn write_store<S: System>(alloc: Global, system: &mut S, store: &Store) -> io::Result<()> {
+fn write_store<S: System>(alloc: Global, system: &mut S, store: &Store) -> io::Result<()>
+    ensures { OnOk result (IsSaved S.took S.is_synced S.has_entries
+        (S.is_renamed (codes "rasd.new") (codes "rasd.store")) (store_bytes store.now)) }
+{
     let Ok(bytes) = store.to_bytes(alloc) else {
         return Err(out_of_memory());
     };

@@ -1,10 +1,11 @@
 //! The standard streams.
-ghost use Rattle.std.specs.Prelude.{◌≡◌, IfSome, IsErr, IsNone};
+ghost use Rattle.std.specs.Prelude.{◌≡◌, IfSome, IsErr, IsFalse, IsNone};
 ghost use Rattle.std.specs.IoError.{error_kind};
 
 use crate::system::{room_of_output, size_limit};
 use std::io;
 use std::io::{ErrorKind, Print, Stdout};
+use std::marker::Model;
 use std::os::fd::AsFd;
 
 /// The stream, unless the program was started with it closed.
@@ -36,8 +37,18 @@ pub struct Output {
     stream: Option<Stdout>,
 }
 
+// Contracts see of standard output whether it is open.
+impl Model for Output {
+    ghost use Rattle.std.specs.Prelude.{Bool, is_some};
+
+    ghost Value = { Bool };
+
+    ghost view = { λ o. is_some o.stream };
+}
+
 impl Output {
-    /// Standard output as the program was started with it.
+    /// Standard output as the program was started with it. Whether it is open and which limit holds
+    /// is told by the system, which is in no model: so no clause says either.
     pub fn new(rt: HostRuntime) -> Output {
         let stream = if_open(rt.stdout());
         Output {
@@ -49,8 +60,11 @@ impl Output {
 
     /// Writes the whole piece in one write. What a short write left goes on in another, and so does
     /// an interrupted one. A write to a file past the limit on the size of files would end the
-    /// program by a signal, and is an error here.
-    pub fn write(&self, bytes: &[u8]) -> io::Result<()> {
+    /// program by a signal, and is an error here. Where the stream is closed, every write fails. No
+    /// clause says what the system took of the bytes, as it isn't in a model.
+    pub fn write(&self, bytes: &[u8]) -> io::Result<()>
+        ensures closed { IsFalse self.now → IsErr result }
+    {
         let room = room_of_output(&self.rt, self.size_limit);
         if room >= bytes.len() as u64 {
             return write_to(self.stream, bytes);

@@ -1,5 +1,5 @@
 //! What the program asks of the system's files, so that a test can answer in its place.
-ghost use Rattle.std.specs.Prelude.{◌≡◌, ◌≤◌, ◌+◌, ◌++◌, [], ℕ, List, length, take, Bool, true, IfOk, OnOk, IsTrue, refl};
+ghost use Rattle.std.specs.Prelude.{◌≡◌, ◌≤◌, ◌+◌, ◌-◌, ◌^◌, ◌++◌, ◌⊎◌, [], ℕ, List, length, take, Bool, true, IfOk, OnOk, IsTrue, refl};
 ghost use Rattle.std.specs.Io.{ReadsAtMost, WritesAtMost};
 
 use std::fs::{
@@ -41,22 +41,42 @@ pub trait System: Drop {
     /// That the system made the entries of a folder durable. Only `sync_folder` shows it.
     ghost has_entries: { Self.File → Bool };
 
+    /// That the system told this length of a file. Only `len` shows it.
+    ghost told_length: { Self.File → ℕ → Bool };
+
+    /// That the system put the file of the one name in the place of the other. Only `rename` shows
+    /// it.
+    ghost is_renamed: { List ℕ → List ℕ → Bool };
+
+    /// That from the one state to the other no file was made, written or renamed. Calls that only
+    /// read show it.
+    ghost keeps_files: { Self → Self → Bool };
+
+    ghost keeps_at_once: { (system : Self) → IsTrue (keeps_files system system) };
+
+    ghost keeps_on: { (a b c : Self) → IsTrue (keeps_files a b) → IsTrue (keeps_files b c)
+        → IsTrue (keeps_files a c) };
+
     /// Opens a file for reads and writes, and makes it where it is missing. Where a link has its
     /// name, this is the file that the link leads to, with that file's folder.
     fn open(&mut self, name: &str) -> io::Result<Opened<Self::File>>;
 
     /// Opens a file for reads, where it is there.
-    fn open_if_there(&mut self, name: &str) -> io::Result<Option<Self::File>>;
+    fn open_if_there(&mut self, name: &str) -> io::Result<Option<Self::File>>
+        ensures { IsTrue (keeps_files self.old self.new) };
 
     /// Makes an empty file for writes in the place of what has its name.
     fn make(&mut self, name: &str) -> io::Result<Opened<Self::File>>;
 
     /// The length in bytes.
-    fn len(&mut self, file: &Self::File) -> io::Result<u64>;
+    fn len(&mut self, file: &Self::File) -> io::Result<u64>
+        ensures told { IfOk result (λ length. IsTrue (told_length file.now length)) }
+        ensures kept { IsTrue (keeps_files self.old self.new) };
 
     /// Reads at a place, maybe fewer bytes than the buffer has room for.
     fn read_at(&mut self, file: &Self::File, place: u64, buf: &mut [u8]) -> io::Result<usize>
-        ensures { ReadsAtMost result buf.new };
+        ensures within { ReadsAtMost result buf.new }
+        ensures kept { IsTrue (keeps_files self.old self.new) };
 
     /// Writes at a place, maybe fewer bytes than were given.
     fn write_at(&mut self, file: &Self::File, place: u64, bytes: &[u8]) -> io::Result<usize>
@@ -76,7 +96,8 @@ pub trait System: Drop {
         ensures { OnOk result (IsTrue (is_locked file.now)) };
 
     /// Puts a file in the place of another.
-    fn rename(&mut self, from: &str, to: &str) -> io::Result<()>;
+    fn rename(&mut self, from: &str, to: &str) -> io::Result<()>
+        ensures { OnOk result (IsTrue (is_renamed from.now to.now)) };
 }
 
 /// The system that the program runs on.
@@ -90,7 +111,8 @@ pub struct Host {
 }
 
 impl Host {
-    /// The system. The standard streams that are to be known as closed are asked before.
+    /// The system. The standard streams that are to be known as closed are asked before. What it
+    /// tells of descriptors and limits is in no model, so no clause says which are taken.
     pub fn new(rt: HostRuntime) -> Host {
         let mut in_place_of_streams = [None, None, None];
         for place in &mut in_place_of_streams {
@@ -133,6 +155,16 @@ impl System for Host {
     ghost is_synced = { λ _. true };
 
     ghost has_entries = { λ _. true };
+
+    ghost told_length = { λ _ _. true };
+
+    ghost is_renamed = { λ _ _. true };
+
+    ghost keeps_files = { λ _ _. true };
+
+    ghost keeps_at_once = { λ _. refl };
+
+    ghost keeps_on = { λ _ _ _ _ _. refl };
 
     fn open(&mut self, name: &str) -> io::Result<Opened<File>> {
         let file = OpenOptions::new()
@@ -218,14 +250,18 @@ fn within_limit(limit: u64, place: u64, bytes: &[u8]) -> io::Result<&[u8]>
 }
 
 /// The limit on the size of the files that the program writes, which is the greatest number where
-/// none is known.
+/// none is known. What the system's file tells is in no model, so no clause says the number.
 pub fn size_limit(rt: &HostRuntime) -> u64 {
     number_told(rt, "/proc/self/limits", "Max file size").unwrap_or(u64::MAX)
 }
 
 /// How many bytes standard output takes before it comes to a limit on the size of files. Only a
-/// file has one.
-pub fn room_of_output(rt: &HostRuntime, limit: u64) -> u64 {
+/// file has one. What standard output is, and how far it was written, is in no model: no clause
+/// says which of the two it is, nor how much of the limit is left.
+pub fn room_of_output(rt: &HostRuntime, limit: u64) -> u64
+    ensures unlimited { limit ≡ 2 ^ 64 - 1 → result ≡ 2 ^ 64 - 1 }
+    ensures within { (result ≡ 2 ^ 64 - 1) ⊎ (result ≤ limit) }
+{
     if limit == u64::MAX {
         return u64::MAX;
     }

@@ -90,6 +90,16 @@ impl System for Scripted {
 
     ghost has_entries = { λ _. true };
 
+    ghost told_length = { λ _ _. true };
+
+    ghost is_renamed = { λ _ _. true };
+
+    ghost keeps_files = { λ _ _. true };
+
+    ghost keeps_at_once = { λ _. refl };
+
+    ghost keeps_on = { λ _ _ _ _ _. refl };
+
     fn open(&mut self, name: &str) -> io::Result<Opened<Named>> {
         let file = file_of_name(name);
         self.ask(Call::Open(file))?;

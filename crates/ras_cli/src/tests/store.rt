@@ -169,8 +169,18 @@ fn is_missing(rt: &HostRuntime, name: &str) -> bool {
     fs::metadata(rt, name).is_err()
 }
 
+// Where no new file can be made a put fails, the old file stays as it is, and the device isn't used
+// again.
+fn is_lost_beside_a_folder(rt: HostRuntime, system: &mut Host) -> Result<bool, Fail> {
+    let mut device = device(rt.alloc());
+    fs::create_dir(&rt, "rasd.new")?;
+    let has_failed = !put(&mut device, system) && count(&mut device, system).is_err();
+    fs::remove_dir(&rt, "rasd.new")?;
+    Ok(has_failed && holds_one(&rt)?)
+}
+
 // In a real folder: a missing file, one that is made and replaced, one beside what a killed run
-// left, a malformed one.
+// left, one where no new file can be made, a malformed one.
 #[test]
 fn keeps_the_store_in_a_folder(rt: HostRuntime) -> Result<(), Fail> {
     remove_files(&rt);
@@ -185,7 +195,7 @@ fn keeps_the_store_in_a_folder(rt: HostRuntime) -> Result<(), Fail> {
         b"a longer file that a killed run left behind",
     )?;
     assert!(rt; put(&mut device, &mut system) && holds_one(&rt)?);
-    assert!(rt; is_missing(&rt, "rasd.new"));
+    assert!(rt; is_missing(&rt, "rasd.new") && is_lost_beside_a_folder(rt, &mut system)?);
     fs::write(&rt, "rasd.store", &ONE_RECORD[..24])?;
     assert!(rt; count_anew(rt, &mut system) == None);
     remove_files(&rt);
