@@ -118,6 +118,15 @@ line_not_script h = cc
 source_not_script : Source ≡ TooLong → ⊥
 source_not_script h = cc
 
+err_not_ok : (refused : NextRefused) (more : Bool) → Err refused ≡ Ok more → ⊥
+err_not_ok refused more h = cc
+
+abbrev answer : Bool → Result Bool NextRefused
+answer more = Ok more
+
+ok_not_true : answer false ≡ answer true → ⊥
+ok_not_true h = cc
+
 no_bytes : (xs : List ℕ) → (0 < length xs → ⊥) → xs ≡ []
 no_bytes [] none = refl
 no_bytes (x ∷ xs) none = absurd (none (omega arith))
@@ -202,3 +211,19 @@ gives_rest false old mid new (Some b) (Some n) moves is found some line held =
     let none : n ≡ [] = found.3 in
     let nothing : mid.held ≡ [] = no_bytes mid.held (λ more. false_not_true (some.1 more)) in
     come_same old mid (Some b) (Some n) moves ∙ rw (none, nothing) (no_lines _)
+
+-- with a line the bytes given grow
+count_same : (old mid : Reader) (before now : Option (List ℕ)) → Moves [] old mid before now → given_count mid ≡ given_count old
+count_same old mid before now moves = omega (arith, moves.count, ap length moves.kept, length-append old.held moves.bytes)
+
+pub line_grows : (result : Result Bool NextRefused) (size : ℕ) (old mid new : Reader) (before now : Option (List ℕ)) → Moves [] old mid before now → IsHeld mid → FeedAt size mid.held
+    → OnOk result (new.held ≡ drop (size + 1) mid.held) → new.taken ≡ mid.taken → result ≡ Ok true → given_count old < given_count new
+line_grows (Ok more) size old mid new before now moves is at held taken gives =
+    omega (arith, count_same old mid before now moves, is.known, at.inside, ap length held, length-drop (size + 1) mid.held, taken)
+line_grows (Err refused) size old mid new before now moves is at held taken gives = absurd (err_not_ok refused true gives)
+
+pub rest_grows : (result : Bool) (old mid new : Reader) (before now : Option (List ℕ)) → Moves [] old mid before now → IsHeld mid
+    → (IsTrue result ↔ (0 < length mid.held)) → new.held ≡ [] → new.taken ≡ mid.taken → answer result ≡ answer true → given_count old < given_count new
+rest_grows true old mid new before now moves is some held taken gives =
+    omega (arith, count_same old mid before now moves, is.known, some.0 refl, ap length held, taken)
+rest_grows false old mid new before now moves is some held taken gives = absurd (ok_not_true gives)

@@ -110,7 +110,8 @@ impl LineReader {
     }
 
     /// Goes to the next line, which `line` then gives, and answers whether there was one. It reads
-    /// only while it holds no line feed, and takes no memory.
+    /// only while it holds no line feed, and takes no memory. With each line the bytes given grow,
+    /// so a loop over the lines ends whatever its source tells.
     ///
     /// # Errors
     ///
@@ -124,6 +125,7 @@ impl LineReader {
         ensures line { result ≡ Ok true → IsLine self.new.line }
         ensures ahead { length self.new.held ≤ LONGEST_LINE + 1 }
         ensures few { self.new.taken ≤ LONGEST_SCRIPT + 1 }
+        ensures given { result ≡ Ok true → given_count self.old < given_count self.new }
         ensures held_first { Contains self.old.held 10 → source.new ≡ source.old }
         ensures cause { HasSourceCause result (S.faults source.old) (S.faults source.new) }
         ensures fault { result ≡ Err NextRefused.Source → Lacks 10 self.new.held }

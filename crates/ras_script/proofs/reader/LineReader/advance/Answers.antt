@@ -1,5 +1,5 @@
 use Rattle.std.proofs.lemmas.Result.{err_from_is_err_and}
-use Rattle.ras_script.proofs.ReaderLemmas.{gives_refused, gives_line, gives_rest, moves_line}
+use Rattle.ras_script.proofs.ReaderLemmas.{gives_refused, gives_line, gives_rest, moves_line, line_grows, rest_grows}
 use Rattle.ras_script.proofs.reader.LineReader.advance.Goals as goal
 
 pub returns-in_err-size-clause-lines : goal.returns-in_err-size-clause-lines
@@ -21,3 +21,12 @@ pub returns-in-None-clause-lines : goal.returns-in-None-clause-lines
 returns-in-None-clause-lines g c =
     let ends = rw c.in-None.is at c.in_ok-size.ensures.finds in
     gives_rest c.give_rest.result c.args.self.now c.find_line.new.self c.give_rest.new.self _ _ c.find_line.ensures.moves c.find_line.ensures.holds ends c.give_rest.ensures.some c.give_rest.ensures.line c.give_rest.ensures.held
+
+pub returns-in-Some-clause-given : goal.returns-in-Some-clause-given
+returns-in-Some-clause-given g c =
+    let at = rw c.in-Some.is at c.in_ok-size.ensures.finds in
+    line_grows c.give_line.result c.in-Some.size c.args.self.now c.find_line.new.self c.give_line.new.self _ _ c.find_line.ensures.moves c.find_line.ensures.holds at c.give_line.ensures.held c.give_line.ensures.taken
+
+pub returns-in-None-clause-given : goal.returns-in-None-clause-given
+returns-in-None-clause-given g c =
+    rest_grows c.give_rest.result c.args.self.now c.find_line.new.self c.give_rest.new.self _ _ c.find_line.ensures.moves c.find_line.ensures.holds c.give_rest.ensures.some c.give_rest.ensures.held c.give_rest.ensures.taken
