@@ -1,20 +1,18 @@
 -- Calls that keep what the board tells of files, store and text.
-use Rattle.std.proofs.Common.{◌≡◌, ◌∙◌, ℕ, ◌-◌, min, List, length, take, Option, None, Some, Result, Ok, Err, ◌≢◌, refl, sym, ap, subst, arith, inl, inr}
-use Rattle.std.specs.Prelude.{IfSome, IfErr}
+use Rattle.std.proofs.Common.{◌≡◌, ◌∙◌, ℕ, Option, None, Some, Result, Ok, Err, refl, sym, ap, subst, arith, inl, inr}
+use Rattle.std.specs.Prelude.{IfSome}
 use Rattle.std.specs.Option.{option_map}
-use Rattle.std.proofs.lemmas.List.{take_all}
-use Rattle.board_core.specs.declared.board.FileNo.{FileNo}
 use Rattle.board_core.specs.declared.board.FileNo.TheVariants.{Zero, One}
 use Rattle.board_core.specs.declared.board.DiskCall.{DiskCall}
 use Rattle.board_core.specs.declared.board.DiskCall.TheVariants.{Sync}
 use Rattle.board_core.specs.Clock.{Clock, LeftNow, After, Passes, IsSynced}
 use Rattle.board_core.specs.ClockLemmas.{adds_after, adds_both, adds_weaker, adds_none, synced_over, rests_synced}
 use Rattle.board_core.specs.Stop.{Left, Same}
-use Rattle.board_core.specs.Told.{Told, Steps, Relates, Reads, MayList, with_call, file_of}
+use Rattle.board_core.specs.Told.{Told, Steps, Relates, MayList, with_call, file_of}
 use Rattle.board_core.specs.Cause.{Faults, disk_call, with_count, FailsAs}
 use Rattle.ras_recover.specs.declared.refused.OpenRefused.{OpenRefused}
 use Rattle.ras_recover.specs.declared.refused.OpenRefused.TheVariants.{Disk, TooLong, Damaged, NoMemory}
-use Rattle.ras_recover.specs.Recovering.{Keeps, RestsHere, UnlessDisk, open_failure}
+use Rattle.ras_recover.specs.Recovering.{Keeps, RestsHere, UnlessDisk}
 
 same_left : (old : Clock) (left : Left) → After old Same left → LeftNow old left
 same_left old left after = subst (λ (l : Left). LeftNow old l) (sym after.by) after.was
@@ -95,13 +93,6 @@ both_synced t told mid new synced last is first zero passes second one store out
           (λ left now. store v left new_is now) (λ left now. out v left new_is now);
     }
 
--- a file that is read whole
-pub read_of : (file : FileNo) (n size : ℕ) (buffer : List ℕ) (told : Option Told) → length buffer ≡ size → IfSome told (λ t. Reads 0 n buffer (file_of file t)) → IfSome told (λ t. size ≡ length (file_of file t) → take n buffer ≡ file_of file t)
-read_of file n size buffer None long reads = tt
-read_of file n size buffer (Some t) long reads = λ is.
-    let count : n ≡ min (length buffer) (length (file_of file t) - 0) = reads.count in
-    reads.bytes ∙ take_all n (file_of file t) (omega arith)
-
 -- ---- faults
 
 pub unless_disk : {T : Type 0} (result : Result T OpenRefused) (P : Type 0) → P → UnlessDisk result P
@@ -111,21 +102,8 @@ unless_disk (Err TooLong) P holds = holds
 unless_disk (Err (Damaged file place)) P holds = holds
 unless_disk (Err NoMemory) P holds = holds
 
-no_failure : {T : Type 0} (result : Result T OpenRefused) → IfErr result (λ refused. refused ≢ Disk) → open_failure result ≡ Ok tt
-no_failure (Ok x) not = refl
-no_failure (Err Disk) not = absurd (not refl)
-no_failure (Err TooLong) not = refl
-no_failure (Err (Damaged file place)) not = refl
-no_failure (Err NoMemory) not = refl
-
-same_faults : {T E : Type 0} (old new : Faults) (x : T) → FailsAs {E = E} disk_call old new (Ok x) → new ≡ old
+pub same_faults : {T E : Type 0} (old new : Faults) (x : T) → FailsAs {E = E} disk_call old new (Ok x) → new ≡ old
 same_faults old new x cause = cause.others ∙ ap (λ (n : ℕ). with_count disk_call n old) cause.own.same
 
-no_faults : {T E : Type 0} (old new : Faults) (x : T) → new ≡ old → FailsAs {E = E} disk_call old new (Ok x)
+pub no_faults : {T E : Type 0} (old new : Faults) (x : T) → new ≡ old → FailsAs {E = E} disk_call old new (Ok x)
 no_faults {T} {E} old new x same = subst (λ (f : Faults). FailsAs {E = E} disk_call old f (Ok x)) (sym same) (record { own = record { later = omega arith; failed = tt; same = refl }; others = refl })
-
--- two calls that went well, and an answer that is no fault
-pub no_cause : {T S U E : Type 0} (old mid new : Faults) (x : S) (y : U) (result : Result T OpenRefused) → FailsAs {E = E} disk_call old mid (Ok x) → FailsAs {E = OpenRefused} disk_call mid new (Ok y)
-    → IfErr result (λ refused. refused ≢ Disk) → FailsAs disk_call old new (open_failure result)
-no_cause old mid new x y result first second not =
-    subst (λ (r : Result (Unit {0}) OpenRefused). FailsAs disk_call old new r) (sym (no_failure result not)) (no_faults old new tt (same_faults mid new y second ∙ same_faults old mid x first))

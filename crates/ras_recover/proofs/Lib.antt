@@ -6,3 +6,10 @@ pub mod KeepingLemmas
 pub mod OpeningLemmas
 pub mod LifeLemmas
 pub mod CountingLemmas
+pub mod CallsLemmas
+pub mod OpeningCallsLemmas
+pub mod WindowLemmas
+pub mod LooksLemmas
+pub mod HoldingLemmas
+pub mod StandingLemmas
+pub mod BothLemmas

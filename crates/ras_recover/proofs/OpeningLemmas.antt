@@ -1,8 +1,7 @@
 -- What a stop leaves while file 0 is formatted, where no file stands.
 use Rattle.std.proofs.Common.{◌≡◌, ◌∙◌, ℕ, ◌+◌, ◌-◌, ◌≤◌, ◌⊎◌, ◌^◌, min, List, [], ◌∷◌, ◌++◌, length, length-append, Option, None, Some, Result, Ok, refl, sym, ap, subst, arith, inl, inr}
-use Rattle.std.specs.Prelude.{Bool, true, false, if◌then◌else◌, nat_lt, IfSome}
+use Rattle.std.specs.Prelude.{Bool, true, false, if◌then◌else◌, nat_lt, IfSome, unwrap_or}
 use Rattle.std.specs.Option.{option_map}
-use Rattle.std.proofs.lemmas.Bool.Decides.{nat_tests}
 use Rattle.ras_base.specs.Chaining.{◌>>=◌}
 use Rattle.ras_base.specs.LittleEndian.{u64_bytes}
 use Rattle.ras_base.specs.LittleEndianLemmas.{length-u64_bytes}
@@ -26,9 +25,10 @@ use Rattle.ras_journal.proofs.FormattingLemmas.{absent}
 use Rattle.ras_journal.proofs.JournalLemmas.{both_whole, both_parts, recovers_of, at_of}
 use Rattle.ras_journal.proofs.PairLemmas.{none_stands}
 use Rattle.ras_recover.specs.Formatting.{behind_gate, after_formatting, Formatting}
-use Rattle.ras_recover.specs.Opening.{FormatsFirst, Opening, HoldsNone, IsOpened}
+use Rattle.ras_recover.specs.Looking.{standing_begun}
+use Rattle.ras_recover.specs.Opening.{FormatsFirst, Opening, HoldsNone, IsOpened, first_standing, standing_opened}
 use Rattle.ras_recover.specs.Recovering.{Keeps, RestsHere}
-use Rattle.ras_recover.proofs.KeepingLemmas.{still, rests_still, keeps_then}
+use Rattle.ras_recover.proofs.KeepingLemmas.{still}
 use Rattle.ras_recover.proofs.FormattingLemmas.{formatting_reads, formatted, formatted_reads, formatting_short, formatted_short, writing_told, writing_frame}
 
 -- a file of which nothing counts doesn't stand
@@ -84,10 +84,6 @@ none_of account here is none =
           short_one = parts.0.short_one;
           account_is = sym is;
         }
-
--- the file that is formatted is shut where it is longer than 1 byte
-pub shut_by_size : (file : List ℕ) → has_open_gate file ≡ false → nat_lt 1 (length file) ≡ is_shut file
-shut_by_size file none = grind (arith, nat_tests)
 
 pub record CanFormat (account : State) (checkpoint : List ℕ) : Type 0 where
   pub room : 26 + length checkpoint ≤ LONGEST_FILE
@@ -155,11 +151,8 @@ first_stops account shut bytes t old new holds is shut_is bytes_are adds =
     (λ left by. first_moment account t.here left holds is
     (subst (λ (b : List ℕ). InFile Zero (Formatting (is_shut t.here.file0) b) t.here left) bytes_are (subst (λ (s : Bool). InFile Zero (Formatting s bytes) t.here left) shut_is by)))
 
-abbrev pub first_standing : State → Bool → Standing
-first_standing account shut = record { file = Zero; version = Two; generation = 1; length = min (2 ^ 64 - 1) (25 + min (2 ^ 64 - 1) (length (checkpoint_bytes Two account))); links = 0; shut = shut }
-
 pub first_opened : (account : State) (shut : Bool) (bytes : List ℕ) (shut_one : Bool) (t : Told) (told : Option Told) (clock : Clock) → HoldsNone account t.here → IsCheckpoint Two account (checkpoint_bytes Two account) → shut ≡ is_shut t.here.file0
-    → bytes ≡ behind_gate 1 (checkpoint_bytes Two account) → shut_one ≡ is_shut t.here.file1 → Rests (after_formatting Zero shut bytes t) told clock → IsOpened (first_standing account shut_one) account told clock
+    → bytes ≡ behind_gate 1 (checkpoint_bytes Two account) → shut_one ≡ is_shut t.here.file1 → Rests (after_formatting Zero shut bytes t) told clock → IsOpened (standing_begun account shut_one) account told clock
 first_opened account shut bytes shut_one t told clock holds is shut_is bytes_are shut_one_is rests =
     let here = t.here in
     let none = none_of account here holds.recovers holds.none in
@@ -179,8 +172,8 @@ first_opened account shut bytes shut_one t told clock holds is shut_is bytes_are
       there = after_formatting Zero shut bytes t;
       before = record {
         rests = rests;
-        at = subst (λ (l : Left). IsAt (first_standing account shut_one) account l) (sym told_here)
-            (at_of left (record { file = Zero; front = begun_front Two 1 c account }) (first_standing account shut_one) account
+        at = subst (λ (l : Left). IsAt (standing_begun account shut_one) account l) (sym told_here)
+            (at_of left (record { file = Zero; front = begun_front Two 1 c account }) (standing_begun account shut_one) account
             (first_counts account c here none file short reads)
             (λ i. record { file = Zero; version = Two; generation = 1; length = sym long i; links = 0; shut = sym shut_one_is i }) refl);
       };
@@ -212,48 +205,50 @@ is_opened account standing t told_old told_new clock is holds position r = recor
   };
 }
 
-shut_zero : (account : State) (longer : Bool) (told : Option Told) → Holds account told → HasPosition None told → IfSome told (λ t. longer ≡ nat_lt 1 (length t.here.file0)) → IfSome told (λ t. longer ≡ is_shut t.here.file0)
-shut_zero account longer None holds none is = tt
-shut_zero account longer (Some t) holds none is = is ∙ shut_by_size t.here.file0 (none_of account t.here holds none).zero
+pub shut_still : (one two : Bool) (old new : Option Told) → option_map (λ (t : Told). t.here) new ≡ option_map (λ (t : Told). t.here) old → IfSome old (λ t. (one ≡ is_shut t.here.file0) × (two ≡ is_shut t.here.file1))
+    → IfSome new (λ t. (one ≡ is_shut t.here.file0) × (two ≡ is_shut t.here.file1))
+shut_still one two old new same is = still (λ (l : Left). (one ≡ is_shut l.file0) × (two ≡ is_shut l.file1)) old new same is
 
-shut_one : (account : State) (longer : Bool) (told : Option Told) → Holds account told → HasPosition None told → IfSome told (λ t. longer ≡ nat_lt 1 (length t.here.file1)) → IfSome told (λ t. longer ≡ is_shut t.here.file1)
-shut_one account longer None holds none is = tt
-shut_one account longer (Some t) holds none is = is ∙ shut_by_size t.here.file1 (none_of account t.here holds none).one
-
-pub zero_is_shut : (account : State) (longer : Bool) (told_old : Option Told) (old : Clock) (told_a : Option Told) (a : Clock) (told_b : Option Told) (b : Clock) → Keeps told_old old told_a a → Keeps told_a a told_b b → Holds account told_old → HasPosition None told_old
-    → IfSome told_a (λ t. longer ≡ nat_lt 1 (length t.here.file0)) → IfSome told_b (λ t. longer ≡ is_shut t.here.file0)
-zero_is_shut account longer told_old old told_a a told_b b first second holds none is =
-    still (λ (l : Left). longer ≡ is_shut l.file0) told_a told_b second.here
-    (shut_zero account longer told_a (still (λ (l : Left). recovered l.file0 l.file1 ≡ Ok account) told_old told_a first.here holds)
-    (still (λ (l : Left). position_of l.file0 l.file1 ≡ None) told_old told_a first.here none) is)
-
-pub one_is_shut : (account : State) (longer : Bool) (told_old : Option Told) (old : Clock) (told_a : Option Told) (a : Clock) (told_b : Option Told) (b : Clock) → Keeps told_old old told_a a → Keeps told_a a told_b b → Holds account told_old → HasPosition None told_old
-    → IfSome told_a (λ t. longer ≡ nat_lt 1 (length t.here.file1)) → IfSome told_b (λ t. longer ≡ is_shut t.here.file1)
-one_is_shut account longer told_old old told_a a told_b b first second holds none is =
-    still (λ (l : Left). longer ≡ is_shut l.file1) told_a told_b second.here
-    (shut_one account longer told_a (still (λ (l : Left). recovered l.file0 l.file1 ≡ Ok account) told_old told_a first.here holds)
-    (still (λ (l : Left). position_of l.file0 l.file1 ≡ None) told_old told_a first.here none) is)
+pub zero_is_shut : (one two : Bool) (told : Option Told) → IfSome told (λ t. (one ≡ is_shut t.here.file0) × (two ≡ is_shut t.here.file1)) → IfSome told (λ t. one ≡ is_shut t.here.file0)
+zero_is_shut one two None is = tt
+zero_is_shut one two (Some t) is = is.0
 
 -- what format_first gives, from rest
 abbrev pub FormatStops : State → Option Told → Clock → Clock → Type 0
 FormatStops account told old new = (t : Told) → HoldsNone account t.here → Rests t told old → Adds (FormatsFirst t.here) old new
 
-pub opening_stops : (account : State) (t : Told) (told_old : Option Told) (old : Clock) (told_a : Option Told) (a : Clock) (told_b : Option Told) (b new : Clock) → told_old ≡ Some t → Keeps told_old old told_a a → Keeps told_a a told_b b → Holds account told_old → HasPosition None told_old
-    → RestsHere t.here told_a a → FormatStops account told_b b new → Adds (Opening old t.here) old new
-opening_stops account t told_old old told_a a told_b b new is first second holds none rests format =
-    let r = rests_still t.here told_a a told_b b rests second in
-    let k = keeps_then told_old old told_a a told_b b first second in
+pub opening_stops : (account : State) (t : Told) (told_old : Option Told) (old : Clock) (told_a : Option Told) (a new : Clock) → told_old ≡ Some t → Keeps told_old old told_a a → Holds account told_old → HasPosition None told_old
+    → RestsHere t.here told_a a → FormatStops account told_a a new → Adds (Opening old t.here) old new
+opening_stops account t told_old old told_a a new is keeps holds none r format =
     let adds = format r.there (subst (λ (l : Left). HoldsNone account l) (sym r.same) (holds_none account t told_old is holds none)) r.rests in
-    adds_both (Opening old t.here) old b new (adds_weaker (LeftNow old) (Opening old t.here) old b k.stops (λ left now. inl now))
-    (adds_weaker (FormatsFirst r.there.here) (Opening old t.here) b new adds (λ left f. inr (subst (λ (l : Left). FormatsFirst l left) r.same f)))
+    adds_both (Opening old t.here) old a new (adds_weaker (LeftNow old) (Opening old t.here) old a keeps.stops (λ left now. inl now))
+    (adds_weaker (FormatsFirst r.there.here) (Opening old t.here) a new adds (λ left f. inr (subst (λ (l : Left). FormatsFirst l left) r.same f)))
 
 abbrev pub FormatOpens : State → Bool → Standing → Option Told → Clock → Option Told → Clock → Type 0
 FormatOpens account shut standing told old told_new new = (t : Told) → HoldsNone account t.here → shut ≡ is_shut t.here.file1 → Rests t told old → IsOpened standing account told_new new
 
-pub opening_opens : (account : State) (longer : Bool) (standing : Standing) (t : Told) (told_old : Option Told) (old : Clock) (told_a : Option Told) (a : Clock) (told_b : Option Told) (b : Clock) (told_new : Option Told) (new : Clock) → told_old ≡ Some t
-    → Keeps told_old old told_a a → Keeps told_a a told_b b → Holds account told_old → HasPosition None told_old → IfSome told_a (λ t. longer ≡ nat_lt 1 (length t.here.file1)) → RestsHere t.here told_a a
-    → FormatOpens account longer standing told_b b told_new new → IsOpened standing account told_new new
-opening_opens account longer standing t told_old old told_a a told_b b told_new new is first second holds none one rests format =
-    let r = rests_still t.here told_a a told_b b rests second in
-    format r.there (subst (λ (l : Left). HoldsNone account l) (sym r.same) (holds_none account t told_old is holds none))
-    (subst (λ (o : Option Told). IfSome o (λ u. longer ≡ is_shut u.here.file1)) r.rests.is (one_is_shut account longer told_old old told_a a told_b b first second holds none one)) r.rests
+pub opening_opens : (account : State) (one two : Bool) (standing : Standing) (t : Told) (told_old : Option Told) (told_a : Option Told) (a : Clock) (told_new : Option Told) (new : Clock) → told_old ≡ Some t → Holds account told_old → HasPosition None told_old
+    → IfSome told_old (λ u. (one ≡ is_shut u.here.file0) × (two ≡ is_shut u.here.file1)) → RestsHere t.here told_a a → FormatOpens account two standing told_a a told_new new → IsOpened standing account told_new new
+opening_opens account one two standing t told_old told_a a told_new new is holds none shut r format =
+    let there = subst (λ (o : Option Told). IfSome o (λ u. (one ≡ is_shut u.here.file0) × (two ≡ is_shut u.here.file1))) is shut in
+    format r.there (subst (λ (l : Left). HoldsNone account l) (sym r.same) (holds_none account t told_old is holds none)) (there.1 ∙ ap (λ (l : Left). is_shut l.file1) (sym r.same)) r.rests
+
+-- ---- where the journal stands then
+
+pub holds_nothing : (account : State) (told : Option Told) → Holds account told → HasPosition None told → IfSome told (λ t. HoldsNone (account_of empty) t.here)
+holds_nothing account None holds none = tt
+holds_nothing account (Some t) holds none = record { recovers = holds ∙ ap (λ (a : State). Ok a) (none_of account t.here holds none).account_is; none = none }
+
+first_of_empty : (account : State) (file1 : List ℕ) (shut : Bool) → account ≡ account_of empty → shut ≡ is_shut file1 → standing_begun account shut ≡ first_standing file1
+first_of_empty account file1 shut is shut_is =
+    let same : length (checkpoint_bytes Two account) ≡ length (checkpoint_bytes Two (account_of empty)) = ap (λ (a : State). length (checkpoint_bytes Two a)) is in
+    let short : length (checkpoint_bytes Two (account_of empty)) ≡ 72 = empty_length in
+    let long : min (2 ^ 64 - 1) (25 + min (2 ^ 64 - 1) (length (checkpoint_bytes Two account))) ≡ 25 + length (checkpoint_bytes Two (account_of empty)) = omega arith in
+    λ i. record { file = Zero; version = Two; generation = 1; length = long i; links = 0; shut = shut_is i }
+
+pub stands_first : (account : State) (one two : Bool) (told : Option Told) → Holds account told → HasPosition None told → IfSome told (λ t. (one ≡ is_shut t.here.file0) × (two ≡ is_shut t.here.file1))
+    → IfSome told (λ t. standing_begun account two ≡ standing_opened t.here.file0 t.here.file1)
+stands_first account one two None holds none is = tt
+stands_first account one two (Some t) holds none is =
+    first_of_empty account t.here.file1 two (none_of account t.here holds none).account_is is.1
+    ∙ sym (ap (λ (o : Option Standing). unwrap_or o (first_standing t.here.file1)) none)

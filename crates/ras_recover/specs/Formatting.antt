@@ -5,7 +5,7 @@
 -- synced. Then all behind that gate is written and synced, up to and with the first closed gate of
 -- the chain. Then the gate at the front is opened and synced. What a longer file had behind that
 -- closed gate stays there, and doesn't count.
-use Rattle.std.specs.Prelude.{◌≡◌, ℕ, ◌≤◌, ◌⊎◌, Bool, false, if◌then◌else◌, List, [], ◌∷◌, ◌++◌, length}
+use Rattle.std.specs.Prelude.{◌≡◌, ℕ, ◌≤◌, ◌⊎◌, Bool, false, if◌then◌else◌, List, [], ◌∷◌, ◌++◌, length, All}
 use Rattle.ras_base.specs.LittleEndian.{u64_bytes}
 use Rattle.board_core.specs.declared.board.FileNo.{FileNo}
 use Rattle.board_core.specs.declared.board.DiskCall.{DiskCall}
@@ -13,6 +13,7 @@ use Rattle.board_core.specs.Told.{Told, Torn, overlay, after_write_through, Fail
 use Rattle.entry_format.specs.declared.version.Version.TheVariants.{Two}
 use Rattle.ras_journal.specs.declared.limits.TheConstants.{OPEN_GATE, CLOSED_GATE}
 use Rattle.ras_journal.specs.Laws.{magic}
+use Rattle.ras_recover.specs.DiskCalls.{IsWriting}
 
 -- what is written behind the gate at the front: the magic of version 2, the generation, the number
 -- of the checkpoint's bytes, the checkpoint, and a closed gate
@@ -42,11 +43,13 @@ FailsFormatting file shut bytes old new =
     ⊎ (FailsThrough file 1 bytes (after_closing file shut old) new
     ⊎ FailsThrough file 0 (OPEN_GATE ∷ []) (after_writing file shut bytes old) new)
 
--- At most so many disk calls were made: they are listed behind those made before.
+-- At most so many disk calls were made, WriteAt and Sync alone: they are listed behind those made
+-- before.
 pub record MakesAtMost (most : ℕ) (old new : Told) : Type 0 where
   pub made : List DiskCall
   pub listed : new.disk_calls ≡ old.disk_calls ++ made
   pub few : length made ≤ most
+  pub alone : All IsWriting made
 
 -- ---- what a stop leaves of the file: one of the steps may be torn, and those before it are done
 

@@ -1,6 +1,11 @@
+pub mod DiskCalls
 pub mod Formatting
 pub mod Switching
 pub mod Reading
 pub mod Recovering
 pub mod Opening
+pub mod OpeningCalls
+pub mod Looking
 pub mod Life
+pub mod Windows
+pub mod Pair

@@ -1,13 +1,15 @@
 -- What opening a journal leaves.
-use Rattle.std.specs.Prelude.{◌≡◌, ◌⊎◌, None, Option, Ok}
+use Rattle.std.specs.Prelude.{◌≡◌, ℕ, ◌+◌, ◌⊎◌, List, length, None, Option, Ok, unwrap_or}
 use Rattle.board_core.specs.declared.board.FileNo.TheVariants.{Zero}
 use Rattle.board_core.specs.Clock.{Clock, LeftNow}
 use Rattle.board_core.specs.Stop.{Left, with_file_in}
 use Rattle.board_core.specs.Told.{Told}
 use Rattle.ras_account.specs.History.{empty}
 use Rattle.ras_account.specs.Account.{State, account_of}
+use Rattle.entry_format.specs.declared.version.Version.TheVariants.{Two}
+use Rattle.journal_format.specs.Checkpoints.{checkpoint_bytes}
 use Rattle.ras_journal.specs.declared.standing.Standing.{Standing}
-use Rattle.ras_journal.specs.Recovered.{recovered, position_of, Recovers}
+use Rattle.ras_journal.specs.Recovered.{recovered, position_of, is_shut, Recovers}
 use Rattle.ras_journal.specs.Appending.{Before}
 
 -- While file 0 is formatted, whatever a stop leaves recovers the empty account. All but file 0 is
@@ -31,3 +33,20 @@ pub record IsOpened (standing : Standing) (account : State) (told : Option Told)
 pub record HoldsNone (account : State) (here : Left) : Type 0 where
   pub recovers : recovered here.file0 here.file1 ≡ Ok account
   pub none : position_of here.file0 here.file1 ≡ None
+
+-- ---- where the journal stands
+
+-- the first generation in file 0, with the empty account as its checkpoint, beside this file 1
+abbrev pub first_standing : List ℕ → Standing
+first_standing file1 = record {
+  file = Zero;
+  version = Two;
+  generation = 1;
+  length = 25 + length (checkpoint_bytes Two (account_of empty));
+  links = 0;
+  shut = is_shut file1;
+}
+
+-- the position of the two files, or where no file stands the first generation
+abbrev pub standing_opened : List ℕ → List ℕ → Standing
+standing_opened file0 file1 = unwrap_or (position_of file0 file1) (first_standing file1)

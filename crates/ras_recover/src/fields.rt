@@ -1,5 +1,5 @@
 //! The fields of a journal file.
-ghost use Rattle.std.specs.Prelude.{◌≡◌, ◌+◌, ◌≤◌, length, None, Some, IfSome, IfOk, OnOk};
+ghost use Rattle.std.specs.Prelude.{◌≡◌, ◌+◌, ◌^◌, ◌<◌, ◌≤◌, length, None, Some, IfSome, IfOk, OnOk};
 ghost use Rattle.journal_format.specs.CheckpointReading.{checkpoint_of};
 ghost use Rattle.ras_account.specs.View.{nothing, View};
 ghost use Rattle.ras_journal.specs.Fields.{part, field, version_of, generation_of, number_of, is_open_of};
@@ -98,6 +98,7 @@ pub(crate) fn is_open_at(gate: usize, file: &[u8]) -> Result<bool, usize>
 #[tactic(auto, unfolding(ras_journal::specs::Fields::field))]
 pub(crate) fn payload_count_at(place: usize, file: &[u8]) -> Result<u64, usize>
     ensures read { result ≡ field (number_of 4) place 4 file.now }
+    ensures small { IfOk result (λ count. count < 2 ^ 32) }
     ensures within { OnOk result (place + 4 ≤ length file.now) }
 {
     match part(place, 4, file) {

@@ -1,23 +1,23 @@
 //! One journal file.
-ghost use Rattle.std.specs.Prelude.{◌≡◌, ◌+◌, ◌≤◌, length, None, Some, IfSome, IfOk, OnOk};
-ghost use Rattle.std.specs.Option.{option_map};
+ghost use Rattle.std.specs.Prelude.{◌≡◌, ℕ, ◌+◌, ◌-◌, ◌^◌, ◌≤◌, min, true, length, None, Ok, IfSome, IfOk, OnOk};
 ghost use Rattle.ras_account.specs.View.{nothing};
-ghost use Rattle.ras_journal.specs.File.{has_open_gate, first_front, front_of};
+ghost use Rattle.entry_format.specs.declared.version.Version.{Version};
+ghost use Rattle.ras_journal.specs.Fields.{field, number_of, version_of};
+ghost use Rattle.ras_journal.specs.File.{has_open_gate, first_front};
 ghost use Rattle.ras_journal.specs.Recovered.{is_shut};
 ghost use Rattle.ras_recover.specs.Reading.{Answers, front_at};
 
 use crate::fields::{checkpoint_at, checkpoint_count_at, generation_at, version_at};
-use crate::links::last_place;
 use crate::place::{Place, Unread};
 use ras_account::Account;
 use ras_journal::OPEN_GATE;
 use std::alloc::Global;
 
 /// The place of a checkpoint in its file.
-const CHECKPOINT_PLACE: usize = 25;
+pub(crate) const CHECKPOINT_PLACE: usize = 25;
 
 // Whether a file stands.
-fn has_open_gate(file: &[u8]) -> bool
+pub(crate) fn has_open_gate(file: &[u8]) -> bool
     ensures { result ≡ has_open_gate file.now }
 {
     file.len() > 1 && file[0] == OPEN_GATE
@@ -32,10 +32,15 @@ pub(crate) fn is_shut(file: &[u8]) -> bool
 
 // The place of the first gate of the chain, and the account of the checkpoint.
 #[tactic(auto, unfolding(ras_journal::specs::File::first_front))]
-fn first_place(alloc: Global, taken: Option<u64>, file: &[u8]) -> Result<(Place, Account), Unread>
+pub(crate) fn first_place(
+    alloc: Global,
+    taken: Option<u64>,
+    file: &[u8],
+) -> Result<(Place, Account), Unread>
     ensures read { Answers (λ r. front_at r.0 r.1.state) result (first_front taken file.now) }
     ensures waiting { IfOk result (λ r. r.1.waiting ≡ nothing) }
     ensures links { IfOk result (λ r. r.0.links ≡ 0) }
+    ensures within { IfOk result (λ r. r.0.gate ≤ length file.now) }
 {
     let version = match version_at(file) {
         Ok(version) => version,
@@ -65,28 +70,23 @@ fn first_place(alloc: Global, taken: Option<u64>, file: &[u8]) -> Result<(Place,
     }
 }
 
-// The place of the closed gate that ends the chain of a file, and the account there; or none where
-// the file doesn't stand. The other file may have taken a generation.
-pub(crate) fn read_file(
-    alloc: Global,
-    taken: Option<u64>,
-    file: &[u8],
-) -> Result<Option<(Place, Account)>, Unread>
-    ensures read { Answers (λ r. option_map (λ p. front_at p.0 p.1.state) r) result
-        (front_of taken file.now) }
-    ensures waiting { IfOk result (λ r. IfSome r (λ p. p.1.waiting ≡ nothing)) }
+// How many bytes a file takes up to the end of its checkpoint, where it stands and tells.
+pub(crate) fn front_len(file: &[u8]) -> Option<usize>
+    ensures some { IfSome result (λ n. (count : ℕ)
+        → field (number_of 8) 17 8 file.now ≡ Ok count → n ≡ min (2 ^ 64 - 1) (25 + count)) }
+    ensures least { IfSome result (λ n. 25 ≤ n) }
+    ensures none { result ≡ None → (count : ℕ) (version : Version)
+        → has_open_gate file.now ≡ true → field version_of 1 8 file.now ≡ Ok version
+        → field (number_of 8) 17 8 file.now ≡ Ok count → ⊥ }
 {
     if !has_open_gate(file) {
-        return Ok(None);
+        return None;
     }
-    let (first, mut account) = match first_place(alloc, taken, file) {
-        Ok(first) => first,
-        Err(Unread::Damaged(at)) => return Err(Unread::Damaged(at)),
-        Err(Unread::NoMemory) => return Err(Unread::NoMemory),
-    };
-    match last_place(alloc, first, &mut account, file) {
-        Ok(place) => Ok(Some((place, account))),
-        Err(Unread::Damaged(at)) => Err(Unread::Damaged(at)),
-        Err(Unread::NoMemory) => Err(Unread::NoMemory),
+    match version_at(file) {
+        Ok(_) => match checkpoint_count_at(file) {
+            Ok(count) => Some(CHECKPOINT_PLACE.saturating_add(count as usize)),
+            Err(_) => None,
+        },
+        Err(_) => None,
     }
 }

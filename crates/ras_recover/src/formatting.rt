@@ -7,7 +7,8 @@ ghost use Rattle.board_core.specs.Told.{Told, Steps, Relates, file_of};
 ghost use Rattle.journal_format.specs.Checkpoints.{checkpoint_bytes, IsCheckpoint};
 ghost use Rattle.entry_format.specs.declared.version.Version.TheVariants.{Two};
 ghost use Rattle.ras_journal.specs.Recovered.{is_shut};
-ghost use Rattle.ras_recover.specs.Formatting.{behind_gate, after_closing, after_formatting, FailsClosing, FailsFormatting, MakesAtMost, TornClosing, Formatting};
+ghost use Rattle.ras_recover.specs.Formatting.{behind_gate, after_closing, after_formatting, FailsClosing, FailsFormatting, TornClosing, Formatting};
+ghost use Rattle.ras_recover.specs.Looking.{WritesIn};
 
 use board_core::{Board, Failed, FileNo, write_through};
 use journal_format::encode_checkpoint;
@@ -57,7 +58,7 @@ pub(crate) fn next_bytes(
 fn close_gate<B: Board>(file: FileNo, shut: bool, board: &mut B) -> Result<(), Failed>
     ensures told { OnOk result (Steps (after_closing file shut) (B.told board.old) (B.told board.new)) }
     ensures failed { OnErr result (Relates (FailsClosing file shut) (B.told board.old) (B.told board.new)) }
-    ensures calls { Relates (MakesAtMost 2) (B.told board.old) (B.told board.new) }
+    ensures writes { Relates (WritesIn file 2) (B.told board.old) (B.told board.new) }
     ensures at_rest { (t : Told) → Rests t (B.told board.old) (B.clock board.old)
         → Adds (InFile file (TornClosing shut) t.here) (B.clock board.old) (B.clock board.new) }
     ensures rests { OnOk result ((t : Told) → Rests t (B.told board.old) (B.clock board.old)
@@ -87,7 +88,7 @@ pub(crate) fn format_file<B: Board>(
         (B.told board.new)) }
     ensures failed { OnErr result (Relates (FailsFormatting file shut bytes.now) (B.told board.old)
         (B.told board.new)) }
-    ensures calls { Relates (MakesAtMost 6) (B.told board.old) (B.told board.new) }
+    ensures writes { Relates (WritesIn file 6) (B.told board.old) (B.told board.new) }
     ensures cause { FailsAs disk_call (B.faults board.old) (B.faults board.new) result }
 {
     close_gate(file, shut, board)?;

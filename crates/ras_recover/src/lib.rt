@@ -13,6 +13,8 @@ mod place;
 mod recovering;
 mod refused;
 mod switching;
+mod walking;
+mod window;
 
 pub use laws::life_laws;
 pub use opening::open_journal;

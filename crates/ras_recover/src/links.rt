@@ -1,5 +1,5 @@
 //! The links of a journal file.
-ghost use Rattle.std.specs.Prelude.{◌≡◌, ◌+◌, ◌≤◌, ◌<◌, length, None, Some, Ok, Err, IfSome, IfOk, OnOk, IsTrue, List};
+ghost use Rattle.std.specs.Prelude.{◌≡◌, ◌+◌, ◌^◌, ◌≤◌, ◌<◌, ℕ, true, length, None, Some, Ok, Err, IfSome, IfOk, OnOk, IsTrue, List};
 ghost use Rattle.std.specs.Option.{option_map};
 ghost use Rattle.std.specs.List.{All};
 ghost use Rattle.ras_facts.specs.Entries.{IsValidEntry};
@@ -7,8 +7,8 @@ ghost use Rattle.ras_account.specs.Continued.{account_after, account_after_all};
 ghost use Rattle.ras_account.specs.Numbers.{IsWithin};
 ghost use Rattle.ras_account.specs.View.{nothing};
 ghost use Rattle.journal_format.specs.PayloadReading.{payload_of};
-ghost use Rattle.ras_journal.specs.Fields.{field, number_of, stays_within};
-ghost use Rattle.ras_journal.specs.File.{front_behind_link, next_front, whole_front};
+ghost use Rattle.ras_journal.specs.Fields.{field, number_of, is_open_of, stays_within};
+ghost use Rattle.ras_journal.specs.File.{front_behind_link, next_front};
 ghost use Rattle.ras_recover.specs.Reading.{Answers, front_at};
 
 use crate::fields::{is_open_at, part, payload_count_at};
@@ -91,11 +91,12 @@ fn payload_at(
 fn link_at(alloc: Global, place: Place, account: &mut Account, file: &[u8]) -> Result<Place, Unread>
     requires waiting { account.old.waiting ≡ nothing }
     requires gate { place.gate + 1 ≤ length file.now }
-    requires links { place.links < length file.now }
+    requires links { place.links + 1 < 2 ^ 64 }
     ensures read { Answers (λ next. front_at next account.new.state) result
         (front_behind_link (front_at place account.old.state) file.now) }
     ensures waiting { OnOk result (account.new.waiting ≡ nothing) }
     ensures links { IfOk result (λ next. next.links ≡ place.links + 1) }
+    ensures within { IfOk result (λ next. next.gate ≤ length file.now) }
 {
     let count = match payload_count_at(place.gate + 1, file) {
         Ok(count) => count,
@@ -120,19 +121,21 @@ fn link_at(alloc: Global, place: Place, account: &mut Account, file: &[u8]) -> R
 // The place of the next gate, where the gate at a place is open, with the entries before it
 // counted; or none where that gate is closed.
 #[tactic(auto, unfolding(ras_journal::specs::File::next_front))]
-fn next_place(
+pub(crate) fn next_place(
     alloc: Global,
     place: Place,
     account: &mut Account,
     file: &[u8],
 ) -> Result<Option<Place>, Unread>
     requires waiting { account.old.waiting ≡ nothing }
-    requires links { place.links < length file.now }
+    requires links { place.links + 1 < 2 ^ 64 }
     ensures read { Answers (λ next. option_map (λ p. front_at p account.new.state) next) result
         (next_front (front_at place account.old.state) file.now) }
     ensures kept { result ≡ Ok None → account.new.state ≡ account.old.state }
     ensures waiting { OnOk result (account.new.waiting ≡ nothing) }
     ensures links { IfOk result (λ next. IfSome next (λ p. p.links ≡ place.links + 1)) }
+    ensures within { IfOk result (λ next. IfSome next (λ p. p.gate ≤ length file.now)) }
+    ensures closed { result ≡ Ok None → place.gate < length file.now }
 {
     match is_open_at(place.gate, file) {
         Ok(true) => match link_at(alloc, place, account, file) {
@@ -145,27 +148,20 @@ fn next_place(
     }
 }
 
-// The place of the closed gate that ends the chain, with all entries before it counted.
-pub(crate) fn last_place(
-    alloc: Global,
-    first: Place,
-    account: &mut Account,
-    file: &[u8],
-) -> Result<Place, Unread>
-    requires waiting { account.old.waiting ≡ nothing }
-    requires links { first.links ≡ 0 }
-    ensures read { Answers (λ place. front_at place account.new.state) result
-        (whole_front (length file.now) (front_at first account.old.state) file.now) }
-    ensures waiting { OnOk result (account.new.waiting ≡ nothing) }
+// How many bytes the gate at the front takes with the link behind it, where it is open and tells.
+pub(crate) fn link_len(bytes: &[u8]) -> Option<usize>
+    ensures some { IfSome result (λ n. (count : ℕ)
+        → field (number_of 4) 1 4 bytes.now ≡ Ok count → n ≡ 5 + count) }
+    ensures least { IfSome result (λ n. 5 ≤ n) }
+    ensures none { result ≡ None → (count : ℕ) → field is_open_of 0 1 bytes.now ≡ Ok true
+        → field (number_of 4) 1 4 bytes.now ≡ Ok count → ⊥ }
 {
-    let mut place = first;
-    for _ in 0..file.len() {
-        match next_place(alloc, place, account, file) {
-            Ok(Some(next)) => place = next,
-            Ok(None) => return Ok(place),
-            Err(Unread::Damaged(at)) => return Err(Unread::Damaged(at)),
-            Err(Unread::NoMemory) => return Err(Unread::NoMemory),
-        }
+    match is_open_at(0, bytes) {
+        Ok(true) => match payload_count_at(1, bytes) {
+            Ok(count) => Some(5 + count as usize),
+            Err(_) => None,
+        },
+        Ok(false) => None,
+        Err(_) => None,
     }
-    Err(Unread::Damaged(place.gate))
 }

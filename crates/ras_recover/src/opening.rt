@@ -1,17 +1,21 @@
 //! Opening the journal.
-ghost use Rattle.std.specs.Prelude.{◌≡◌, ◌<◌, nat_lt, length, Result, None, Some, Err, Ok, false, IfSome, IfOk, IfErr, OnOk};
+ghost use Rattle.std.specs.Prelude.{◌≡◌, Result, None, Some, Err, Ok, false, IfSome, IfOk, IfErr, OnOk};
 ghost use Rattle.board_core.specs.Cause.{disk_call, FailsAs};
 ghost use Rattle.board_core.specs.Clock.{Adds, Rests};
-ghost use Rattle.board_core.specs.Told.{Told, file_of};
+ghost use Rattle.board_core.specs.Told.{Told, Relates, file_of};
 ghost use Rattle.board_core.specs.declared.board.FileNo.TheVariants.{Zero};
 ghost use Rattle.ras_account.specs.Account.{State};
 ghost use Rattle.ras_account.specs.View.{nothing};
 ghost use Rattle.ras_journal.specs.Recovered.{Refusal, recovered, is_shut};
-ghost use Rattle.ras_recover.specs.Recovering.{Refuses, Tells, Keeps, open_failure};
-ghost use Rattle.ras_recover.specs.Opening.{FormatsFirst, Opening, IsOpened, HoldsNone};
+ghost use Rattle.ras_recover.specs.Recovering.{Refuses, Tells, open_failure};
+ghost use Rattle.ras_recover.specs.DiskCalls.{Makes};
+ghost use Rattle.ras_recover.specs.Looking.{WritesIn, standing_begun};
+ghost use Rattle.ras_recover.specs.Opening.{FormatsFirst, Opening, IsOpened, HoldsNone, standing_opened};
+ghost use Rattle.ras_recover.specs.OpeningCalls.{IsOpening, ReadsBoth, AfterOpening, AfterRecovery};
 
 use crate::formatting::{format_file, next_bytes};
-use crate::{OpenRefused, Recovered, recover};
+use crate::recovering::recover_files;
+use crate::{OpenRefused, Recovered};
 use board_core::{Board, Failed, FileNo};
 use entry_format::Version;
 use journal_format::checkpoint_len;
@@ -37,7 +41,11 @@ fn format_first<B: Board>(
     ensures opened { IfOk result (λ journal. (t : Told) → HoldsNone account.now.state t.here
         → shut.1 ≡ is_shut t.here.file1 → Rests t (B.told board.old) (B.clock board.old)
         → IsOpened journal.standing account.now.state (B.told board.new) (B.clock board.new)) }
+    ensures standing { IfOk result (λ journal. journal.standing
+        ≡ standing_begun account.now.state shut.1) }
     ensures usable { IfOk result (λ journal. journal.failed ≡ false) }
+    ensures writes { Relates (WritesIn Zero 6) (B.told board.old) (B.told board.new) }
+    ensures kept { result ≡ Err OpenRefused.NoMemory → board.new ≡ board.old }
     ensures refuses { IfErr result (λ refused. (held : Result State Refusal) → Refuses refused held) }
     ensures cause { FailsAs disk_call (B.faults board.old) (B.faults board.new) (open_failure result) }
 {
@@ -57,20 +65,6 @@ fn format_first<B: Board>(
     }))
 }
 
-// Whether file 0, and file 1, is longer than 1 byte.
-fn are_longer<B: Board>(board: &mut B) -> Result<(bool, bool), Failed>
-    ensures keeps { Keeps (B.told board.old) (B.clock board.old) (B.told board.new) (B.clock board.new) }
-    ensures zero { IfOk result (λ longer. IfSome (B.told board.old)
-        (λ t. longer.0 ≡ nat_lt 1 (length t.here.file0))) }
-    ensures one { IfOk result (λ longer. IfSome (B.told board.old)
-        (λ t. longer.1 ≡ nat_lt 1 (length t.here.file1))) }
-    ensures cause { FailsAs disk_call (B.faults board.old) (B.faults board.new) result }
-{
-    let zero = board.size(FileNo::Zero)?;
-    let one = board.size(FileNo::One)?;
-    Ok((zero > 1, one > 1))
-}
-
 /// The account and the journal, as `recover` does it. Where no file stands, generation 1 is then
 /// formatted in file 0. The journal hasn't failed.
 ///
@@ -86,6 +80,8 @@ pub fn open_journal<B: Board>(
         (λ t. Tells (λ r. r.0.state) result (recovered t.here.file0 t.here.file1)) }
     ensures waiting { IfOk result (λ r. r.0.waiting ≡ nothing) }
     ensures usable { IfOk result (λ r. r.1.failed ≡ false) }
+    ensures standing { IfOk result (λ r. IfSome (B.told board.old)
+        (λ t. r.1.standing ≡ standing_opened t.here.file0 t.here.file1)) }
 
     // What a stop leaves of it is what a stop before it may have left, or recovers the empty
     // account where no file stands. Once it has answered `Ok`, a stop leaves just what the board
@@ -95,20 +91,28 @@ pub fn open_journal<B: Board>(
     ensures opened { IfOk result (λ r. (t : Told) → B.told board.old ≡ Some t
         → IsOpened r.1.standing r.0.state (B.told board.new) (B.clock board.new)) }
 
+    // Whatever it answers, all is told as before, but for file 0 where no file stands; and its disk
+    // calls are those of an opening or a beginning of them. Once it has answered `Ok` they are all
+    // of these, and all that counts of the files was read.
+    ensures told { Relates AfterOpening (B.told board.old) (B.told board.new) }
+    ensures calls { OnOk result (Relates (λ old. Makes (IsOpening old.here) old) (B.told board.old)
+        (B.told board.new)) }
+    ensures reads { OnOk result (Relates (λ old. Makes (ReadsBoth old.here) old) (B.told board.old)
+        (B.told board.new)) }
+    // Where memory runs out nothing was written.
+    ensures kept { result ≡ Err OpenRefused.NoMemory
+        → Relates AfterRecovery (B.told board.old) (B.told board.new) }
+
     ensures cause { FailsAs disk_call (B.faults board.old) (B.faults board.new)
         (open_failure result) }
 {
-    let Recovered { account, standing } = match recover(alloc, board) {
+    let (Recovered { account, standing }, shut) = match recover_files(alloc, board) {
         Ok(recovered) => recovered,
         Err(refused) => return Err(refused),
     };
     if let Some(standing) = standing {
         return Ok((account, Journal::at(standing)));
     }
-    let shut = match are_longer(board) {
-        Ok(longer) => longer,
-        Err(Failed) => return Err(OpenRefused::Disk),
-    };
     match format_first(alloc, &account, shut, board) {
         Ok(journal) => Ok((account, journal)),
         Err(refused) => Err(refused),

@@ -1,18 +1,23 @@
 //! The two files of a journal.
-ghost use Rattle.std.specs.Prelude.{◌≡◌, ◌+◌, ◌≤◌, length, None, Some, Err, IfSome, IfOk, IfErr, OnOk, ◌≢◌};
+ghost use Rattle.std.specs.Prelude.{◌≡◌, ℕ, ◌≤◌, List, length, Ok, IfSome, IfOk};
 ghost use Rattle.std.specs.Option.{option_map};
+ghost use Rattle.board_core.specs.Told.{file_of};
 ghost use Rattle.ras_account.specs.View.{nothing};
 ghost use Rattle.ras_journal.specs.declared.limits.TheConstants.{LONGEST_FILE};
 ghost use Rattle.ras_journal.specs.File.{front_of, account_by};
-ghost use Rattle.ras_journal.specs.Recovered.{in_file, greater, generation_in, journal_of, recovered, standing_of, position_of};
+ghost use Rattle.ras_journal.specs.Recovered.{in_file, greater, generation_in, is_shut, journal_of, recovered, standing_of, position_of};
 ghost use Rattle.ras_account.specs.Account.{State};
 ghost use Rattle.ras_recover.specs.Reading.{front_at};
-ghost use Rattle.ras_recover.specs.Recovering.{Tells};
+ghost use Rattle.ras_recover.specs.OpeningCalls.{ReadsStanding, ReadsBoth};
+ghost use Rattle.ras_recover.specs.Recovering.{Tells, open_failure};
+ghost use Rattle.ras_recover.specs.Windows.{LooksAt};
+ghost use Rattle.ras_recover.specs.Pair.{AreRead};
 
 use crate::OpenRefused;
-use crate::file::{is_shut, read_file};
-use crate::place::{Place, Unread};
-use board_core::FileNo;
+use crate::place::{Place, ReadRefused};
+use crate::walking::{FileRead, read_file};
+use crate::window::SizedFile;
+use board_core::{Board, FileNo};
 use entry_format::Version;
 use ras_account::Account;
 use ras_journal::Standing;
@@ -27,29 +32,44 @@ pub struct Recovered {
     pub standing: Option<Standing>,
 }
 
-// What counts of one of two files.
-fn read_one(
+/// Both files as they were read: whether each is shut, and the file that counts.
+#[derive(Drop)]
+pub(crate) struct BothRead {
+    pub(crate) shut: (bool, bool),
+    pub(crate) journal: Option<(FileNo, Place, Account)>,
+}
+
+// What counts of one of the files of a board.
+fn read_one<B: Board>(
     alloc: Global,
-    no: FileNo,
     taken: Option<u64>,
-    file: &[u8],
-) -> Result<Option<(Place, Account)>, OpenRefused>
-    ensures read { Tells (λ r. option_map (λ p. front_at p.0 p.1.state) r) result
-        (in_file no (front_of taken file.now)) }
-    ensures waiting { IfOk result (λ r. IfSome r (λ p. p.1.waiting ≡ nothing)) }
-    ensures no_fault { IfErr result (λ refused. refused ≢ OpenRefused.Disk) }
+    file: SizedFile,
+    board: &mut B,
+) -> Result<FileRead, OpenRefused>
+    requires short { file.size ≤ LONGEST_FILE }
+    requires size { IfSome (B.told board.old) (λ t. file.size ≡ length (file_of file.no t)) }
+    ensures read { IfSome (B.told board.old)
+        (λ t. Tells (λ r. option_map (λ p. front_at p.0 p.1.state) r.front) result
+        (in_file file.no (front_of taken (file_of file.no t)))) }
+    ensures shut { IfOk result (λ r. IfSome (B.told board.old)
+        (λ t. r.shut ≡ is_shut (file_of file.no t))) }
+    ensures waiting { IfOk result (λ r. IfSome r.front (λ p. p.1.waiting ≡ nothing)) }
+    ensures looks { LooksAt open_failure result (λ t. ReadsStanding file.no (file_of file.no t))
+        (B.told board.old) (B.clock board.old) (B.faults board.old)
+        (B.told board.new) (B.clock board.new) (B.faults board.new) }
 {
-    let file_number = match no {
+    let file_number = match file.no {
         FileNo::Zero => 0,
         FileNo::One => 1,
     };
-    match read_file(alloc, taken, file) {
-        Ok(front) => Ok(front),
-        Err(Unread::Damaged(at)) => Err(OpenRefused::Damaged {
+    match read_file(alloc, taken, file, board) {
+        Ok(read) => Ok(read),
+        Err(ReadRefused::Disk) => Err(OpenRefused::Disk),
+        Err(ReadRefused::Damaged(at)) => Err(OpenRefused::Damaged {
             file: file_number,
             place: at as u64,
         }),
-        Err(Unread::NoMemory) => Err(OpenRefused::NoMemory),
+        Err(ReadRefused::NoMemory) => Err(OpenRefused::NoMemory),
     }
 }
 
@@ -88,37 +108,55 @@ fn generation_in(front: &Option<(Place, Account)>) -> Option<u64>
     }
 }
 
-// The file that counts of two that aren't too long, and what counts of it.
-fn read_both(
+// The file that counts of the two of a board, and what counts of it.
+pub(crate) fn read_both<B: Board>(
     alloc: Global,
-    file0: &[u8],
-    file1: &[u8],
-) -> Result<Option<(FileNo, Place, Account)>, OpenRefused>
-    requires short_zero { length file0.now ≤ LONGEST_FILE }
-    requires short_one { length file1.now ≤ LONGEST_FILE }
-    ensures read { Tells (λ r. option_map (λ j. record { file = j.0; front = front_at j.1 j.2.state }) r) result
-        (journal_of file0.now file1.now) }
-    ensures waiting { IfOk result (λ r. IfSome r (λ j. j.2.waiting ≡ nothing)) }
-    ensures no_fault { IfErr result (λ refused. refused ≢ OpenRefused.Disk) }
+    sizes: (usize, usize),
+    board: &mut B,
+) -> Result<BothRead, OpenRefused>
+    requires short { (sizes.0 ≤ LONGEST_FILE) × (sizes.1 ≤ LONGEST_FILE) }
+    requires sizes { IfSome (B.told board.old)
+        (λ t. (sizes.0 ≡ length t.here.file0) × (sizes.1 ≡ length t.here.file1)) }
+    ensures read { IfSome (B.told board.old)
+        (λ t. Tells (λ r. option_map (λ j. record { file = j.0; front = front_at j.1 j.2.state })
+        r.journal) result (journal_of t.here.file0 t.here.file1)) }
+    ensures shut { IfOk result (λ r. IfSome (B.told board.old)
+        (λ t. (r.shut.0 ≡ is_shut t.here.file0) × (r.shut.1 ≡ is_shut t.here.file1))) }
+    ensures waiting { IfOk result (λ r. IfSome r.journal (λ j. j.2.waiting ≡ nothing)) }
+    ensures looks { LooksAt open_failure result (λ t. ReadsBoth t.here)
+        (B.told board.old) (B.clock board.old) (B.faults board.old)
+        (B.told board.new) (B.clock board.new) (B.faults board.new) }
 {
-    let zero = match read_one(alloc, FileNo::Zero, None, file0) {
+    let file_zero = SizedFile {
+        no: FileNo::Zero,
+        size: sizes.0,
+    };
+    let file_one = SizedFile {
+        no: FileNo::One,
+        size: sizes.1,
+    };
+    let zero = match read_one(alloc, None, file_zero, board) {
         Ok(zero) => zero,
         Err(refused) => return Err(refused),
     };
-    match read_one(alloc, FileNo::One, generation_in(&zero), file1) {
-        Ok(one) => Ok(greater(zero, one)),
+    match read_one(alloc, generation_in(&zero.front), file_one, board) {
+        Ok(one) => Ok(BothRead {
+            shut: (zero.shut, one.shut),
+            journal: greater(zero.front, one.front),
+        }),
         Err(refused) => Err(refused),
     }
 }
 
 // Where a journal stands that is read up to this place of the file.
-fn standing_at(file: FileNo, place: Place, file0: &[u8], file1: &[u8]) -> Standing
-    ensures { (account : State) → result
-        ≡ standing_of file0.now file1.now (record { file = file; front = front_at place account }) }
+fn standing_at(file: FileNo, place: Place, shut: (bool, bool)) -> Standing
+    ensures { (account : State) (file0 file1 : List ℕ) → shut.0 ≡ is_shut file0
+        → shut.1 ≡ is_shut file1 → result
+        ≡ standing_of file0 file1 (record { file = file; front = front_at place account }) }
 {
-    let other = match file {
-        FileNo::Zero => file1,
-        FileNo::One => file0,
+    let other_is_shut = match file {
+        FileNo::Zero => shut.1,
+        FileNo::One => shut.0,
     };
     Standing {
         file,
@@ -126,7 +164,7 @@ fn standing_at(file: FileNo, place: Place, file0: &[u8], file1: &[u8]) -> Standi
         generation: place.generation,
         length: place.gate as u64,
         links: place.links,
-        shut: is_shut(other),
+        shut: other_is_shut,
     }
 }
 
@@ -144,28 +182,24 @@ fn taken_over(version: Version, account: Account) -> Account
     account
 }
 
-// What two files hold that aren't too long.
-pub(crate) fn recover_from(
-    alloc: Global,
-    file0: &[u8],
-    file1: &[u8],
-) -> Result<Recovered, OpenRefused>
-    requires short_zero { length file0.now ≤ LONGEST_FILE }
-    requires short_one { length file1.now ≤ LONGEST_FILE }
-    ensures recovers { Tells (λ r. r.account.state) result (recovered file0.now file1.now) }
-    ensures standing { IfOk result (λ r. position_of file0.now file1.now ≡ r.standing) }
-    ensures waiting { IfOk result (λ r. r.account.waiting ≡ nothing) }
-    ensures no_fault { IfErr result (λ refused. refused ≢ OpenRefused.Disk) }
+// What both files hold, as they were read.
+pub(crate) fn recovered_of(alloc: Global, both: BothRead) -> Recovered
+    requires { IfSome both.journal (λ j. j.2.waiting ≡ nothing) }
+    ensures recovers { (file0 file1 : List ℕ) → AreRead both file0 file1
+        → recovered file0 file1 ≡ Ok result.account.state }
+    ensures standing { (file0 file1 : List ℕ) → AreRead both file0 file1
+        → position_of file0 file1 ≡ result.standing }
+    ensures waiting { result.account.waiting ≡ nothing }
 {
-    match read_both(alloc, file0, file1) {
-        Ok(Some((file, place, account))) => Ok(Recovered {
+    let BothRead { shut, journal } = both;
+    match journal {
+        Some((file, place, account)) => Recovered {
             account: taken_over(place.version, account),
-            standing: Some(standing_at(file, place, file0, file1)),
-        }),
-        Ok(None) => Ok(Recovered {
+            standing: Some(standing_at(file, place, shut)),
+        },
+        None => Recovered {
             account: Account::new(alloc),
             standing: None,
-        }),
-        Err(refused) => Err(refused),
+        },
     }
 }

@@ -12,9 +12,20 @@ pub(crate) struct Place {
     pub(crate) links: u64,
 }
 
-/// Why a journal file isn't read.
+/// Why the bytes of a journal file aren't read.
 #[derive(Clone, Copy, Debug, PartialEq, Eq, Drop)]
 pub(crate) enum Unread {
+    /// It is damaged at this place.
+    Damaged(usize),
+    /// Memory ran out.
+    NoMemory,
+}
+
+/// Why a journal file of a board isn't read.
+#[derive(Clone, Copy, Debug, PartialEq, Eq, Drop)]
+pub(crate) enum ReadRefused {
+    /// A disk call failed.
+    Disk,
     /// It is damaged at this place.
     Damaged(usize),
     /// Memory ran out.

@@ -1,0 +1,64 @@
+-- The disk calls of a recovery and of an opening, and what these change of what a board tells,
+-- whatever they answer.
+use Rattle.std.specs.Prelude.{◌≡◌, ℕ, ◌≤◌, ◌⊎◌, List, [], ◌∷◌, ◌++◌, length, All, Any, Option, Some, Ok}
+use Rattle.board_core.specs.declared.board.FileNo.{FileNo}
+use Rattle.board_core.specs.declared.board.FileNo.TheVariants.{Zero, One}
+use Rattle.board_core.specs.declared.board.DiskCall.{DiskCall}
+use Rattle.board_core.specs.declared.board.DiskCall.TheVariants.{Sync}
+use Rattle.board_core.specs.Stop.{Left}
+use Rattle.board_core.specs.Told.{Told}
+use Rattle.ras_account.specs.History.{empty}
+use Rattle.ras_account.specs.Account.{account_of}
+use Rattle.ras_journal.specs.File.{FileFront, front_of}
+use Rattle.ras_recover.specs.DiskCalls.{IsReading, IsWriting, ReadsPlace, Makes, IsBeginning}
+use Rattle.ras_recover.specs.Opening.{HoldsNone}
+
+-- A whole recovery: both files are synced, and then there are Size and ReadAt calls alone.
+pub record IsRecovery (calls : List DiskCall) : Type 0 where
+  pub reading : List DiskCall
+  pub is : calls ≡ Sync Zero ∷ Sync One ∷ reading
+  pub alone : All IsReading reading
+
+-- A whole opening: a recovery. Only where no file stands it is followed by the formatting, at most
+-- six WriteAt and Sync calls alone.
+pub record IsOpening (here : Left) (calls : List DiskCall) : Type 0 where
+  pub recovery : List DiskCall
+  pub formatting : List DiskCall
+  pub is : calls ≡ recovery ++ formatting
+  pub recovers : IsRecovery recovery
+  pub few : length formatting ≤ 6
+  pub alone : All IsWriting formatting
+  pub only : (formatting ≡ []) ⊎ HoldsNone (account_of empty) here
+
+-- Where a file stands, each of its places from 0 up to and with its closed gate lies in the range
+-- of one of these reads, whatever generation the other file has taken.
+abbrev pub ReadsStanding : FileNo → List ℕ → List DiskCall → Type 0
+ReadsStanding file bytes calls =
+    (taken : Option ℕ) (front : FileFront) (place : ℕ)
+    → front_of taken bytes ≡ Ok (Some front) → place ≤ front.gate → Any (ReadsPlace file place) calls
+
+pub record ReadsBoth (here : Left) (calls : List DiskCall) : Type 0 where
+  pub zero : ReadsStanding Zero here.file0 calls
+  pub one : ReadsStanding One here.file1 calls
+
+-- ---- what is told afterwards, whatever the answer is
+
+-- after a recovery: the calls of one were made, all of them or a beginning, and that is all
+pub record AfterRecovery (old new : Told) : Type 0 where
+  pub file0 : new.here.file0 ≡ old.here.file0
+  pub file1 : new.here.file1 ≡ old.here.file1
+  pub store : new.here.store ≡ old.here.store
+  pub text : new.here.out ≡ old.here.out
+  pub volatile : new.volatile ≡ old.volatile
+  pub accesses : new.accesses ≡ old.accesses
+  pub calls : Makes (IsBeginning IsRecovery) old new
+
+-- after an opening: the same, but only where no file stands file 0 may have changed
+pub record AfterOpening (old new : Told) : Type 0 where
+  pub file0 : (new.here.file0 ≡ old.here.file0) ⊎ HoldsNone (account_of empty) old.here
+  pub file1 : new.here.file1 ≡ old.here.file1
+  pub store : new.here.store ≡ old.here.store
+  pub text : new.here.out ≡ old.here.out
+  pub volatile : new.volatile ≡ old.volatile
+  pub accesses : new.accesses ≡ old.accesses
+  pub calls : Makes (IsBeginning (IsOpening old.here)) old new

@@ -1,0 +1,260 @@
+//! Reading one journal file of a board, piece by piece.
+ghost use Rattle.std.specs.Prelude.{◌≡◌, ◌+◌, ◌-◌, ◌<◌, ◌≤◌, ◌^◌, length, drop, None, Some, Ok, IfSome, IfOk, IfErr, OnOk};
+ghost use Rattle.std.specs.Option.{option_map};
+ghost use Rattle.board_core.specs.Told.{file_of};
+ghost use Rattle.ras_account.specs.View.{nothing};
+ghost use Rattle.ras_journal.specs.declared.limits.TheConstants.{LONGEST_FILE};
+ghost use Rattle.ras_journal.specs.File.{next_front, whole_front, front_of};
+ghost use Rattle.ras_journal.specs.Recovered.{is_shut};
+ghost use Rattle.ras_recover.specs.Looking.{ReadsPart};
+ghost use Rattle.ras_recover.specs.OpeningCalls.{ReadsStanding};
+ghost use Rattle.ras_recover.specs.Reading.{front_at};
+ghost use Rattle.ras_recover.specs.Windows.{end_of, Spans, Sees, IsAnswer, IsNoDamage, Looks, LooksAt, read_failure, LinkHeld, FrontHeld, IsBegun, IsBroken};
+
+use crate::file::{CHECKPOINT_PLACE, first_place, front_len, has_open_gate, is_shut};
+use crate::links::{link_len, next_place};
+use crate::place::{Place, ReadRefused, Unread};
+use crate::window::{SizedFile, Window};
+use board_core::Board;
+use ras_account::Account;
+use std::alloc::Global;
+
+/// How many bytes a gate takes, with the number of its payload's bytes behind it.
+const GATE_AND_COUNT: usize = 5;
+
+/// What was read of a journal file.
+#[derive(Drop)]
+pub(crate) struct FileRead {
+    /// Whether it is longer than 1 byte and its byte 0 is no open gate.
+    pub(crate) shut: bool,
+    /// The place of the closed gate that ends its chain, and the account there; or none where the
+    /// file doesn't stand.
+    pub(crate) front: Option<(Place, Account)>,
+}
+
+// Sees that the link behind the gate at a place is held, where that gate is open and the file has
+// the link.
+fn hold_link<B: Board>(
+    file: SizedFile,
+    gate: usize,
+    window: &mut Window,
+    board: &mut B,
+) -> Result<(), ReadRefused>
+    requires spans { Spans file gate window.old }
+    requires sees { Sees file (B.told board.old) window.old }
+    ensures spans { OnOk result (Spans file gate window.new) }
+    ensures sees { OnOk result (Sees file (B.told board.new) window.new) }
+    ensures held { OnOk result (IfSome (B.told board.old)
+        (λ t. LinkHeld (end_of window.new - gate) (drop gate (file_of file.no t)))) }
+    ensures unread { IfErr result IsNoDamage }
+    ensures looks { Looks read_failure result
+        (ReadsPart file.no (end_of window.old) (end_of window.new))
+        (B.told board.old) (B.clock board.old) (B.faults board.old)
+        (B.told board.new) (B.clock board.new) (B.faults board.new) }
+{
+    match window.hold(file, gate, GATE_AND_COUNT, board) {
+        Ok(()) => {}
+        Err(refused) => return Err(refused),
+    }
+    let Some(count) = link_len(window.rest(gate)) else {
+        return Ok(());
+    };
+    if count > file.size - gate {
+        return Ok(());
+    }
+    window.hold(file, gate, count, board)
+}
+
+// The place of the next gate, where the gate at a place is open, with the entries before it
+// counted; or none where that gate is closed.
+fn next_in<B: Board>(
+    alloc: Global,
+    file: SizedFile,
+    place: Place,
+    account: &mut Account,
+    window: &mut Window,
+    board: &mut B,
+) -> Result<Option<Place>, ReadRefused>
+    requires waiting { account.old.waiting ≡ nothing }
+    requires links { place.links + 1 < 2 ^ 64 }
+    requires spans { Spans file place.gate window.old }
+    requires sees { Sees file (B.told board.old) window.old }
+    ensures read { IfSome (B.told board.old)
+        (λ t. IsAnswer (λ next. option_map (λ p. front_at p account.new.state) next) result
+        (next_front (front_at place account.old.state) (file_of file.no t))) }
+    ensures kept { result ≡ Ok None → account.new.state ≡ account.old.state }
+    ensures closed { result ≡ Ok None → place.gate < end_of window.new }
+    ensures waiting { OnOk result (account.new.waiting ≡ nothing) }
+    ensures links { IfOk result (λ next. IfSome next (λ p. p.links ≡ place.links + 1)) }
+    ensures spans { IfOk result (λ next. IfSome next (λ p. Spans file p.gate window.new)) }
+    ensures sees { OnOk result (Sees file (B.told board.new) window.new) }
+    ensures looks { Looks read_failure result
+        (ReadsPart file.no (end_of window.old) (end_of window.new))
+        (B.told board.old) (B.clock board.old) (B.faults board.old)
+        (B.told board.new) (B.clock board.new) (B.faults board.new) }
+{
+    match hold_link(file, place.gate, window, board) {
+        Ok(()) => {}
+        Err(refused) => return Err(refused),
+    }
+    let here = Place { gate: 0, ..place };
+    match next_place(alloc, here, account, window.rest(place.gate)) {
+        Ok(Some(next)) => Ok(Some(Place {
+            gate: place.gate + next.gate,
+            ..next
+        })),
+        Ok(None) => Ok(None),
+        Err(Unread::Damaged(at)) => Err(ReadRefused::Damaged(place.gate.saturating_add(at))),
+        Err(Unread::NoMemory) => Err(ReadRefused::NoMemory),
+    }
+}
+
+// The place of the closed gate that ends the chain, with all entries before it counted.
+fn last_in<B: Board>(
+    alloc: Global,
+    file: SizedFile,
+    first: Place,
+    account: &mut Account,
+    window: &mut Window,
+    board: &mut B,
+) -> Result<Place, ReadRefused>
+    requires waiting { account.old.waiting ≡ nothing }
+    requires links { first.links ≡ 0 }
+    requires spans { Spans file first.gate window.old }
+    requires sees { Sees file (B.told board.old) window.old }
+    ensures read { IfSome (B.told board.old)
+        (λ t. IsAnswer (λ place. front_at place account.new.state) result
+        (whole_front (length (file_of file.no t)) (front_at first account.old.state)
+        (file_of file.no t))) }
+    ensures closed { IfOk result (λ place. place.gate < end_of window.new) }
+    ensures waiting { OnOk result (account.new.waiting ≡ nothing) }
+    ensures looks { Looks read_failure result
+        (ReadsPart file.no (end_of window.old) (end_of window.new))
+        (B.told board.old) (B.clock board.old) (B.faults board.old)
+        (B.told board.new) (B.clock board.new) (B.faults board.new) }
+{
+    let mut place = first;
+    for _ in 0..file.size {
+        match next_in(alloc, file, place, account, window, board) {
+            Ok(Some(next)) => place = next,
+            Ok(None) => return Ok(place),
+            Err(refused) => return Err(refused),
+        }
+    }
+    Err(ReadRefused::Damaged(place.gate))
+}
+
+// Sees that the checkpoint is held, where the file stands and has it.
+fn hold_front<B: Board>(
+    file: SizedFile,
+    window: &mut Window,
+    board: &mut B,
+) -> Result<(), ReadRefused>
+    requires spans { Spans file 0 window.old }
+    requires sees { Sees file (B.told board.old) window.old }
+    ensures spans { OnOk result (Spans file 0 window.new) }
+    ensures sees { OnOk result (Sees file (B.told board.new) window.new) }
+    ensures held { OnOk result (IfSome (B.told board.old)
+        (λ t. FrontHeld (end_of window.new) (file_of file.no t))) }
+    ensures unread { IfErr result IsNoDamage }
+    ensures looks { Looks read_failure result
+        (ReadsPart file.no (end_of window.old) (end_of window.new))
+        (B.told board.old) (B.clock board.old) (B.faults board.old)
+        (B.told board.new) (B.clock board.new) (B.faults board.new) }
+{
+    match window.hold(file, 0, CHECKPOINT_PLACE, board) {
+        Ok(()) => {}
+        Err(refused) => return Err(refused),
+    }
+    let Some(count) = front_len(window.rest(0)) else {
+        return Ok(());
+    };
+    if count > file.size {
+        return Ok(());
+    }
+    window.hold(file, 0, count, board)
+}
+
+// The place of the first gate of the chain, and the account of the checkpoint.
+fn first_in<B: Board>(
+    alloc: Global,
+    taken: Option<u64>,
+    file: SizedFile,
+    window: &mut Window,
+    board: &mut B,
+) -> Result<FileRead, ReadRefused>
+    requires spans { Spans file 0 window.old }
+    requires sees { Sees file (B.told board.old) window.old }
+    ensures begun { IfOk result (λ r. IfSome (B.told board.old)
+        (λ t. IsBegun taken (file_of file.no t)
+        (option_map (λ p. front_at p.0 p.1.state) r.front))) }
+    ensures broken { IfErr result (λ refused. IfSome (B.told board.old)
+        (λ t. IsBroken taken (file_of file.no t) refused)) }
+    ensures shut { IfOk result (λ r. IfSome (B.told board.old)
+        (λ t. r.shut ≡ is_shut (file_of file.no t))) }
+    ensures waiting { IfOk result (λ r. IfSome r.front (λ p. p.1.waiting ≡ nothing)) }
+    ensures links { IfOk result (λ r. IfSome r.front (λ p. p.0.links ≡ 0)) }
+    ensures spans { IfOk result (λ r. IfSome r.front (λ p. Spans file p.0.gate window.new)) }
+    ensures sees { OnOk result (Sees file (B.told board.new) window.new) }
+    ensures looks { Looks read_failure result
+        (ReadsPart file.no (end_of window.old) (end_of window.new))
+        (B.told board.old) (B.clock board.old) (B.faults board.old)
+        (B.told board.new) (B.clock board.new) (B.faults board.new) }
+{
+    match hold_front(file, window, board) {
+        Ok(()) => {}
+        Err(refused) => return Err(refused),
+    }
+    let front = window.rest(0);
+    if !has_open_gate(front) {
+        return Ok(FileRead {
+            shut: is_shut(front),
+            front: None,
+        });
+    }
+    match first_place(alloc, taken, front) {
+        Ok(first) => Ok(FileRead {
+            shut: false,
+            front: Some(first),
+        }),
+        Err(Unread::Damaged(at)) => Err(ReadRefused::Damaged(at)),
+        Err(Unread::NoMemory) => Err(ReadRefused::NoMemory),
+    }
+}
+
+// The place of the closed gate that ends the chain of a file, and the account there, where the file
+// stands. The other file may have taken a generation.
+pub(crate) fn read_file<B: Board>(
+    alloc: Global,
+    taken: Option<u64>,
+    file: SizedFile,
+    board: &mut B,
+) -> Result<FileRead, ReadRefused>
+    requires short { file.size ≤ LONGEST_FILE }
+    requires size { IfSome (B.told board.old) (λ t. file.size ≡ length (file_of file.no t)) }
+    ensures read { IfSome (B.told board.old)
+        (λ t. IsAnswer (λ r. option_map (λ p. front_at p.0 p.1.state) r.front) result
+        (front_of taken (file_of file.no t))) }
+    ensures shut { IfOk result (λ r. IfSome (B.told board.old)
+        (λ t. r.shut ≡ is_shut (file_of file.no t))) }
+    ensures waiting { IfOk result (λ r. IfSome r.front (λ p. p.1.waiting ≡ nothing)) }
+    ensures looks { LooksAt read_failure result (λ t. ReadsStanding file.no (file_of file.no t))
+        (B.told board.old) (B.clock board.old) (B.faults board.old)
+        (B.told board.new) (B.clock board.new) (B.faults board.new) }
+{
+    let mut window = Window::new(alloc);
+    let FileRead { shut, front } = match first_in(alloc, taken, file, &mut window, board) {
+        Ok(begun) => begun,
+        Err(refused) => return Err(refused),
+    };
+    let Some((first, mut account)) = front else {
+        return Ok(FileRead { shut, front: None });
+    };
+    match last_in(alloc, file, first, &mut account, &mut window, board) {
+        Ok(place) => Ok(FileRead {
+            shut,
+            front: Some((place, account)),
+        }),
+        Err(refused) => Err(refused),
+    }
+}

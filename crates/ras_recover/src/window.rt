@@ -1,0 +1,113 @@
+//! The piece of a journal file that is held while the file is read.
+ghost use Rattle.std.specs.Prelude.{◌≡◌, ◌+◌, ◌-◌, ◌≤◌, [], length, drop, min, IfSome, IfErr, OnOk};
+ghost use Rattle.board_core.specs.Told.{file_of};
+ghost use Rattle.ras_journal.specs.declared.limits.TheConstants.{LONGEST_FILE};
+ghost use Rattle.ras_recover.specs.Looking.{ReadsPart};
+ghost use Rattle.ras_recover.specs.Windows.{end_of, Spans, Sees, IsNoDamage, Looks, read_failure};
+
+use crate::place::ReadRefused;
+use board_core::{Board, Failed, FileNo};
+use std::alloc::{AllocError, Global};
+
+/// How many bytes are read at once, where the file has them and no more are wanted.
+const BLOCK: usize = 65_536;
+
+/// One of the two files, with its size in bytes.
+#[derive(Clone, Copy)]
+pub(crate) struct SizedFile {
+    pub(crate) no: FileNo,
+    pub(crate) size: usize,
+}
+
+/// The bytes of a file from a place on, so many as were read.
+#[derive(Drop)]
+pub(crate) struct Window {
+    pub(crate) start: usize,
+    pub(crate) bytes: Vec<u8>,
+}
+
+impl Window {
+    // Holds nothing yet.
+    pub(crate) fn new(alloc: Global) -> Self
+        ensures start { result.start ≡ 0 }
+        ensures bytes { result.bytes.items ≡ [] }
+    {
+        Window {
+            start: 0,
+            bytes: Vec::new(alloc),
+        }
+    }
+
+    // The bytes that are held from a place on.
+    pub(crate) fn rest(&self, place: usize) -> &[u8]
+        requires from { self.now.start ≤ place }
+        requires upto { place ≤ end_of self.now }
+        ensures { result.now ≡ drop (place - self.now.start) self.now.bytes.items }
+    {
+        &self.bytes[place - self.start..]
+    }
+
+    // Reads so many bytes from a place on, in place of those that were held.
+    fn read<B: Board>(
+        &mut self,
+        file: SizedFile,
+        place: usize,
+        count: usize,
+        board: &mut B,
+    ) -> Result<(), ReadRefused>
+        requires within { place + count ≤ file.size }
+        requires short { file.size ≤ LONGEST_FILE }
+        requires size { IfSome (B.told board.old) (λ t. file.size ≡ length (file_of file.no t)) }
+        ensures start { OnOk result (self.new.start ≡ place) }
+        ensures spans { OnOk result (Spans file place self.new) }
+        ensures within { OnOk result (end_of self.new ≤ place + count) }
+        ensures all { OnOk result (IfSome (B.told board.old)
+            (λ t. end_of self.new ≡ place + count)) }
+        ensures sees { OnOk result (Sees file (B.told board.new) self.new) }
+        ensures unread { IfErr result IsNoDamage }
+        ensures looks { Looks read_failure result (ReadsPart file.no place (place + count))
+            (B.told board.old) (B.clock board.old) (B.faults board.old)
+            (B.told board.new) (B.clock board.new) (B.faults board.new) }
+    {
+        if let Err(AllocError) = self.bytes.resize(count, 0) {
+            return Err(ReadRefused::NoMemory);
+        }
+        self.start = place;
+        match board.read_at(file.no, place as u64, &mut self.bytes) {
+            Ok(read) => {
+                self.bytes.truncate(read);
+                Ok(())
+            }
+            Err(Failed) => Err(ReadRefused::Disk),
+        }
+    }
+
+    // Sees that so many bytes from a place on are held, as far as the file has them. It reads only
+    // where they aren't.
+    pub(crate) fn hold<B: Board>(
+        &mut self,
+        file: SizedFile,
+        place: usize,
+        count: usize,
+        board: &mut B,
+    ) -> Result<(), ReadRefused>
+        requires spans { Spans file place self.old }
+        requires sees { Sees file (B.told board.old) self.old }
+        ensures spans { OnOk result (Spans file place self.new) }
+        ensures sees { OnOk result (Sees file (B.told board.new) self.new) }
+        ensures held { OnOk result (IfSome (B.told board.old)
+            (λ t. min (place + count) file.size ≤ end_of self.new)) }
+        ensures unread { IfErr result IsNoDamage }
+        ensures looks { Looks read_failure result
+            (ReadsPart file.no (end_of self.old) (end_of self.new))
+            (B.told board.old) (B.clock board.old) (B.faults board.old)
+            (B.told board.new) (B.clock board.new) (B.faults board.new) }
+    {
+        let left = file.size - place;
+        let wanted = count.min(left);
+        if place + wanted <= self.start + self.bytes.len() {
+            return Ok(());
+        }
+        self.read(file, place, wanted.max(BLOCK.min(left)), board)
+    }
+}
