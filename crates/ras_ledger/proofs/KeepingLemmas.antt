@@ -1,5 +1,5 @@
 -- Making room for a link and then appending it, as one.
-use Rattle.std.proofs.Common.{◌≡◌, ◌<◌, ◌⊎◌, Bool, true, false, List, [], ◌∷◌, ℕ, length, Option, None, Some, IfSome, Result, Ok, Err, OnOk, inl, ap, refl, subst, sym, ◌∙◌, arith, if◌then◌else◌}
+use Rattle.std.proofs.Common.{◌≡◌, ◌<◌, Bool, true, false, List, [], ◌∷◌, ℕ, length, Option, None, Some, IfSome, Result, Ok, Err, OnOk, inl, ap, refl, subst, sym, ◌∙◌, arith, if◌then◌else◌}
 use Rattle.board_core.specs.declared.board.FileNo.{FileNo}
 use Rattle.board_core.specs.declared.board.FileNo.TheVariants.{Zero, One}
 use Rattle.board_core.specs.Clock.{Clock, Adds}
@@ -10,7 +10,7 @@ use Rattle.ras_account.specs.Account.{State}
 use Rattle.ras_account.specs.Continued.{account_after_all}
 use Rattle.ras_facts.specs.declared.entry.Entry.{Entry}
 use Rattle.ras_journal.specs.declared.standing.Standing.{Standing}
-use Rattle.ras_journal.specs.Recovered.{IsAt, is_shut, other, other_of, standing_of}
+use Rattle.ras_journal.specs.Recovered.{IsAt, is_shut, other, other_of}
 use Rattle.ras_journal.specs.Appending.{Before, Links, after_append, needs_switch}
 use Rattle.ras_journal.proofs.FileLemmas.{lies}
 use Rattle.ras_journal.proofs.JournalLemmas.{here_of}

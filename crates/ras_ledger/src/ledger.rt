@@ -14,6 +14,8 @@ ghost use Rattle.ras_ledger.specs.Keeping.{FailsKeeping, FailsRoom, IsFullBy, Ke
 ghost use Rattle.ras_ledger.specs.Keeping.{OnDisk, OnNothingCalled, Stands, after_keeping};
 ghost use Rattle.ras_ledger.specs.Keeping.{after_room, disk_failure, lacks_room};
 ghost use Rattle.ras_ledger.specs.Keeping.{standing_kept, standing_roomy};
+ghost use Rattle.ras_ledger.specs.KeepingCalls.{IsKeeping};
+ghost use Rattle.ras_recover.specs.DiskCalls.{IsBeginning, Makes};
 
 use crate::KeepRefused;
 use board_core::Board;
@@ -85,6 +87,11 @@ impl Ledger {
         ensures same { OnNothingCalled result (self.new ≡ self.old) }
         ensures disk_told { OnDisk result (Relates
             (FailsKeeping self.old.journal.standing self.old.account.state link.now)
+            (B.told board.old) (B.told board.new)) }
+        // The disk calls made are a beginning of a keeping, and where it is kept a whole one.
+        ensures calls { Relates (Makes (IsBeginning (IsKeeping link.now)))
+            (B.told board.old) (B.told board.new) }
+        ensures whole { OnOk result (Relates (Makes (IsKeeping link.now))
             (B.told board.old) (B.told board.new)) }
         ensures cause { FailsAs disk_call (B.faults board.old) (B.faults board.new)
             (disk_failure result) }
