@@ -12,6 +12,9 @@ pub enum Reason {
     /// The line itself doesn't read.
     #[error("the line can't be read: {0}")]
     Line(LineRefused),
+    /// The line has more bytes than a line may have, so it isn't read.
+    #[error("the line has more than 40,000 bytes")]
+    LongLine,
     /// The rows of the machine don't take the line's row.
     #[error("the machine doesn't take the row: {0}")]
     Topology(TopologyRefused),
