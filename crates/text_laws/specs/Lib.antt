@@ -1,0 +1,3 @@
+pub mod DoneLines
+pub mod QuietLines
+pub mod PrintedEvents

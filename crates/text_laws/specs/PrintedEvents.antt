@@ -1,0 +1,26 @@
+-- What is printed of events that are done one after the other.
+use Rattle.std.specs.Prelude.{◌≡◌, ℕ, ◌≤◌, List, ◌++◌, flat_map, length, take}
+use Rattle.ras_texts.specs.Text.{done_line}
+use Rattle.text_laws.specs.DoneLines.{done_count}
+use Rattle.text_laws.specs.QuietLines.{AreQuietLines}
+
+-- an event as it is printed: its lines, and then the one that says that it is done
+pub record PrintedEvent : Type 0 where
+  pub text : List ℕ
+  pub number : ℕ
+
+abbrev pub printed_event : PrintedEvent → List ℕ
+printed_event event = event.text ++ done_line event.number
+
+abbrev pub printed_events : List PrintedEvent → List ℕ
+printed_events events = flat_map printed_event events
+
+-- no line of an event but its last says that an event is done
+abbrev pub IsPrintedEvent : PrintedEvent → Type 0
+IsPrintedEvent event = AreQuietLines event.text
+
+-- a text holds all that is printed of the first of some events, of as many as it says are done
+pub record HoldsFirst (events : List PrintedEvent) (text : List ℕ) : Type 0 where
+  pub few : done_count text ≤ length events
+  pub left : List ℕ
+  pub first : printed_events (take (done_count text) events) ++ left ≡ text

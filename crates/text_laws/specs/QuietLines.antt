@@ -1,0 +1,22 @@
+-- Texts of whole lines, and those among them that say of no event that it is done.
+use Rattle.std.specs.Prelude.{◌≡◌, ℕ, List, IsFalse, flat_map}
+use Rattle.std.specs.List.{AllByRecursion}
+use Rattle.ras_script.specs.SplittingLaws.{Lacks}
+use Rattle.ras_texts.specs.Text.{line_with}
+use Rattle.text_laws.specs.DoneLines.{is_done_line}
+
+-- a text is lines, each with one line feed, at its end
+pub record AreLines (text : List ℕ) : Type 0 where
+  pub lines : List (List ℕ)
+  pub each : AllByRecursion (Lacks 10) lines
+  pub whole : text ≡ flat_map line_with lines
+
+-- a line has no line feed, and doesn't begin as the one that an event ends with
+abbrev pub IsQuietLine : List ℕ → Type 0
+IsQuietLine line = Lacks 10 line × IsFalse (is_done_line line)
+
+-- a text is such lines, each with one line feed, at its end
+pub record AreQuietLines (text : List ℕ) : Type 0 where
+  pub lines : List (List ℕ)
+  pub each : AllByRecursion IsQuietLine lines
+  pub whole : text ≡ flat_map line_with lines

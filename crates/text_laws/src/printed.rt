@@ -1,0 +1,23 @@
+//! What is printed beside the lines that say that an event is done.
+
+ghost use Rattle.ras_account.specs.Account.{State, account_of};
+ghost use Rattle.ras_account.specs.Accounts.{IsAccount};
+ghost use Rattle.ras_account.specs.History.{History};
+ghost use Rattle.ras_texts.specs.Orders.{standing_lines};
+ghost use Rattle.ras_texts.specs.Text.{end_line};
+ghost use Rattle.ras_events.specs.Making.{Pieces};
+ghost use Rattle.ras_events.specs.Sizes.{IsFit};
+ghost use Rattle.ras_events.specs.Texts.{event_text};
+ghost use Rattle.text_laws.specs.QuietLines.{AreQuietLines};
+
+/// The laws of printed texts. The function does nothing: its clauses are what it is for.
+pub fn printed_lines_are_quiet()
+    // No line of an event says that an event is done, whatever it makes that can be counted.
+    ensures event { (history : History) (made : Pieces) → IsAccount (account_of history)
+        → IsFit made → AreQuietLines (event_text history made) }
+
+    // Nor does one of an account's orders, or the line that a whole run ends with.
+    ensures standing { (account : State) → IsAccount account
+        → AreQuietLines (standing_lines account) }
+    ensures end { (account : State) → AreQuietLines (end_line account) }
+{}
