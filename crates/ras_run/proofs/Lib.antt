@@ -1,0 +1,12 @@
+pub mod FaultLemmas
+pub mod DeviceLemmas
+pub mod PrintLemmas
+pub mod StandsLemmas
+pub mod KeepLemmas
+pub mod CountLemmas
+pub mod OpenLemmas
+pub mod PlaceLemmas
+pub mod LineLemmas
+pub mod LaterKindLemmas
+pub mod TakingCallsLemmas
+pub mod LineCallsLemmas

@@ -1,0 +1,11 @@
+pub mod LaterKinds
+pub mod ExitStatus
+pub mod StopLine
+pub mod Causes
+pub mod Device
+pub mod Places
+pub mod Status
+pub mod Output
+pub mod Taking
+pub mod LineCalls
+pub mod TakingCalls

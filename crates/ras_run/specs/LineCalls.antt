@@ -1,0 +1,28 @@
+-- The disk calls of a line, once all of them are made.
+use Rattle.std.specs.Prelude.{◌≡◌, List, [], ◌∷◌, Result, Ok}
+use Rattle.board_core.specs.declared.board.DiskCall.{DiskCall}
+use Rattle.journal_format.specs.Links.{link_bytes}
+use Rattle.ras_facts.specs.declared.entry.Entry.{Entry}
+use Rattle.ras_recover.specs.OpeningCalls.{IsRecovery}
+use Rattle.ras_ledger.specs.KeepingCalls.{IsKeeping}
+use Rattle.ras_events.specs.declared.event.Event.{Event}
+use Rattle.ras_events.specs.declared.event.Event.TheVariants.{Counted, Reopened}
+use Rattle.ras_events.specs.declared.reason.Reason.{Reason}
+use Rattle.ras_events.specs.Reports.{Place, event_at}
+use Rattle.ras_run.specs.Places.{Start, history_at, news_after}
+
+-- news are kept as one link, and no news need no call
+abbrev pub AreNewsCalls : List Entry → List DiskCall → Type 0
+AreNewsCalls [] calls = calls ≡ []
+AreNewsCalls (entry ∷ entries) calls = IsKeeping (link_bytes (entry ∷ entries)) calls
+
+-- Of an event its news are kept. A journal that is opened again is recovered. Any other line makes
+-- no disk call.
+abbrev pub AreEventCalls : Start → Place → Result Event Reason → List DiskCall → Type 0
+AreEventCalls start place (Ok (Counted made)) calls =
+    AreNewsCalls (news_after (history_at start place.0) made.entries) calls
+AreEventCalls start place (Ok Reopened) calls = IsRecovery calls
+AreEventCalls start place event calls = calls ≡ []
+
+abbrev pub AreCallsAt : Start → Place → List DiskCall → Type 0
+AreCallsAt start place calls = AreEventCalls start place (event_at place) calls

@@ -1,0 +1,26 @@
+-- Where a run ends among its lines: at the first that is refused.
+use Rattle.std.specs.Prelude.{List, [], ◌∷◌, Option, None, Some, Result, Ok, Err, is_some, if◌then◌else◌}
+use Rattle.ras_events.specs.declared.event.Event.{Event}
+use Rattle.ras_events.specs.declared.event.Event.TheVariants.{Counted}
+use Rattle.ras_events.specs.declared.reason.Reason.{Reason}
+use Rattle.ras_events.specs.Reports.{Place, event_at}
+use Rattle.ras_run.specs.declared.exit.Exit.{Exit}
+use Rattle.ras_run.specs.declared.exit.Exit.TheVariants.{BadLine, Full}
+use Rattle.ras_run.specs.Places.{Start, history_at, has_no_room_for, standing_at}
+
+-- Why a line is refused at its place, if it is: it can't be read, or what it asks for can't be
+-- done, or there is no room for what it reports.
+abbrev pub event_refusal : Start → Place → Result Event Reason → Option Exit
+event_refusal start (before, (number, line)) (Err why) = Some (BadLine number why)
+event_refusal start (before, (number, line)) (Ok (Counted made)) =
+    if has_no_room_for (history_at start before) (standing_at start before) made.entries then Some Full else None
+event_refusal start place (Ok event) = None
+
+abbrev pub refusal_at : Start → Place → Option Exit
+refusal_at start place = event_refusal start place (event_at place)
+
+-- the places that stand before the first refused one
+abbrev pub places_before_refusal : Start → List Place → List Place
+places_before_refusal start [] = []
+places_before_refusal start (place ∷ places) =
+    if is_some (refusal_at start place) then [] else place ∷ places_before_refusal start places

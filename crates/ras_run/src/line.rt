@@ -1,0 +1,173 @@
+//! A line of a script, taken whole.
+
+ghost use Rattle.std.specs.Prelude.{◌≡◌, ◌≤◌, ℕ, List, false, length, Err, IfErr, OnOk, Some};
+ghost use Rattle.board_core.specs.Clock.{Adds, Rests};
+ghost use Rattle.board_core.specs.Stop.{Begins, InOut};
+ghost use Rattle.board_core.specs.Told.{Relates, Steps, Told, after_print};
+ghost use Rattle.ras_events.specs.Reports.{NumberedLine};
+ghost use Rattle.ras_recover.specs.DiskCalls.{IsBeginning, Makes};
+ghost use Rattle.ras_recover.specs.OpeningCalls.{IsRecovery};
+ghost use Rattle.ras_script.specs.declared.reader.TheConstants.{LONGEST_LINE};
+ghost use Rattle.ras_run.specs.Causes.{BoardCause, Causes};
+ghost use Rattle.ras_run.specs.Device.{LeavesDevice};
+ghost use Rattle.ras_run.specs.LaterKinds.{taken_line};
+ghost use Rattle.ras_run.specs.Places.{Start};
+ghost use Rattle.ras_run.specs.Taking.{IsPrintExit, IsRunAfter, IsStop, LedgerStands, LineMoment};
+ghost use Rattle.ras_run.specs.Taking.{OnRefusal, Reopens, ReopenMoment, TakesLine, unread_exit};
+ghost use Rattle.ras_run.specs.TakingCalls.{BeginsLine, KeepsCalls, MakesLine};
+ghost use Rattle.ras_texts.specs.Text.{done_line};
+
+use crate::counting::take_made;
+use crate::later_kinds::read_taken_line;
+use crate::opening::open;
+use crate::printing::{print, print_event};
+use crate::{Exit, Run};
+use board_core::Board;
+use ras_events::{Event, EventRefused, Reason};
+use ras_ledger::Ledger;
+use ras_script::LineRefused;
+use ras_texts::{done_line, standing_lines};
+use std::alloc::Global;
+
+/// Takes the line of this number: what it tells of the machine from now on, what it reports, or
+/// that the journal is to be opened again. It prints the event's text and its done line; a line
+/// without words and a comment are no event, and print nothing.
+///
+/// # Errors
+///
+/// `BadLine` comes exactly where the line is refused at its place, and `Full` exactly where there
+/// is no room for what it reports; then nothing was called. `Damaged` and `TooLong` come of a
+/// journal that is opened again, exactly where its files' bytes say so. `DiskFault` and
+/// `PrintFault` come only where such a call failed, and `NoMemory` for want of memory alone.
+pub fn take_line<B: Board>(
+    alloc: Global,
+    number: u64,
+    bytes: &[u8],
+    run: &mut Run,
+    board: &mut B,
+) -> Result<(), Exit>
+    requires short { length bytes.now ≤ LONGEST_LINE }
+    requires usable { run.old.ledger.journal.failed ≡ false }
+    requires stands { LedgerStands run.old.ledger (B.told board.old) (B.clock board.old) }
+
+    ensures takes { (start : Start) (before : List NumberedLine) → IsRunAfter start before run.old
+        → (t : Told) → B.told board.old ≡ Some t
+        → TakesLine start (before, (number, taken_line bytes.now)) result run.new
+        (B.told board.old) (B.told board.new) }
+    ensures moments { (start : Start) (before : List NumberedLine)
+        → IsRunAfter start before run.old → (t : Told) → B.told board.old ≡ Some t
+        → Adds (LineMoment start (before, (number, taken_line bytes.now)) t.here)
+        (B.clock board.old) (B.clock board.new) }
+    ensures usable { OnOk result (run.new.ledger.journal.failed ≡ false) }
+    ensures stands { OnOk result
+        (LedgerStands run.new.ledger (B.told board.new) (B.clock board.new)) }
+    // A run that ends here, and not by a fault, leaves the journal as it was.
+    ensures rests { OnRefusal result
+        (LedgerStands run.old.ledger (B.told board.new) (B.clock board.new)) }
+    ensures stop { IfErr result IsStop }
+    // The disk calls made are a beginning of the line's own, and once it is taken all of them.
+    ensures calls { (start : Start) (before : List NumberedLine)
+        → IsRunAfter start before run.old
+        → Relates (BeginsLine start (before, (number, taken_line bytes.now)))
+        (B.told board.old) (B.told board.new) }
+    ensures whole { (start : Start) (before : List NumberedLine)
+        → IsRunAfter start before run.old
+        → OnOk result (Relates (MakesLine start (before, (number, taken_line bytes.now)))
+        (B.told board.old) (B.told board.new)) }
+    ensures faults { Causes BoardCause result (B.faults board.old) (B.faults board.new) }
+    ensures device { LeavesDevice (B.told board.old) (B.told board.new)
+        (B.clock board.old) (B.clock board.new) }
+{
+    let line = match read_taken_line(alloc, bytes) {
+        Ok(line) => line,
+        Err(refused) => return Err(unread_exit(number, refused)),
+    };
+    let event = match run.settings.take(alloc, line) {
+        Ok(event) => event,
+        Err(EventRefused::Refused(reason)) => return Err(bad_line(number, reason)),
+        Err(EventRefused::NoMemory) => return Err(Exit::NoMemory),
+    };
+    match event {
+        Event::Nothing => Ok(()),
+        Event::Settled => settle(alloc, number, board),
+        Event::Counted(made) => take_made(alloc, number, made, &mut run.ledger, board),
+        Event::Reopened => reopen(alloc, number, &mut run.ledger, board),
+    }
+}
+
+// How a run ends whose line of this number isn't read.
+fn unread_exit(number: u64, refused: LineRefused) -> Exit
+    ensures { result ≡ unread_exit number refused }
+{
+    match refused {
+        LineRefused::NoMemory => Exit::NoMemory,
+        LineRefused::Kind
+        | LineRefused::Words
+        | LineRefused::Number
+        | LineRefused::Hex
+        | LineRefused::Label => bad_line(number, Reason::Line(refused)),
+    }
+}
+
+// Why a run ends at the line of this number.
+fn bad_line(number: u64, reason: Reason) -> Exit
+    ensures { result ≡ Exit.BadLine number reason }
+{
+    Exit::BadLine {
+        line: number,
+        reason,
+    }
+}
+
+// Ends the event of the line of this number, which told of the machine alone.
+fn settle<B: Board>(alloc: Global, number: u64, board: &mut B) -> Result<(), Exit>
+    ensures told { OnOk result (Steps (after_print (done_line number))
+        (B.told board.old) (B.told board.new)) }
+    ensures stops { (t : Told) → Rests t (B.told board.old) (B.clock board.old)
+        → Adds (InOut (Begins (done_line number)) t.here)
+        (B.clock board.old) (B.clock board.new) }
+    ensures rests { OnOk result ((t : Told) → Rests t (B.told board.old) (B.clock board.old)
+        → Rests (after_print (done_line number) t) (B.told board.new) (B.clock board.new)) }
+    ensures same { result ≡ Err Exit.NoMemory → board.new ≡ board.old }
+    ensures exit { IfErr result IsPrintExit }
+    ensures calls { Relates KeepsCalls (B.told board.old) (B.told board.new) }
+    ensures faults { Causes BoardCause result (B.faults board.old) (B.faults board.new) }
+    ensures device { LeavesDevice (B.told board.old) (B.told board.new)
+        (B.clock board.old) (B.clock board.new) }
+{
+    match done_line(alloc, number) {
+        Ok(done) => print(&done, board),
+        Err(_) => Err(Exit::NoMemory),
+    }
+}
+
+// Opens the journal again, by the line of this number, and prints the orders that stand.
+fn reopen<B: Board>(
+    alloc: Global,
+    number: u64,
+    ledger: &mut Ledger,
+    board: &mut B,
+) -> Result<(), Exit>
+    requires stands { LedgerStands ledger.old (B.told board.old) (B.clock board.old) }
+    ensures takes { (t : Told) → B.told board.old ≡ Some t
+        → Reopens number ledger.old result ledger.new (B.told board.old) (B.told board.new) }
+    ensures moments { (t : Told) → B.told board.old ≡ Some t
+        → Adds (ReopenMoment number ledger.old t.here) (B.clock board.old) (B.clock board.new) }
+    ensures usable { OnOk result (ledger.new.journal.failed ≡ false) }
+    ensures stands { OnOk result (LedgerStands ledger.new (B.told board.new) (B.clock board.new)) }
+    ensures rests { OnRefusal result
+        (LedgerStands ledger.old (B.told board.new) (B.clock board.new)) }
+    ensures stop { IfErr result IsStop }
+    ensures calls { Relates (Makes (IsBeginning IsRecovery))
+        (B.told board.old) (B.told board.new) }
+    ensures whole { OnOk result (Relates (Makes IsRecovery)
+        (B.told board.old) (B.told board.new)) }
+    ensures faults { Causes BoardCause result (B.faults board.old) (B.faults board.new) }
+    ensures device { LeavesDevice (B.told board.old) (B.told board.new)
+        (B.clock board.old) (B.clock board.new) }
+{
+    *ledger = open(alloc, board)?;
+    let text = standing_lines(alloc, &ledger.account)?;
+    let done = done_line(alloc, number)?;
+    print_event(&text, &done, board)
+}
