@@ -1,146 +1,309 @@
--- What a call that took its course has printed, kept and answered.
-use Rattle.std.proofs.Common.{◌≡◌, ℕ, List, [], ◌++◌, Option, None, Some, IsSomeAnd, ap, sym, ◌∙◌, subst, append-nil, inl, inr}
+-- The end of a run over a journal that was opened.
+use Rattle.std.proofs.Common.{◌≡◌, ℕ, List, [], ◌++◌, Option, None, Some, IfSome, IsSomeAnd, Ok, Err, refl, ap, sym, ◌∙◌, subst, append_assoc, inl, inr}
+use Rattle.std.specs.Prelude.{⊤, ◌⊎◌}
 use Rattle.std.specs.Option.{option_map}
-use Rattle.board_core.specs.Told.{Told}
-use Rattle.ras_daemon.specs.declared.exit.Exit.{Exit}
-use Rattle.ras_daemon.specs.declared.exit.Exit.TheVariants.{Done, Usage, BadLine, SourceFault, DiskFault, PrintFault, Damaged, Full, NoMemory, TooLong}
-use Rattle.ras_daemon.specs.Task.{task_of}
-use Rattle.ras_daemon.specs.Ended.{OnAnswer, OverBoth, OverTold, PrintsPart}
-use Rattle.ras_daemon.specs.Output.{output_of, output_upto}
-use Rattle.ras_daemon.specs.Progress.{Step, told_after_all, asks_size, reads_file, appends, prints_text, Fails, Cut, Course, FollowsCall, call_course}
-use Rattle.ras_daemon.specs.Reports.{reads_of}
-use Rattle.ras_daemon.specs.Status.{exit_of}
-use Rattle.ras_daemon.specs.FileAndCalls.{calls_of, file_after}
-use Rattle.ras_daemon.proofs.CourseLemmas.{printed_by, printed-call, exit-call, out-after}
-use Rattle.ras_daemon.proofs.CutLemmas.{cut-out, paused-out, disk-out}
-use Rattle.ras_daemon.proofs.FileAndCallLemmas.{calls-after, calls-call, file-call, file1-after}
+use Rattle.board_core.specs.Clock.{Clock, Adds, Rests}
+use Rattle.board_core.specs.ClockLemmas.{adds_weaker}
+use Rattle.board_core.specs.Stop.{Left, Begins, InOut}
+use Rattle.board_core.specs.Told.{FailsPrint, Relates, Steps, Told, after_print}
+use Rattle.ras_account.specs.Account.{State, account_of}
+use Rattle.ras_account.specs.Accounts.{IsAccount}
+use Rattle.ras_journal.specs.Appending.{Before}
+use Rattle.ras_journal.specs.Recovered.{Recovers}
+use Rattle.ras_ledger.specs.declared.ledger.Ledger.{Ledger}
+use Rattle.ras_events.specs.Reports.{NumberedLine}
+use Rattle.ras_texts.specs.Orders.{standing_lines}
+use Rattle.ras_run.specs.declared.exit.Exit.{Exit}
+use Rattle.ras_run.specs.declared.exit.Exit.TheVariants.{Done, Usage, BadLine, SourceFault, DiskFault, PrintFault, Damaged, Full, NoMemory, TooLong}
+use Rattle.ras_run.specs.Device.{LeavesDevice}
+use Rattle.ras_run.specs.Places.{Start, account_at}
+use Rattle.ras_run.specs.Taking.{LedgerStands, Prints}
+use Rattle.ras_daemon.specs.RunOutput.{closing_line}
+use Rattle.ras_daemon.specs.Running.{AreAll, EndsEarly, EndsSo, Ends, IsAnswer, IsAtRest, IsCut, IsLineExit, IsStart, LinesMoment, OpenMoment, RunEnds, Says, TakesLines, TookLines, UnlessFault, lines_from, outputs}
+use Rattle.ras_daemon.specs.Script.{reads_of}
+use Rattle.ras_daemon.proofs.MomentLemmas.{store_later}
 
-abbrev file1_of : Told → List ℕ
-file1_of told = told.here.file1
+-- ---- the answers
 
--- what an answer says of the course
-abbrev pub Answered : Course → Exit → Option Told → Option Told → Type 0
-Answered course exit old new = (course.exit ≡ exit) × (new ≡ option_map (told_after_all course.steps) old)
+-- an answer with its last line
+pub answers_so : (start : Start) (script : List ℕ) (exit : Exit) (old now : Told) → IsAnswer exit → EndsSo start script exit old now → RunEnds start script exit old now
+answers_so start script Done old now answer ends = ends
+answers_so start script Usage old now answer ends = ends
+answers_so start script (BadLine line why) old now answer ends = ends
+answers_so start script (Damaged file place) old now answer ends = ends
+answers_so start script Full old now answer ends = ends
+answers_so start script TooLong old now answer ends = ends
+answers_so start script SourceFault old now answer ends = absurd answer
+answers_so start script DiskFault old now answer ends = absurd answer
+answers_so start script PrintFault old now answer ends = absurd answer
+answers_so start script NoMemory old now answer ends = absurd answer
 
-answered : (course : Course) (exit : Exit) (old new : Option Told) → FollowsCall course exit old new → OnAnswer exit (Answered course exit old new)
-answered course SourceFault old new taken = tt
-answered course DiskFault old new taken = tt
-answered course PrintFault old new taken = tt
-answered course NoMemory old new taken = tt
-answered course Done old new taken = taken
-answered course Usage old new taken = taken
-answered course (BadLine line reason) old new taken = taken
-answered course (Damaged file place) old new taken = taken
-answered course Full old new taken = taken
-answered course TooLong old new taken = taken
+-- What was taken where a run ends by an answer: these lines, and its last line tells of their
+-- account, where it tells of one.
+pub record Answered (start : Start) (script : List ℕ) (exit : Exit) (line : List ℕ) (old now : Told) : Type 0 where
+  pub before : List NumberedLine
+  pub took : TookLines start script before old now
+  pub all : AreAll start script exit before
+  pub same : line ≡ closing_line (account_at start before) exit
 
-on_answer : (exit : Exit) (P Q : Type 0) → (P → Q) → OnAnswer exit P → OnAnswer exit Q
-on_answer SourceFault P Q f h = tt
-on_answer DiskFault P Q f h = tt
-on_answer PrintFault P Q f h = tt
-on_answer NoMemory P Q f h = tt
-on_answer Done P Q f h = f h
-on_answer Usage P Q f h = f h
-on_answer (BadLine line reason) P Q f h = f h
-on_answer (Damaged file place) P Q f h = f h
-on_answer Full P Q f h = f h
-on_answer TooLong P Q f h = f h
+pub answered_done : (start : Start) (script : List ℕ) (state : State) (old now : Told) → state ≡ account_at start (reads_of script) → TakesLines start script (Ok tt) old now
+    → Answered start script Done (closing_line state Done) old now
+answered_done start script state old now is takes = record { before = reads_of script; took = takes.0; all = takes.1; same = ap (λ (s : State). closing_line s Done) is }
 
-whole : (course : Course) (t : Told) (new : Option Told) → new ≡ Some (told_after_all course.steps t) → IsSomeAnd new (λ now. PrintsPart (printed_by course.steps) t.here.out now.here.out)
-whole course t new is = rw is (printed_by course.steps, ([], append-nil (printed_by course.steps)), out-after course.steps t)
+pub answered_stop : (start : Start) (script : List ℕ) (exit : Exit) (state : State) (old now : Told) → IsAnswer exit → IsLineExit exit → TakesLines start script (Err exit) old now
+    → Answered start script exit (closing_line state exit) old now
+answered_stop start script Done state old now answer stop takes = absurd stop
+answered_stop start script Usage state old now answer stop takes = absurd stop
+answered_stop start script (BadLine line why) state old now answer stop takes = record { before = takes.0; took = takes.1; all = takes.2; same = refl }
+answered_stop start script (Damaged file place) state old now answer stop takes = record { before = takes.0; took = takes.1; all = takes.2; same = refl }
+answered_stop start script Full state old now answer stop takes = record { before = takes.0; took = takes.1; all = takes.2; same = refl }
+answered_stop start script TooLong state old now answer stop takes = record { before = takes.0; took = takes.1; all = takes.2; same = refl }
+answered_stop start script SourceFault state old now answer stop takes = absurd answer
+answered_stop start script DiskFault state old now answer stop takes = absurd answer
+answered_stop start script PrintFault state old now answer stop takes = absurd answer
+answered_stop start script NoMemory state old now answer stop takes = absurd answer
 
--- in every case a beginning of the course is printed
-part-out : (course : Course) (exit : Exit) (t : Told) (new : Option Told) → FollowsCall course exit (Some t) new → IsSomeAnd new (λ now. PrintsPart (printed_by course.steps) t.here.out now.here.out)
-part-out course SourceFault t new taken = paused-out course.steps t new taken
-part-out course DiskFault t new taken = cut-out course.steps t new taken
-part-out course PrintFault t new taken = cut-out course.steps t new taken
-part-out course NoMemory t new taken = paused-out course.steps t new taken
-part-out course Done t new taken = whole course t new taken.1
-part-out course Usage t new taken = whole course t new taken.1
-part-out course (BadLine line reason) t new taken = whole course t new taken.1
-part-out course (Damaged file place) t new taken = whole course t new taken.1
-part-out course Full t new taken = whole course t new taken.1
-part-out course TooLong t new taken = whole course t new taken.1
+-- ---- what is told at the end
 
--- file 1 stays, whatever call failed
-fails-file1 : (step : Step) (old new : Told) → Fails step old new → new.here.file1 ≡ old.here.file1
-fails-file1 asks_size old new (inl same) = ap file1_of same
-fails-file1 asks_size old new (inr listed) = ap file1_of listed
-fails-file1 (reads_file count) old new (inl same) = ap file1_of same
-fails-file1 (reads_file count) old new (inr listed) = ap file1_of listed
-fails-file1 (appends place bytes) old new (inr (inl same)) = ap file1_of same
-fails-file1 (appends place bytes) old new (inr (inr listed)) = ap file1_of listed
-fails-file1 (appends place bytes) old new (inl torn) = elim torn.2 [ inl same ↦ ap file1_of same | inr listed ↦ ap file1_of listed ]
-fails-file1 (prints_text bytes) old new fails = ap file1_of fails.3
+-- what a board tells now, where it tells at all
+some_now : (o : Option Told) (P : Told → Type 0) → IsSomeAnd o P → (now : Told) × (o ≡ Some now) × P now
+some_now None P holds = absurd holds
+some_now (Some now) P holds = (now, refl, holds)
 
-cut-file1 : {Kind : Step → Type 0} (steps : List Step) (t : Told) (new : Option Told) → Cut Kind steps (Some t) new → IsSomeAnd new (λ now. now.here.file1 ≡ t.here.file1)
-cut-file1 steps t None cut = cut.leaves
-cut-file1 steps t (Some now) cut = fails-file1 cut.step (told_after_all cut.done t) now cut.leaves ∙ file1-after cut.done t
+module _ (start : Start) (script : List ℕ) (t u : Told) (account : IsAccount (account_of start.history)) (began : Prints (standing_lines (account_of start.history)) t u) where
+  -- lines were taken, and then the run was cut short
+  early_after : (now : Told) (before : List NumberedLine) → TookLines start script before u now → EndsEarly start script t now
+  early_after now before took = record {
+    before = before;
+    first = took.first;
+    recovers = took.recovers;
+    text = inl (account, took.text ∙ ap (λ out. out ++ outputs start before) began ∙ append_assoc t.here.out (standing_lines (account_of start.history)) (outputs start before));
+  }
 
-went-file1 : (steps : List Step) (t : Told) (new : Option Told) → new ≡ Some (told_after_all steps t) → IsSomeAnd new (λ now. now.here.file1 ≡ t.here.file1)
-went-file1 steps t new is = rw is (file1-after steps t)
+  -- a run that was cut short among its lines
+  cut_after : (exit : Exit) (now : Told) → IsCut exit → TakesLines start script (Err exit) u now → RunEnds start script exit t now
+  cut_after SourceFault now cut takes = early_after now takes.0 takes.1
+  cut_after NoMemory now cut takes = early_after now takes.0 takes.1
+  cut_after DiskFault now cut takes = tt
+  cut_after PrintFault now cut takes = tt
+  cut_after Done now cut takes = absurd cut
+  cut_after Usage now cut takes = absurd cut
+  cut_after (BadLine line why) now cut takes = absurd cut
+  cut_after (Damaged file place) now cut takes = absurd cut
+  cut_after Full now cut takes = absurd cut
+  cut_after TooLong now cut takes = absurd cut
 
-same_file1 : (course : Course) (exit : Exit) (t : Told) (new : Option Told) → FollowsCall course exit (Some t) new → IsSomeAnd new (λ now. now.here.file1 ≡ t.here.file1)
-same_file1 course SourceFault t new taken = went-file1 taken.done t new taken.leaves
-same_file1 course DiskFault t new taken = cut-file1 course.steps t new taken
-same_file1 course PrintFault t new taken = cut-file1 course.steps t new taken
-same_file1 course NoMemory t new taken = went-file1 taken.done t new taken.leaves
-same_file1 course Done t new taken = went-file1 course.steps t new taken.1
-same_file1 course Usage t new taken = went-file1 course.steps t new taken.1
-same_file1 course (BadLine line reason) t new taken = went-file1 course.steps t new taken.1
-same_file1 course (Damaged file place) t new taken = went-file1 course.steps t new taken.1
-same_file1 course Full t new taken = went-file1 course.steps t new taken.1
-same_file1 course TooLong t new taken = went-file1 course.steps t new taken.1
+  -- a last line was printed
+  so_after : (exit : Exit) (line : List ℕ) (mid : Told) → Answered start script exit line u mid → EndsSo start script exit t (after_print line mid)
+  so_after exit line mid answered =
+      let lines : List ℕ = outputs start answered.before in
+      let orders : List ℕ = standing_lines (account_of start.history) in
+      record {
+        before = answered.before;
+        all = answered.all;
+        account = account;
+        recovers = record { is = answered.took.recovers.is };
+        text =
+            ap (λ out. out ++ line) (answered.took.text ∙ ap (λ out. out ++ lines) began)
+            ∙ append_assoc (t.here.out ++ orders) lines line
+            ∙ append_assoc t.here.out orders (lines ++ line)
+            ∙ ap (λ last. t.here.out ++ (orders ++ (lines ++ last))) answered.same;
+      }
 
-module _ (words : List (List ℕ)) (exit : Exit) where
-  -- a call over what is told has taken its course
-  abbrev pub IsTaken : Option (List ℕ) → Option Told → Option Told → Type 0
-  IsTaken left old new = OverTold (λ script told. FollowsCall (call_course (task_of words) script told.here.file0) exit old new) left old
+  -- The last line of a run whose lines were taken so.
+  says_after : (exit result : Exit) (line : List ℕ) (mid : Told) (new : Option Told) → IsAnswer exit → Answered start script exit line u mid
+      → Says exit result line (Some mid) new → IsSomeAnd new (RunEnds start script result t)
+  says_after exit result line mid new answer answered (inl said) =
+      rw (said.1, said.0) (answers_so start script exit t (after_print line mid) answer (so_after exit line mid answered))
+  says_after exit result line mid new answer answered (inr (inl failed)) = rw failed.0 (told_after new failed.1)
+    where
+      told_after : (new : Option Told) → Relates (FailsPrint line) (Some mid) new → IsSomeAnd new (λ _. ⊤)
+      told_after None fails = absurd fails
+      told_after (Some now) fails = tt
+  says_after exit result line mid new answer answered (inr (inr same)) = rw (same.1, same.0) (early_after mid answered.before answered.took)
 
-  pub status-taken : (left : Option (List ℕ)) (old new : Option Told) → IsTaken left old new → OverTold (λ script told. OnAnswer exit (exit ≡ exit_of words script told.here.file0)) left old
-  status-taken None old new taken = tt
-  status-taken (Some script) None new taken = tt
-  status-taken (Some script) (Some t) new taken =
-      on_answer exit _ _ (λ h. sym h.0 ∙ exit-call words script t.here.file0) (answered (call_course (task_of words) script t.here.file0) exit (Some t) new taken)
+  -- how a run ends whose lines were all taken, and one that ends among its lines
+  pub done_after : (result : Exit) (state : State) (mid new : Option Told) → state ≡ account_at start (reads_of script) → IsSomeAnd mid (TakesLines start script (Ok tt) u)
+      → Ends Done result (closing_line state Done) mid new → IsSomeAnd new (RunEnds start script result t)
+  done_after result state mid new is takes ends =
+      let found = some_now mid (TakesLines start script (Ok tt) u) takes in
+      by found.0 found.2 (subst (λ o. Ends Done result (closing_line state Done) o new) found.1 ends)
+    where
+      by : (m : Told) → TakesLines start script (Ok tt) u m → Ends Done result (closing_line state Done) (Some m) new → IsSomeAnd new (RunEnds start script result t)
+      by m takes (inl said) = says_after Done result (closing_line state Done) m new tt (answered_done start script state u m is takes) said.1
+      by m takes (inr cut) = absurd cut.0
 
-  pub part-taken : (left : Option (List ℕ)) (old new : Option Told) → IsTaken left old new → OverBoth (λ script told now. PrintsPart (output_of words script told.here.file0) told.here.out now.here.out) left old new
-  part-taken None old new taken = tt
-  part-taken (Some script) None new taken = tt
-  part-taken (Some script) (Some t) new taken =
-      subst (λ output. IsSomeAnd new (λ now. PrintsPart output t.here.out now.here.out)) (printed-call words script t.here.file0) (part-out (call_course (task_of words) script t.here.file0) exit t new taken)
+  pub stop_after : (exit result : Exit) (state : State) (mid new : Option Told) → IsLineExit exit → IsSomeAnd mid (TakesLines start script (Err exit) u)
+      → Ends exit result (closing_line state exit) mid new → IsSomeAnd new (RunEnds start script result t)
+  stop_after exit result state mid new stop takes ends =
+      let found = some_now mid (TakesLines start script (Err exit) u) takes in
+      by found.0 found.2 (subst (λ o. Ends exit result (closing_line state exit) o new) found.1 ends)
+    where
+      by : (m : Told) → TakesLines start script (Err exit) u m → Ends exit result (closing_line state exit) (Some m) new → IsSomeAnd new (RunEnds start script result t)
+      by m takes (inl said) = says_after exit result (closing_line state exit) m new said.0 (answered_stop start script exit state u m said.0 stop takes) said.1
+      by m takes (inr cut) = rw (cut.2, cut.1) (cut_after exit m cut.0 takes)
 
-  -- what the board tells after an answer
-  abbrev pub Leaves : (List ℕ → Told → Told → Type 0) → Option (List ℕ) → Option Told → Option Told → Type 0
-  Leaves P left old new = OverTold (λ script told. OnAnswer exit (IsSomeAnd new (λ now. P script told now))) left old
+-- Not even the orders at the start were printed.
+pub early_none : (start : Start) (script : List ℕ) (t now : Told) → Recovers (account_of start.history) now.here → Prints [] t now → EndsEarly start script t now
+early_none start script t now recovers text = record {
+  before = [];
+  first = record { rest = reads_of script; splits = refl; accepted = tt };
+  recovers = record { is = recovers.is };
+  text = inr (text, refl);
+}
 
-  leaves : (P : List ℕ → Told → Told → Type 0) → ((script : List ℕ) (t : Told) → P script t (told_after_all (call_course (task_of words) script t.here.file0).steps t))
-      → (left : Option (List ℕ)) (old new : Option Told) → IsTaken left old new → Leaves P left old new
-  leaves P holds None old new taken = tt
-  leaves P holds (Some script) None new taken = tt
-  leaves P holds (Some script) (Some t) new taken =
-      on_answer exit _ _ (λ h. rw h.1 (holds script t)) (answered (call_course (task_of words) script t.here.file0) exit (Some t) new taken)
+-- ---- what stops leave
 
-  pub out-taken : (left : Option (List ℕ)) (old new : Option Told) → IsTaken left old new → Leaves (λ script told now. now.here.out ≡ told.here.out ++ output_of words script told.here.file0) left old new
-  out-taken left old new taken =
-      leaves (λ script told now. now.here.out ≡ told.here.out ++ output_of words script told.here.file0)
-      (λ script t. out-after (call_course (task_of words) script t.here.file0).steps t ∙ ap (λ text. t.here.out ++ text) (printed-call words script t.here.file0)) left old new taken
+-- once the journal is open, with the store that was told then
+abbrev pub OpenStop : Start → List ℕ → Told → Left → Type 0
+OpenStop start script t left = (left.store ≡ t.here.store) × OpenMoment start script t.here left
 
-  pub file-taken : (left : Option (List ℕ)) (old new : Option Told) → IsTaken left old new → Leaves (λ script told now. now.here.file0 ≡ file_after words script told.here.file0) left old new
-  file-taken left old new taken = leaves (λ script told now. now.here.file0 ≡ file_after words script told.here.file0) (λ script t. file-call words script t) left old new taken
+-- the files are as told while a text is printed
+printing_recovers : (state : State) (line : List ℕ) (here left : Left) → Recovers state here → InOut (Begins line) here left → Recovers state left
+printing_recovers state line here left recovers by = rw by.rest (record { is = recovers.is })
 
-  pub calls-taken : (left : Option (List ℕ)) (old new : Option Told) → IsTaken left old new → Leaves (λ script told now. now.disk_calls ≡ told.disk_calls ++ calls_of words script told.here.file0) left old new
-  calls-taken left old new taken =
-      leaves (λ script told now. now.disk_calls ≡ told.disk_calls ++ calls_of words script told.here.file0)
-      (λ script t. calls-after (call_course (task_of words) script t.here.file0).steps t ∙ ap (λ calls. t.disk_calls ++ calls) (calls-call words script t.here.file0)) left old new taken
+printing_text : (line : List ℕ) (here left : Left) → InOut (Begins line) here left → Begins line here.out left.out
+printing_text line here left by = subst (λ text. Begins line here.out text) (sym (ap (λ (l : Left). l.out) by.rest)) by.step
 
-  pub disk-taken : (left : Option (List ℕ)) (old new : Option Told) → IsTaken left old new → exit ≡ DiskFault
-      → OverBoth (λ script told now. (count : ℕ) × (now.here.out ≡ told.here.out ++ output_upto (reads_of script) count)) left old new
-  disk-taken None old new taken is = tt
-  disk-taken (Some script) None new taken is = tt
-  disk-taken (Some script) (Some t) new taken is =
-      disk-out words script t new (subst (λ e. FollowsCall (call_course (task_of words) script t.here.file0) e (Some t) new) is taken)
+-- while the orders at the start are printed
+pub start_moments : (start : Start) (script : List ℕ) (t : Told) (a b : Clock) → Recovers (account_of start.history) t.here
+    → Adds (InOut (Begins (standing_lines (account_of start.history))) t.here) a b → Adds (OpenStop start script t) a b
+start_moments start script t a b recovers adds =
+    adds_weaker (InOut (Begins orders) t.here) (OpenStop start script t) a b adds
+    (λ left by. (ap (λ (l : Left). l.store) by.rest, inl (record { recovers = printing_recovers (account_of start.history) orders t.here left recovers by; text = printing_text orders t.here left by })))
+  where
+    orders : List ℕ
+    orders = standing_lines (account_of start.history)
 
-  pub file1-taken : (left : Option (List ℕ)) (old new : Option Told) → IsTaken left old new → OverBoth (λ script told now. now.here.file1 ≡ told.here.file1) left old new
-  file1-taken None old new taken = tt
-  file1-taken (Some script) None new taken = tt
-  file1-taken (Some script) (Some t) new taken = same_file1 (call_course (task_of words) script t.here.file0) exit t new taken
+-- while lines are taken
+pub lines_moments : (start : Start) (script : List ℕ) (t u : Told) (b c : Clock) → Prints (standing_lines (account_of start.history)) t u → u.here.store ≡ t.here.store
+    → Adds (λ left. (left.store ≡ u.here.store) × LinesMoment start script u.here.out left) b c → Adds (OpenStop start script t) b c
+lines_moments start script t u b c began store adds =
+    adds_weaker (λ left. (left.store ≡ u.here.store) × LinesMoment start script u.here.out left) (OpenStop start script t) b c adds
+    (λ left both. (both.0 ∙ store, inr (inl (subst (λ out. LinesMoment start script out left) began both.1))))
+
+-- while the last line is printed
+pub end_moments : (start : Start) (script : List ℕ) (t u mid : Told) (exit : Exit) (line : List ℕ) (c d : Clock) → Prints (standing_lines (account_of start.history)) t u
+    → mid.here.store ≡ t.here.store → Answered start script exit line u mid → Adds (InOut (Begins line) mid.here) c d → Adds (OpenStop start script t) c d
+end_moments start script t u mid exit line c d began store answered adds =
+    adds_weaker (InOut (Begins line) mid.here) (OpenStop start script t) c d adds
+    (λ left by. (
+      ap (λ (l : Left). l.store) by.rest ∙ store,
+      inr (inr (record {
+        before = answered.before;
+        exit = exit;
+        all = answered.all;
+        recovers = printing_recovers (account_at start answered.before) line mid.here left answered.took.recovers by;
+        text = at_end left by;
+      })),
+    ))
+  where
+    from : mid.here.out ≡ lines_from start t.here ++ outputs start answered.before
+    from = answered.took.text ∙ ap (λ out. out ++ outputs start answered.before) began
+
+    at_end : (left : Left) → InOut (Begins line) mid.here left → Begins (closing_line (account_at start answered.before) exit) (lines_from start t.here ++ outputs start answered.before) left.out
+    at_end left by =
+        let begins : Begins line mid.here.out left.out = printing_text line mid.here left by in
+        subst (λ text. Begins text (lines_from start t.here ++ outputs start answered.before) left.out) answered.same
+        (subst (λ out. Begins line out left.out) from begins)
+
+-- an exit is an answer, or it cuts a run short
+pub answer_or_cut : (exit : Exit) → IsAnswer exit ⊎ IsCut exit
+answer_or_cut Done = inl tt
+answer_or_cut Usage = inl tt
+answer_or_cut (BadLine line why) = inl tt
+answer_or_cut (Damaged file place) = inl tt
+answer_or_cut Full = inl tt
+answer_or_cut TooLong = inl tt
+answer_or_cut SourceFault = inr tt
+answer_or_cut DiskFault = inr tt
+answer_or_cut PrintFault = inr tt
+answer_or_cut NoMemory = inr tt
+
+-- what holds of the end of a part holds where it ends by an answer
+pub at_rest_so : (exit : Exit) (P : Type 0) → IsAnswer exit → UnlessFault {T = Unit {0}} (Err exit) P → P
+at_rest_so Done P answer holds = holds
+at_rest_so Usage P answer holds = holds
+at_rest_so (BadLine line why) P answer holds = holds
+at_rest_so (Damaged file place) P answer holds = holds
+at_rest_so Full P answer holds = holds
+at_rest_so TooLong P answer holds = holds
+at_rest_so SourceFault P answer holds = absurd answer
+at_rest_so DiskFault P answer holds = absurd answer
+at_rest_so PrintFault P answer holds = absurd answer
+at_rest_so NoMemory P answer holds = absurd answer
+
+-- ---- the start
+
+-- A ledger stands where the orders were printed.
+pub stands_printed : (ledger : Ledger) (piece : List ℕ) (old new : Option Told) (a b : Clock) → LedgerStands ledger old a → Steps (after_print piece) old new
+    → ((t : Told) → Rests t old a → Rests (after_print piece t) new b) → LedgerStands ledger new b
+stands_printed ledger piece None new a b stands steps rests = rw steps tt
+stands_printed ledger piece (Some t) new a b stands steps rests =
+    let rest : Rests (after_print piece t) new b = rests t stands.rests in
+    let before : Before ledger.journal.standing ledger.account.state (after_print piece t) new b =
+    record { rests = rest; at = record { recovers = stands.at.recovers; position = stands.at.position } } in
+    rw steps (subst (λ o. Before ledger.journal.standing ledger.account.state (after_print piece t) o b) steps before)
+
+-- what a ledger that stands there says, where the board tells this
+pub stands_at : (ledger : Ledger) (told : Option Told) (clock : Clock) (t : Told) → told ≡ Some t → LedgerStands ledger told clock → Before ledger.journal.standing ledger.account.state t told clock
+stands_at ledger told clock t is stands =
+    let here : IsSomeAnd (Some t) (λ u. Before ledger.journal.standing ledger.account.state u told clock) =
+    subst (λ o. IfSome o (λ u. Before ledger.journal.standing ledger.account.state u told clock)) is stands in here
+
+module _ (start : Start) (script : List ℕ) (t : Told) (ledger : Ledger) (is_start : IsStart start ledger) where
+  -- the orders that are printed first
+  abbrev pub orders : List ℕ
+  orders = standing_lines ledger.account.state
+
+  same_orders : orders ≡ standing_lines (account_of start.history)
+  same_orders = ap standing_lines is_start.account
+
+  -- what is told once the orders were printed
+  abbrev pub told_begun : Told
+  told_begun = after_print orders t
+
+  pub begun : Prints (standing_lines (account_of start.history)) t told_begun
+  begun = ap (λ text. t.here.out ++ text) same_orders
+
+  pub begun_told : (told new : Option Told) → told ≡ Some t → Steps (after_print orders) told new → new ≡ Some told_begun
+  begun_told told new is steps = steps ∙ ap (option_map (after_print orders)) is
+
+  -- while they are printed
+  pub begun_moments : (told : Option Told) (a b : Clock) → told ≡ Some t → LedgerStands ledger told a → ((u : Told) → Rests u told a → Adds (InOut (Begins orders) u.here) a b) → Adds (OpenStop start script t) a b
+  begun_moments told a b is stands stops =
+      let before = stands_at ledger told a t is stands in
+      let recovers : Recovers (account_of start.history) t.here = record { is = before.at.recovers ∙ ap Ok is_start.account } in
+      start_moments start script t a b recovers (subst (λ text. Adds (InOut (Begins text) t.here) a b) same_orders (stops t before.rests))
+
+  mid_store : (told : Option Told) (mid : Told) (b c : Clock) → told ≡ Some mid → LeavesDevice (Some told_begun) told b c → mid.here.store ≡ t.here.store
+  mid_store told mid b c is leaves = store_later told_begun mid told b c is leaves
+
+  rests_at : (told : Option Told) (mid : Told) (c : Clock) → told ≡ Some mid → IsAtRest told c → Rests mid told c
+  rests_at told mid c is rests =
+      let here : IsSomeAnd (Some mid) (λ u. Rests u told c) = subst (λ o. IfSome o (λ u. Rests u told c)) is rests in here
+
+  -- while the last line of a run is printed whose lines were all taken, or which ends among them
+  pub done_moments : (state : State) (exit : Exit) (told : Option Told) (b c d : Clock) → exit ≡ Done → state ≡ account_at start (reads_of script) → IsSomeAnd told (TakesLines start script (Ok tt) told_begun)
+      → LeavesDevice (Some told_begun) told b c → IsAtRest told c → ((u : Told) → Rests u told c → Adds (InOut (Begins (closing_line state exit)) u.here) c d) → Adds (OpenStop start script t) c d
+  done_moments state exit told b c d done is takes leaves rests stops =
+      let found = some_now told (TakesLines start script (Ok tt) told_begun) takes in
+      end_moments start script t told_begun found.0 Done (closing_line state Done) c d begun (mid_store told found.0 b c found.1 leaves)
+      (answered_done start script state told_begun found.0 is found.2)
+      (subst (λ e. Adds (InOut (Begins (closing_line state e)) found.0.here) c d) done (stops found.0 (rests_at told found.0 c found.1 rests)))
+
+  pub stop_moments : (state : State) (exit found : Exit) (told : Option Told) (b c d : Clock) → exit ≡ found → IsLineExit found → IsSomeAnd told (TakesLines start script (Err found) told_begun)
+      → LeavesDevice (Some told_begun) told b c → UnlessFault {T = Unit {0}} (Err found) (IsAtRest told c) → (IsCut exit → Adds (OpenStop start script t) c d)
+      → ((u : Told) → Rests u told c → Adds (InOut (Begins (closing_line state exit)) u.here) c d) → Adds (OpenStop start script t) c d
+  stop_moments state exit found told b c d same stop takes leaves rests cut stops = elim (answer_or_cut found) [
+    | inr is ↦ cut (subst IsCut (sym same) is)
+    | inl answer ↦
+        (let mid = some_now told (TakesLines start script (Err found) told_begun) takes in
+        end_moments start script t told_begun mid.0 found (closing_line state found) c d begun (mid_store told mid.0 b c mid.1 leaves)
+        (answered_stop start script found state told_begun mid.0 answer stop mid.2)
+        (subst (λ e. Adds (InOut (Begins (closing_line state e)) mid.0.here) c d) same (stops mid.0 (rests_at told mid.0 c mid.1 (at_rest_so found (IsAtRest told c) answer rests)))))
+  ]
+
+-- a last line by what was found of the exit
+pub ends_as : (exit found result : Exit) (state : State) (old new : Option Told) → exit ≡ found → Ends exit result (closing_line state exit) old new → Ends found result (closing_line state found) old new
+ends_as exit found result state old new is ends = subst (λ e. Ends e result (closing_line state e) old new) is ends

@@ -1,108 +1,217 @@
--- What an event makes, against the account that it meets.
-use Rattle.std.proofs.Common.{◌≡◌, ℕ, Bool, true, false, subst, List, [], ◌∷◌, ◌++◌, length, None, Some, Option, refl, ap, sym, ◌∙◌, append-nil, length-append}
-use Rattle.std.specs.Option.{MatchOption, option_to_list}
-use Rattle.ras_facts.specs.Entries.{IsValidEntry}
-use Rattle.entry_format.specs.Spelling.{entry_bytes}
+-- What an accepted line prints and reports: an event prints quiet lines and then its done line, and
+-- a line that is no event neither prints nor reports anything.
+use Rattle.std.proofs.Common.{◌≡◌, ℕ, ◌+◌, Bool, true, false, ◌||◌, List, [], ◌∷◌, ◌++◌, map, Option, Some, None, Result, Ok, Err, refl, sym, ap, ◌∙◌, subst, append-nil, inl, inr}
+use Rattle.std.specs.Prelude.{◌⊎◌, if◌then◌else◌, IfOk, take}
+use Rattle.std.specs.List.{AllByRecursion, enumerate_from, flat_map}
+use Rattle.std.specs.Option.{option_map_or}
+use Rattle.std.proofs.lemmas.List.Sums.{fold-append}
+use Rattle.std.proofs.lemmas.List.Concat.{flat_map-append}
+use Rattle.ras_base.specs.Chaining.{◌>>=◌}
+use Rattle.ras_base.specs.Places.{places, places_behind}
+use Rattle.ras_base.specs.PlacesLemmas.{places-snoc}
+use Rattle.apei_sources.specs.Bert.{bert_of}
+use Rattle.apei_sources.specs.Blocks.{block_of}
+use Rattle.apei_sources.specs.Hest.{hest_of}
+use Rattle.dimm_topology.specs.Refusals.{refusal_of}
+use Rattle.dimm_topology.specs.declared.row.Row.{Row}
 use Rattle.ras_facts.specs.declared.entry.Entry.{Entry}
-use Rattle.ras_account.specs.Account.{State}
-use Rattle.ras_daemon.specs.Reported.{StaysSmall, fresh_reported, reported_account}
-use Rattle.ras_account.specs.Numbers.{AreWithin, IsWithin, are_past, numbers_with}
-use Rattle.ras_account.specs.Continued.{account_after, is_fresh_in}
-use Rattle.ras_daemon.specs.Reported.{is_fresh_after}
-use Rattle.ras_account.specs.History.{history_of}
-use Rattle.ras_account.specs.Orders.{orders_behind}
-use Rattle.ras_account.proofs.LawLemmas.{stale-unordered}
-use Rattle.ras_account.proofs.NumberLemmas.{front-within, past-within}
-use Rattle.ras_account.proofs.OrderLemmas.{orders_at-account_of}
-use Rattle.ras_daemon.specs.declared.event.FreshEntry.{FreshEntry}
-use Rattle.ras_daemon.specs.declared.event.Prepared.{Prepared}
-use Rattle.ras_daemon.specs.declared.exit.Exit.{Exit}
-use Rattle.ras_daemon.specs.declared.exit.Exit.TheVariants.{Done, Usage, BadLine, SourceFault, DiskFault, PrintFault, Damaged, Full, NoMemory, TooLong}
-use Rattle.ras_daemon.specs.Event.{IsPrepared, PrepareExit, ReserveExit}
-use Rattle.ras_daemon.specs.PlainFile.{file_bytes}
-use Rattle.ras_texts.specs.Text.{log_lines, repeat_line, done_line}
-use Rattle.ras_daemon.proofs.FileLemmas.{stored-new, stored-old, valid-one}
-use Rattle.ras_daemon.proofs.ReportedLemmas.{fresh-new, fresh-old, reported-snoc, stays-new}
+use Rattle.ras_facts.specs.declared.name.Name.{Name}
+use Rattle.ras_facts.specs.declared.name.Name.TheVariants as names
+use Rattle.ras_reports.specs.Reports.{block_report}
+use Rattle.ras_account.specs.Account.{account_of}
+use Rattle.ras_account.specs.Accounts.{IsAccount}
+use Rattle.ras_account.specs.Continued.{account_after_all}
+use Rattle.ras_account.specs.History.{with_entries, with_entry}
+use Rattle.ras_account.specs.Numbers.{are_past, numbers_with}
+use Rattle.ras_account.proofs.AccountLemmas.{account_of-entries}
+use Rattle.ras_account.proofs.LawLemmas.{entries-sound}
+use Rattle.ras_account.proofs.NumberLemmas.{past-within, stays-within}
+use Rattle.ras_script.specs.declared.line.ErrorReport.{ErrorReport}
+use Rattle.ras_script.specs.declared.line.ErrorReport.TheVariants.{Bank, Block, Boot}
+use Rattle.ras_script.specs.declared.line.Line.{Line}
+use Rattle.ras_script.specs.declared.line.Line.TheVariants as asks
+use Rattle.ras_script.specs.declared.line.LineRefused.{LineRefused}
+use Rattle.ras_script.specs.Lines.{script_lines}
+use Rattle.ras_script.specs.declared.line.Table.TheVariants.{Hest, Erst}
+use Rattle.ras_texts.specs.Orders.{standing_lines}
+use Rattle.ras_texts.specs.Text.{done_line}
+use Rattle.ras_events.specs.declared.event.Event.{Event}
+use Rattle.ras_events.specs.declared.event.Event.TheVariants.{Nothing, Settled, Counted, Reopened}
+use Rattle.ras_events.specs.declared.reason.Reason.{Reason}
+use Rattle.ras_events.specs.declared.reason.Reason.TheVariants as reason
+use Rattle.ras_events.specs.declared.settings.Settings.{Settings}
+use Rattle.ras_events.specs.Events.{block_event, counts_report, has_source, hest_event, or_reason, report_event, row_event}
+use Rattle.ras_events.specs.Reports.{NumberedLine, Place, entries_at, event_at, made_in, reports, settings_told}
+use Rattle.ras_events.specs.Sizes.{IsFitEvent}
+use Rattle.ras_events.specs.Texts.{event_text}
+use Rattle.text_laws.specs.QuietLines.{AreQuietLines}
+use Rattle.ras_run.specs.declared.exit.Exit.TheVariants.{BadLine, Full}
+use Rattle.ras_run.specs.LaterKinds.{IsTaken, taken_line}
+use Rattle.ras_run.specs.Output.{event_output, output_at}
+use Rattle.ras_run.specs.Places.{Start, account_at, history_at, lacks_room_for, news_after, standing_at}
+use Rattle.ras_run.specs.Status.{event_refusal}
+use Rattle.ras_run.specs.Taking.{IsAccepted}
+use Rattle.ras_daemon.specs.Running.{AreFirst}
+use Rattle.ras_daemon.specs.Script.{is_event}
+use Rattle.ras_daemon.proofs.ListLemmas.{all-front}
+use Rattle.text_laws.proofs.DoneLemmas.{no_lines_quiet}
+use Rattle.text_laws.proofs.EventLemmas.{event_quiet}
+use Rattle.text_laws.proofs.LineLemmas.{standing_quiet}
+use Rattle.ras_run.proofs.LaterKindLemmas.{lines-taken}
 
--- the account behind one entry more
-more_account : (before : List Entry) (entry : Entry) (state : State) → state ≡ reported_account before → reported_account (before ++ entry ∷ []) ≡ account_after state entry
-more_account before entry state is = reported-snoc before entry ∙ ap (λ a. account_after a entry) (sym is)
+-- ---- the account along accepted lines
 
--- there is room
-room_for : (before entries : List Entry) (state : State) → state ≡ reported_account before → AreWithin (numbers_with state entries) → are_past (numbers_with (reported_account before) entries) ≡ false
-room_for before entries state is within = subst (λ a. are_past (numbers_with a entries) ≡ false) is ((past-within (numbers_with state entries)).1 within)
+full-past : (b : Bool) (rest : Bool) → (if b || rest then Some Full else None) ≡ None → b ≡ false
+full-past true rest is = cc
+full-past false rest is = refl
 
--- the account stays small with an entry more
-stays_with : (before : List Entry) (entry : Entry) (state : State) → state ≡ reported_account before → AreWithin (numbers_with state (entry ∷ [])) → StaysSmall (fresh_reported before)
-    → StaysSmall (fresh_reported (before ++ entry ∷ []))
-stays_with before entry state is within all = by (is_fresh_after before entry) refl
-  where
-    by : (b : Bool) → is_fresh_after before entry ≡ b → StaysSmall (fresh_reported (before ++ entry ∷ []))
-    by true new = rw (fresh-new before entry new) (stays-new before entry all (subst (λ a. IsWithin (account_after a entry)) is (front-within state (entry ∷ []) [] within)))
-    by false old = rw (fresh-old before entry old) all
+pub reports-snoc : (before : List NumberedLine) (read : NumberedLine) → reports (before ++ read ∷ []) ≡ reports before ++ entries_at (before, read)
+reports-snoc before read =
+    ap (flat_map entries_at) (places-snoc before read)
+    ∙ flat_map-append entries_at (places before) ((before, read) ∷ [])
+    ∙ ap (λ (es : List Entry). reports before ++ es) (append-nil (entries_at (before, read)))
 
-continued-repeat : (state : State) (entry : Entry) → is_fresh_in state entry ≡ false → account_after state entry ≡ state
-continued-repeat state entry is = rw is refl
+module _ (start : Start) (before : List NumberedLine) (read : NumberedLine) where
+  along : (event : Result Event Reason) → event_refusal start (before, read) event ≡ None → IfOk event IsFitEvent → IsAccount (account_at start before)
+      → IsAccount (account_after_all (account_at start before) (made_in event).entries)
+  along (Err why) taken fit account = account
+  along (Ok Nothing) taken fit account = account
+  along (Ok Settled) taken fit account = account
+  along (Ok Reopened) taken fit account = account
+  along (Ok (Counted made)) taken fit account =
+      let history = history_at start before in
+      let within = full-past (are_past (numbers_with (account_of history) made.entries))
+      (lacks_room_for history (standing_at start before) (news_after history made.entries)) taken in
+      entries-sound (account_of history) made.entries account fit.valid
+      (stays-within (account_of history) made.entries ((past-within (numbers_with (account_of history) made.entries)).0 within))
 
-module _ (before : List Entry) (entry : Entry) (state : State) (is : state ≡ reported_account before) (within : AreWithin (numbers_with state (entry ∷ []))) where
-  pub prepared_repeat : (number : ℕ) (detail : List ℕ) (event : Prepared) → event.fresh ≡ None → is_fresh_in state entry ≡ false → is_fresh_after before entry ≡ false
-      → event.text.items ≡ repeat_line state entry → event.done.items ≡ done_line number → IsPrepared before number detail (entry ∷ []) event
-  prepared_repeat number detail event none held repeated texts ends = record {
-    file_calls = rw (none, repeated) refl;
-    ends_at = rw none (ap length (sym (stored-old before entry repeated)));
-    texts = rw repeated (texts ∙ ap (λ a. repeat_line a entry) is ∙ sym (append-nil (repeat_line (reported_account before) entry)));
-    orders = rw none (sym (append-nil (orders_behind (history_of before) entry) ∙ stale-unordered (history_of before) entry repeated));
-    ends = ends;
-    account = rw none (sym is ∙ sym (continued-repeat state entry held) ∙ sym (more_account before entry state is));
-    room = room_for before (entry ∷ []) state is within;
-    stays = stays_with before entry state is within;
-    valid = λ all. rw (fresh-old before entry repeated) all;
+  pub account-more : account_at start (before ++ read ∷ []) ≡ account_after_all (account_at start before) (entries_at (before, read))
+  account-more =
+      ap (λ (es : List Entry). account_of (with_entries start.history es)) (reports-snoc before read)
+      ∙ ap account_of (fold-append with_entry start.history (reports before) (entries_at (before, read)))
+      ∙ account_of-entries (history_at start before) (entries_at (before, read))
+
+  pub account-next : IsAccepted start (before, read) → IsAccount (account_at start before) → IsAccount (account_at start (before ++ read ∷ []))
+  account-next accepted account = subst IsAccount (sym account-more) (along (event_at (before, read)) accepted.taken accepted.fit account)
+
+-- ---- what is asked for is an event
+
+-- a line asks for something, or is refused
+abbrev is_something : Result Event Reason → Bool
+is_something (Ok Nothing) = false
+is_something event = true
+
+record IsSomething (event : Result Event Reason) : Type 0 where
+  is : is_something event ≡ true
+
+refused-something : {E : Type 0} (why : E → Reason) (refused : Option E) → IsSomething (option_map_or (λ found. Err (why found)) refused (Ok Settled))
+refused-something why None = record { is = refl }
+refused-something why (Some found) = record { is = refl }
+
+then-something : {A E : Type 0} (why : E → Reason) (read : Result A E) (next : A → Result Event Reason) → ((x : A) → IsSomething (next x)) → IsSomething (or_reason why read >>= next)
+then-something why (Ok x) next some = some x
+then-something why (Err found) next some = record { is = refl }
+
+either-something : (b : Bool) (one other : Result Event Reason) → IsSomething one → IsSomething other → IsSomething (if b then one else other)
+either-something true one other some rest = some
+either-something false one other some rest = rest
+
+block-something : (rows : List Row) (name : Name) (seconds : ℕ) (bytes : List ℕ) → IsSomething (block_event rows name seconds bytes)
+block-something rows name seconds bytes =
+    then-something reason.Block (block_of bytes) (λ block. Ok (counts_report (block_report rows name seconds block))) (λ block. record { is = refl })
+
+report-something : (settings : Settings) (report : ErrorReport) → IsSomething (report_event settings report)
+report-something settings (Bank bank) = record { is = refl }
+report-something settings (Block boot seconds source number bytes) =
+    either-something (has_source settings.sources source) (block_event settings.topology (names.Block boot source number) seconds bytes) (Err reason.Source)
+    (block-something settings.topology (names.Block boot source number) seconds bytes) (record { is = refl })
+report-something settings (Boot boot seconds table region) =
+    then-something reason.Bert (bert_of table) (λ bert. block_event settings.topology (names.Boot boot) seconds (take bert.length region))
+    (λ bert. block-something settings.topology (names.Boot boot) seconds (take bert.length region))
+
+-- ---- what is printed
+
+-- an event: quiet lines, and then the done line of its number
+pub record PrintsEvent (start : Start) (place : Place) : Type 0 where
+  pub event : is_event place ≡ true
+  pub text : List ℕ
+  pub quiet : AreQuietLines text
+  pub printed : output_at start place ≡ text ++ done_line place.1.0
+
+-- no event
+pub record PrintsNothing (start : Start) (place : Place) : Type 0 where
+  pub event : is_event place ≡ false
+  pub silent : output_at start place ≡ []
+  pub reports : entries_at place ≡ []
+
+abbrev pub Tells : Start → Place → Type 0
+Tells start place = PrintsEvent start place ⊎ PrintsNothing start place
+
+module _ (start : Start) (before : List NumberedLine) (number : ℕ) (read : Result Line LineRefused) where
+  prints : (event : Result Event Reason) → is_event (before, (number, read)) ≡ true → event_at (before, (number, read)) ≡ event
+      → event_refusal start (before, (number, read)) event ≡ None → IfOk event IsFitEvent → IsSomething event
+      → IsAccount (account_at start before) → PrintsEvent start (before, (number, read))
+  prints (Err why) asked is taken fit some account = cc taken
+  prints (Ok Nothing) asked is taken fit some account = absurd (let same : is_something (Ok Nothing) ≡ true = some.is in cc)
+  prints (Ok Settled) asked is taken fit some account =
+      record { event = asked; text = []; quiet = no_lines_quiet; printed = ap (event_output start (before, (number, read))) is }
+  prints (Ok (Counted made)) asked is taken fit some account = record {
+    event = asked;
+    text = event_text (history_at start before) made;
+    quiet = event_quiet (history_at start before) made account fit;
+    printed = ap (event_output start (before, (number, read))) is;
+  }
+  prints (Ok Reopened) asked is taken fit some account = record {
+    event = asked;
+    text = standing_lines (account_at start before);
+    quiet = standing_quiet (account_at start before) account;
+    printed = ap (event_output start (before, (number, read))) is;
   }
 
-  pub prepared_fresh : (number : ℕ) (detail : List ℕ) (event : Prepared) (new : FreshEntry) → event.fresh ≡ Some new → new.entry ≡ entry
-      → new.bytes.items ≡ entry_bytes entry → is_fresh_after before entry ≡ true
-      → event.text.items ≡ log_lines detail state entry → event.done.items ≡ done_line number → IsValidEntry entry → IsPrepared before number detail (entry ∷ []) event
-  prepared_fresh number detail event new some same bytes behind texts ends valid = record {
-    file_calls = rw (some, behind, bytes) refl;
-    ends_at = rw (some, bytes) (sym (length-append (file_bytes before) (entry_bytes entry)) ∙ ap length (sym (stored-new before entry behind)));
-    texts = rw behind (texts ∙ ap (λ a. log_lines detail a entry) is ∙ sym (append-nil (log_lines detail (reported_account before) entry)));
-    orders = rw (some, same) (orders_at-account_of (history_of before) entry ∙ sym (append-nil (orders_behind (history_of before) entry)));
-    ends = ends;
-    account = rw (some, same) (ap (λ a. account_after a entry) (sym is) ∙ sym (more_account before entry state is));
-    room = room_for before (entry ∷ []) state is within;
-    stays = stays_with before entry state is within;
-    valid = λ all. valid-one before entry all valid;
-  }
+-- an accepted line of a kind that is taken
+module _ (start : Start) (before : List NumberedLine) (number : ℕ) where
+  tells-line : (line : Line) → IsTaken line → IsAccepted start (before, (number, Ok line)) → IsAccount (account_at start before) → Tells start (before, (number, Ok line))
+  tells-line asks.Nothing taken accepted account = inr (record { event = refl; silent = refl; reports = refl })
+  tells-line (asks.Row row) taken accepted account =
+      inl (prints start before number (Ok (asks.Row row)) (row_event (settings_told before).topology row) refl refl accepted.taken accepted.fit (refused-something reason.Topology (refusal_of (settings_told before).topology row)) account)
+  tells-line (asks.Table (Hest bytes)) taken accepted account =
+      inl (prints start before number (Ok (asks.Table (Hest bytes))) (hest_event bytes) refl refl accepted.taken accepted.fit (then-something reason.Hest (hest_of bytes) (λ sources. Ok Settled) (λ sources. record { is = refl })) account)
+  tells-line (asks.Table (Erst bytes)) taken accepted account = absurd taken
+  tells-line (asks.Report report) taken accepted account =
+      inl (prints start before number (Ok (asks.Report report)) (report_event (settings_told before) report) refl refl accepted.taken accepted.fit (report-something (settings_told before) report) account)
+  tells-line (asks.Entry entry) taken accepted account =
+      inl (prints start before number (Ok (asks.Entry entry)) (event_at (before, (number, Ok (asks.Entry entry)))) refl refl accepted.taken accepted.fit (record { is = refl }) account)
+  tells-line (asks.Put id bytes) taken accepted account = absurd taken
+  tells-line (asks.Panic id bank) taken accepted account = absurd taken
+  tells-line (asks.Poll seconds) taken accepted account = absurd taken
+  tells-line asks.Restart taken accepted account =
+      inl (prints start before number (Ok asks.Restart) (event_at (before, (number, Ok asks.Restart))) refl refl accepted.taken accepted.fit (record { is = refl }) account)
 
--- an event that makes nothing
-pub prepared_none : (before : List Entry) (number : ℕ) (detail : List ℕ) (event : Prepared) → event.fresh ≡ None → event.text.items ≡ [] → event.done.items ≡ done_line number
-    → (state : State) → state ≡ reported_account before → AreWithin (numbers_with state []) → IsPrepared before number detail [] event
-prepared_none before number detail event none texts ends state is within = record {
-  file_calls = rw none refl;
-  ends_at = rw none (ap (λ es. length (file_bytes es)) (sym (append-nil before)));
-  texts = texts;
-  orders = rw none refl;
-  ends = ends;
-  account = rw none (ap reported_account (sym (append-nil before)));
-  room = room_for before [] state is within;
-  stays = λ all. rw (append-nil before) all;
-  valid = λ all. rw (append-nil before) all;
-}
+  pub tells : (read : Result Line LineRefused) → IfOk read IsTaken → IsAccepted start (before, (number, read)) → IsAccount (account_at start before) → Tells start (before, (number, read))
+  tells (Ok line) taken accepted account = tells-line line taken accepted account
+  tells (Err why) taken accepted account = let refused : Some (BadLine number (reason.Line why)) ≡ None = accepted.taken in cc
 
--- how making room for entries ends is how preparing their event ends
-pub prepare_exit : (before entries : List Entry) (state : State) (exit : Exit) → state ≡ reported_account before → ReserveExit state entries exit → PrepareExit before entries exit
-prepare_exit before entries state Full is past = subst (λ a. are_past (numbers_with a entries) ≡ true) is past
-prepare_exit before entries state NoMemory is free = free
-prepare_exit before entries state Done is never = never
-prepare_exit before entries state Usage is never = never
-prepare_exit before entries state (BadLine line reason) is never = never
-prepare_exit before entries state SourceFault is never = never
-prepare_exit before entries state DiskFault is never = never
-prepare_exit before entries state PrintFault is never = never
-prepare_exit before entries state (Damaged file place) is never = never
-prepare_exit before entries state TooLong is never = never
+-- ---- accepted lines in order
 
--- an option as a slice is the option as a list
-pub slice_of_option : (o : Option Entry) (slice entries : List Entry) → MatchOption o (slice ≡ []) (λ x. slice ≡ x ∷ []) → option_to_list o ≡ entries → slice ≡ entries
-slice_of_option None slice entries is made = is ∙ made
-slice_of_option (Some x) slice entries is made = is ∙ made
+abbrev IsTakenRead : NumberedLine → Type 0
+IsTakenRead read = IfOk read.1 IsTaken
+
+taken-from : (number : ℕ) (lines : List (List ℕ)) → AllByRecursion IsTakenRead (enumerate_from number (map taken_line lines))
+taken-from number [] = tt
+taken-from number (line ∷ lines) = (lines-taken line, taken-from (number + 1) lines)
+
+pub tells-behind : (start : Start) (before reads : List NumberedLine) → AllByRecursion IsTakenRead reads
+    → AllByRecursion (IsAccepted start) (places_behind before reads) → IsAccount (account_at start before)
+    → AllByRecursion (Tells start) (places_behind before reads)
+tells-behind start before [] taken accepted account = tt
+tells-behind start before (read ∷ reads) taken accepted account = (
+  tells start before read.0 read.1 taken.0 accepted.0 account,
+  tells-behind start (before ++ read ∷ []) reads taken.1 accepted.1 (account-next start before read accepted.0 account),
+)
+
+-- the first lines of a script
+pub tells-first : (start : Start) (script : List ℕ) (before : List NumberedLine) → AreFirst start script before → IsAccount (account_of start.history)
+    → AllByRecursion (Tells start) (places before)
+tells-first start script before first account =
+    let all : AllByRecursion IsTakenRead (before ++ first.rest) = subst (AllByRecursion IsTakenRead) (sym first.splits) (taken-from 1 (script_lines script).whole) in
+    tells-behind start [] before (all-front IsTakenRead before first.rest all) first.accepted account

@@ -1,271 +1,350 @@
--- Lines taken one after another.
-use Rattle.std.proofs.Common.{◌≡◌, ℕ, ◌+◌, List, [], ◌∷◌, ◌++◌, length, Option, None, Some, IfSome, IsSomeAnd, Result, Ok, Err, map, refl, ap, sym, ◌∙◌, subst, append_assoc, append-nil, arith}
-use Rattle.std.specs.List.{enumerate_from}
-use Rattle.std.specs.Option.{option_map, option_to_list}
-use Rattle.std.specs.Result.{OnOk}
-use Rattle.board_core.specs.Told.{Told}
-use Rattle.dimm_topology.specs.declared.row.Row.{Row}
-use Rattle.dimm_topology.specs.declared.topology.TopologyRefused.{TopologyRefused}
-use Rattle.dimm_topology.specs.Refusals.{Answers, refusal_of}
-use Rattle.ras_facts.specs.declared.entry.Entry.{Entry}
-use Rattle.ras_account.specs.Account.{State}
-use Rattle.ras_daemon.specs.Reported.{reported_account}
-use Rattle.ras_daemon.specs.declared.event.Prepared.{Prepared}
-use Rattle.ras_daemon.specs.declared.exit.Exit.{Exit}
-use Rattle.ras_daemon.specs.declared.exit.Exit.TheVariants.{Done, DiskFault, NoMemory}
-use Rattle.ras_daemon.specs.declared.ledger.Ledger.{Ledger}
-use Rattle.ras_daemon.specs.declared.ledger.OpenRefused.TheVariants.{Disk, NoMemory as OutOfMemory}
-use Rattle.ras_script.specs.declared.line.Line.{Line}
-use Rattle.ras_script.specs.declared.line.Line.TheVariants.{Restart}
-use Rattle.ras_script.specs.declared.line.LineRefused.{LineRefused}
-use Rattle.ras_script.specs.declared.line.LineRefused.TheVariants as refused
-use Rattle.ras_daemon.specs.declared.run.Run.{Run}
-use Rattle.ras_daemon.specs.Event.{FileEndsAt, IsKept, IsPrepared, IsLedgerOf, Reopened, Reopens, IsRunAfter, TakesEntries, TakesLine, TakesRow, end_after, prepared_steps, restart_steps, state_after}
-use Rattle.ras_script.specs.Line.{Gives}
-use Rattle.ras_daemon.specs.LaterKinds.{taken_line}
-use Rattle.ras_daemon.specs.PlainFile.{file_bytes, file_end}
-use Rattle.ras_daemon.specs.Progress.{Step, told_after_all, prints_text, Performs, Course, Follows, behind, ends, count_steps, reopen_steps, say_steps, read_steps, line_course, lines_course}
-use Rattle.ras_daemon.specs.Reports.{Read, adds_row, counts_entries, event_in, reads_from, entries_at, reports, row_by, row_in, rows_told}
-use Rattle.ras_daemon.specs.Run.{RefusesLine, TookAll, TookSome}
-use Rattle.ras_script.specs.Splitting.{lines_of}
-use Rattle.ras_daemon.specs.Status.{refusal_at}
-use Rattle.ras_texts.specs.Text.{done_line, end_line}
+-- A run from its start: the journal is opened, or it is refused.
+use Rattle.std.proofs.Common.{◌≡◌, ℕ, List, [], ◌++◌, Option, None, Some, IfSome, IsSomeAnd, Result, Ok, Err, refl, ap, sym, ◌∙◌, subst, append-nil, inl, inr, unwrap_or}
+use Rattle.std.specs.Prelude.{◌⊎◌}
+use Rattle.std.specs.Result.{result_unwrap_or}
+use Rattle.board_core.specs.Clock.{Clock, Adds}
+use Rattle.board_core.specs.ClockLemmas.{adds_weaker}
+use Rattle.board_core.specs.Stop.{Left, Begins}
+use Rattle.board_core.specs.Told.{FailsPrint, Relates, Told, after_print}
+use Rattle.ras_account.specs.Account.{State, account_of}
+use Rattle.ras_account.specs.Accounts.{IsAccount}
+use Rattle.ras_account.specs.History.{History, empty}
+use Rattle.ras_journal.specs.Recovered.{JournalFile, Recovers, Refusal, damaged, journal_of, position_of, recovered, too_long}
+use Rattle.ras_ledger.specs.declared.ledger.Ledger.{Ledger}
+use Rattle.ras_recover.specs.Opening.{Opening, standing_opened}
+use Rattle.ras_recover.specs.Recovering.{IsDamagedAt, file_number}
 use Rattle.ras_texts.specs.Orders.{standing_lines}
-use Rattle.ras_daemon.proofs.ReportLemmas.{reports-more, rows-more}
-use Rattle.ras_daemon.proofs.StepLemmas.{cut_before, map_none, map_append, paused_at_once, paused_before, performs_then, takes_behind, takes_first}
-use Rattle.ras_daemon.proofs.FileAndCallLemmas.{count-file, say-file}
+use Rattle.ras_run.specs.declared.exit.Exit.{Exit}
+use Rattle.ras_run.specs.declared.exit.Exit.TheVariants.{Done, Usage, BadLine, SourceFault, DiskFault, PrintFault, Damaged, Full, NoMemory, TooLong}
+use Rattle.ras_run.specs.Device.{LeavesDevice}
+use Rattle.ras_run.specs.Places.{Start, account_at}
+use Rattle.ras_run.specs.StopLine.{stop_line}
+use Rattle.ras_run.specs.Taking.{KeepsFiles, KeepsRefused, Opens, Prints}
+use Rattle.ras_daemon.specs.Ended.{OverFiles, Refuses, RefusesFiles}
+use Rattle.ras_daemon.specs.Headline.{OverRun}
+use Rattle.ras_daemon.specs.RunOutput.{closing_line}
+use Rattle.ras_daemon.specs.RunStatus.{OnAnswer, files_refusal, refusal_exit, start_of}
+use Rattle.ras_daemon.specs.Running.{EndsEarly, EndsSo, Ends, IsAnswer, IsCut, IsStart, LinesMoment, OpenMoment, RunEnds, RunMoment, outputs}
+use Rattle.ras_daemon.specs.declared.word.Task.TheVariants.{Run}
+use Rattle.ras_daemon.proofs.EndLemmas.{OpenStop, early_none}
 
--- an event that was prepared and done, as far as its calls went well
-prepared-steps : (before : List Entry) (number : ℕ) (detail : List ℕ) (entries : List Entry) (event : Prepared) (place : ℕ) (state : State) → place ≡ file_end before → state ≡ reported_account before
-    → IsPrepared before number detail entries event → prepared_steps place state event ≡ count_steps before number detail entries
-prepared-steps before number detail entries event place state end is prepared =
-    rw (end, is, prepared.file_calls, prepared.texts, prepared.orders, prepared.account, prepared.ends) refl
+-- ---- where source and board tell, and the files hold a history
 
--- the file after calls that went well, where the board tells
-went-file : (before entries : List Entry) (number : ℕ) (detail : List ℕ) (old new : Option Told) → IsSomeAnd old (λ t. t.here.file0 ≡ file_bytes before)
-    → new ≡ option_map (told_after_all (count_steps before number detail entries)) old → IsSomeAnd new (λ t. t.here.file0 ≡ file_bytes (before ++ entries))
-went-file before entries number detail None new file went = absurd file
-went-file before entries number detail (Some t) new file went = rw went (count-file before number detail entries t file)
+pub over_run : (P : Start → List ℕ → Told → Type 0) (left : Option (List ℕ)) (told : Option Told)
+    → ((history : History) (script : List ℕ) (t : Told) → left ≡ Some script → told ≡ Some t → Recovers (account_of history) t.here → P (start_of history t.here) script t)
+    → OverRun P (Some Run) left told
+over_run P None told holds = tt
+over_run P (Some script) None holds = tt
+over_run P (Some script) (Some t) holds = λ history recovers. holds history script t refl refl recovers
 
-pub event_taken : (before : List Entry) (number : ℕ) (detail : List ℕ) (entries : List Entry) (event : Prepared) (ledger more : Ledger) (old new : Option Told) (result : Result (Unit {0}) Exit)
-    → IsLedgerOf before ledger old → IsPrepared before number detail entries event → Performs (prepared_steps ledger.end ledger.account.state event) result old new
-    → OnOk result (more.account.state ≡ state_after event.fresh ledger.account.state) → OnOk result (more.end ≡ end_after event.fresh ledger.end)
-    → TakesEntries before number detail entries result old new more
-event_taken before number detail entries event ledger more old new (Ok done) keeps prepared performs counted ended =
-    let steps : prepared_steps ledger.end ledger.account.state event ≡ count_steps before number detail entries =
-    prepared-steps before number detail entries event ledger.end ledger.account.state keeps.end keeps.account prepared in
-    let went : new ≡ option_map (told_after_all (count_steps before number detail entries)) old = performs ∙ ap (λ steps. option_map (told_after_all steps) old) steps in (
-      rw prepared.room refl,
-      went,
-      record {
-        account = counted ∙ ap (state_after event.fresh) keeps.account ∙ prepared.account;
-        end = ended ∙ ap (end_after event.fresh) keeps.end ∙ prepared.ends_at;
-        room = prepared.stays keeps.room;
-        valid = prepared.valid keeps.valid;
-        file = went-file before entries number detail old new keeps.file went;
-      },
-    )
-event_taken before number detail entries event ledger more old new (Err exit) keeps prepared performs counted ended = λ rest.
-    let steps : prepared_steps ledger.end ledger.account.state event ≡ count_steps before number detail entries =
-    prepared-steps before number detail entries event ledger.end ledger.account.state keeps.end keeps.account prepared in
-    let same : Performs (count_steps before number detail entries) (Err exit) old new = subst (λ s. Performs s (Err exit) old new) steps performs in
-    rw prepared.room (takes_first old new (count_steps before number detail entries) rest exit same)
+pub over_files : (P : Told → Told → Type 0) (old new : Option Told) (a b : Clock) → LeavesDevice old new a b → ((before now : Told) → old ≡ Some before → new ≡ Some now → P before now)
+    → OverFiles P (Some Run) old new
+over_files P None new a b leaves holds = tt
+over_files P (Some before) None a b leaves holds = absurd leaves.0
+over_files P (Some before) (Some now) a b leaves holds = holds before now refl refl
 
--- What stands behind one line more: the rows and the reports that it adds.
-stands_more : (before : List Read) (read : Read) (rows : List Row) (entries : List Entry) (run : Run) (told : Option Told)
-    → option_to_list (row_by read) ≡ rows → entries_at (before, read) ≡ entries → run.topology ≡ rows_told before ++ rows → IsLedgerOf (reports before ++ entries) run.ledger told
-    → IsRunAfter (before ++ read ∷ []) run told
-stands_more before read rows entries run told rows_are entries_are topology keeps = record {
-  rows = topology ∙ ap (λ rs. rows_told before ++ rs) (sym rows_are) ∙ sym (rows-more before read);
-  keeps = (let same : reports (before ++ read ∷ []) ≡ reports before ++ entries = reports-more before read ∙ ap (λ es. reports before ++ es) entries_are in rw same keeps);
-}
+ok_same : {A E : Type 0} (x y : A) → ◌≡◌ {A = Result A E} (Ok x) (Ok y) → x ≡ y
+ok_same {A} {E} x y is = ap (λ (r : Result A E). result_unwrap_or r x) is
 
--- a line that reports nothing and adds no row
-pub stands_same : (before : List Read) (read : Read) (run : Run) (told : Option Told) → row_by read ≡ None → entries_at (before, read) ≡ [] → IsRunAfter before run told → IsRunAfter (before ++ read ∷ []) run told
-stands_same before read run told none silent stands =
-    stands_more before read [] [] run told (ap option_to_list none) silent (stands.rows ∙ sym (append-nil (rows_told before)))
-    (subst (λ es. IsLedgerOf es run.ledger told) (sym (append-nil (reports before))) stands.keeps)
+-- where no file stands the files recover the empty account
+none_empty : (account : State) (file0 file1 : List ℕ) → recovered file0 file1 ≡ Ok account → position_of file0 file1 ≡ None → account ≡ account_of empty
+unfolding recovered position_of
+none_empty account file0 file1 recovers none = by (journal_of file0 file1) refl
+  where
+    by : (r : Result (Option JournalFile) Refusal) → journal_of file0 file1 ≡ r → account ≡ account_of empty
+    by (Err why) is = let e = rw is at recovers in absurd cc
+    by (Ok None) is = let e : ◌≡◌ {A = Result State Refusal} (Ok (account_of empty)) (Ok account) = rw is at recovers in sym (ok_same (account_of empty) account e)
+    by (Ok (Some journal)) is = let e = rw is at none in absurd cc
 
-module _ (before : List Read) (number : ℕ) (line : Line) where
-  -- a line whose event counts entries
-  pub counts_taken : (detail : List ℕ) (entries : List Entry) (old new : Option Told) (run : Run) (result : Result (Unit {0}) Exit) → event_in (rows_told before) line ≡ counts_entries detail entries
-      → row_in line ≡ None → run.topology ≡ rows_told before → TakesEntries (reports before) number detail entries result old new run.ledger → TakesLine before (number, Ok line) result old new run
-  counts_taken detail entries old new run (Ok done) asks none topology taken = (
-    rw asks taken.0,
-    rw asks taken.1,
-    stands_more before (number, Ok line) [] entries run new (ap option_to_list none) (rw asks refl) (topology ∙ sym (append-nil (rows_told before))) taken.2,
-  )
-  counts_taken detail entries old new run (Err exit) asks none topology taken = rw asks taken
+-- ---- the start
 
-  -- a line whose event adds a row
-  row-file : (old new : Option Told) → IsSomeAnd old (λ t. t.here.file0 ≡ file_bytes (reports before)) → new ≡ option_map (told_after_all (prints_text (done_line number) ∷ [])) old → IsSomeAnd new (λ t. t.here.file0 ≡ file_bytes (reports before))
-  row-file None new file went = absurd file
-  row-file (Some t) new file went = rw went file
+pub start_opened : (history : History) (t : Told) (ledger : Ledger) → Recovers (account_of history) t.here → recovered t.here.file0 t.here.file1 ≡ Ok ledger.account.state
+    → ledger.journal.standing ≡ standing_opened t.here.file0 t.here.file1 → IsStart (start_of history t.here) ledger
+start_opened history t ledger recovers opens standing = record { account = ok_same ledger.account.state (account_of history) (sym opens ∙ recovers.is); standing = standing }
 
-  pub row_taken : (row : Row) (old new : Option Told) (run more : Run) (result : Result (Unit {0}) Exit) → event_in (rows_told before) line ≡ adds_row row → row_in line ≡ Some row → IsRunAfter before run old
-      → OnOk result (more.topology ≡ rows_told before ++ row ∷ []) → more.ledger ≡ run.ledger → TakesRow number (refusal_of (rows_told before) row) result old new → TakesLine before (number, Ok line) result old new more
-  row_taken row old new run more (Ok done) asks some stands topology same taken = (
-    rw (asks, taken.0) refl,
-    rw asks taken.1,
-    stands_more before (number, Ok line) (row ∷ []) [] more new (ap option_to_list some) (rw asks refl) topology
-        (let keeps : IsLedgerOf (reports before) more.ledger new = rw same (record {
-          account = stands.keeps.account;
-          end = stands.keeps.end;
-          room = stands.keeps.room;
-          valid = stands.keeps.valid;
-          file = row-file old new stands.keeps.file taken.1;
-        }) in subst (λ es. IsLedgerOf es more.ledger new) (sym (append-nil (reports before))) keeps),
-  )
-  row_taken row old new run more (Err exit) asks some stands topology same taken = rw asks taken
+-- what holds where a board tells this
+pub if_told : (P : Told → Type 0) (told : Option Told) (t : Told) → told ≡ Some t → IfSome told P → P t
+if_told P told t is holds = let here : IsSomeAnd (Some t) P = subst (λ o. IfSome o P) is holds in here
 
--- a restart
-module _ (before : List Read) (number : ℕ) where
-  pub restart_taken : (old new : Option Told) (run : Run) (result : Result (Unit {0}) Exit) → run.topology ≡ rows_told before → Reopened (reports before) number result old new run.ledger
-      → TakesLine before (number, Ok Restart) result old new run
-  restart_taken old new run (Ok done) topology taken = (
-    refl,
-    taken.0,
-    stands_more before (number, Ok Restart) [] [] run new refl refl (topology ∙ sym (append-nil (rows_told before)))
-        (subst (λ es. IsLedgerOf es run.ledger new) (sym (append-nil (reports before))) taken.1),
-  )
-  restart_taken old new run (Err exit) topology taken = taken
+-- what is told once the journal was opened, or refused
+pub told_on : (P : Told → Told → Type 0) (told new : Option Told) (t : Told) → told ≡ Some t → Relates P told new → (u : Told) × (new ≡ Some u) × P t u
+told_on P told new t is relates = by new (subst (λ o. Relates P o new) is relates)
+  where
+    by : (new : Option Told) → Relates P (Some t) new → (u : Told) × (new ≡ Some u) × P t u
+    by None relates = absurd relates
+    by (Some u) relates = (u, refl, relates)
 
-behind-append : (xs ys : List Step) (course : Course) → behind xs (behind ys course) ≡ behind (xs ++ ys) course
-behind-append xs ys course = ap (λ steps. record { steps = steps; exit = course.exit }) (sym (append_assoc xs ys course.steps))
+-- the same of what is told at both ends
+pub told_both : (P : Told → Told → Type 0) (told new : Option Told) (t u : Told) → told ≡ Some t → new ≡ Some u → Relates P told new → P t u
+told_both P told new t u one two relates = subst (λ n. Relates P (Some t) n) two (subst (λ o. Relates P o new) one relates)
 
--- the first of the lines that are left
-pub reads-first : (number : ℕ) (text line rest : List ℕ) → lines_of text ≡ line ∷ lines_of rest → reads_from number text ≡ (number, taken_line line) ∷ reads_from (number + 1) rest
-reads-first number text line rest is = ap (λ lines. enumerate_from number (map taken_line lines)) is
+-- ---- a run that is told of from an earlier moment with the same text
 
-pub took_none : (reads : List Read) (told : Option Told) (run : Run) → IsRunAfter [] run told → TookSome reads reads told told run
-took_none reads told run stands = record { before = []; steps = []; course = refl; goes = sym (map_none told); stands = stands }
-
--- the course of what is left, where its first line isn't refused
-course-goes_on : (before : List Read) (read : Read) (rest : List Read) → refusal_at (before, read) ≡ None
-    → lines_course before (read ∷ rest) ≡ behind (read_steps before read) (lines_course (before ++ read ∷ []) rest)
-course-goes_on before read rest none = ap (λ refusal. line_course refusal (read_steps before read) (lines_course (before ++ read ∷ []) rest)) none
-
-pub took_line : (reads rest left : List Read) (read : Read) (old mid new : Option Told) (run more : Run) → TookSome reads left old mid run → left ≡ read ∷ rest
-    → ((before : List Read) → IsRunAfter before run mid → TakesLine {T = Unit {0}} before read (Ok tt) mid new more) → TookSome reads rest old new more
-took_line reads rest left read old mid new run more took is takes =
-    let taken = takes took.before took.stands in
-    record {
-      before = took.before ++ read ∷ [];
-      steps = took.steps ++ read_steps took.before read;
-      course =
-          took.course
-          ∙ ap (λ rs. behind took.steps (lines_course took.before rs)) is
-          ∙ ap (behind took.steps) (course-goes_on took.before read rest taken.0)
-          ∙ behind-append took.steps (read_steps took.before read) (lines_course (took.before ++ read ∷ []) rest);
-      goes = taken.1 ∙ ap (option_map (told_after_all (read_steps took.before read))) took.goes ∙ sym (map_append took.steps (read_steps took.before read) old);
-      stands = taken.2;
+runs_from : (start : Start) (script : List ℕ) (exit : Exit) (t u now : Told) → u.here.out ≡ t.here.out → RunEnds start script exit u now → RunEnds start script exit t now
+runs_from start script exit t u now same ends = by exit ends
+  where
+    early : EndsEarly start script u now → EndsEarly start script t now
+    early ends = record {
+      before = ends.before;
+      first = ends.first;
+      recovers = ends.recovers;
+      text = elim ends.text [
+        | inl began ↦ inl (began.0, began.1 ∙ ap (λ out. out ++ (standing_lines (account_of start.history) ++ outputs start ends.before)) same)
+        | inr none ↦ inr (none.0 ∙ ap (λ out. out ++ []) same, none.1)
+      ];
     }
 
-pub took_stop : (reads rest left : List Read) (read : Read) (old mid new : Option Told) (run more : Run) (exit : Exit) → TookSome reads left old mid run → left ≡ read ∷ rest
-    → ((before : List Read) → IsRunAfter before run mid → TakesLine {T = Unit {0}} before read (Err exit) mid new more) → Follows (lines_course [] reads) exit old new
-took_stop reads rest left read old mid new run more exit took is takes =
-    let same : lines_course [] reads ≡ behind took.steps (lines_course took.before (read ∷ rest)) = took.course ∙ ap (λ rs. behind took.steps (lines_course took.before rs)) is in
-    rw same (takes_behind old mid new took.steps (lines_course took.before (read ∷ rest)) exit took.goes (takes took.before took.stands (lines_course (took.before ++ read ∷ []) rest)))
+    so : (exit : Exit) → EndsSo start script exit u now → EndsSo start script exit t now
+    so exit ends = record {
+      before = ends.before;
+      all = ends.all;
+      account = ends.account;
+      recovers = ends.recovers;
+      text = ends.text ∙ ap (λ out. out ++ (standing_lines (account_of start.history) ++ (outputs start ends.before ++ closing_line (account_at start ends.before) exit))) same;
+    }
 
--- no line is left
-pub took_all : (reads : List Read) (old new : Option Told) (run : Run) → TookSome reads [] old new run → TookAll reads old new run.ledger.account.state
-took_all reads old new run took = record {
-  steps = took.steps;
-  course = took.course ∙ ap (λ (a : State). behind took.steps (ends (end_line a) Done)) (sym took.stands.keeps.account);
-  goes = took.goes;
+    by : (exit : Exit) → RunEnds start script exit u now → RunEnds start script exit t now
+    by DiskFault ends = tt
+    by PrintFault ends = tt
+    by NoMemory ends = early ends
+    by SourceFault ends = early ends
+    by Done ends = so Done ends
+    by Usage ends = so Usage ends
+    by (BadLine line why) ends = so (BadLine line why) ends
+    by (Damaged file place) ends = so (Damaged file place) ends
+    by Full ends = so Full ends
+    by TooLong ends = so TooLong ends
+
+pub opened_runs : (start : Start) (script : List ℕ) (exit : Exit) (t u : Told) (new : Option Told) → Prints [] t u → IsSomeAnd new (RunEnds start script exit u) → IsSomeAnd new (RunEnds start script exit t)
+opened_runs start script exit t u None same ends = absurd ends
+opened_runs start script exit t u (Some now) same ends = runs_from start script exit t u now (same ∙ append-nil t.here.out) ends
+
+-- ---- what stops leave
+
+-- while the journal is opened
+pub opening_moments : (history : History) (script : List ℕ) (t : Told) (a b : Clock) → Recovers (account_of history) t.here → Adds (Opening a t.here) a b
+    → Adds (RunMoment a (start_of history t.here) script t.here) a b
+opening_moments history script t a b recovers adds = adds_weaker (Opening a t.here) (RunMoment a (start_of history t.here) script t.here) a b adds (λ left opening. by left opening)
+  where
+    by : (left : Left) → Opening a t.here left → RunMoment a (start_of history t.here) script t.here left
+    by left (inl now) = inl now
+    by left (inr formats) =
+        let same : account_of history ≡ account_of empty = none_empty (account_of history) t.here.file0 t.here.file1 recovers.is formats.none in
+        inr (ap (λ (l : Left). l.store) formats.rest, inl (record { recovers = rw same formats.recovers; text = ap (λ (l : Left). l.out) formats.rest }))
+
+open_from : (start : Start) (script : List ℕ) (here from left : Left) → from.out ≡ here.out → OpenMoment start script from left → OpenMoment start script here left
+open_from start script here from left same (inl began) = inl (record { recovers = began.recovers; text = subst (λ out. Begins (standing_lines (account_of start.history)) out left.out) same began.text })
+open_from start script here from left same (inr (inl lines)) = inr (inl (subst (λ out. LinesMoment start script (out ++ standing_lines (account_of start.history)) left) same lines))
+open_from start script here from left same (inr (inr ended)) = inr (inr (record {
+  before = ended.before;
+  exit = ended.exit;
+  all = ended.all;
+  recovers = ended.recovers;
+  text = subst (λ out. Begins (closing_line (account_at start ended.before) ended.exit) ((out ++ standing_lines (account_of start.history)) ++ outputs start ended.before) left.out) same ended.text;
+}))
+
+-- and once it is open
+pub opened_moments : (clock : Clock) (start : Start) (script : List ℕ) (t u : Told) (b c : Clock) → IsAccount (account_of start.history) → Prints [] t u → u.here.store ≡ t.here.store
+    → Adds (OpenStop start script u) b c → Adds (RunMoment clock start script t.here) b c
+opened_moments clock start script t u b c account same store adds = adds_weaker (OpenStop start script u) (RunMoment clock start script t.here) b c adds
+    (λ left both. inr (both.0 ∙ store, inr (account, open_from start script t.here u.here left (same ∙ append-nil t.here.out) both.1)))
+
+-- ---- a journal that isn't opened
+
+-- where the files hold an account, only a fault of the disk or want of memory keeps it from being
+-- opened
+abbrev pub IsCutOpening : Exit → Type 0
+IsCutOpening exit = (exit ≡ DiskFault) ⊎ (exit ≡ NoMemory)
+
+pub cut_opening : (exit : Exit) (account : State) (held : Result State Refusal) → held ≡ Ok account → Opens (Err exit) held → IsCutOpening exit
+cut_opening exit account held is opens = by exit (subst (λ h. Opens (Err exit) h) is opens)
+  where
+    by : (exit : Exit) → Opens (Err exit) (Ok account) → IsCutOpening exit
+    by DiskFault opens = inl refl
+    by NoMemory opens = inr refl
+    by (Damaged file place) opens = absurd (no opens.is)
+      where
+        no : {why : Refusal} → ◌≡◌ {A = Result State Refusal} (Ok account) (Err why) → ⊥
+        no is = cc
+    by TooLong opens = absurd (no opens)
+      where
+        no : {why : Refusal} → ◌≡◌ {A = Result State Refusal} (Ok account) (Err why) → ⊥
+        no is = cc
+    by Done opens = absurd opens
+    by Usage opens = absurd opens
+    by (BadLine line why) opens = absurd opens
+    by SourceFault opens = absurd opens
+    by PrintFault opens = absurd opens
+    by Full opens = absurd opens
+
+pub cut_is : (exit : Exit) → IsCutOpening exit → IsCut exit
+cut_is exit (inl is) = rw is tt
+cut_is exit (inr is) = rw is tt
+
+-- A run whose opening was cut short so.
+pub cut_runs : (history : History) (script : List ℕ) (exit : Exit) (t : Told) (mid : Option Told) → IsCutOpening exit → Recovers (account_of history) t.here
+    → (u : Told) × (mid ≡ Some u) × Prints [] t u → (exit ≡ NoMemory → Relates KeepsFiles (Some t) mid) → IsSomeAnd mid (RunEnds (start_of history t.here) script exit t)
+cut_runs history script exit t mid (inl is) recovers told kept = rw (told.1, is) tt
+cut_runs history script exit t mid (inr is) recovers told kept =
+    let keeps : KeepsFiles t told.0 = subst (λ o. Relates KeepsFiles (Some t) o) told.1 (kept is) in
+    let held : Recovers (account_of history) told.0.here = record { is = rw (keeps.file0, keeps.file1) recovers.is } in
+    rw (told.1, is) (early_none (start_of history t.here) script t told.0 held told.2)
+
+-- ---- how a last line ends a run
+
+-- no exit is both
+both : (exit : Exit) → IsCut exit → IsAnswer exit → ⊥
+both Done cut answer = cut
+both Usage cut answer = cut
+both (BadLine line why) cut answer = cut
+both (Damaged file place) cut answer = cut
+both Full cut answer = cut
+both TooLong cut answer = cut
+both SourceFault cut answer = answer
+both DiskFault cut answer = answer
+both PrintFault cut answer = answer
+both NoMemory cut answer = answer
+
+-- where a run is cut short its exit is that
+pub ends_cut : (exit result : Exit) (line : List ℕ) (old new : Option Told) → IsCut exit → Ends exit result line old new → result ≡ exit
+ends_cut exit result line old new cut (inr is) = is.1
+ends_cut exit result line old new cut (inl said) = absurd (both exit cut said.0)
+
+-- ---- files that are refused
+
+on_answer : (exit : Exit) (P : Type 0) → P → OnAnswer exit P
+on_answer Done P holds = holds
+on_answer Usage P holds = holds
+on_answer (BadLine line why) P holds = holds
+on_answer (Damaged file place) P holds = holds
+on_answer Full P holds = holds
+on_answer TooLong P holds = holds
+on_answer SourceFault P holds = tt
+on_answer DiskFault P holds = tt
+on_answer PrintFault P holds = tt
+on_answer NoMemory P holds = tt
+
+on_cut : (exit : Exit) (P : Type 0) → IsCut exit → OnAnswer exit P
+on_cut SourceFault P cut = tt
+on_cut DiskFault P cut = tt
+on_cut PrintFault P cut = tt
+on_cut NoMemory P cut = tt
+on_cut Done P cut = absurd cut
+on_cut Usage P cut = absurd cut
+on_cut (BadLine line why) P cut = absurd cut
+on_cut (Damaged file place) P cut = absurd cut
+on_cut Full P cut = absurd cut
+on_cut TooLong P cut = absurd cut
+
+-- nothing was printed, and the run was cut short
+pub refuses_cut : (why result : Exit) (before now : Told) → IsCut result → Prints [] before now → KeepsFiles before now → Refuses why result before now
+refuses_cut why result before now cut text keeps = record {
+  answers = on_cut result (result ≡ why) cut;
+  prints = ([], (stop_line why, refl), text);
+  whole = on_cut result (now.here.out ≡ before.here.out ++ stop_line why) cut;
+  file0 = keeps.file0;
+  file1 = keeps.file1;
 }
 
--- behind all lines the last line was printed
-pub run_ends : (reads : List Read) (old mid new : Option Told) (state : State) (line : List ℕ) (exit : Exit) → TookAll reads old mid state → line ≡ end_line state
-    → Follows (ends line Done) exit mid new → Follows (lines_course [] reads) exit old new
-run_ends reads old mid new state line exit took is takes =
-    let last : Follows (ends (end_line state) Done) exit mid new = subst (λ text. Follows (ends text Done) exit mid new) is takes in
-    rw took.course (takes_behind old mid new took.steps (ends (end_line state) Done) exit took.goes last)
+pub files_cut : (why : Option Exit) (result : Exit) (before now : Told) → IsCut result → Prints [] before now → KeepsFiles before now → RefusesFiles why result before now
+files_cut None result before now cut text keeps = tt
+files_cut (Some why) result before now cut text keeps = refuses_cut why result before now cut text keeps
 
--- what stands at the start, over an empty file
-pub started : (told : Option Told) (run : Run) (P : Type 0) → FileEndsAt told 0 → run.topology ≡ [] → run.ledger.account.state ≡ reported_account [] → run.ledger.end ≡ 0 → (IsRunAfter [] run told → P) → IfSome told (λ _. P)
-started None run P empty topology account end stands = tt
-started (Some t) run P empty topology account end stands = stands (record {
-  rows = topology;
-  keeps = record { account = account; end = end; room = tt; valid = tt; file = none t.here.file0 empty };
-})
+some_same : {A : Type 0} (x y : A) → Some x ≡ Some y → x ≡ y
+some_same x y is = ap (λ o. unwrap_or o x) is
+
+-- why files are refused, and what its last line is
+refusal_err : (held : Result State Refusal) (why : Exit) → refusal_exit held ≡ Some why → (w : Refusal) × (held ≡ Err w)
+refusal_err (Ok account) why is = absurd cc
+refusal_err (Err w) why is = (w, refl)
+
+refusal_line : (held : Result State Refusal) (why : Exit) (state : State) → refusal_exit held ≡ Some why → closing_line state why ≡ stop_line why
+refusal_line (Ok account) why state is = absurd cc
+refusal_line (Err too_long) why state is = subst (λ e. closing_line state e ≡ stop_line e) (some_same TooLong why is) refl
+refusal_line (Err (damaged file place)) why state is = subst (λ e. closing_line state e ≡ stop_line e) (some_same (Damaged (file_number file) place) why is) refl
+
+-- An opening is refused for that, or it was cut short.
+refused_as : (held : Result State Refusal) (why exit : Exit) → refusal_exit held ≡ Some why → Opens (Err exit) held → (exit ≡ why) ⊎ IsCut exit
+refused_as (Ok account) why exit is opens = absurd cc
+refused_as (Err w) why exit is opens = by exit opens
   where
-    none : (file : List ℕ) → length file ≡ 0 → file ≡ []
-    none [] is = refl
-    none (b ∷ bs) is = absurd (omega (arith, is))
+    too : (w : Refusal) → refusal_exit {A = State} (Err w) ≡ Some why → ◌≡◌ {A = Result State Refusal} (Err w) (Err too_long) → TooLong ≡ why
+    too too_long is opens = some_same TooLong why is
+    too (damaged file place) is opens = absurd cc
 
--- what was kept is what the file holds
-pub kept : (before : List Entry) (ledger : Ledger) (told : Option Told) → IsLedgerOf before ledger told → IsKept before told
-kept before ledger told keeps = record { room = keeps.room; valid = keeps.valid; file = keeps.file }
+    hurt : (w : Refusal) (number place : ℕ) → refusal_exit {A = State} (Err w) ≡ Some why → IsDamagedAt {A = State} number place (Err w) → Damaged number place ≡ why
+    hurt too_long number place is at = let e = at.is in absurd cc
+    hurt (damaged file from) number place is at =
+        let e = at.is in
+        let one : at.file ≡ file = cc in
+        let two : place ≡ from = cc in
+        let three : number ≡ file_number file = at.number_is ∙ ap file_number one in
+        rw (three, two) (some_same (Damaged (file_number file) from) why is)
 
--- the account was made again, and what it tells was printed or not
-said-file : (before : List Entry) (text : List ℕ) (number : ℕ) (old new : Option Told) → IsSomeAnd old (λ t. t.here.file0 ≡ file_bytes before) → new ≡ option_map (told_after_all (say_steps text number)) old
-    → IsSomeAnd new (λ t. t.here.file0 ≡ file_bytes before)
-said-file before text number None new file went = absurd file
-said-file before text number (Some t) new file went = rw went (say-file text number t ∙ file)
+    by : (exit : Exit) → Opens (Err exit) (Err w) → (exit ≡ why) ⊎ IsCut exit
+    by DiskFault opens = inr tt
+    by NoMemory opens = inr tt
+    by (Damaged number place) opens = inl (hurt w number place is opens)
+    by TooLong opens = inl (too w is opens)
+    by Done opens = absurd opens
+    by Usage opens = absurd opens
+    by (BadLine line reason) opens = absurd opens
+    by SourceFault opens = absurd opens
+    by PrintFault opens = absurd opens
+    by Full opens = absurd opens
 
-module _ (before : List Entry) (number : ℕ) where
-  pub restart_said : (opened : Ledger) (old mid new : Option Told) (result : Result (Unit {0}) Exit) → Reopens before (Ok opened) old mid
-      → Performs (say_steps (standing_lines opened.account.state) number) result mid new → Reopened before number result old new opened
-  restart_said opened old mid new (Ok done) reopened said =
-      let same : new ≡ option_map (told_after_all (say_steps (standing_lines (reported_account before)) number)) mid = said ∙ ap (λ (a : State). option_map (told_after_all (say_steps (standing_lines a) number)) mid) reopened.1.account in (
-        same ∙ ap (option_map (told_after_all (say_steps (standing_lines (reported_account before)) number))) reopened.0
-            ∙ sym (map_append (reopen_steps (file_end before)) (say_steps (standing_lines (reported_account before)) number) old),
-        record {
-          account = reopened.1.account;
-          end = reopened.1.end;
-          room = reopened.1.room;
-          valid = reopened.1.valid;
-          file = said-file before (standing_lines (reported_account before)) number mid new reopened.1.file same;
-        },
-      )
-  restart_said opened old mid new (Err exit) reopened said = λ rest.
-      let same : Performs (say_steps (standing_lines (reported_account before)) number) (Err exit) mid new =
-      subst (λ (a : State). Performs (say_steps (standing_lines a) number) (Err exit) mid new) reopened.1.account said in
-      takes_first old new (restart_steps before number) rest exit
-      (performs_then old mid new (reopen_steps (file_end before)) (say_steps (standing_lines (reported_account before)) number) (Err exit) reopened.0 same)
+module _ (why exit result : Exit) (line : List ℕ) (before mid : Told) (text : Prints [] before mid) (keeps : KeepsFiles before mid) where
+  refuses_short : IsCut result → Refuses why result before mid
+  refuses_short cut = refuses_cut why result before mid cut text keeps
 
-  pub restart_cut : (old new : Option Told) (more : Ledger) → Reopens before (Err Disk) old new → Reopened {T = Unit {0}} before number (Err DiskFault) old new more
-  restart_cut old new more cut = λ rest.
-      cut_before (restart_steps before number) rest.steps (cut_before (reopen_steps (file_end before)) (say_steps (standing_lines (reported_account before)) number) cut)
+  refuses_printed : line ≡ stop_line why → result ≡ why → Refuses why result before (after_print line mid)
+  refuses_printed same is =
+      let all : mid.here.out ++ line ≡ before.here.out ++ stop_line why = ap (λ out. out ++ line) (text ∙ append-nil before.here.out) ∙ ap (λ last. before.here.out ++ last) same in
+      record {
+        answers = on_answer result (result ≡ why) is;
+        prints = (stop_line why, ([], append-nil (stop_line why)), all);
+        whole = on_answer result (mid.here.out ++ line ≡ before.here.out ++ stop_line why) all;
+        file0 = keeps.file0;
+        file1 = keeps.file1;
+      }
 
-  pub restart_paused : (old new : Option Told) (more : Ledger) → Reopens before (Err OutOfMemory) old new → Reopened {T = Unit {0}} before number (Err NoMemory) old new more
-  restart_paused old new more paused = λ rest.
-      paused_before (restart_steps before number) rest.steps (paused_before (reopen_steps (file_end before)) (say_steps (standing_lines (reported_account before)) number) paused)
+  refuses_failed : (new : Option Told) → line ≡ stop_line why → IsCut result → Relates (FailsPrint line) (Some mid) new → IsSomeAnd new (Refuses why result before)
+  refuses_failed None same cut fails = absurd fails
+  refuses_failed (Some now) same cut (part, rest, splits, is) = rw is (record {
+    answers = on_cut result (result ≡ why) cut;
+    prints = (part, (rest, splits ∙ same), ap (λ out. out ++ part) (text ∙ append-nil before.here.out));
+    whole = on_cut result (mid.here.out ++ part ≡ before.here.out ++ stop_line why) cut;
+    file0 = keeps.file0;
+    file1 = keeps.file1;
+  })
 
-  -- memory ran out once the account was made again
-  pub restart_silent : (opened more : Ledger) (old new : Option Told) → Reopens before (Ok opened) old new → Reopened {T = Unit {0}} before number (Err NoMemory) old new more
-  restart_silent opened more old new reopened = λ rest.
-      paused_before (restart_steps before number) rest.steps
-      (record { done = reopen_steps (file_end before); rest = say_steps (standing_lines (reported_account before)) number; splits = refl; leaves = reopened.0 })
+  -- the last line of a run whose files are refused
+  refuses_end : (new : Option Told) → (exit ≡ why) ⊎ IsCut exit → (exit ≡ why → line ≡ stop_line why) → Ends exit result line (Some mid) new → IsSomeAnd new (Refuses why result before)
+  refuses_end new found same (inr cut) = rw cut.2 (refuses_short (rw cut.1 cut.0))
+  refuses_end new (inl is) same (inl (answer, inl said)) = rw said.1 (refuses_printed (same is) (said.0 ∙ is))
+  refuses_end new (inl is) same (inl (answer, inr (inl failed))) = refuses_failed new (same is) (rw failed.0 tt) failed.1
+  refuses_end new (inl is) same (inl (answer, inr (inr short))) = rw short.1 (refuses_short (rw short.0 tt))
+  refuses_end new (inr cut) same (inl said) =
+      absurd (both exit cut said.0)
 
--- a row that was taken, and its done line
-pub row_said : (number : ℕ) (refusal : Option TopologyRefused) (old new : Option Told) (result : Result (Unit {0}) Exit) → refusal ≡ None → Performs (prints_text (done_line number) ∷ []) result old new
-    → TakesRow number refusal result old new
-row_said number refusal old new (Ok done) none said = (none, said)
-row_said number refusal old new (Err exit) none said = λ rest. rw none (takes_first old new (prints_text (done_line number) ∷ []) rest exit said)
+pub files_opened : (held : Result State Refusal) (account : State) (result : Exit) (before now : Told) → held ≡ Ok account → RefusesFiles (refusal_exit held) result before now
+files_opened held account result before now is = rw is tt
 
--- what holds where a row was taken holds where its event is done
-pub on_taken : {T : Type 0} (P : Type 0) (added : Result (Unit {0}) TopologyRefused) (result : Result T Exit) → OnOk added P → OnOk result (added ≡ Ok tt) → OnOk result P
-on_taken P added (Ok done) holds taken = subst (λ a. OnOk a P) taken holds
-on_taken P added (Err exit) holds taken = tt
+pub files_refused : (exit result : Exit) (state : State) (before now : Told) (old mid new : Option Told) → old ≡ Some before → new ≡ Some now → Relates (Prints []) old mid → Relates KeepsRefused old mid
+    → IfSome old (λ t. Opens (Err exit) (recovered t.here.file0 t.here.file1)) → Ends exit result (closing_line state exit) mid new → RefusesFiles (files_refusal before.here) result before now
+files_refused exit result state before now old mid new one two text keeps opens ends = by (files_refusal before.here) refl
+  where
+    found : (u : Told) × (mid ≡ Some u) × Prints [] before u
+    found = told_on (Prints []) old mid before one text
 
--- a line that can't be read ends the run
-pub line_refused : (before : List Read) (number : ℕ) (bytes : List ℕ) (why : LineRefused) (exit : Exit) (old new : Option Told) (run : Run) → Gives (Err why) (taken_line bytes)
-    → RefusesLine number why exit old new → TakesLine {T = Unit {0}} before (number, taken_line bytes) (Err exit) old new run
-line_refused before number bytes refused.NoMemory exit old new run read refuses = λ rest. rw refuses.0 (paused_at_once _ refuses.1)
-line_refused before number bytes refused.Kind exit old new run read refuses = λ rest. rw read refuses
-line_refused before number bytes refused.Words exit old new run read refuses = λ rest. rw read refuses
-line_refused before number bytes refused.Number exit old new run read refuses = λ rest. rw read refuses
-line_refused before number bytes refused.Hex exit old new run read refuses = λ rest. rw read refuses
-line_refused before number bytes refused.Label exit old new run read refuses = λ rest. rw read refuses
-
--- a line whose row was taken or refused
-pub row_line : (before : List Read) (number : ℕ) (line : Line) (row : Row) (old new : Option Told) (run : Run) (rows : List Row) (added : Result (Unit {0}) TopologyRefused) (result : Result (Unit {0}) Exit)
-    → event_in (rows_told before) line ≡ adds_row row → row_in line ≡ Some row → IsRunAfter before run old → Answers added (refusal_of run.topology row) → OnOk added (rows ≡ run.topology ++ row ∷ [])
-    → OnOk result (added ≡ Ok tt) → ((refusal : Option TopologyRefused) → Answers added refusal → TakesRow number refusal result old new)
-    → TakesLine before (number, Ok line) result old new (record { topology = rows; ledger = run.ledger })
-row_line before number line row old new run rows added result asks some stands answers ok taken takes =
-    row_taken before number line row old new run (record { topology = rows; ledger = run.ledger }) result asks some stands
-    (subst (λ rs. OnOk result (rows ≡ rs ++ row ∷ [])) stands.rows (on_taken (rows ≡ run.topology ++ row ∷ []) added result ok taken))
-    refl (takes (refusal_of (rows_told before) row) (subst (λ rs. Answers added (refusal_of rs row)) stands.rows answers))
+    by : (refusal : Option Exit) → files_refusal before.here ≡ refusal → RefusesFiles refusal result before now
+    by None is = tt
+    by (Some why) is =
+        let held : Result State Refusal = recovered before.here.file0 before.here.file1 in
+        let err = refusal_err held why is in
+        let kept : KeepsFiles before found.0 = told_both KeepsRefused old mid before found.0 one found.1 keeps err.0 err.1 in
+        let as_found = refused_as held why exit is (if_told (λ t. Opens (Err exit) (recovered t.here.file0 t.here.file1)) old before one opens) in
+        let line : exit ≡ why → closing_line state exit ≡ stop_line why = (λ same. ap (closing_line state) same ∙ refusal_line held why state is) in
+        let all : IsSomeAnd new (Refuses why result before) = refuses_end why exit result (closing_line state exit) before found.0 found.2 kept new as_found line (subst (λ o. Ends exit result (closing_line state exit) o new) found.1 ends) in
+        let here : IsSomeAnd (Some now) (Refuses why result before) = subst (λ o. IsSomeAnd o (Refuses why result before)) two all in
+        here

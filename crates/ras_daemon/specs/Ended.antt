@@ -1,17 +1,13 @@
 -- What an exit says of how far a call came.
-use Rattle.std.specs.Prelude.{◌≡◌, ℕ, ◌≤◌, List, ◌++◌, length, None, Some, Ok, Err, Option, IfSome, IsSomeAnd, ⊤}
-use Rattle.std.specs.List.{AllByRecursion}
+use Rattle.std.specs.Prelude.{◌≡◌, ℕ, List, ◌++◌, Option, None, Some, ⊤}
 use Rattle.board_core.specs.Cause.{Rose, Faults, Kind, count_of}
-use Rattle.board_core.specs.Clock.{Clock, Adds}
-use Rattle.board_core.specs.Told.{Told}
+use Rattle.board_core.specs.Told.{Told, after_print}
 use Rattle.ras_base.specs.Prefix.{IsPrefixOf}
-use Rattle.ras_daemon.specs.declared.exit.Exit.{Exit}
-use Rattle.ras_daemon.specs.declared.exit.Exit.TheVariants.{SourceFault, DiskFault, PrintFault, NoMemory}
-use Rattle.dimm_topology.specs.Refusals.{refusal_of}
-use Rattle.ras_base.specs.Places.{places}
-use Rattle.ras_daemon.specs.Reports.{Event, Read, adds_row, event_in, reads_of, rows_told}
-use Rattle.ras_daemon.specs.Status.{Place}
-use Rattle.ras_daemon.specs.declared.script.TheConstants.{LONGEST_SCRIPT}
+use Rattle.ras_run.specs.declared.exit.Exit.{Exit}
+use Rattle.ras_run.specs.StopLine.{stop_line}
+use Rattle.ras_daemon.specs.RunStatus.{OnAnswer}
+use Rattle.ras_daemon.specs.declared.word.Task.{Task}
+use Rattle.ras_daemon.specs.declared.word.Task.TheVariants.{Run}
 
 -- a source's count of faults didn't rise
 abbrev pub IsQuiet : ℕ → ℕ → Type 0
@@ -21,52 +17,30 @@ IsQuiet before now = ¬ Rose before now
 abbrev pub IsQuietBoard : Faults → Faults → Type 0
 IsQuietBoard before now = (kind : Kind) → IsQuiet (count_of kind before) (count_of kind now)
 
--- the device with its record store, and the list of accesses to it, are as they were
-pub record KeepsDevice (before now : Told) : Type 0 where
-  pub store : now.here.store ≡ before.here.store
-  pub volatile : now.volatile ≡ before.volatile
-  pub accesses : now.accesses ≡ before.accesses
-
--- The device stays as it is told, and whatever a stop of the machine since then leaves has the
--- record store that was told. Of a board that tells nothing this says nothing.
-abbrev pub LeavesDevice : Option Told → Option Told → Clock → Clock → Type 0
-LeavesDevice None told old new = ⊤
-LeavesDevice (Some before) told old new =
-    IsSomeAnd told (KeepsDevice before) × Adds (λ left. left.store ≡ before.here.store) old new
-
--- what an event asks for can be done, as far as its own line tells: a row is one that the rows
--- before it take
-abbrev pub CanBeDone : List Read → Event → Type 0
-CanBeDone before (adds_row row) = refusal_of (rows_told before) row ≡ None
-CanBeDone before event = ⊤
-
--- a line can be read, and what it asks for can be done
-abbrev pub IsAccepted : Place → Type 0
-IsAccepted (before, (number, Ok line)) = CanBeDone before (event_in (rows_told before) line)
-IsAccepted (before, (number, Err refused)) = ⊥
-
--- nothing stands in the way of a script: it isn't too long, and each of its lines is accepted
-pub record IsAcceptedScript (script : List ℕ) : Type 0 where
-  pub short : length script ≤ LONGEST_SCRIPT
-  pub lines : AllByRecursion IsAccepted (places (reads_of script))
-
--- P holds where the call came to its end or to a refusal. A fault or want of memory cuts a call
--- short.
-abbrev pub OnAnswer : Exit → Type 0 → Type 0
-OnAnswer SourceFault P = ⊤
-OnAnswer DiskFault P = ⊤
-OnAnswer PrintFault P = ⊤
-OnAnswer NoMemory P = ⊤
-OnAnswer exit P = P
-
 -- the bytes printed now are those printed before and a beginning of the output, or all of it
 abbrev pub PrintsPart : List ℕ → List ℕ → List ℕ → Type 0
 PrintsPart output before now = (part : List ℕ) × IsPrefixOf part output × (now ≡ before ++ part)
 
--- where both the source and the board tell, of the script and of what the board tells before
-abbrev pub OverTold : (List ℕ → Told → Type 0) → Option (List ℕ) → Option Told → Type 0
-OverTold P left told = IfSome left (λ script. IfSome told (λ t. P script t))
+-- of what is told only the text printed so far is new, by a beginning of this one or all of it
+pub record OnlyPrints (text : List ℕ) (before now : Told) : Type 0 where
+  pub part : List ℕ
+  pub begins : IsPrefixOf part text
+  pub is : now ≡ after_print part before
 
--- and of what it tells now
-abbrev pub OverBoth : (List ℕ → Told → Told → Type 0) → Option (List ℕ) → Option Told → Option Told → Type 0
-OverBoth P left old new = OverTold (λ script told. IsSomeAnd new (λ now. P script told now)) left old
+-- Where the files are damaged or too long, a run tells why, and leaves the files as they were.
+pub record Refuses (exit result : Exit) (before now : Told) : Type 0 where
+  pub answers : OnAnswer result (result ≡ exit)
+  pub prints : PrintsPart (stop_line exit) before.here.out now.here.out
+  pub whole : OnAnswer result (now.here.out ≡ before.here.out ++ stop_line exit)
+  pub file0 : now.here.file0 ≡ before.here.file0
+  pub file1 : now.here.file1 ≡ before.here.file1
+
+abbrev pub RefusesFiles : Option Exit → Exit → Told → Told → Type 0
+RefusesFiles None result before now = ⊤
+RefusesFiles (Some exit) result before now = Refuses exit result before now
+
+-- where the words ask for a run and the board tells
+abbrev pub OverFiles : (Told → Told → Type 0) → Option Task → Option Told → Option Told → Type 0
+OverFiles P (Some Run) (Some before) (Some now) = P before now
+OverFiles P (Some Run) (Some before) None = ⊥
+OverFiles P task old new = ⊤

@@ -1,71 +1,98 @@
 //! The top call.
 
-ghost use Rattle.std.specs.Prelude.{◌≡◌, ◌≢◌, ◌⊎◌, ◌++◌, ℕ, [], Some, None, IfSome, IfNone, IsSomeAnd};
-ghost use Rattle.ras_daemon.specs.Causes.{BoardCause, SourceCause};
+ghost use Rattle.std.specs.Prelude.{◌≡◌, ◌⊎◌, ◌++◌, ℕ, List, [], length, false, Some, None};
+ghost use Rattle.std.specs.Prelude.{IfSome, IfNone, IsSomeAnd};
+ghost use Rattle.board_core.specs.Clock.{Adds, Always};
+ghost use Rattle.board_core.specs.Told.{Relates, Steps, Told, after_print};
+ghost use Rattle.ras_account.specs.Accounts.{IsAccount};
+ghost use Rattle.ras_recover.specs.DiskCalls.{IsBeginning, Makes};
+ghost use Rattle.ras_run.specs.Causes.{BoardCause, SourceCause};
+ghost use Rattle.ras_run.specs.Device.{LeavesDevice};
+ghost use Rattle.ras_run.specs.Places.{Start};
+ghost use Rattle.ras_run.specs.StopLine.{stop_line};
+ghost use Rattle.ras_run.specs.Taking.{LedgerStands};
+ghost use Rattle.text_laws.specs.DoneLines.{done_count};
+ghost use Rattle.ras_daemon.specs.Ahead.{TakesAhead};
+ghost use Rattle.ras_daemon.specs.Ended.{IsQuiet, IsQuietBoard, OnlyPrints, OverFiles, PrintsPart, RefusesFiles};
+ghost use Rattle.ras_daemon.specs.Headline.{Headline, IsWhole, OverRun, StopsRecover};
+ghost use Rattle.ras_daemon.specs.RunCalls.{AreRunCalls};
+ghost use Rattle.ras_daemon.specs.RunOutput.{run_output};
+ghost use Rattle.ras_daemon.specs.RunStatus.{OnAnswer, OnWhole, files_refusal, run_exit};
+ghost use Rattle.ras_daemon.specs.Running.{IsStart, MakesAlong, OpenMoment, RunAhead, RunEnds, RunMoment};
+ghost use Rattle.ras_daemon.specs.Script.{events_of};
 ghost use Rattle.ras_daemon.specs.Task.{task_of};
-ghost use Rattle.ras_daemon.specs.Ended.{IsAcceptedScript, IsQuiet, IsQuietBoard, LeavesDevice, OnAnswer, OverBoth, OverTold, PrintsPart};
-ghost use Rattle.ras_daemon.specs.Event.{FileEndsAt};
-ghost use Rattle.ras_daemon.specs.FileAndCalls.{calls_of, file_after};
-ghost use Rattle.ras_daemon.specs.Output.{output_of, output_upto};
-ghost use Rattle.ras_daemon.specs.Progress.{FollowsCall, call_course, start_course};
-ghost use Rattle.ras_daemon.specs.Reports.{reads_of};
-ghost use Rattle.ras_daemon.specs.Status.{exit_of, script_refusal};
-ghost use Rattle.ras_daemon.specs.declared.word.Task.TheVariants.{Run};
 
-use crate::run::{last_line, refuse, run_script};
-use crate::script::{LONGEST_SCRIPT, read_script};
-use crate::{Exit, RasWord, Task, task_of};
-use board_core::{Board, Failed, FileNo, Source};
+use crate::ending::{end_run, last_line};
+use crate::lines::take_lines;
+use crate::{RasWord, Task, task_of};
+use board_core::{Board, Source};
+use ras_account::Account;
+use ras_base::NoMemory;
+use ras_events::Settings;
+use ras_ledger::Ledger;
+use ras_run::{Exit, Run, open, print_standing};
+use ras_script::LineReader;
 use std::alloc::Global;
 
 /// Does what the words ask for, over a source that gives the script and a board that keeps the
-/// account.
+/// account in its journal.
 pub fn rasd<S: Source, B: Board>(
     alloc: Global,
     words: &[RasWord],
     source: &mut S,
     board: &mut B,
 ) -> Exit
-    // Over a source and a board that tell, the exit and what was printed are the stated functions
-    // of the words, the script and file 0. A fault or want of memory cuts what is printed short.
-    ensures status { OverTold (λ script told. OnAnswer result
-        (result ≡ exit_of words.now script told.here.file0))
-        (S.left source.old) (B.told board.old) }
-    ensures output { OverTold (λ script told. OnAnswer result (IsSomeAnd (B.told board.new)
-        (λ now. now.here.out ≡ told.here.out ++ output_of words.now script told.here.file0)))
-        (S.left source.old) (B.told board.old) }
-    ensures begun { OverBoth (λ script told now.
-        PrintsPart (output_of words.now script told.here.file0) told.here.out now.here.out)
-        (S.left source.old) (B.told board.old) (B.told board.new) }
+    // A stop at any moment of a run leaves the account of the earlier history and a beginning of
+    // what this run reports, with each event that is done by what was printed.
+    ensures headline { OverRun (λ start script told. StopsRecover start (B.clock board.old)
+        → Always (B.clock board.new) (B.clock board.old).now (Headline start script told.here))
+        (task_of words.now) (S.left source.old) (B.told board.old) }
 
-    // So are file 0 and the disk calls. File 1 stays.
-    ensures file { OverTold (λ script told. OnAnswer result (IsSomeAnd (B.told board.new)
-        (λ now. now.here.file0 ≡ file_after words.now script told.here.file0)))
-        (S.left source.old) (B.told board.old) }
-    ensures calls { OverTold (λ script told. OnAnswer result (IsSomeAnd (B.told board.new)
-        (λ now. now.disk_calls ≡ told.disk_calls ++ calls_of words.now script told.here.file0)))
-        (S.left source.old) (B.told board.old) }
-    ensures other { OverBoth (λ script told now. now.here.file1 ≡ told.here.file1)
-        (S.left source.old) (B.told board.old) (B.told board.new) }
+    // The exit and what was printed are the stated functions of the script, the earlier history and
+    // where the journal stands, and its done lines number its events. A fault or want of memory
+    // cuts what is printed short, and but for a fault of the board whole events were done.
+    ensures status { OverRun (λ start script told. OnAnswer result (result ≡ run_exit start script))
+        (task_of words.now) (S.left source.old) (B.told board.old) }
+    ensures output { OverRun (λ start script told. OnAnswer result (IsSomeAnd (B.told board.new)
+        (λ now. now.here.out ≡ told.here.out ++ run_output start script)))
+        (task_of words.now) (S.left source.old) (B.told board.old) }
+    ensures counted { OverRun (λ start script told. OnAnswer result
+        (done_count (run_output start script) ≡ length (events_of start script)))
+        (task_of words.now) (S.left source.old) (B.told board.old) }
+    ensures begun { OverRun (λ start script told. IsSomeAnd (B.told board.new)
+        (λ now. PrintsPart (run_output start script) told.here.out now.here.out))
+        (task_of words.now) (S.left source.old) (B.told board.old) }
+    ensures whole { OverRun (λ start script told. OnWhole result (IsSomeAnd (B.told board.new)
+        (IsWhole start script told)))
+        (task_of words.now) (S.left source.old) (B.told board.old) }
 
-    // No line of an event is printed before its entry is written and synced: where one of these
-    // fails, what is printed ends with a whole event.
-    ensures synced { result ≡ Exit.DiskFault → OverBoth (λ script told now.
-        (count : ℕ) × (now.here.out ≡ told.here.out ++ output_upto (reads_of script) count))
-        (S.left source.old) (B.told board.old) (B.told board.new) }
+    // A run takes no more of its source than it needs: at most 40,001 bytes past the first event
+    // that isn't done. Where the source fails, all is done that was taken whole.
+    ensures ahead { OverRun (λ start script told. IsSomeAnd (S.left source.new) (λ left.
+        IsSomeAnd (B.told board.new) (TakesAhead result script left told)))
+        (task_of words.now) (S.left source.old) (B.told board.old) }
 
-    // Over an empty file an accepted script is taken to its end, unless a fault came, the account
-    // is full, or memory ran out.
-    ensures complete { task_of words.now ≡ Some Run
-        → IsQuiet (S.faults source.old) (S.faults source.new)
-        → IsQuietBoard (B.faults board.old) (B.faults board.new)
-        → OverTold (λ script told. told.here.file0 ≡ [] → IsAcceptedScript script → result ≢ Exit.Full
-        → (result ≡ Exit.Done) ⊎ (result ≡ Exit.NoMemory))
-        (S.left source.old) (B.told board.old) }
+    // Its disk calls are those of an opening and of the lines, in order, or at any exit a beginning
+    // of them: of each event that has news at most one switch, and the append of one link.
+    ensures calls { OverRun (λ start script told. IsSomeAnd (B.told board.new)
+        (Makes (IsBeginning (AreRunCalls start script told.here)) told))
+        (task_of words.now) (S.left source.old) (B.told board.old) }
 
-    // A run is done once its source is read to its end.
+    // Where the files at the start are damaged or too long, the run says so and leaves them.
+    ensures refused { OverFiles
+        (λ before now. RefusesFiles (files_refusal before.here) result before now)
+        (task_of words.now) (B.told board.old) (B.told board.new) }
+
+    // A run is done once its source is read to its end. Where no count of faults rose, a run that
+    // is refused nowhere is done, but for want of memory.
     ensures ended { result ≡ Exit.Done
         → IfSome (S.left source.old) (λ script. S.left source.new ≡ Some []) }
+    ensures complete { OverRun (λ start script told.
+        IsQuiet (S.faults source.old) (S.faults source.new)
+        → IsQuietBoard (B.faults board.old) (B.faults board.new)
+        → run_exit start script ≡ Exit.Done
+        → (result ≡ Exit.Done) ⊎ (result ≡ Exit.NoMemory))
+        (task_of words.now) (S.left source.old) (B.told board.old) }
 
     // Where a count of faults rose that fault is the exit, and every other count is as it was.
     ensures source { SourceCause result (S.faults source.old) (S.faults source.new) }
@@ -74,36 +101,57 @@ pub fn rasd<S: Source, B: Board>(
         (B.clock board.old) (B.clock board.new) }
 
     // Words of no listed form take no memory and leave the source alone, and no other words are
-    // such.
+    // such. They print the usage line, or a beginning of it at a fault, and change nothing else.
     ensures usage { IfNone (task_of words.now)
         ((result ≡ Exit.Usage) ⊎ (result ≡ Exit.PrintFault)) }
     ensures listed { IfSome (task_of words.now) (λ task. result ≡ Exit.Usage → ⊥) }
     ensures untouched { IfNone (task_of words.now) (source.new ≡ source.old) }
+    ensures alone { IfNone (task_of words.now)
+        (Relates (OnlyPrints (stop_line Exit.Usage)) (B.told board.old) (B.told board.new)) }
+    ensures said { IfNone (task_of words.now) (result ≡ Exit.Usage
+        → Steps (after_print (stop_line Exit.Usage)) (B.told board.old) (B.told board.new)) }
 {
     call(alloc, words, source, board)
 }
 
-// The same, by the course that a call takes on its board.
+// The same, by how far the run comes.
 fn call<S: Source, B: Board>(
     alloc: Global,
     words: &[RasWord],
     source: &mut S,
     board: &mut B,
 ) -> Exit
-    ensures takes { OverTold (λ script told. FollowsCall
-        (call_course (task_of words.now) script told.here.file0)
-        result (B.told board.old) (B.told board.new))
-        (S.left source.old) (B.told board.old) }
+    ensures runs { OverRun (λ start script told. IsSomeAnd (B.told board.new)
+        (RunEnds start script result told))
+        (task_of words.now) (S.left source.old) (B.told board.old) }
+    ensures moments { OverRun (λ start script told.
+        Adds (RunMoment (B.clock board.old) start script told.here)
+        (B.clock board.old) (B.clock board.new))
+        (task_of words.now) (S.left source.old) (B.told board.old) }
+    ensures ahead { OverRun (λ start script told.
+        RunAhead (result ≡ Exit.SourceFault) start script told (S.left source.new)
+        (B.told board.new))
+        (task_of words.now) (S.left source.old) (B.told board.old) }
+    ensures calls { OverRun (λ start script told. IsSomeAnd (B.told board.new)
+        (Makes (IsBeginning (AreRunCalls start script told.here)) told))
+        (task_of words.now) (S.left source.old) (B.told board.old) }
+    ensures refused { OverFiles
+        (λ before now. RefusesFiles (files_refusal before.here) result before now)
+        (task_of words.now) (B.told board.old) (B.told board.new) }
     ensures ended { result ≡ Exit.Done
         → IfSome (S.left source.old) (λ script. S.left source.new ≡ Some []) }
     ensures source { SourceCause result (S.faults source.old) (S.faults source.new) }
-    ensures faults { BoardCause result (B.faults board.old) (B.faults board.new) }
+    ensures board { BoardCause result (B.faults board.old) (B.faults board.new) }
     ensures device { LeavesDevice (B.told board.old) (B.told board.new)
         (B.clock board.old) (B.clock board.new) }
     ensures usage { IfNone (task_of words.now)
         ((result ≡ Exit.Usage) ⊎ (result ≡ Exit.PrintFault)) }
     ensures listed { IfSome (task_of words.now) (λ task. result ≡ Exit.Usage → ⊥) }
     ensures untouched { IfNone (task_of words.now) (source.new ≡ source.old) }
+    ensures alone { IfNone (task_of words.now)
+        (Relates (OnlyPrints (stop_line Exit.Usage)) (B.told board.old) (B.told board.new)) }
+    ensures said { IfNone (task_of words.now) (result ≡ Exit.Usage
+        → Steps (after_print (stop_line Exit.Usage)) (B.told board.old) (B.told board.new)) }
 {
     match task_of(words) {
         Some(Task::Run) => run(alloc, source, board),
@@ -111,50 +159,89 @@ fn call<S: Source, B: Board>(
     }
 }
 
-// Takes a script.
+// Opens the journal, and takes a script over it.
 fn run<S: Source, B: Board>(alloc: Global, source: &mut S, board: &mut B) -> Exit
+    ensures runs { OverRun (λ start script told. IsSomeAnd (B.told board.new)
+        (RunEnds start script result told)) (Some Task.Run) (S.left source.old) (B.told board.old) }
+    ensures moments { OverRun (λ start script told.
+        Adds (RunMoment (B.clock board.old) start script told.here)
+        (B.clock board.old) (B.clock board.new))
+        (Some Task.Run) (S.left source.old) (B.told board.old) }
+    ensures ahead { OverRun (λ start script told.
+        RunAhead (result ≡ Exit.SourceFault) start script told (S.left source.new)
+        (B.told board.new))
+        (Some Task.Run) (S.left source.old) (B.told board.old) }
+    ensures calls { OverRun (λ start script told. IsSomeAnd (B.told board.new)
+        (Makes (IsBeginning (AreRunCalls start script told.here)) told))
+        (Some Task.Run) (S.left source.old) (B.told board.old) }
+    ensures refused { OverFiles
+        (λ before now. RefusesFiles (files_refusal before.here) result before now)
+        (Some Task.Run) (B.told board.old) (B.told board.new) }
     ensures ended { result ≡ Exit.Done
         → IfSome (S.left source.old) (λ script. S.left source.new ≡ Some []) }
-    ensures listed { result ≡ Exit.Usage → ⊥ }
-    ensures takes { OverTold (λ script told. FollowsCall (call_course (Some Run) script told.here.file0)
-        result (B.told board.old) (B.told board.new))
-        (S.left source.old) (B.told board.old) }
     ensures source { SourceCause result (S.faults source.old) (S.faults source.new) }
-    ensures faults { BoardCause result (B.faults board.old) (B.faults board.new) }
+    ensures board { BoardCause result (B.faults board.old) (B.faults board.new) }
     ensures device { LeavesDevice (B.told board.old) (B.told board.new)
         (B.clock board.old) (B.clock board.new) }
+    ensures listed { result ≡ Exit.Usage → ⊥ }
 {
-    let size = match board.size(FileNo::Zero) {
-        Ok(size) => size,
-        Err(Failed) => return Exit::DiskFault,
+    let mut reader = match LineReader::new(alloc) {
+        Ok(reader) => reader,
+        Err(NoMemory) => return Exit::NoMemory,
     };
-    if size > 0 {
-        return refuse(alloc, Exit::Damaged { file: 0, place: 0 }, board);
+    match open(alloc, board) {
+        Ok(ledger) => take_script(alloc, &mut reader, ledger, source, board),
+        // No account was made: the last line of a refusal tells nothing of it.
+        Err(exit) => end_run(alloc, exit, &Account::new(alloc), board),
     }
-    run_source(alloc, source, board)
 }
 
-// Takes a script over an empty file.
-fn run_source<S: Source, B: Board>(alloc: Global, source: &mut S, board: &mut B) -> Exit
-    requires empty { FileEndsAt (B.told board.old) 0 }
+// Takes a script over a journal that was opened: the orders that stand are printed, then its lines
+// are taken, and then the run ends.
+fn take_script<S: Source, B: Board>(
+    alloc: Global,
+    reader: &mut LineReader,
+    ledger: Ledger,
+    source: &mut S,
+    board: &mut B,
+) -> Exit
+    requires fresh { reader.old ≡ record { line = []; held = []; taken = 0 } }
+    requires usable { ledger.journal.failed ≡ false }
+    requires stands { LedgerStands ledger (B.told board.old) (B.clock board.old) }
+    requires account { IsAccount ledger.account.state }
+
+    ensures runs { (start : Start) (script : List ℕ) (t : Told) → IsStart start ledger
+        → S.left source.old ≡ Some script → B.told board.old ≡ Some t
+        → IsSomeAnd (B.told board.new) (RunEnds start script result t) }
+    ensures moments { (start : Start) (script : List ℕ) (t : Told) → IsStart start ledger
+        → S.left source.old ≡ Some script → B.told board.old ≡ Some t
+        → Adds (λ left. (left.store ≡ t.here.store) × OpenMoment start script t.here left)
+        (B.clock board.old) (B.clock board.new) }
+    ensures ahead { (start : Start) (script : List ℕ) (t : Told) → IsStart start ledger
+        → S.left source.old ≡ Some script → B.told board.old ≡ Some t
+        → RunAhead (result ≡ Exit.SourceFault) start script t (S.left source.new)
+        (B.told board.new) }
+    ensures calls { (start : Start) (script : List ℕ) (t : Told) → IsStart start ledger
+        → S.left source.old ≡ Some script → B.told board.old ≡ Some t
+        → IsSomeAnd (B.told board.new) (MakesAlong start script t) }
     ensures ended { result ≡ Exit.Done
         → IfSome (S.left source.old) (λ script. S.left source.new ≡ Some []) }
-    ensures listed { result ≡ Exit.Usage → ⊥ }
-    ensures takes { OverTold (λ script told. FollowsCall
-        (start_course (script_refusal script) script)
-        result (B.told board.old) (B.told board.new))
-        (S.left source.old) (B.told board.old) }
     ensures source { SourceCause result (S.faults source.old) (S.faults source.new) }
-    ensures faults { BoardCause result (B.faults board.old) (B.faults board.new) }
+    ensures board { BoardCause result (B.faults board.old) (B.faults board.new) }
     ensures device { LeavesDevice (B.told board.old) (B.told board.new)
         (B.clock board.old) (B.clock board.new) }
+    ensures listed { result ≡ Exit.Usage → ⊥ }
 {
-    let script = match read_script(alloc, source) {
-        Ok(script) => script,
-        Err(exit) => return exit,
-    };
-    if script.len() > LONGEST_SCRIPT {
-        return refuse(alloc, Exit::TooLong, board);
+    if let Err(exit) = print_standing(alloc, &ledger.account, board) {
+        return exit;
     }
-    run_script(alloc, &script, board)
+    let mut run = Run {
+        settings: Settings::new(alloc),
+        ledger,
+    };
+    let exit = match take_lines(alloc, reader, &mut run, source, board) {
+        Ok(()) => Exit::Done,
+        Err(exit) => exit,
+    };
+    end_run(alloc, exit, &run.ledger.account, board)
 }

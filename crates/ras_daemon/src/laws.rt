@@ -1,32 +1,84 @@
-//! What a run logs, in other words.
+//! What runs log and order, one after the other on one journal.
 
-ghost use Rattle.std.specs.Prelude.{◌≡◌, ◌↔◌, ℕ, List, [], ◌∷◌, Contains, IsTrue};
-ghost use Rattle.std.specs.Bool.{IsFalse};
+ghost use Rattle.std.specs.Prelude.{◌≡◌, ◌++◌, ℕ, List, [], ◌∷◌, if◌then◌else◌};
 ghost use Rattle.std.specs.List.{IsDistinct};
-ghost use Rattle.dimm_topology.specs.declared.row.Row.{Row};
-ghost use Rattle.mca_status.specs.Registers.{valid};
-ghost use Rattle.ras_facts.specs.declared.bank.BankReport.{BankReport};
-ghost use Rattle.ras_facts.specs.declared.name.Name.{Name};
-ghost use Rattle.ras_facts.specs.Facts.{bank_name, status_in};
+ghost use Rattle.dimm_topology.specs.Labels.{Bytes};
+ghost use Rattle.page_policy.specs.Histories.{AreOnceInOrder};
+ghost use Rattle.ras_base.specs.Prefix.{IsPrefixOf};
 ghost use Rattle.ras_facts.specs.Names.{same_name};
-ghost use Rattle.ras_account.specs.Account.{names_of};
-ghost use Rattle.ras_script.specs.declared.line.ErrorReport.TheVariants.{Bank};
-ghost use Rattle.ras_script.specs.declared.line.Line.TheVariants as asks;
-ghost use Rattle.ras_daemon.specs.Reports.{event_in, entries_in};
-ghost use Rattle.ras_daemon.specs.FileAndCalls.{script_log, script_reports};
+ghost use Rattle.ras_account.specs.Account.{AreSame, module_errors, names_of};
+ghost use Rattle.ras_account.specs.Asked.{HasRow, module_place, orders_for_module, orders_for_page};
+ghost use Rattle.ras_account.specs.Asked.{replace_order};
+ghost use Rattle.ras_account.specs.Fresh.{fresh_entries};
+ghost use Rattle.ras_account.specs.Modules.{has_tripped};
+ghost use Rattle.ras_account.specs.Orders.{orders, orders_since_mark};
+ghost use Rattle.ras_run.specs.Places.{Start};
+ghost use Rattle.ras_daemon.specs.Headline.{account_with};
+ghost use Rattle.ras_daemon.specs.RunOutput.{lines_output, output_upto, run_output};
+ghost use Rattle.ras_daemon.specs.RunStatus.{run_exit};
+ghost use Rattle.ras_daemon.specs.Runs.{CountTheSame, Follows, IsTakenWhole, ReportsFacts};
+ghost use Rattle.ras_daemon.specs.Runs.{event_count, history_after};
+ghost use Rattle.ras_daemon.specs.Runs.{logged, ordered};
+ghost use Rattle.ras_daemon.specs.Script.{reads_in};
 
-/// The laws of what a script logs. The function does nothing: its clauses are what it is for.
-pub fn logging_laws()
-    // Each name is logged once, whatever the script, and those logged are the names of all that the
-    // lines before the first refused one report.
-    ensures once { (script : List ℕ) → IsDistinct same_name (names_of (script_log script)) }
-    ensures all { (script : List ℕ) (name : Name)
-        → Contains (names_of (script_log script)) name ↔ Contains (names_of (script_reports script)) name }
+/// The laws of runs on one journal. The function does nothing: its clauses are what it is for.
+pub fn run_laws()
+    // What a run prints and how it ends needs of the earlier history its account alone, and of the
+    // journal where it stands.
+    ensures output { (one other : Start) (script : List ℕ) → AreSame one.history other.history
+        → one.standing ≡ other.standing → run_output one script ≡ run_output other script }
+    ensures status { (one other : Start) (script : List ℕ) → AreSame one.history other.history
+        → one.standing ≡ other.standing → run_exit one script ≡ run_exit other script }
 
-    // A bank line reports one fact under its name where VAL, bit 63 of its status register, is 1,
-    // and else nothing.
-    ensures reported { (rows : List Row) (bank : BankReport) → IsTrue (valid (status_in bank))
-        → names_of (entries_in (event_in rows (asks.Report (Bank bank)))) ≡ bank_name bank ∷ [] }
-    ensures silent { (rows : List Row) (bank : BankReport) → IsFalse (valid (status_in bank))
-        → entries_in (event_in rows (asks.Report (Bank bank))) ≡ [] }
+    // What is printed once some events are done is a beginning of the output.
+    ensures printed { (start : Start) (script : List ℕ) (n : ℕ)
+        → IsPrefixOf (output_upto start script n) (run_output start script) }
+
+    // What lines print doesn't depend on the lines behind them.
+    ensures lines { (start : Start) (lines more : List (List ℕ))
+        → IsPrefixOf (lines_output start (reads_in lines))
+        (lines_output start (reads_in (lines ++ more))) }
+
+    // What a run logs comes behind what the earlier runs logged, and no name is logged twice.
+    ensures logged { (start : Start) (script : List ℕ) (n : ℕ)
+        → fresh_entries (history_after start script n)
+        ≡ fresh_entries start.history ++ logged start script n }
+    ensures once { (start : Start) (script : List ℕ) (n : ℕ)
+        → IsDistinct same_name
+        (names_of (fresh_entries start.history ++ logged start script n)) }
+
+    // So a script that was taken whole logs no report when it is run again.
+    ensures again { (start next : Start) (script : List ℕ) (n : ℕ) → IsTakenWhole start script
+        → Follows start script (event_count start script) next
+        → names_of (logged next script n) ≡ [] }
+
+    // And a script that is run again after a stop at any of its events ends with the account with
+    // which it ends where it isn't stopped, but for the number of entries, since limits are set
+    // again. Where it reports facts alone that number is the same too.
+    ensures resumed { (start next : Start) (script : List ℕ) (n : ℕ) → IsTakenWhole start script
+        → Follows start script n next → IsTakenWhole next script
+        → CountTheSame (account_with next script (event_count next script))
+        (account_with start script (event_count start script)) }
+    ensures same { (start next : Start) (script : List ℕ) (n : ℕ) → IsTakenWhole start script
+        → Follows start script n next → IsTakenWhole next script → ReportsFacts start script
+        → account_with next script (event_count next script)
+        ≡ account_with start script (event_count start script) }
+
+    // The orders of a run come behind those of the earlier runs, and together they take a page out
+    // of use at most once softly and at most once hard, and never softly after that.
+    ensures ordered { (start : Start) (script : List ℕ) (n : ℕ)
+        → orders (history_after start script n)
+        ≡ orders start.history ++ ordered start script n }
+    ensures page { (start : Start) (script : List ℕ) (n page : ℕ)
+        → AreOnceInOrder page
+        (orders_for_page page (orders start.history ++ ordered start script n)) }
+
+    // Since the last mark they ask for a module to be replaced once where its own corrected errors
+    // have made its bucket trip, and else not at all.
+    ensures module { (start : Start) (script : List ℕ) (n : ℕ) (label : Bytes)
+        → let history = history_after start script n in HasRow history label
+        → orders_for_module (module_place history label)
+        (orders_since_mark start.history ++ ordered start script n)
+        ≡ (if has_tripped (module_errors history label)
+        then replace_order history label ∷ [] else []) }
 {}

@@ -1,20 +1,15 @@
-//! The daemon: reads a script of hardware error reports and keeps their account.
+//! The daemon: takes a script of hardware error reports over a journal that outlives a stop at any
+//! moment.
 #![tactic(auto)]
 
 mod daemon;
-mod event;
-mod exit;
-mod later_kinds;
+mod ending;
 mod laws;
-mod ledger;
-mod run;
-mod script;
-mod step;
-mod stop;
+mod lines;
 mod word;
 
 pub use daemon::rasd;
-pub use exit::{Exit, Reason};
-pub use laws::logging_laws;
-pub use script::LONGEST_SCRIPT;
+pub use laws::run_laws;
+pub use ras_events::Reason;
+pub use ras_run::Exit;
 pub use word::{RasWord, Task, task_of};

@@ -1,0 +1,195 @@
+-- How far ahead a run reads its source, to its end.
+use Rattle.std.proofs.Common.{◌≡◌, ℕ, suc, ◌+◌, ◌-◌, ◌≤◌, ◌==◌, ◌&&◌, Bool, true, false, List, [], ◌∷◌, ◌++◌, length, Option, None, Some, IfSome, IsSomeAnd, map, refl, ap, ◌∙◌, subst, append_assoc, append-nil, length-append, arith, inl, inr, cond, sym}
+use Rattle.std.specs.List.{enumerate_from}
+use Rattle.std.specs.Option.{option_map}
+use Rattle.std.proofs.lemmas.Bool.Decides.{nat_tests}
+use Rattle.board_core.specs.Told.{FailsPrint, Relates, Told, after_print}
+use Rattle.ras_base.specs.Places.{places, places_behind}
+use Rattle.ras_account.specs.Account.{account_of}
+use Rattle.ras_account.specs.Accounts.{IsAccount}
+use Rattle.ras_events.specs.Reports.{NumberedLine}
+use Rattle.ras_script.specs.declared.reader.TheConstants.{LONGEST_LINE}
+use Rattle.ras_script.specs.Splitting.{lines_of}
+use Rattle.ras_script.specs.SplittingLaws.{script_of}
+use Rattle.ras_texts.specs.Orders.{standing_lines}
+use Rattle.text_laws.specs.DoneLines.{done_count}
+use Rattle.ras_run.specs.declared.exit.Exit.{Exit}
+use Rattle.ras_run.specs.declared.exit.Exit.TheVariants.{SourceFault}
+use Rattle.ras_run.specs.LaterKinds.{taken_line}
+use Rattle.ras_run.specs.Places.{Start}
+use Rattle.ras_daemon.specs.Ahead.{TakesAhead, end_of_event, events_in, is_event_line}
+use Rattle.ras_daemon.specs.Ended.{PrintsPart}
+use Rattle.ras_daemon.specs.Headline.{OverRun}
+use Rattle.ras_daemon.specs.RunOutput.{run_output}
+use Rattle.ras_daemon.specs.RunStatus.{start_of}
+use Rattle.ras_daemon.specs.declared.word.Task.{Task}
+use Rattle.ras_daemon.specs.declared.word.Task.TheVariants.{Run}
+use Rattle.ras_daemon.specs.Running.{Ends, EndsAhead, ReadAhead, RunAhead, first_size, lines_from, outputs}
+use Rattle.ras_daemon.specs.Script.{reads_in}
+use Rattle.ras_daemon.proofs.CountLemmas.{count-first, events_among}
+
+-- ---- the last line
+
+-- the text went on
+ahead_more : (Fault Later : Type 0) → (Later → Fault) → (start : Start) (script from rest : List ℕ) (u now : Told) (part : List ℕ) → now.here.out ≡ u.here.out ++ part → ReadAhead Fault start script from rest u → ReadAhead Later start script from rest now
+ahead_more Fault Later back start script from rest u now part is ahead = record {
+  done = ahead.done;
+  more = ahead.more;
+  lines = ahead.lines;
+  first = ahead.first;
+  text = (ahead.text.0 ++ part, is ∙ ap (λ out. out ++ part) ahead.text.1 ∙ append_assoc (from ++ outputs start (reads_in ahead.done)) ahead.text.0 part);
+  bound = ahead.bound;
+  taken = ahead.taken;
+  splits = ahead.splits;
+  whole = λ later. ahead.whole (back later);
+}
+
+module _ (Fault Later : Type 0) (back : Later → Fault) (start : Start) (script from rest : List ℕ) where
+  ahead_same : (u : Told) (new : Option Told) → new ≡ Some u → ReadAhead Fault start script from rest u → IsSomeAnd new (ReadAhead Later start script from rest)
+  ahead_same u new is ahead = rw is (ahead_more Fault Later back start script from rest u u [] (sym (append-nil u.here.out)) ahead)
+
+  -- a last line, after lines were taken
+  ahead_line : (exit result : Exit) (line : List ℕ) (old new : Option Told) → Ends exit result line old new → IsSomeAnd old (ReadAhead Fault start script from rest)
+      → IsSomeAnd new (ReadAhead Later start script from rest)
+  ahead_line exit result line None new ends ahead = absurd ahead
+  ahead_line exit result line (Some u) new (inr cut) ahead = ahead_same u new cut.2 ahead
+  ahead_line exit result line (Some u) new (inl (answer, inl said)) ahead = rw said.1 (ahead_more Fault Later back start script from rest u (after_print line u) line refl ahead)
+  ahead_line exit result line (Some u) new (inl (answer, inr (inr short))) ahead = ahead_same u new short.1 ahead
+  ahead_line exit result line (Some u) new (inl (answer, inr (inl failed))) ahead = by new failed.1
+    where
+      by : (new : Option Told) → Relates (FailsPrint line) (Some u) new → IsSomeAnd new (ReadAhead Later start script from rest)
+      by None fails = absurd fails
+      by (Some now) (part, missing, splits, is) = rw is (ahead_more Fault Later back start script from rest u (after_print part u) part refl ahead)
+
+pub ahead_end : (Fault Later : Type 0) → (Later → Fault) → (start : Start) (script from : List ℕ) (left : Option (List ℕ)) (exit result : Exit) (line : List ℕ) (old new : Option Told) → Ends exit result line old new
+    → EndsAhead Fault start script from left old → EndsAhead Later start script from left new
+ahead_end Fault Later back start script from None exit result line old new ends ahead = absurd ahead
+ahead_end Fault Later back start script from (Some rest) exit result line old new ends ahead = ahead_line Fault Later back start script from rest exit result line old new ends ahead
+
+-- a run ends by a fault of its source only where the lines did
+pub fault_before : (exit result : Exit) (line : List ℕ) (old new : Option Told) → Ends exit result line old new → result ≡ SourceFault → exit ≡ SourceFault
+fault_before exit result line old new (inr cut) fault = sym cut.1 ∙ fault
+fault_before exit result line old new (inl (answer, inl said)) fault = sym said.0 ∙ fault
+fault_before exit result line old new (inl (answer, inr (inl failed))) fault = let e = sym failed.0 ∙ fault in absurd cc
+fault_before exit result line old new (inl (answer, inr (inr short))) fault = let e = sym short.0 ∙ fault in absurd cc
+
+-- ---- an opening before
+
+pub ahead_opened : (Fault : Type 0) (start : Start) (script : List ℕ) (t u : Told) (left : Option (List ℕ)) (told : Option Told) → u.here.out ≡ t.here.out ++ [] → RunAhead Fault start script u left told → RunAhead Fault start script t left told
+ahead_opened Fault start script t u left told same (inl none) = inl none
+ahead_opened Fault start script t u left told same (inr ahead) =
+    inr (ahead.0, subst (λ out. EndsAhead Fault start script (out ++ standing_lines (account_of start.history)) left told) (same ∙ append-nil t.here.out) ahead.1)
+
+-- ---- which event isn't done
+
+-- how many lines are events, as lines and at their places
+events-places : (before : List NumberedLine) (n : ℕ) (lines : List (List ℕ)) → events_among (places_behind before (enumerate_from n (map taken_line lines))) ≡ events_in lines
+events-places before n [] = refl
+events-places before n (line ∷ lines) = by (is_event_line line) refl (events-places (before ++ (n, taken_line line) ∷ []) (n + 1) lines)
+  where
+    by : (t : Bool) → is_event_line line ≡ t → events_among (places_behind (before ++ (n, taken_line line) ∷ []) (enumerate_from (n + 1) (map taken_line lines))) ≡ events_in lines
+        → events_among (places_behind before (enumerate_from n (map taken_line (line ∷ lines)))) ≡ events_in (line ∷ lines)
+    by true is rest = rw is (ap suc rest)
+    by false is rest = rw is rest
+
+if_mapped : (o : Option ℕ) (size least : ℕ) → IfSome o (λ end. least ≤ end) → IfSome (option_map (λ end. size + end) o) (λ end. size + least ≤ end)
+if_mapped None size least holds = tt
+if_mapped (Some end) size least holds = omega arith
+
+if_least : (o : Option ℕ) (least more : ℕ) → more ≤ least → IfSome o (λ end. least ≤ end) → IfSome o (λ end. more ≤ end)
+if_least None least more less holds = tt
+if_least (Some end) least more less holds = omega arith
+
+zero_least : (o : Option ℕ) → IfSome o (λ end. 0 ≤ end)
+zero_least None = tt
+zero_least (Some end) = omega arith
+
+end_behind : (line : List ℕ) (done more : List (List ℕ)) (m : ℕ) → IfSome (end_of_event m (done ++ more)) (λ end. length (script_of done) + first_size more ≤ end)
+    → IfSome (option_map (λ end. length line + 1 + end) (end_of_event m (done ++ more))) (λ end. length (script_of (line ∷ done)) + first_size more ≤ end)
+end_behind line done more m least =
+    let size : length (script_of (line ∷ done)) ≡ length line + 1 + length (script_of done) = length-append (line ++ 10 ∷ []) (script_of done) ∙ ap (λ k. k + length (script_of done)) (length-append line (10 ∷ [])) in
+    if_least (option_map (λ end. length line + 1 + end) (end_of_event m (done ++ more))) (length line + 1 + (length (script_of done) + first_size more)) (length (script_of (line ∷ done)) + first_size more)
+    (omega arith) (if_mapped (end_of_event m (done ++ more)) (length line + 1) (length (script_of done) + first_size more) least)
+
+-- its end lies behind the lines that are done, and behind the one after them
+end_after : (done more : List (List ℕ)) (n : ℕ) → events_in done ≤ n → IfSome (end_of_event n (done ++ more)) (λ end. length (script_of done) + first_size more ≤ end)
+end_after [] [] n few = tt
+end_after [] (line ∷ lines) n few = by (is_event_line line && (n == 0))
+  where
+    by : (t : Bool) → IfSome (cond t (Some (length line + 1)) (option_map (λ end. length line + 1 + end) (end_of_event (cond (is_event_line line) (n - 1) n) lines))) (λ end. 0 + (length line + 1) ≤ end)
+    by true = omega arith
+    by false = if_least (option_map (λ end. length line + 1 + end) (end_of_event (cond (is_event_line line) (n - 1) n) lines)) (length line + 1 + 0) (0 + (length line + 1)) (omega arith)
+        (if_mapped (end_of_event (cond (is_event_line line) (n - 1) n) lines) (length line + 1) 0 (zero_least (end_of_event (cond (is_event_line line) (n - 1) n) lines)))
+end_after (line ∷ done) more n few = by (is_event_line line) refl (λ m less. end_after done more m less)
+  where
+    by : (t : Bool) → is_event_line line ≡ t → ((m : ℕ) → events_in done ≤ m → IfSome (end_of_event m (done ++ more)) (λ end. length (script_of done) + first_size more ≤ end))
+        → IfSome (end_of_event n ((line ∷ done) ++ more)) (λ end. length (script_of (line ∷ done)) + first_size more ≤ end)
+    by true is rest =
+        let least : suc (events_in done) ≤ n = rw is at few in
+        let some : (n == 0) ≡ false = grind (arith, nat_tests, least) in
+        rw (is, some) (end_behind line done more (n - 1) (rest (n - 1) (omega arith)))
+    by false is rest =
+        let least : events_in done ≤ n = rw is at few in
+        rw is (end_behind line done more n (rest n least))
+
+-- ---- the clause
+
+-- what was read ahead where lines were taken
+takes_ahead : (exit : Exit) (start : Start) (script left : List ℕ) (t now : Told) → IsAccount (account_of start.history) → ReadAhead (exit ≡ SourceFault) start script (lines_from start t.here) left now → TakesAhead exit script left t now
+takes_ahead exit start script left t now account ahead =
+    let orders : List ℕ = standing_lines (account_of start.history) in
+    let lines : List ℕ = outputs start (reads_in ahead.done) in
+    let part : List ℕ = ahead.text.0 in
+    let counts : done_count ((orders ++ lines) ++ part) ≡ events_among (places (reads_in ahead.done)) + done_count part = count-first start script (reads_in ahead.done) ahead.first account part in
+    let same : events_among (places (reads_in ahead.done)) ≡ events_in ahead.done = events-places [] 1 ahead.done in
+    let few : events_in ahead.done ≤ done_count ((orders ++ lines) ++ part) = omega arith in
+    let least : IfSome (end_of_event (done_count ((orders ++ lines) ++ part)) (ahead.done ++ ahead.more)) (λ end. length (script_of ahead.done) + first_size ahead.more ≤ end) = end_after ahead.done ahead.more (done_count ((orders ++ lines) ++ part)) few in
+    record {
+      printed = (orders ++ lines) ++ part;
+      text =
+          ahead.text.1
+          ∙ ap (λ out. out ++ part) (append_assoc t.here.out orders lines)
+          ∙ append_assoc t.here.out (orders ++ lines) part;
+      bound = rw ahead.lines (within (end_of_event (done_count ((orders ++ lines) ++ part)) (ahead.done ++ ahead.more)) least);
+      taken = ahead.taken;
+      splits = ahead.splits;
+      done = λ fault. (let whole = ahead.whole fault in omega arith);
+    }
+  where
+    within : (o : Option ℕ) → IfSome o (λ end. length (script_of ahead.done) + first_size ahead.more ≤ end) → IfSome o (λ end. length ahead.taken ≤ end + (LONGEST_LINE + 1))
+    within None least = tt
+    within (Some end) least =
+        let bound = ahead.bound in
+        let sizes : length ahead.taken + length left ≡ length script = sym (length-append ahead.taken left) ∙ ap length ahead.splits in
+        omega arith
+
+-- and where nothing was
+takes_none : (exit : Exit) (script : List ℕ) (t now : Told) (output : List ℕ) → PrintsPart output t.here.out now.here.out → TakesAhead exit script script t now
+takes_none exit script t now output part = record {
+  printed = part.0;
+  text = part.2;
+  bound = all (end_of_event (done_count part.0) (lines_of script));
+  taken = [];
+  splits = refl;
+  done = λ fault. omega arith;
+}
+  where
+    all : (o : Option ℕ) → IfSome o (λ end. 0 ≤ end + (LONGEST_LINE + 1))
+    all None = tt
+    all (Some end) = omega arith
+
+pub ahead_told : (exit : Exit) (start : Start) (script : List ℕ) (t : Told) (left : Option (List ℕ)) (now : Option Told) → RunAhead (exit ≡ SourceFault) start script t left now
+    → IsSomeAnd now (λ n. PrintsPart (run_output start script) t.here.out n.here.out) → IsSomeAnd left (λ rest. IsSomeAnd now (TakesAhead exit script rest t))
+ahead_told exit start script t left None ahead printed = absurd printed
+ahead_told exit start script t left (Some n) (inl none) printed = rw none (takes_none exit script t n (run_output start script) printed)
+ahead_told exit start script t None (Some n) (inr ahead) printed = absurd ahead.1
+ahead_told exit start script t (Some rest) (Some n) (inr ahead) printed = takes_ahead exit start script rest t n ahead.0 ahead.1
+
+pub run-ahead : (exit : Exit) (task : Option Task) (script : Option (List ℕ)) (told : Option Told) (left : Option (List ℕ)) (now : Option Told)
+    → OverRun (λ start text t. RunAhead (exit ≡ SourceFault) start text t left now) task script told
+    → OverRun (λ start text t. IsSomeAnd now (λ n. PrintsPart (run_output start text) t.here.out n.here.out)) task script told
+    → OverRun (λ start text t. IsSomeAnd left (λ rest. IsSomeAnd now (TakesAhead exit text rest t))) task script told
+run-ahead exit (Some Run) (Some text) (Some t) left now ahead printed = λ history recovers. ahead_told exit (start_of history t.here) text t left now (ahead history recovers) (printed history recovers)
+run-ahead exit None script told left now ahead printed = tt
+run-ahead exit (Some Run) None told left now ahead printed = tt
+run-ahead exit (Some Run) (Some text) None left now ahead printed = tt

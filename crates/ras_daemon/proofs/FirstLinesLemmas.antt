@@ -1,0 +1,115 @@
+-- The first lines of a script, each accepted, among all of its lines.
+use Rattle.std.proofs.Common.{◌≡◌, ℕ, Bool, true, false, List, [], ◌∷◌, ◌++◌, Option, Some, None, Result, Ok, Err, refl, sym, ap, ◌∙◌, subst, append_assoc}
+use Rattle.std.specs.Prelude.{if◌then◌else◌, unwrap_or}
+use Rattle.std.specs.List.{AllByRecursion, cons_option, filter_map, flat_map}
+use Rattle.ras_base.specs.Places.{places, places_behind}
+use Rattle.ras_base.specs.PlacesLemmas.{places_behind-append, places-snoc}
+use Rattle.ras_account.specs.Account.{account_of}
+use Rattle.ras_account.specs.History.{with_entries}
+use Rattle.ras_events.specs.declared.event.Event.{Event}
+use Rattle.ras_events.specs.declared.event.Event.TheVariants.{Nothing, Settled, Counted, Reopened}
+use Rattle.ras_events.specs.declared.reason.Reason.{Reason}
+use Rattle.ras_texts.specs.Text.{end_line}
+use Rattle.ras_events.specs.Reports.{NumberedLine, Place, entries_at, event_at}
+use Rattle.ras_run.specs.declared.exit.Exit.{Exit}
+use Rattle.ras_run.specs.declared.exit.Exit.TheVariants.{Done, Full, Usage}
+use Rattle.ras_run.specs.Places.{Start, account_at, history_at, has_no_room_for, standing_at}
+use Rattle.ras_run.specs.Status.{event_refusal, places_before_refusal, refusal_at}
+use Rattle.ras_run.specs.Taking.{IsAccepted}
+use Rattle.ras_daemon.specs.RunOutput.{closing_line}
+use Rattle.ras_daemon.specs.RunStatus.{first_among, refusal_among, run_exit}
+use Rattle.ras_daemon.specs.Running.{AreAccepted, AreAll, AreFirst}
+use Rattle.ras_daemon.specs.Script.{reads_of, script_exit}
+
+-- accepted lines stand before the first refused one
+accepted-before : (start : Start) (ps qs : List Place) → AllByRecursion (IsAccepted start) ps
+    → places_before_refusal start (ps ++ qs) ≡ ps ++ places_before_refusal start qs
+accepted-before start [] qs all = refl
+accepted-before start (p ∷ ps) qs all =
+    let taken : refusal_at start p ≡ None = all.0.taken in
+    rw taken (ap (λ (rest : List Place). p ∷ rest) (accepted-before start ps qs all.1))
+
+-- the places of a script before the first refused one begin with those of its first lines
+pub first-before : (start : Start) (script : List ℕ) (before : List NumberedLine) (first : AreFirst start script before)
+    → places_before_refusal start (places (reads_of script)) ≡ places before ++ places_before_refusal start (places_behind before first.rest)
+first-before start script before first =
+    ap (λ (reads : List NumberedLine). places_before_refusal start (places reads)) (sym first.splits)
+    ∙ ap (places_before_refusal start) (places_behind-append [] before first.rest)
+    ∙ accepted-before start (places before) (places_behind before first.rest) first.accepted
+
+-- one line more
+pub accepted-last : (start : Start) (before : List NumberedLine) (read : NumberedLine) → AreAccepted start (before ++ read ∷ [])
+    → AreAccepted start before × IsAccepted start (before, read)
+accepted-last start before read all = by (places before) (subst (AllByRecursion (IsAccepted start)) (places-snoc before read) all)
+  where
+    by : (ps : List Place) → AllByRecursion (IsAccepted start) (ps ++ (before, read) ∷ []) → AllByRecursion (IsAccepted start) ps × IsAccepted start (before, read)
+    by [] h = (tt, h.0)
+    by (p ∷ ps) h = let rest = by ps h.1 in ((h.0, rest.0), rest.1)
+
+-- the first lines without their last one
+pub first-without : (start : Start) (script : List ℕ) (before : List NumberedLine) (read : NumberedLine) → AreFirst start script (before ++ read ∷ [])
+    → AreFirst start script before
+first-without start script before read first = record {
+  rest = read ∷ first.rest;
+  splits = sym (append_assoc before (read ∷ []) first.rest) ∙ first.splits;
+  accepted = (accepted-last start before read first.accepted).0;
+}
+
+-- ---- a refusal is no end of a script
+
+abbrev IsNotDone : Option Exit → Type 0
+IsNotDone (Some Done) = ⊥
+IsNotDone exit = Unit {0}
+
+full-not : (b : Bool) → IsNotDone (if b then Some Full else None)
+full-not true = tt
+full-not false = tt
+
+refused-not : (start : Start) (place : Place) (event : Result Event Reason) → IsNotDone (event_refusal start place event)
+refused-not start (before, (number, line)) (Err why) = tt
+refused-not start (before, (number, line)) (Ok (Counted made)) = full-not (has_no_room_for (history_at start before) (standing_at start before) made.entries)
+refused-not start (before, (number, line)) (Ok Nothing) = tt
+refused-not start (before, (number, line)) (Ok Settled) = tt
+refused-not start (before, (number, line)) (Ok Reopened) = tt
+
+first-not : (o : Option Exit) (rest : List Exit) → IsNotDone o → IsNotDone (first_among rest) → IsNotDone (first_among (cons_option o rest))
+first-not None rest one others = others
+first-not (Some exit) rest one others = one
+
+among-not : (start : Start) (ps : List Place) → IsNotDone (first_among (filter_map (refusal_at start) ps))
+among-not start [] = tt
+among-not start (p ∷ ps) = first-not (refusal_at start p) (filter_map (refusal_at start) ps) (refused-not start p (event_at p)) (among-not start ps)
+
+done-none : (o : Option Exit) (exit : Exit) → IsNotDone o → unwrap_or o exit ≡ Done → o ≡ None
+done-none None exit other is = refl
+done-none (Some found) exit other is = absurd (subst (λ (e : Exit). IsNotDone (Some e)) is other)
+
+-- where no line is refused all stand before the first refused one
+all-before : (start : Start) (ps : List Place) → first_among (filter_map (refusal_at start) ps) ≡ None → places_before_refusal start ps ≡ ps
+all-before start [] is = refl
+all-before start (p ∷ ps) is = by (refusal_at start p) refl (λ rest. all-before start ps rest) is
+  where
+    by : (found : Option Exit) → refusal_at start p ≡ found
+        → (first_among (filter_map (refusal_at start) ps) ≡ None → places_before_refusal start ps ≡ ps)
+        → first_among (cons_option found (filter_map (refusal_at start) ps)) ≡ None
+        → places_before_refusal start (p ∷ ps) ≡ p ∷ ps
+    by None there rest none = rw there (ap (λ (qs : List Place). p ∷ qs) (rest none))
+    by (Some exit) there rest none = cc
+
+-- what stands at the end of a run that is done is all of the script
+pub done-all : (start : Start) (script : List ℕ) → run_exit start script ≡ Done
+    → places_before_refusal start (places (reads_of script)) ≡ places (reads_of script)
+done-all start script is =
+    let ps = places (reads_of script) in
+    all-before start ps (done-none (refusal_among start ps) (script_exit script) (among-not start ps) is)
+
+-- the last line of a run
+pub closing-same : (start : Start) (script : List ℕ) (exit : Exit) (before : List NumberedLine) → AreAll start script exit before
+    → closing_line (account_at start before) exit ≡ closing_line (account_at start (reads_of script)) (run_exit start script)
+closing-same start script exit before all =
+    by exit all.exit_is ∙ ap (closing_line (account_at start (reads_of script))) (sym all.exit_is)
+  where
+    by : (e : Exit) → run_exit start script ≡ e → closing_line (account_at start before) e ≡ closing_line (account_at start (reads_of script)) e
+    by Done is = ap (λ (ps : List Place). end_line (account_of (with_entries start.history (flat_map entries_at ps)))) (sym all.all ∙ done-all start script is)
+    by Usage is = refl
+    by e is = refl

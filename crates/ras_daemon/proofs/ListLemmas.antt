@@ -1,0 +1,48 @@
+-- Lists that are cut, filtered and joined, and their beginnings.
+use Rattle.std.proofs.Common.{◌≡◌, ℕ, suc, zero, ◌<◌, ◌≤◌, Bool, true, false, List, [], ◌∷◌, ◌++◌, length, take, refl, ap, ◌∙◌, append_assoc, arith, length-append}
+use Rattle.std.specs.Prelude.{filter}
+use Rattle.std.specs.List.{AllByRecursion, flat_map}
+use Rattle.std.proofs.lemmas.List.Elements.{filter-append}
+use Rattle.ras_base.specs.Prefix.{IsPrefixOf}
+
+-- the first of two lists that are joined, and all of a list
+pub take-front : {X : Type 0} (xs ys : List X) → take (length xs) (xs ++ ys) ≡ xs
+take-front [] ys = refl
+take-front (x ∷ xs) ys = ap (λ zs. x ∷ zs) (take-front xs ys)
+
+pub take-whole : {X : Type 0} (xs : List X) (n : ℕ) → length xs ≤ n → take n xs ≡ xs
+take-whole [] zero most = refl
+take-whole [] (suc n) most = refl
+take-whole (x ∷ xs) zero most = absurd (omega arith)
+take-whole (x ∷ xs) (suc n) most = ap (λ zs. x ∷ zs) (take-whole xs n (omega arith))
+
+-- those of the first list that pass are the first that pass
+pub take-passing : {X : Type 0} (p : X → Bool) (xs ys : List X) → take (length (filter p xs)) (filter p (xs ++ ys)) ≡ filter p xs
+take-passing p xs ys = ap (take (length (filter p xs))) (filter-append p xs ys) ∙ take-front (filter p xs) (filter p ys)
+
+passing-one : {X Y : Type 0} (p : X → Bool) (f : X → List Y) (x : X) (xs : List X) (b : Bool) → p x ≡ b → (p x ≡ false → f x ≡ [])
+    → flat_map f (filter p xs) ≡ flat_map f xs → flat_map f (filter p (x ∷ xs)) ≡ f x ++ flat_map f xs
+passing-one {X} {Y} p f x xs true is none rest = rw is (ap (λ (ys : List Y). f x ++ ys) rest)
+passing-one p f x xs false is none rest = let silent : f x ≡ [] = none is in rw is (rw silent rest)
+
+-- where those that don't pass give nothing
+pub flat_map-passing : {X Y : Type 0} (p : X → Bool) (f : X → List Y) (xs : List X) → AllByRecursion (λ x. p x ≡ false → f x ≡ []) xs
+    → flat_map f (filter p xs) ≡ flat_map f xs
+flat_map-passing p f [] all = refl
+flat_map-passing p f (x ∷ xs) all = passing-one p f x xs (p x) refl all.0 (flat_map-passing p f xs all.1)
+
+-- what holds of each element holds of each of the first ones
+pub all-front : {X : Type 0} (P : X → Type 0) (xs ys : List X) → AllByRecursion P (xs ++ ys) → AllByRecursion P xs
+all-front P [] ys all = tt
+all-front P (x ∷ xs) ys all = (all.0, all-front P xs ys all.1)
+
+pub all-weaker : {X : Type 0} (P Q : X → Type 0) → ((x : X) → P x → Q x) → (xs : List X) → AllByRecursion P xs → AllByRecursion Q xs
+all-weaker P Q weaker [] all = tt
+all-weaker P Q weaker (x ∷ xs) all = (weaker x all.0, all-weaker P Q weaker xs all.1)
+
+-- a text before two beginnings
+pub prefix-behind : {X : Type 0} (front xs ys : List X) → IsPrefixOf xs ys → IsPrefixOf (front ++ xs) (front ++ ys)
+prefix-behind {X} front xs ys (rest, is) = (rest, append_assoc front xs rest ∙ ap (λ (zs : List X). front ++ zs) is)
+
+pub not-shorter : {X : Type 0} (xs ys : List X) → length (xs ++ ys) < length xs → ⊥
+not-shorter xs ys less = omega (arith, length-append xs ys)

@@ -1,0 +1,278 @@
+-- The laws of runs on one journal.
+use Rattle.std.proofs.Common.{Bool, Err, List, Ok, Result, [], ap, append-nil, append_assoc, arith, drop, false, refl, subst, suc, sym, take, true, zero, ℕ, ◌++◌, ◌∙◌, ◌∷◌, ◌≡◌, map, ◌+◌}
+use Rattle.std.specs.Prelude.{filter, if◌then◌else◌, is_some}
+use Rattle.std.specs.List.{AllByRecursion, IsDistinct, flat_map, enumerate_from}
+use Rattle.std.proofs.lemmas.List.{take-append-drop, map-append}
+use Rattle.std.proofs.lemmas.List.Concat.{flat_map-append}
+use Rattle.std.proofs.lemmas.List.Elements.{filter-append, recursion_from_All}
+use Rattle.ras_base.specs.Places.{places, places_behind}
+use Rattle.ras_base.specs.Prefix.{IsPrefixOf}
+use Rattle.ras_base.specs.PrefixLemmas.{IsPrefixOf-trans}
+use Rattle.page_policy.specs.Histories.{AreOnceInOrder}
+use Rattle.page_policy.specs.declared.rows.Order.{Order}
+use Rattle.page_policy.proofs.OrderLemmas.{once_in_order}
+use Rattle.ras_facts.specs.declared.entry.Entry.{Entry}
+use Rattle.ras_facts.specs.Names.{same_name}
+use Rattle.ras_account.specs.Account.{State, account_of, names_of, module_errors}
+use Rattle.ras_account.specs.Asked.{orders_for_page, HasRow, module_place, orders_for_module, replace_order}
+use Rattle.ras_account.specs.Fresh.{fresh_entries, is_among}
+use Rattle.ras_account.specs.History.{History, names_in, with_entries, with_entry}
+use Rattle.ras_account.specs.Orders.{orders, orders_behind, orders_since_mark}
+use Rattle.ras_account.specs.Sightings.{reports_of, sightings}
+use Rattle.ras_account.proofs.FreshLemmas.{names_of-append}
+use Rattle.ras_account.proofs.PageOrderLemmas.{page-orders}
+use Rattle.ras_script.specs.declared.line.Line.TheVariants as asks
+use Rattle.ras_texts.specs.Orders.{standing_lines}
+use Rattle.ras_events.specs.declared.event.Event.{Event}
+use Rattle.ras_events.specs.declared.event.Event.TheVariants.{Nothing}
+use Rattle.ras_events.specs.declared.reason.Reason.{Reason}
+use Rattle.ras_events.specs.Reports.{NumberedLine, Place, entries_at, event_at, made_in, reports}
+use Rattle.ras_events.specs.Sizes.{IsFact}
+use Rattle.ras_events.specs.Texts.{orders_of_entries}
+use Rattle.ras_events.proofs.HistoryLemmas.{news_behind}
+use Rattle.ras_run.specs.Output.{event_output, output_at}
+use Rattle.ras_run.specs.Places.{Start, account_at, history_at}
+use Rattle.ras_run.specs.Status.{places_before_refusal, refusal_at}
+use Rattle.ras_account.specs.Modules.{has_tripped}
+use Rattle.ras_account.proofs.ModuleOrderLemmas.{module-orders}
+use Rattle.dimm_topology.specs.Labels.{Bytes}
+use Rattle.ras_base.specs.PlacesLemmas.{places_behind-append}
+use Rattle.ras_script.specs.declared.line.Line.{Line}
+use Rattle.ras_script.specs.declared.line.LineRefused.{LineRefused}
+use Rattle.ras_run.specs.LaterKinds.{taken_line}
+use Rattle.ras_daemon.specs.Headline.{account_with, reported}
+use Rattle.ras_daemon.specs.RunOutput.{closing_line, lines_output, output_upto, run_output}
+use Rattle.ras_daemon.specs.RunStatus.{run_exit}
+use Rattle.ras_daemon.specs.Runs.{CountTheSame, Follows, IsTakenWhole, ReportsFacts, event_count, history_after, logged, ordered}
+use Rattle.ras_daemon.specs.Script.{events_of, is_event, reads_of, reads_in}
+use Rattle.ras_daemon.proofs.EventLemmas.{reports-snoc}
+use Rattle.ras_daemon.proofs.AgainLemmas.{counts-again}
+use Rattle.ras_daemon.proofs.HistoryLemmas.{again-counted, among-own, fresh-once, none-logged, orders-entries, with_entries-append}
+use Rattle.ras_daemon.proofs.ListLemmas.{all-front, flat_map-passing, take-whole}
+use Rattle.ras_daemon.proofs.FirstLinesLemmas.{done-all}
+
+-- ---- a line that is no event
+
+no-event : (p : Place) → is_event p ≡ false → event_at p ≡ Ok Nothing
+no-event (before, (number, Ok asks.Nothing)) is = refl
+no-event (before, (number, Ok line)) is = cc
+no-event (before, (number, Err why)) is = cc
+
+all-any : {X : Type 0} (P : X → Type 0) → ((x : X) → P x) → (xs : List X) → AllByRecursion P xs
+all-any P each [] = tt
+all-any P each (x ∷ xs) = (each x, all-any P each xs)
+
+-- what such lines don't give needs events alone
+by-events : {Y : Type 0} (f : Place → List Y) → ((p : Place) → is_event p ≡ false → f p ≡ []) → (ps : List Place) → flat_map f (filter is_event ps) ≡ flat_map f ps
+by-events f none ps = flat_map-passing is_event f ps (all-any (λ p. is_event p ≡ false → f p ≡ []) none ps)
+
+reports-none : (p : Place) → is_event p ≡ false → entries_at p ≡ []
+reports-none p is = ap (λ (event : Result Event Reason). (made_in event).entries) (no-event p is)
+
+prints-none : (start : Start) (p : Place) → is_event p ≡ false → output_at start p ≡ []
+prints-none start p is = ap (event_output start p) (no-event p is)
+
+abbrev ordered_at : Start → Place → List Order
+ordered_at start p = orders_of_entries (history_at start p.0) (entries_at p)
+
+orders-none : (start : Start) (p : Place) → is_event p ≡ false → ordered_at start p ≡ []
+orders-none start p is = ap (orders_of_entries (history_at start p.0)) (reports-none p is)
+
+-- ---- beginnings of lists
+
+prefix-filter : {X : Type 0} (p : X → Bool) (xs ys : List X) → IsPrefixOf xs ys → IsPrefixOf (filter p xs) (filter p ys)
+prefix-filter p xs ys (rest, is) = (filter p rest, sym (filter-append p xs rest) ∙ ap (filter p) is)
+
+prefix-flat_map : {X Y : Type 0} (f : X → List Y) (xs ys : List X) → IsPrefixOf xs ys → IsPrefixOf (flat_map f xs) (flat_map f ys)
+prefix-flat_map f xs ys (rest, is) = (flat_map f rest, sym (flat_map-append f xs rest) ∙ ap (flat_map f) is)
+
+prefix-take : {X : Type 0} (n : ℕ) (xs : List X) → IsPrefixOf (take n xs) xs
+prefix-take n xs = (drop n xs, take-append-drop n xs)
+
+before-front : (start : Start) (ps : List Place) → IsPrefixOf (places_before_refusal start ps) ps
+before-front start [] = ([], refl)
+before-front start (p ∷ ps) = by (is_some (refusal_at start p)) (before-front start ps)
+  where
+    by : (b : Bool) → IsPrefixOf (places_before_refusal start ps) ps → IsPrefixOf (if b then [] else p ∷ places_before_refusal start ps) (p ∷ ps)
+    by true (rest, is) = (p ∷ ps, refl)
+    by false (rest, is) = (rest, ap (λ (qs : List Place). p ∷ qs) is)
+
+-- ---- what is printed
+
+pub output-begins : (start : Start) (script : List ℕ) (n : ℕ) → IsPrefixOf (output_upto start script n) (run_output start script)
+output-begins start script n =
+    let standing : List ℕ = standing_lines (account_of start.history) in
+    let closing : List ℕ = closing_line (account_at start (reads_of script)) (run_exit start script) in
+    let events : List Place = events_of start script in
+    let one : List ℕ = flat_map (output_at start) (take n events) in
+    let other : List ℕ = flat_map (output_at start) (drop n events) in
+    let all : one ++ other ≡ lines_output start (reads_of script) =
+    sym (flat_map-append (output_at start) (take n events) (drop n events))
+    ∙ ap (flat_map (output_at start)) (take-append-drop n events)
+    ∙ by-events (output_at start) (prints-none start) (places_before_refusal start (places (reads_of script))) in (
+      other ++ closing,
+      append_assoc standing one (other ++ closing)
+          ∙ ap (λ (text : List ℕ). standing ++ text) (sym (append_assoc one other closing) ∙ ap (λ (text : List ℕ). text ++ closing) all),
+    )
+
+-- ---- what is logged
+
+pub logs-follow : (start : Start) (script : List ℕ) (n : ℕ) → fresh_entries (history_after start script n) ≡ fresh_entries start.history ++ logged start script n
+logs-follow start script n = news_behind start.history (reported start script n)
+
+pub logs-once : (start : Start) (script : List ℕ) (n : ℕ) → IsDistinct same_name (names_of (fresh_entries start.history ++ logged start script n))
+logs-once start script n = subst (λ (es : List Entry). IsDistinct same_name (names_of es)) (logs-follow start script n) (fresh-once (history_after start script n))
+
+-- the events of a script that is taken whole are all of its events
+taken-events : (start : Start) (script : List ℕ) → IsTakenWhole start script → events_of start script ≡ filter is_event (places (reads_of script))
+taken-events start script taken = ap (filter is_event) (done-all start script taken)
+
+reported-all : (start : Start) (script : List ℕ) → reported start script (event_count start script) ≡ flat_map entries_at (events_of start script)
+reported-all start script = ap (flat_map entries_at) (take-whole (events_of start script) (event_count start script) (omega arith))
+
+-- and what any run reports of it is among what these report
+reported-front : (start next : Start) (script : List ℕ) (n : ℕ) → IsTakenWhole start script → IsPrefixOf (reported next script n) (reported start script (event_count start script))
+reported-front start next script n taken =
+    let all : List Place = filter is_event (places (reads_of script)) in
+    subst (IsPrefixOf (reported next script n)) (ap (flat_map entries_at) (sym (taken-events start script taken)) ∙ sym (reported-all start script))
+    (prefix-flat_map entries_at (take n (events_of next script)) all
+    (IsPrefixOf-trans (take n (events_of next script)) (events_of next script) all (prefix-take n (events_of next script))
+    (prefix-filter is_event (places_before_refusal next (places (reads_of script))) (places (reads_of script)) (before-front next (places (reads_of script))))))
+
+pub logs-again : (start next : Start) (script : List ℕ) (n : ℕ) → IsTakenWhole start script → Follows start script (event_count start script) next → names_of (logged next script n) ≡ []
+logs-again start next script n taken follows =
+    let all : List Entry = reported start script (event_count start script) in
+    let front = reported-front start next script n taken in
+    let names : names_of (reported next script n) ++ names_of front.0 ≡ names_of all = sym (names_of-append (reported next script n) front.0) ∙ ap names_of front.1 in
+    none-logged next.history (reported next script n)
+    (subst (λ (h : History). AllByRecursion (λ name. is_among (names_in h) name ≡ true) (names_of (reported next script n))) (sym follows)
+    (all-front (λ name. is_among (names_in (with_entries start.history all)) name ≡ true) (names_of (reported next script n)) (names_of front.0)
+    (subst (AllByRecursion (λ name. is_among (names_in (with_entries start.history all)) name ≡ true)) (sym names) (among-own start.history all))))
+
+-- what a run that follows a stop reports are those again, and the others
+module _ (start next : Start) (script : List ℕ) (n : ℕ) (taken : IsTakenWhole start script) (follows : Follows start script n next) (whole : IsTakenWhole next script) where
+  all-again : reported next script (event_count next script) ≡ reported start script (event_count start script)
+  all-again =
+      reported-all next script
+      ∙ ap (flat_map entries_at) (taken-events next script whole ∙ sym (taken-events start script taken))
+      ∙ sym (reported-all start script)
+
+  account-again : (rest : List Entry) → reported start script n ++ rest ≡ reported start script (event_count start script)
+      → account_with next script (event_count next script) ≡ account_of (with_entries (with_entries start.history (reported start script n)) (reported start script n ++ rest))
+  account-again rest is =
+      (λ i. account_of (with_entries (follows i) (all-again i)))
+      ∙ ap (λ (es : List Entry). account_of (with_entries (with_entries start.history (reported start script n)) es)) (sym is)
+
+  pub resumed-counts : CountTheSame (account_with next script (event_count next script)) (account_with start script (event_count start script))
+  resumed-counts =
+      let front = reported-front start start script n taken in
+      subst (λ (a : State). CountTheSame a (account_with start script (event_count start script))) (sym (account-again front.0 front.1))
+      (subst (λ (es : List Entry). CountTheSame (account_of (with_entries (with_entries start.history (reported start script n)) (reported start script n ++ front.0))) (account_of (with_entries start.history es)))
+      front.1 (counts-again start.history (reported start script n) front.0))
+
+  pub resumed-same : ReportsFacts start script → account_with next script (event_count next script) ≡ account_with start script (event_count start script)
+  resumed-same facts =
+      let front = reported-front start start script n taken in
+      account-again front.0 front.1
+      ∙ again-counted start.history (reported start script n) front.0
+      (all-front IsFact (reported start script n) front.0 (subst (AllByRecursion IsFact) (sym front.1) (recursion_from_All IsFact (reported start script (event_count start script)) facts)))
+      ∙ ap (λ (es : List Entry). account_of (with_entries start.history es)) front.1
+
+-- ---- what is ordered
+
+-- the first that pass are those that pass of the first ones
+first-passing : {X : Type 0} (p : X → Bool) (n : ℕ) (xs : List X) → (front : List X) × IsPrefixOf front xs × (take n (filter p xs) ≡ filter p front)
+first-passing p zero xs = ([], (xs, refl), refl)
+first-passing p (suc n) [] = ([], ([], refl), refl)
+first-passing {X} p (suc n) (x ∷ xs) = by (p x) refl (first-passing p n xs) (first-passing p (suc n) xs)
+  where
+    by : (b : Bool) → p x ≡ b → ((front : List X) × IsPrefixOf front xs × (take n (filter p xs) ≡ filter p front))
+        → ((front : List X) × IsPrefixOf front xs × (take (suc n) (filter p xs) ≡ filter p front))
+        → (front : List X) × IsPrefixOf front (x ∷ xs) × (take (suc n) (if b then x ∷ filter p xs else filter p xs) ≡ filter p front)
+    by true is (front, (rest, splits), same) more =
+        (x ∷ front, (rest, ap (λ (ys : List X). x ∷ ys) splits), rw is (ap (λ (ys : List X). x ∷ ys) same))
+    by false is one (front, (rest, splits), same) =
+        (x ∷ front, (rest, ap (λ (ys : List X). x ∷ ys) splits), rw is same)
+
+-- the first places are those of the first lines
+places-front : (before reads : List NumberedLine) (ps : List Place) → IsPrefixOf ps (places_behind before reads) → (first : List NumberedLine) × (ps ≡ places_behind before first)
+places-front before reads [] front = ([], refl)
+places-front before [] (p ∷ ps) (rest, is) = cc
+places-front before (read ∷ reads) (p ∷ ps) (rest, is) =
+    let head : p ≡ (before, read) = cc in
+    let tail : ps ++ rest ≡ places_behind (before ++ read ∷ []) reads = cc in
+    let more = places-front (before ++ read ∷ []) reads ps (rest, tail) in
+    (read ∷ more.0, (λ i. head i ∷ more.1 i))
+
+-- orders of lines in order
+module _ (given : History → List Order) (grows : (h : History) (e : Entry) → given (with_entry h e) ≡ given h ++ orders_behind h e) (start : Start) where
+  orders-lines : (before reads : List NumberedLine)
+      → given (history_at start (before ++ reads)) ≡ given (history_at start before) ++ flat_map (ordered_at start) (places_behind before reads)
+  orders-lines before [] = ap (λ (xs : List NumberedLine). given (history_at start xs)) (append-nil before) ∙ sym (append-nil (given (history_at start before)))
+  orders-lines before (read ∷ reads) =
+      let rest : List Order = flat_map (ordered_at start) (places_behind (before ++ read ∷ []) reads) in
+      ap (λ (xs : List NumberedLine). given (history_at start xs)) (sym (append_assoc before (read ∷ []) reads))
+      ∙ orders-lines (before ++ read ∷ []) reads
+      ∙ ap (λ (es : List Entry). given (with_entries start.history es) ++ rest) (reports-snoc before read)
+      ∙ ap (λ (h : History). given h ++ rest) (with_entries-append start.history (reports before) (entries_at (before, read)))
+      ∙ ap (λ (os : List Order). os ++ rest) (orders-entries given grows (history_at start before) (entries_at (before, read)))
+      ∙ append_assoc (given (history_at start before)) (ordered_at start (before, read)) rest
+
+  pub given-follow : (script : List ℕ) (n : ℕ) → given (history_after start script n) ≡ given start.history ++ ordered start script n
+  given-follow script n =
+      let all : List Place = places (reads_of script) in
+      let (front, begins, passing) = first-passing is_event n (places_before_refusal start all) in
+      let (first, is) = places-front [] (reads_of script) front (IsPrefixOf-trans front (places_before_refusal start all) all begins (before-front start all)) in
+      ap (λ (es : List Entry). given (with_entries start.history es)) (ap (flat_map entries_at) passing ∙ by-events entries_at reports-none front ∙ ap (flat_map entries_at) is)
+      ∙ orders-lines [] first
+      ∙ ap (λ (os : List Order). given start.history ++ os)
+      (ap (flat_map (ordered_at start)) (sym is) ∙ sym (by-events (ordered_at start) (orders-none start) front) ∙ ap (flat_map (ordered_at start)) (sym passing))
+
+pub orders-follow : (start : Start) (script : List ℕ) (n : ℕ) → orders (history_after start script n) ≡ orders start.history ++ ordered start script n
+orders-follow start script n = given-follow orders (λ h e. refl) start script n
+
+pub page-once : (start : Start) (script : List ℕ) (n page : ℕ) → AreOnceInOrder page (orders_for_page page (orders start.history ++ ordered start script n))
+page-once start script n page =
+    let history : History = history_after start script n in
+    subst (λ (given : List Order). AreOnceInOrder page (orders_for_page page given)) (orders-follow start script n)
+    (subst (AreOnceInOrder page) (sym (page-orders page history)) (once_in_order (reports_of (sightings history)) page))
+
+pub module-once : (start : Start) (script : List ℕ) (n : ℕ) (label : Bytes) → HasRow (history_after start script n) label
+    → orders_for_module (module_place (history_after start script n) label) (orders_since_mark start.history ++ ordered start script n)
+    ≡ (if has_tripped (module_errors (history_after start script n) label) then replace_order (history_after start script n) label ∷ [] else [])
+module-once start script n label row =
+    let history : History = history_after start script n in
+    ap (orders_for_module (module_place history label)) (sym (given-follow orders_since_mark (λ h e. refl) start script n))
+    ∙ module-orders history label row
+
+-- ---- lines behind others
+
+enumerate-front : {X : Type 0} (n : ℕ) (xs ys : List X) → IsPrefixOf (enumerate_from n xs) (enumerate_from n (xs ++ ys))
+enumerate-front n [] ys = (enumerate_from n ys, refl)
+enumerate-front {X} n (x ∷ xs) ys =
+    let more = enumerate-front (n + 1) xs ys in
+    (more.0, ap (λ (zs : List (ℕ × X)). (n, x) ∷ zs) more.1)
+
+before-behind : (start : Start) (ps qs : List Place) → IsPrefixOf (places_before_refusal start ps) (places_before_refusal start (ps ++ qs))
+before-behind start [] qs = (places_before_refusal start qs, refl)
+before-behind start (p ∷ ps) qs = by (is_some (refusal_at start p)) (before-behind start ps qs)
+  where
+    by : (b : Bool) → IsPrefixOf (places_before_refusal start ps) (places_before_refusal start (ps ++ qs))
+        → IsPrefixOf (if b then [] else p ∷ places_before_refusal start ps) (if b then [] else p ∷ places_before_refusal start (ps ++ qs))
+    by true more = ([], refl)
+    by false (rest, is) = (rest, ap (λ (others : List Place). p ∷ others) is)
+
+reads-front : (lines more : List (List ℕ)) → IsPrefixOf (reads_in lines) (reads_in (lines ++ more))
+reads-front lines more =
+    subst (λ (reads : List (Result Line LineRefused)). IsPrefixOf (reads_in lines) (enumerate_from 1 reads)) (sym (map-append taken_line lines more))
+    (enumerate-front 1 (map taken_line lines) (map taken_line more))
+
+pub lines-stay : (start : Start) (lines more : List (List ℕ)) → IsPrefixOf (lines_output start (reads_in lines)) (lines_output start (reads_in (lines ++ more)))
+lines-stay start lines more =
+    let (rest, is) = reads-front lines more in
+    let all : places (reads_in lines) ++ places_behind (reads_in lines) rest ≡ places (reads_in (lines ++ more)) =
+    sym (places_behind-append [] (reads_in lines) rest) ∙ ap (λ (reads : List NumberedLine). places reads) is in
+    subst (λ (ps : List Place). IsPrefixOf (lines_output start (reads_in lines)) (flat_map (output_at start) (places_before_refusal start ps))) all
+    (prefix-flat_map (output_at start) (places_before_refusal start (places (reads_in lines)))
+    (places_before_refusal start (places (reads_in lines) ++ places_behind (reads_in lines) rest))
+    (before-behind start (places (reads_in lines)) (places_behind (reads_in lines) rest)))

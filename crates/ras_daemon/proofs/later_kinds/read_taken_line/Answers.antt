@@ -1,6 +1,0 @@
-use Rattle.std.proofs.Common.{sym, ◌∙◌}
-use Rattle.ras_daemon.proofs.LaterKindLemmas.{read-taken}
-use Rattle.ras_daemon.proofs.later_kinds.read_taken_line.Goals as goal
-
-pub returns-clause-taken : goal.returns-clause-taken
-returns-clause-taken c = read-taken c.args.bytes.now c.read_line.result (sym c.is_later.ensures ∙ c.if-is_later.false) c.read_line.ensures.read

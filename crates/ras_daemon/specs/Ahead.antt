@@ -1,0 +1,40 @@
+-- How far ahead a run reads its source.
+use Rattle.std.specs.Prelude.{◌≡◌, ℕ, ◌+◌, ◌-◌, ◌≤◌, ◌==◌, ◌&&◌, Bool, List, [], ◌∷◌, ◌++◌, length, Option, None, Some, IfSome, if◌then◌else◌, filter}
+use Rattle.std.specs.Option.{option_map}
+use Rattle.board_core.specs.Told.{Told}
+use Rattle.ras_script.specs.declared.reader.TheConstants.{LONGEST_LINE}
+use Rattle.ras_script.specs.Splitting.{lines_of}
+use Rattle.text_laws.specs.DoneLines.{done_count, ended_lines}
+use Rattle.ras_run.specs.declared.exit.Exit.{Exit}
+use Rattle.ras_run.specs.declared.exit.Exit.TheVariants.{SourceFault}
+use Rattle.ras_run.specs.LaterKinds.{taken_line}
+use Rattle.ras_daemon.specs.Script.{is_event}
+
+-- whether a line is an event, wherever it stands
+abbrev pub is_event_line : List ℕ → Bool
+is_event_line line = is_event ([], (1, taken_line line))
+
+-- how far lines reach to the end of the event that has n events before it, each line with its line
+-- feed: to no end where there is no such event
+abbrev pub end_of_event : ℕ → List (List ℕ) → Option ℕ
+end_of_event n [] = None
+end_of_event n (line ∷ lines) =
+    if is_event_line line && (n == 0) then Some (length line + 1)
+    else option_map (λ end. length line + 1 + end) (end_of_event (if is_event_line line then n - 1 else n) lines)
+
+-- how many lines are events
+abbrev pub events_in : List (List ℕ) → ℕ
+events_in lines = length (filter is_event_line lines)
+
+-- What was taken of a script, of which this is left, reaches at most 40,001 bytes past the end of
+-- the first event that isn't done by what was printed. Where the source failed, every event is done
+-- whose line was taken with its line feed.
+pub record TakesAhead (exit : Exit) (script left : List ℕ) (before now : Told) : Type 0 where
+  pub taken : List ℕ
+  pub splits : taken ++ left ≡ script
+  pub printed : List ℕ
+  pub text : now.here.out ≡ before.here.out ++ printed
+  pub bound :
+      IfSome (end_of_event (done_count printed) (lines_of script))
+      (λ end. length taken ≤ end + (LONGEST_LINE + 1))
+  pub done : exit ≡ SourceFault → events_in (ended_lines taken) ≤ done_count printed

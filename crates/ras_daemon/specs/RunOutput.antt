@@ -1,0 +1,38 @@
+-- What a run prints.
+use Rattle.std.specs.Prelude.{ℕ, List, ◌++◌, take}
+use Rattle.std.specs.List.{flat_map}
+use Rattle.ras_base.specs.Places.{places}
+use Rattle.ras_account.specs.Account.{State, account_of}
+use Rattle.ras_events.specs.Reports.{NumberedLine}
+use Rattle.ras_texts.specs.Orders.{standing_lines}
+use Rattle.ras_texts.specs.Text.{end_line}
+use Rattle.ras_run.specs.declared.exit.Exit.{Exit}
+use Rattle.ras_run.specs.declared.exit.Exit.TheVariants.{Done}
+use Rattle.ras_run.specs.Output.{output_at}
+use Rattle.ras_run.specs.Places.{Start, account_at}
+use Rattle.ras_run.specs.Status.{places_before_refusal}
+use Rattle.ras_run.specs.StopLine.{stop_line}
+use Rattle.ras_daemon.specs.RunStatus.{run_exit}
+use Rattle.ras_daemon.specs.Script.{events_of, reads_of}
+
+-- the last line of a run, by how it ends
+abbrev pub closing_line : State → Exit → List ℕ
+closing_line account Done = end_line account
+closing_line account exit = stop_line exit
+
+-- what lines print up to the first refused one
+abbrev pub lines_output : Start → List NumberedLine → List ℕ
+lines_output start reads = flat_map (output_at start) (places_before_refusal start (places reads))
+
+-- What a run over a script prints: the orders that stand in the account at its start, what each
+-- event prints, and the last line.
+abbrev pub run_output : Start → List ℕ → List ℕ
+run_output start script =
+    standing_lines (account_of start.history)
+    ++ (lines_output start (reads_of script)
+    ++ closing_line (account_at start (reads_of script)) (run_exit start script))
+
+-- what it has printed once the first n events are done
+abbrev pub output_upto : Start → List ℕ → ℕ → List ℕ
+output_upto start script n =
+    standing_lines (account_of start.history) ++ flat_map (output_at start) (take n (events_of start script))

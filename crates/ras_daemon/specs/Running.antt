@@ -1,0 +1,244 @@
+-- Only for proofs: how far a run has come among its lines, and what stops leave of it.
+use Rattle.std.specs.Prelude.{◌≡◌, ℕ, ◌⊎◌, List, [], ◌∷◌, ◌++◌, Option, IfSome, Result, Ok, Err, ⊤, ◌+◌, ◌≤◌, length, IsSomeAnd, Some}
+use Rattle.std.specs.List.{AllByRecursion, flat_map}
+use Rattle.board_core.specs.Clock.{Clock, LeftNow, Rests}
+use Rattle.board_core.specs.Stop.{Left, Begins}
+use Rattle.board_core.specs.Told.{FailsPrint, Relates, Steps, Told, after_print}
+use Rattle.ras_base.specs.Places.{places}
+use Rattle.ras_account.specs.Account.{account_of}
+use Rattle.ras_account.specs.Accounts.{IsAccount}
+use Rattle.ras_journal.specs.Recovered.{Recovers}
+use Rattle.ras_recover.specs.DiskCalls.{IsBeginning, Makes}
+use Rattle.ras_ledger.specs.declared.ledger.Ledger.{Ledger}
+use Rattle.ras_events.specs.Reports.{NumberedLine}
+use Rattle.ras_script.specs.declared.reader.TheConstants.{LONGEST_LINE}
+use Rattle.ras_script.specs.Splitting.{lines_of}
+use Rattle.ras_script.specs.SplittingLaws.{script_of}
+use Rattle.ras_texts.specs.Orders.{standing_lines}
+use Rattle.ras_run.specs.declared.exit.Exit.{Exit}
+use Rattle.ras_run.specs.declared.exit.Exit.TheVariants.{Done, Usage, SourceFault, DiskFault, PrintFault, NoMemory}
+use Rattle.ras_run.specs.Output.{output_at}
+use Rattle.ras_run.specs.Places.{Start, account_at}
+use Rattle.ras_run.specs.Status.{places_before_refusal}
+use Rattle.ras_run.specs.Taking.{IsAccepted, Prints}
+use Rattle.ras_daemon.specs.RunOutput.{closing_line}
+use Rattle.text_laws.specs.DoneLines.{ended_lines}
+use Rattle.ras_daemon.specs.Ahead.{events_in}
+use Rattle.ras_daemon.specs.RunCalls.{AreCallsAlong}
+use Rattle.ras_daemon.specs.RunStatus.{run_exit}
+use Rattle.ras_daemon.specs.Script.{reads_in, reads_of}
+
+-- each of these lines is accepted at its place
+abbrev pub AreAccepted : Start → List NumberedLine → Type 0
+AreAccepted start reads = AllByRecursion (IsAccepted start) (places reads)
+
+-- what they print
+abbrev pub outputs : Start → List NumberedLine → List ℕ
+outputs start reads = flat_map (output_at start) (places reads)
+
+-- the first lines of a script, each of which is accepted
+pub record AreFirst (start : Start) (script : List ℕ) (before : List NumberedLine) : Type 0 where
+  pub rest : List NumberedLine
+  pub splits : before ++ rest ≡ reads_of script
+  pub accepted : AreAccepted start before
+
+-- those before the line at which a run ends
+pub record AreAll (start : Start) (script : List ℕ) (exit : Exit) (before : List NumberedLine) : Type 0 where
+  pub first : AreFirst start script before
+  pub all : places_before_refusal start (places (reads_of script)) ≡ places before
+  pub exit_is : run_exit start script ≡ exit
+
+-- ---- what a stop leaves; the text is that before the lines
+
+-- between two lines, or while the next one is taken
+pub record BetweenLines (start : Start) (script : List ℕ) (out : List ℕ) (left : Left) : Type 0 where
+  pub before : List NumberedLine
+  pub first : AreFirst start script before
+  pub recovers : Recovers (account_at start before) left
+  pub text : left.out ≡ out ++ outputs start before
+
+pub record InLine (start : Start) (script : List ℕ) (out : List ℕ) (left : Left) : Type 0 where
+  pub before : List NumberedLine
+  pub read : NumberedLine
+  pub first : AreFirst start script (before ++ read ∷ [])
+  pub recovers : Recovers (account_at start (before ++ read ∷ [])) left
+  pub text : Begins (output_at start (before, read)) (out ++ outputs start before) left.out
+
+abbrev pub LinesMoment : Start → List ℕ → List ℕ → Left → Type 0
+LinesMoment start script out left = BetweenLines start script out left ⊎ InLine start script out left
+
+-- while the journal is opened, while the orders that stand at the start are printed, and while the
+-- last line is
+pub record AtOpening (start : Start) (here left : Left) : Type 0 where
+  pub recovers : Recovers (account_of start.history) left
+  pub text : left.out ≡ here.out
+
+pub record AtStart (start : Start) (here left : Left) : Type 0 where
+  pub recovers : Recovers (account_of start.history) left
+  pub text : Begins (standing_lines (account_of start.history)) here.out left.out
+
+pub record AtEnd (start : Start) (script : List ℕ) (out : List ℕ) (left : Left) : Type 0 where
+  pub before : List NumberedLine
+  pub exit : Exit
+  pub all : AreAll start script exit before
+  pub recovers : Recovers (account_at start before) left
+  pub text : Begins (closing_line (account_at start before) exit) (out ++ outputs start before) left.out
+
+-- the text that stands before the lines
+abbrev pub lines_from : Start → Left → List ℕ
+lines_from start here = here.out ++ standing_lines (account_of start.history)
+
+-- What a stop leaves of a run: what one at its start may have left, or what stands at a moment of
+-- it with the record store as it was. Once the journal is open, what it holds is an account.
+abbrev pub RunMoment : Clock → Start → List ℕ → Left → Left → Type 0
+RunMoment clock start script here left =
+    LeftNow clock left
+    ⊎ ((left.store ≡ here.store)
+    × (AtOpening start here left
+    ⊎ (IsAccount (account_of start.history)
+    × (AtStart start here left
+    ⊎ (LinesMoment start script (lines_from start here) left ⊎ AtEnd start script (lines_from start here) left)))))
+
+-- ---- where a part of a run ends
+
+-- P holds unless a call of the board failed.
+abbrev pub UnlessFault : {T : Type 0} → Result T Exit → Type 0 → Type 0
+UnlessFault (Err DiskFault) P = ⊤
+UnlessFault (Err PrintFault) P = ⊤
+UnlessFault result P = P
+
+-- where a board tells, a stop now leaves just what is told
+abbrev pub IsAtRest : Option Told → Clock → Type 0
+IsAtRest told clock = IfSome told (λ t. Rests t told clock)
+
+-- an exit that ends a run among its lines
+abbrev pub IsLineExit : Exit → Type 0
+IsLineExit Done = ⊥
+IsLineExit Usage = ⊥
+IsLineExit exit = ⊤
+
+-- a ledger with which a run begins so
+pub record IsStart (start : Start) (ledger : Ledger) : Type 0 where
+  pub account : ledger.account.state ≡ account_of start.history
+  pub standing : ledger.journal.standing ≡ start.standing
+
+-- ---- how far the lines were taken
+
+-- The lines were all taken, or a run ends among them.
+pub record TookLines (start : Start) (script : List ℕ) (before : List NumberedLine) (old now : Told) : Type 0 where
+  pub first : AreFirst start script before
+  pub text : Prints (outputs start before) old now
+  pub recovers : Recovers (account_at start before) now.here
+
+abbrev pub TakesLines : Start → List ℕ → Result (Unit {0}) Exit → Told → Told → Type 0
+TakesLines start script (Ok done) old now =
+    TookLines start script (reads_of script) old now × AreAll start script Done (reads_of script)
+TakesLines start script (Err DiskFault) old now = ⊤
+TakesLines start script (Err PrintFault) old now = ⊤
+TakesLines start script (Err NoMemory) old now = (before : List NumberedLine) × TookLines start script before old now
+TakesLines start script (Err SourceFault) old now = (before : List NumberedLine) × TookLines start script before old now
+TakesLines start script (Err exit) old now = (before : List NumberedLine) × TookLines start script before old now × AreAll start script exit before
+
+-- ---- how a run ends
+
+-- Where memory ran out, or the source failed, some first lines were taken, or not even the orders
+-- at the start were printed.
+pub record EndsEarly (start : Start) (script : List ℕ) (old now : Told) : Type 0 where
+  pub before : List NumberedLine
+  pub first : AreFirst start script before
+  pub recovers : Recovers (account_at start before) now.here
+  pub text :
+      (IsAccount (account_of start.history)
+      × Prints (standing_lines (account_of start.history) ++ outputs start before) old now)
+      ⊎ (Prints [] old now × (before ≡ []))
+
+-- And where a run comes to an answer, its last line was printed.
+pub record EndsSo (start : Start) (script : List ℕ) (exit : Exit) (old now : Told) : Type 0 where
+  pub before : List NumberedLine
+  pub all : AreAll start script exit before
+  pub account : IsAccount (account_of start.history)
+  pub recovers : Recovers (account_at start before) now.here
+  pub text : Prints (standing_lines (account_of start.history) ++ (outputs start before ++ closing_line (account_at start before) exit)) old now
+
+abbrev pub RunEnds : Start → List ℕ → Exit → Told → Told → Type 0
+RunEnds start script DiskFault old now = ⊤
+RunEnds start script PrintFault old now = ⊤
+RunEnds start script NoMemory old now = EndsEarly start script old now
+RunEnds start script SourceFault old now = EndsEarly start script old now
+RunEnds start script exit old now = EndsSo start script exit old now
+
+-- ---- the last line
+
+-- An exit that ends a run with a last line: it was read to its end, or it is refused. Any other
+-- cuts it short.
+abbrev pub IsAnswer : Exit → Type 0
+IsAnswer SourceFault = ⊥
+IsAnswer DiskFault = ⊥
+IsAnswer PrintFault = ⊥
+IsAnswer NoMemory = ⊥
+IsAnswer exit = ⊤
+
+abbrev pub IsCut : Exit → Type 0
+IsCut SourceFault = ⊤
+IsCut DiskFault = ⊤
+IsCut PrintFault = ⊤
+IsCut NoMemory = ⊤
+IsCut exit = ⊥
+
+-- A last line was printed, or that failed, or memory ran out before it.
+abbrev pub Says : Exit → Exit → List ℕ → Option Told → Option Told → Type 0
+Says exit result line old new =
+    ((result ≡ exit) × Steps (after_print line) old new)
+    ⊎ (((result ≡ PrintFault) × Relates (FailsPrint line) old new)
+    ⊎ ((result ≡ NoMemory) × (new ≡ old)))
+
+-- A run that would end so ends with its last line, or as it was cut short.
+abbrev pub Ends : Exit → Exit → List ℕ → Option Told → Option Told → Type 0
+Ends exit result line old new =
+    (IsAnswer exit × Says exit result line old new) ⊎ (IsCut exit × (result ≡ exit) × (new ≡ old))
+
+-- ---- what stops leave once the journal is open
+
+abbrev pub OpenMoment : Start → List ℕ → Left → Left → Type 0
+OpenMoment start script here left =
+    AtStart start here left
+    ⊎ (LinesMoment start script (lines_from start here) left ⊎ AtEnd start script (lines_from start here) left)
+
+-- ---- how far the source was read
+
+-- how long the first of these lines is, with its line feed
+abbrev pub first_size : List (List ℕ) → ℕ
+first_size [] = 0
+first_size (line ∷ lines) = length line + 1
+
+-- Lines of a script were done: what they print is printed, behind a text. What was taken of the
+-- script reaches at most 40,001 bytes past the line behind them. Where the source failed, they are
+-- all that were taken with their line feeds.
+pub record ReadAhead (Fault : Type 0) (start : Start) (script from left : List ℕ) (now : Told) : Type 0 where
+  pub done : List (List ℕ)
+  pub more : List (List ℕ)
+  pub lines : lines_of script ≡ done ++ more
+  pub first : AreFirst start script (reads_in done)
+  pub text : (part : List ℕ) × (now.here.out ≡ (from ++ outputs start (reads_in done)) ++ part)
+  pub bound : length script ≤ length (script_of done) + first_size more + (LONGEST_LINE + 1) + length left
+  pub taken : List ℕ
+  pub splits : taken ++ left ≡ script
+  pub whole : Fault → events_in (ended_lines taken) ≤ events_in done
+
+-- the same where source and board tell at the end
+abbrev pub EndsAhead : Type 0 → Start → List ℕ → List ℕ → Option (List ℕ) → Option Told → Type 0
+EndsAhead Fault start script from left told =
+    IsSomeAnd left (λ rest. IsSomeAnd told (ReadAhead Fault start script from rest))
+
+-- Nothing was taken of it; or the journal was opened, and lines were taken.
+abbrev pub RunAhead : Type 0 → Start → List ℕ → Told → Option (List ℕ) → Option Told → Type 0
+RunAhead Fault start script t left told =
+    (left ≡ Some script)
+    ⊎ (IsAccount (account_of start.history) × EndsAhead Fault start script (lines_from start t.here) left told)
+
+-- ---- disk calls
+
+-- a beginning of the disk calls of a script's lines was made
+abbrev pub MakesAlong : Start → List ℕ → Told → Told → Type 0
+MakesAlong start script =
+    Makes (IsBeginning (AreCallsAlong start (places_before_refusal start (places (reads_of script)))))

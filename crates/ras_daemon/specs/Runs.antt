@@ -1,0 +1,49 @@
+-- What the laws of runs speak of: what runs log and order, one run after the other.
+use Rattle.std.specs.Prelude.{◌≡◌, ℕ, List, length, take, All}
+use Rattle.std.specs.List.{flat_map}
+use Rattle.page_policy.specs.declared.rows.Order.{Order}
+use Rattle.ras_facts.specs.declared.entry.Entry.{Entry}
+use Rattle.ras_account.specs.Account.{State, account_of}
+use Rattle.ras_account.specs.History.{History, with_entries}
+use Rattle.ras_account.specs.Numbers.{fresh_entries_in}
+use Rattle.ras_events.specs.Reports.{entries_at}
+use Rattle.ras_events.specs.Sizes.{IsFact}
+use Rattle.ras_events.specs.Texts.{orders_of_entries}
+use Rattle.ras_run.specs.declared.exit.Exit.TheVariants.{Done}
+use Rattle.ras_run.specs.Places.{Start, history_at}
+use Rattle.ras_daemon.specs.Headline.{reported}
+use Rattle.ras_daemon.specs.RunStatus.{run_exit}
+use Rattle.ras_daemon.specs.Script.{events_of}
+
+-- the history that a run leaves once its first n events are done
+abbrev pub history_after : Start → List ℕ → ℕ → History
+history_after start script n = with_entries start.history (reported start script n)
+
+-- what these events log: of the entries that they report those that are news, each at its place
+abbrev pub logged : Start → List ℕ → ℕ → List Entry
+logged start script n = fresh_entries_in (account_of start.history) (reported start script n)
+
+-- the orders that these events give, each behind all that was reported before it
+abbrev pub ordered : Start → List ℕ → ℕ → List Order
+ordered start script n =
+    flat_map (λ place. orders_of_entries (history_at start place.0) (entries_at place)) (take n (events_of start script))
+
+-- how many events a run has that isn't stopped
+abbrev pub event_count : Start → List ℕ → ℕ
+event_count start script = length (events_of start script)
+
+-- a run takes the whole script: no line is refused, and there is room for all that is reported
+abbrev pub IsTakenWhole : Start → List ℕ → Type 0
+IsTakenWhole start script = run_exit start script ≡ Done
+
+-- a run begins with what another one left once its first n events were done
+abbrev pub Follows : Start → List ℕ → ℕ → Start → Type 0
+Follows start script n next = next.history ≡ history_after start script n
+
+-- a run reports facts alone, and sets no limit and retires no boot
+abbrev pub ReportsFacts : Start → List ℕ → Type 0
+ReportsFacts start script = All IsFact (reported start script (event_count start script))
+
+-- two accounts are the same but for the number of their entries
+abbrev pub CountTheSame : State → State → Type 0
+CountTheSame one other = record one { entries = 0 } ≡ record other { entries = 0 }

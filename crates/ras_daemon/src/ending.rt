@@ -1,0 +1,70 @@
+//! The end of a run, and its last line.
+
+ghost use Rattle.std.specs.Prelude.{◌≡◌, ◌⊎◌, IfOk};
+ghost use Rattle.board_core.specs.Clock.{Adds, Rests};
+ghost use Rattle.board_core.specs.Stop.{Begins, InOut};
+ghost use Rattle.board_core.specs.Told.{Told};
+ghost use Rattle.ras_run.specs.Causes.{BoardCause};
+ghost use Rattle.ras_run.specs.Device.{LeavesDevice};
+ghost use Rattle.ras_daemon.specs.RunOutput.{closing_line};
+ghost use Rattle.ras_daemon.specs.Running.{Ends, IsAnswer, IsCut, Says};
+
+use board_core::Board;
+use ras_account::Account;
+use ras_base::NoMemory;
+use ras_run::{Exit, print, stop_line};
+use ras_texts::end_line;
+use std::alloc::Global;
+
+/// The last line of a run: the end line of its account where it is done, and else the stop line of
+/// its refusal.
+///
+/// # Errors
+///
+/// `NoMemory` comes for want of memory alone.
+pub fn closing_line(alloc: Global, exit: Exit, account: &Account) -> Result<Vec<u8>, NoMemory>
+    ensures { IfOk result (λ line. line.items ≡ closing_line account.now.state exit) }
+{
+    match exit {
+        Exit::Done => end_line(alloc, account),
+        _ => stop_line(alloc, exit),
+    }
+}
+
+/// Ends a run so, with its last line. A fault and want of memory have none.
+pub fn end_run<B: Board>(alloc: Global, exit: Exit, account: &Account, board: &mut B) -> Exit
+    ensures ends { Ends exit result (closing_line account.now.state exit)
+        (B.told board.old) (B.told board.new) }
+    ensures stops { (t : Told) → Rests t (B.told board.old) (B.clock board.old)
+        → Adds (InOut (Begins (closing_line account.now.state exit)) t.here)
+        (B.clock board.old) (B.clock board.new) }
+    ensures cut { IsCut exit → board.new ≡ board.old }
+    ensures faults { IsAnswer exit → BoardCause result (B.faults board.old) (B.faults board.new) }
+    ensures device { LeavesDevice (B.told board.old) (B.told board.new)
+        (B.clock board.old) (B.clock board.new) }
+{
+    match exit {
+        Exit::SourceFault | Exit::DiskFault | Exit::PrintFault | Exit::NoMemory => exit,
+        _ => match closing_line(alloc, exit, account) {
+            Ok(line) => last_line(&line, exit, board),
+            Err(NoMemory) => Exit::NoMemory,
+        },
+    }
+}
+
+/// Prints the last line of a call that ends so.
+pub fn last_line<B: Board>(line: &[u8], exit: Exit, board: &mut B) -> Exit
+    requires { IsAnswer exit }
+    ensures says { Says exit result line.now (B.told board.old) (B.told board.new) }
+    ensures exits { (result ≡ exit) ⊎ (result ≡ Exit.PrintFault) }
+    ensures stops { (t : Told) → Rests t (B.told board.old) (B.clock board.old)
+        → Adds (InOut (Begins line.now) t.here) (B.clock board.old) (B.clock board.new) }
+    ensures faults { BoardCause result (B.faults board.old) (B.faults board.new) }
+    ensures device { LeavesDevice (B.told board.old) (B.told board.new)
+        (B.clock board.old) (B.clock board.new) }
+{
+    match print(line, board) {
+        Ok(()) => exit,
+        Err(fault) => fault,
+    }
+}

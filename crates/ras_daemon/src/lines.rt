@@ -1,0 +1,81 @@
+//! The lines of a script, taken in order.
+
+ghost use Rattle.std.specs.Prelude.{◌≡◌, Err, ℕ, List, [], false, Ok, Some, IfErr, IfSome, IsSomeAnd};
+ghost use Rattle.board_core.specs.Clock.{Adds};
+ghost use Rattle.board_core.specs.Told.{Told};
+ghost use Rattle.ras_run.specs.Causes.{BoardCause, Causes, SourceCause};
+ghost use Rattle.ras_run.specs.Device.{LeavesDevice};
+ghost use Rattle.ras_run.specs.Places.{Start};
+ghost use Rattle.ras_run.specs.Taking.{IsRunAfter, LedgerStands};
+ghost use Rattle.ras_daemon.specs.Running.{EndsAhead, IsAtRest, IsLineExit, LinesMoment, MakesAlong, TakesLines, UnlessFault};
+ghost use Rattle.ras_daemon.specs.Script.{reads_of};
+
+use board_core::{Board, Source};
+use ras_events::Reason;
+use ras_run::{Exit, Run, take_line};
+use ras_script::{LineReader, NextRefused};
+use std::alloc::Global;
+
+/// Takes the lines of a source in order, up to the first refused one or to its end.
+///
+/// # Errors
+///
+/// Why the run ends among its lines: as `take_line` of ras_run; `BadLine` also where the line has
+/// more than 40,000 bytes, `TooLong` where the script has too many, and `SourceFault` only where
+/// the source failed.
+pub fn take_lines<S: Source, B: Board>(
+    alloc: Global,
+    reader: &mut LineReader,
+    run: &mut Run,
+    source: &mut S,
+    board: &mut B,
+) -> Result<(), Exit>
+    requires fresh { reader.old ≡ record { line = []; held = []; taken = 0 } }
+    requires usable { run.old.ledger.journal.failed ≡ false }
+    requires stands { LedgerStands run.old.ledger (B.told board.old) (B.clock board.old) }
+
+    ensures takes { (start : Start) (script : List ℕ) (t : Told) → IsRunAfter start [] run.old
+        → S.left source.old ≡ Some script → B.told board.old ≡ Some t
+        → IsSomeAnd (B.told board.new) (TakesLines start script result t) }
+    ensures run { (start : Start) (script : List ℕ) (t : Told) → IsRunAfter start [] run.old
+        → S.left source.old ≡ Some script → B.told board.old ≡ Some t
+        → result ≡ Ok tt → IsRunAfter start (reads_of script) run.new }
+    ensures moments { (start : Start) (script : List ℕ) (t : Told) → IsRunAfter start [] run.old
+        → S.left source.old ≡ Some script → B.told board.old ≡ Some t
+        → Adds (λ left. (left.store ≡ t.here.store) × LinesMoment start script t.here.out left)
+        (B.clock board.old) (B.clock board.new) }
+    ensures ahead { (start : Start) (script : List ℕ) (t : Told) → IsRunAfter start [] run.old
+        → S.left source.old ≡ Some script → B.told board.old ≡ Some t
+        → EndsAhead (result ≡ Err Exit.SourceFault) start script t.here.out (S.left source.new)
+        (B.told board.new) }
+    ensures calls { (start : Start) (script : List ℕ) (t : Told) → IsRunAfter start [] run.old
+        → S.left source.old ≡ Some script → B.told board.old ≡ Some t
+        → IsSomeAnd (B.told board.new) (MakesAlong start script t) }
+    ensures rests { UnlessFault result (IsAtRest (B.told board.new) (B.clock board.new)) }
+    ensures ended { result ≡ Ok tt
+        → IfSome (S.left source.old) (λ script. S.left source.new ≡ Some []) }
+    ensures stop { IfErr result IsLineExit }
+    ensures source { Causes SourceCause result (S.faults source.old) (S.faults source.new) }
+    ensures faults { Causes BoardCause result (B.faults board.old) (B.faults board.new) }
+    ensures device { LeavesDevice (B.told board.old) (B.told board.new)
+        (B.clock board.old) (B.clock board.new) }
+{
+    let mut number = 0u64;
+    loop {
+        match reader.advance(source) {
+            Ok(true) => {
+                number += 1;
+                take_line(alloc, number, reader.line(), run, board)?;
+            }
+            Ok(false) => return Ok(()),
+            Err(NextRefused::Source) => return Err(Exit::SourceFault),
+            Err(NextRefused::TooLong) => return Err(Exit::TooLong),
+            Err(NextRefused::LineTooLong) => {
+                return Err(Exit::BadLine {
+                    line: number + 1,
+                    reason: Reason::LongLine,
+                });
+            }
+        }
+    }
+}
