@@ -7,8 +7,12 @@ mod calls;
 mod disks;
 mod exchanged;
 mod faults;
+mod firmware;
+mod journals;
+mod kept;
 mod lines;
 mod modules;
+mod stops;
 
 use board_core::{DiskCall, FileNo, MemSource};
 use disks::TestBoard;
@@ -28,14 +32,16 @@ const LOGGED: &str = concat!(
 const REPEATED: &str = "repeat bank=1/0/7/1000\n";
 
 // How a run is begun: its word, the most bytes that the source gives a call, the read and the call
-// of the board that fail (0 for none), and whether the disk is exchanged at the first sync.
+// of the board that fail (0 for none), the bytes of file 0, and those of file 0 of the disk for
+// which the first one is exchanged in mid-run, if it is.
 #[derive(Clone, Copy)]
 struct Start {
     word: &'static [u8],
     piece: usize,
     failing_read: u64,
     fails: u64,
-    is_to_be_exchanged: bool,
+    file0: &'static [u8],
+    second: Option<&'static [u8]>,
 }
 
 const PLAIN: Start = Start {
@@ -43,18 +49,17 @@ const PLAIN: Start = Start {
     piece: 7,
     failing_read: 0,
     fails: 0,
-    is_to_be_exchanged: false,
+    file0: &[],
+    second: None,
 };
 
-// How a run ended, what it printed, both files of the first disk and file 0 of the second, and the
-// calls on the first disk.
+// How a run ended, what it printed, both files of the first disk, and the calls on it.
 #[derive(Drop)]
 struct Seen {
     exit: Exit,
     out: Vec<u8>,
     file0: Vec<u8>,
     file1: Vec<u8>,
-    second: Vec<u8>,
     disk_calls: Vec<DiskCall>,
 }
 
@@ -87,17 +92,26 @@ fn see(alloc: Global, exit: Exit, board: &TestBoard) -> Result<Seen, Fail> {
         out: board.out().to_vec(alloc)?,
         file0: board.file(FileNo::Zero).to_vec(alloc)?,
         file1: board.file(FileNo::One).to_vec(alloc)?,
-        second: board.second_file().to_vec(alloc)?,
         disk_calls: board.disk_calls().to_vec(alloc)?,
     })
 }
 
-// A run over a script, given in parts.
-fn play(alloc: Global, script: &[&str], start: Start) -> Result<Seen, Fail> {
+// A run over a script, given in parts, and a board.
+fn play_on(
+    alloc: Global,
+    script: &[&str],
+    start: Start,
+    board: &mut TestBoard,
+) -> Result<Exit, Fail> {
     let words = words_of(alloc, start.word)?;
     let mut source = source_of(alloc, script, start)?;
-    let mut board = TestBoard::new(alloc, start.fails, start.is_to_be_exchanged)?;
-    let exit = exit_over(alloc, &words, &mut source, &mut board);
+    Ok(exit_over(alloc, &words, &mut source, board))
+}
+
+// The same over a new board.
+fn play(alloc: Global, script: &[&str], start: Start) -> Result<Seen, Fail> {
+    let mut board = TestBoard::new(alloc, start.file0, start.fails, start.second)?;
+    let exit = play_on(alloc, script, start, &mut board)?;
     see(alloc, exit, &board)
 }
 

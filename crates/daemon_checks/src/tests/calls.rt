@@ -1,98 +1,126 @@
 //! The disk calls of a run, and what it leaves in both files.
-use super::{EVERYDAY, PLAIN, is_joined, play};
-use board_core::DiskCall::{ReadAt, Size, Sync, WriteAt};
+use super::journals::{EMPTY, FIRST_VERSION, LABELLED};
+use super::{EVERYDAY, PLAIN, Start, play};
+use board_core::DiskCall::{Size, Sync, WriteAt};
 use board_core::{DiskCall, FileNo};
 use ras_daemon::Exit;
 use std::test::Fail;
 
 const ZERO: FileNo = FileNo::Zero;
 
-// The everyday line's entry: the mark of a fact, the mark of a bank's name, boot, cpu, bank and
-// time-stamp counter, the seconds, the number of items, and of the item its class, no label, the
-// page behind its flag, and the weight.
-const ENTRY: [u8; 44] = [
-    1, 1, 1, 0, 0, 0, 0, 0, 0, 0, 0, 0, 7, 0xe8, 3, 0, 0, 0, 0, 0, 0, 100, 0, 0, 0, 0, 0, 0, 0, 1,
-    0, 0, 0, 1, 0x45, 0x23, 1, 0, 0, 0, 0, 0, 1, 0,
+const ONE: FileNo = FileNo::One;
+
+const MODULE: &str = "cpu 0 0\nmodule DIMM_A1 0 7 0\n";
+
+const ANOTHER: &str = "bank 1 100 0 7 1001 1000c14 0 8c00004000010090 12345040 86\n";
+
+// The calls of an opening over no file.
+const OPENING: [DiskCall; 10] = [
+    Sync(ZERO),
+    Sync(ONE),
+    Size(ZERO),
+    Size(ONE),
+    WriteAt(ZERO, 0, 1),
+    Sync(ZERO),
+    WriteAt(ZERO, 1, 97),
+    Sync(ZERO),
+    WriteAt(ZERO, 0, 1),
+    Sync(ZERO),
 ];
 
-// The same line without software error recovery, and with 32,767 as its count and 1001 as its
-// time-stamp counter. Its address isn't usable, so the entry has no page.
-const PAGELESS: &str = "bank 1 100 0 7 1001 c14 0 8c1fffc000010090 12345040 86\n";
-
-const PAGELESS_ENTRY: [u8; 36] = [
-    1, 1, 1, 0, 0, 0, 0, 0, 0, 0, 0, 0, 7, 0xe9, 3, 0, 0, 0, 0, 0, 0, 100, 0, 0, 0, 0, 0, 0, 0, 1,
-    0, 0, 0, 0, 0xff, 0x7f,
+// The calls of a link of one fact of a module.
+const APPENDING: [DiskCall; 4] = [
+    WriteAt(ZERO, 98, 60),
+    Sync(ZERO),
+    WriteAt(ZERO, 97, 1),
+    Sync(ZERO),
 ];
 
-// The entries of two limits: the mark, the capacity and the period.
-const LIMIT_ENTRIES: [u8; 34] = [
-    2, 2, 0, 0, 0, 0, 0, 0, 0, 60, 0, 0, 0, 0, 0, 0, 0, 2, 0x40, 0x42, 0x0f, 0, 0, 0, 0, 0, 0x80,
-    0x96, 0x98, 0, 0, 0, 0, 0,
-];
-
-// What a run over empty files leaves in file 0, and the disk calls that it makes.
-struct Row {
-    script: &'static [&'static str],
-    file: &'static [&'static [u8]],
-    calls: &'static [DiskCall],
-}
-
-const ROWS: [Row; 3] = [
-    // A fresh entry is written once.
-    Row {
-        script: &[EVERYDAY, EVERYDAY],
-        file: &[&ENTRY],
-        calls: &[Size(ZERO), WriteAt(ZERO, 0, 44), Sync(ZERO)],
-    },
-    Row {
-        script: &["limit 10 86400\nlimit 2 60\nlimit 2 60\nlimit 1000000 10000000\nrestart\n"],
-        file: &[&LIMIT_ENTRIES],
-        calls: &[
-            Size(ZERO),
-            WriteAt(ZERO, 0, 17),
-            Sync(ZERO),
-            WriteAt(ZERO, 17, 17),
-            Sync(ZERO),
-            Size(ZERO),
-            ReadAt(ZERO, 0, 34),
-        ],
-    },
-    // Entries of both lengths stand one after the other, also after a restart, which reads all of
-    // them.
-    Row {
-        script: &[
-            "restart\n",
-            PAGELESS,
-            "restart\n",
-            EVERYDAY,
-            "restart\n",
-            PAGELESS,
-        ],
-        file: &[&PAGELESS_ENTRY, &ENTRY],
-        calls: &[
-            Size(ZERO),
-            Size(ZERO),
-            ReadAt(ZERO, 0, 0),
-            WriteAt(ZERO, 0, 36),
-            Sync(ZERO),
-            Size(ZERO),
-            ReadAt(ZERO, 0, 36),
-            WriteAt(ZERO, 36, 44),
-            Sync(ZERO),
-            Size(ZERO),
-            ReadAt(ZERO, 0, 80),
-        ],
-    },
+// The calls by which a file of the first version is taken over, and a link is kept.
+const TAKING_OVER: [DiskCall; 10] = [
+    WriteAt(ONE, 0, 1),
+    Sync(ONE),
+    WriteAt(ONE, 1, 231),
+    Sync(ONE),
+    WriteAt(ONE, 0, 1),
+    Sync(ONE),
+    WriteAt(ONE, 232, 60),
+    Sync(ONE),
+    WriteAt(ONE, 231, 1),
+    Sync(ONE),
 ];
 
 #[test]
-fn writes_each_fresh_entry_once(rt: HostRuntime) -> Result<(), Fail> {
-    for (number, row) in ROWS.iter().enumerate() {
-        let seen = play(rt.alloc(), row.script, PLAIN)?;
-        assert!(rt; seen.exit == Exit::Done, "row {number}");
-        assert!(rt; is_joined(&seen.file0, row.file), "row {number}");
-        assert!(rt; seen.file1.is_empty(), "row {number}");
-        assert!(rt; seen.disk_calls.as_slice() == row.calls, "row {number}");
+fn an_empty_script_formats_file_0(rt: HostRuntime) -> Result<(), Fail> {
+    let seen = play(rt.alloc(), &[], PLAIN)?;
+    assert!(rt;
+        seen.exit == Exit::Done && seen.out.as_slice() == b"end entries=0 names=0\n".as_slice()
+    );
+    assert!(rt; seen.file0.as_slice() == EMPTY.as_slice() && seen.file1.is_empty());
+    assert!(rt; seen.disk_calls.as_slice() == OPENING.as_slice());
+    Ok(())
+}
+
+#[test]
+fn a_new_error_is_one_link(rt: HostRuntime) -> Result<(), Fail> {
+    let seen = play(rt.alloc(), &[MODULE, EVERYDAY, EVERYDAY], PLAIN)?;
+    assert!(rt; seen.exit == Exit::Done);
+    assert!(rt; seen.file0.as_slice() == LABELLED.as_slice() && seen.file1.is_empty());
+    assert!(rt; seen.disk_calls.ends_with(&APPENDING));
+    Ok(())
+}
+
+#[test]
+fn the_first_version_is_taken_over(rt: HostRuntime) -> Result<(), Fail> {
+    let start = Start {
+        file0: &FIRST_VERSION,
+        ..PLAIN
+    };
+    let seen = play(rt.alloc(), &[MODULE, ANOTHER], start)?;
+    assert!(rt; seen.exit == Exit::Done);
+    assert!(rt; seen.out.ends_with(b"done 3\nend entries=2 names=2\n"));
+    assert!(rt; seen.file0.as_slice() == FIRST_VERSION.as_slice() && seen.file1.len() == 292);
+    assert!(rt; seen.disk_calls.ends_with(&TAKING_OVER));
+    // Without a new error nothing is written.
+    let seen = play(rt.alloc(), &[MODULE, EVERYDAY], start)?;
+    assert!(rt; seen.exit == Exit::Done && seen.file1.is_empty());
+    assert!(rt; seen.file0.as_slice() == FIRST_VERSION.as_slice());
+    Ok(())
+}
+
+// File 0 cut at each place from behind its front on, where that is told, and garbage that doesn't
+// stand.
+const DAMAGED: [(usize, &str); 6] = [
+    (157, "stop 7 file=0 place=157\n"),
+    (156, "stop 7 file=0 place=102\n"),
+    (103, "stop 7 file=0 place=102\n"),
+    (101, "stop 7 file=0 place=98\n"),
+    (97, "stop 7 file=0 place=97\n"),
+    (2, "stop 7 file=0 place=1\n"),
+];
+
+#[test]
+fn a_damaged_file_is_left(rt: HostRuntime) -> Result<(), Fail> {
+    for (length, output) in DAMAGED {
+        let start = Start {
+            file0: &LABELLED[..length],
+            ..PLAIN
+        };
+        let seen = play(rt.alloc(), &[EVERYDAY], start)?;
+        assert!(rt;
+            seen.exit.status() == 7 && seen.out.as_slice() == output.as_bytes(),
+            "{length}"
+        );
+        assert!(rt;
+            seen.file0.as_slice() == start.file0 && seen.file1.is_empty(),
+            "{length}"
+        );
     }
+    let start = Start {
+        file0: &[0xa5],
+        ..PLAIN
+    };
+    let seen = play(rt.alloc(), &[], start)?;
+    assert!(rt; seen.exit == Exit::Done && seen.file0.as_slice() == EMPTY.as_slice());
     Ok(())
 }

@@ -5,7 +5,7 @@ ghost use Rattle.board_core.specs.Cause.{HasCause};
 ghost use Rattle.board_core.specs.Clock.{untold};
 ghost use Rattle.board_core.specs.ClockLemmas.{not_told};
 
-use board_core::{Board, BoardPut, DiskCall, Failed, FileNo, MemBoard, Reg};
+use board_core::{Board, BoardPut, DiskCall, Failed, FileNo, MemBoard, Pick, Reg};
 use erst_store::Store;
 use std::alloc::Global;
 use std::test::Fail;
@@ -13,8 +13,8 @@ use std::test::Fail;
 /// A board that tells nothing, as one over real files does, so that the clauses of a run say little
 /// of it, and whose device fails at each call.
 ///
-/// It has one disk in memory, or two: then its disk is exchanged for the second at its first sync,
-/// and every later disk call goes there. All is printed to the first.
+/// It has one disk in memory, or two: then its disk is exchanged for the second at the second sync
+/// of file 1, and that call and every later disk call go there. All is printed to the first.
 #[derive(Drop)]
 pub struct TestBoard {
     disks: Disks,
@@ -29,20 +29,27 @@ struct Disks {
     first: MemBoard,
     second: MemBoard,
     is_to_be_exchanged: bool,
-    is_exchanged: bool,
+    syncs_of_one: u64,
 }
 
 impl TestBoard {
-    /// A board with empty files whose call of this number fails, from 1, and none where it is 0.
-    pub fn new(alloc: Global, fails: u64, is_to_be_exchanged: bool) -> Result<TestBoard, Fail> {
-        let mut first = MemBoard::new(alloc, Store::new(alloc), 0)?;
+    /// A board whose disk has these bytes in file 0, and whose call of this number fails, from 1,
+    /// and none where it is 0. Its second disk, if it is to be exchanged, has those in file 0.
+    pub fn new(
+        alloc: Global,
+        file0: &[u8],
+        fails: u64,
+        second: Option<&[u8]>,
+    ) -> Result<TestBoard, Fail> {
+        let mut first = disk_with(alloc, file0)?;
         first.fail_at(fails)?;
+        let is_to_be_exchanged = second.is_some();
         Ok(TestBoard {
             disks: Disks {
                 first,
-                second: MemBoard::new(alloc, Store::new(alloc), 0)?,
+                second: disk_with(alloc, second.unwrap_or(&[]))?,
                 is_to_be_exchanged,
-                is_exchanged: false,
+                syncs_of_one: 0,
             },
             disk_faults: 0,
             device_faults: 0,
@@ -55,9 +62,26 @@ impl TestBoard {
         self.disks.first.file(file)
     }
 
-    /// File 0 of the second disk.
-    pub fn second_file(&self) -> &[u8] {
-        self.disks.second.file(FileNo::Zero)
+    /// Every call after so many fails.
+    pub fn stop_after(&mut self, calls: u64) {
+        self.disks.first.stop_after(calls);
+    }
+
+    /// A board over what a stop now leaves of the first disk.
+    pub fn left(self, alloc: Global, pick: Pick) -> Result<TestBoard, Fail> {
+        let TestBoard { disks, .. } = self;
+        let Disks { first, second, .. } = disks;
+        Ok(TestBoard {
+            disks: Disks {
+                first: first.left(alloc, pick)?,
+                second,
+                is_to_be_exchanged: false,
+                syncs_of_one: 0,
+            },
+            disk_faults: 0,
+            device_faults: 0,
+            print_faults: 0,
+        })
     }
 
     /// What was printed.
@@ -74,7 +98,7 @@ impl TestBoard {
 impl Disks {
     // The disk that is there.
     fn disk(&mut self) -> &mut MemBoard {
-        if self.is_exchanged {
+        if self.is_to_be_exchanged && self.syncs_of_one > 1 {
             &mut self.second
         } else {
             &mut self.first
@@ -82,10 +106,19 @@ impl Disks {
     }
 
     fn sync(&mut self, file: FileNo) -> Result<(), Failed> {
-        let synced = self.disk().sync(file);
-        self.is_exchanged = self.is_to_be_exchanged;
-        synced
+        if let FileNo::One = file {
+            self.syncs_of_one = self.syncs_of_one.saturating_add(1);
+        }
+        self.disk().sync(file)
     }
+}
+
+// A disk in memory with these bytes in file 0.
+fn disk_with(alloc: Global, file0: &[u8]) -> Result<MemBoard, Fail> {
+    let mut disk = MemBoard::new(alloc, Store::new(alloc), 0)?;
+    let bytes = file0.to_vec(alloc)?;
+    disk.set_file(FileNo::Zero, bytes);
+    Ok(disk)
 }
 
 impl Board for TestBoard {

@@ -1,12 +1,13 @@
 //! That the account is made again from what the disk gives, and from nothing else.
+use super::journals::FIRST_VERSION_EMPTY;
 use super::{EVERYDAY, LOGGED, PLAIN, REPEATED, Start, is_text, play};
 use ras_daemon::Exit;
 use std::test::Fail;
 
-// The disk is exchanged at the first sync. The second one lacks what was written to the first, so
-// the same line is fresh again after a restart; without one the disk isn't asked, and the line is a
-// repeat. The last column is how many bytes the second disk then has.
-const ROWS: [(&[&str], &[&str], usize); 2] = [
+// The disk is exchanged as the journal is opened again. The second one has an empty account, so the
+// same line is new again after a restart; without one the disk isn't asked, and the line is a
+// repeat.
+const ROWS: [(&[&str], &[&str]); 2] = [
     (
         &[EVERYDAY, "restart\n", EVERYDAY],
         &[
@@ -15,7 +16,6 @@ const ROWS: [(&[&str], &[&str], usize); 2] = [
             LOGGED,
             "done 3\nend entries=1 names=1\n",
         ],
-        44,
     ),
     (
         &[EVERYDAY, EVERYDAY],
@@ -25,23 +25,32 @@ const ROWS: [(&[&str], &[&str], usize); 2] = [
             REPEATED,
             "done 2\nend entries=1 names=1\n",
         ],
-        0,
     ),
 ];
 
 #[test]
 fn only_a_restart_asks_the_disk(rt: HostRuntime) -> Result<(), Fail> {
     let start = Start {
-        is_to_be_exchanged: true,
+        second: Some(&FIRST_VERSION_EMPTY),
         ..PLAIN
     };
-    for (script, output, length) in ROWS {
+    for (number, (script, output)) in ROWS.into_iter().enumerate() {
         let seen = play(rt.alloc(), script, start)?;
-        assert!(rt; seen.exit == Exit::Done);
-        assert!(rt; is_text(&seen.out, output), "{length} bytes");
-        assert_eq!(rt; seen.file0.len(), 44);
-        assert_eq!(rt; seen.second.len(), length);
-        assert!(rt; length == 0 || seen.second == seen.file0);
+        assert!(rt; seen.exit == Exit::Done, "row {number}");
+        assert!(rt; is_text(&seen.out, output), "row {number}");
     }
+    Ok(())
+}
+
+// A disk that is broken by then is told at its place.
+#[test]
+fn a_restart_over_a_broken_file(rt: HostRuntime) -> Result<(), Fail> {
+    let start = Start {
+        second: Some(&FIRST_VERSION_EMPTY[..73]),
+        ..PLAIN
+    };
+    let seen = play(rt.alloc(), &[EVERYDAY, "restart\n", EVERYDAY], start)?;
+    assert!(rt; seen.exit == Exit::Damaged { file: 0, place: 73 });
+    assert!(rt; is_text(&seen.out, &[LOGGED, "done 1\nstop 7 file=0 place=73\n"]));
     Ok(())
 }

@@ -3,40 +3,32 @@ use super::{EVERYDAY, LOGGED, PLAIN, Start, is_text, play};
 use ras_daemon::Exit;
 use std::test::Fail;
 
-// The call that fails, from 1, how the run then ends, and what it has printed by then. The calls
-// are the size, the write and the sync, the log line and the done line; the size, the read and the
-// done line of the restart; and the end line.
-const ROWS: [(u64, Exit, &[&str]); 10] = [
-    (1, Exit::DiskFault, &[]),
-    (2, Exit::DiskFault, &[]),
-    (3, Exit::DiskFault, &[]),
-    (4, Exit::PrintFault, &[]),
-    (5, Exit::PrintFault, &[LOGGED]),
-    (6, Exit::DiskFault, &[LOGGED, "done 1\n"]),
-    (7, Exit::DiskFault, &[LOGGED, "done 1\n"]),
-    (8, Exit::PrintFault, &[LOGGED, "done 1\n"]),
-    (9, Exit::PrintFault, &[LOGGED, "done 1\ndone 2\n"]),
-    (
-        10,
-        Exit::Done,
-        &[LOGGED, "done 1\ndone 2\nend entries=1 names=1\n"],
-    ),
-];
+// How many calls an opening of an empty board makes, at most.
+const MOST_OPENING_CALLS: u64 = 16;
 
+// A run whose call of a number fails ends with a fault, and has printed a beginning of what it
+// prints where none does.
 #[test]
 fn a_failing_call_ends_the_run(rt: HostRuntime) -> Result<(), Fail> {
-    for (fails, exit, output) in ROWS {
-        let seen = play(
-            rt.alloc(),
-            &[EVERYDAY, "restart\n"],
-            Start { fails, ..PLAIN },
-        )?;
-        assert!(rt; seen.exit == exit, "call {fails}");
-        assert!(rt; is_text(&seen.out, output), "call {fails}");
+    let script = [EVERYDAY, "restart\n"];
+    let whole = play(rt.alloc(), &script, PLAIN)?;
+    assert!(rt;
+        is_text(
+            &whole.out,
+            &[LOGGED, "done 1\ndone 2\nend entries=1 names=1\n"]
+        )
+    );
+    let mut faults = 0u64;
+    for fails in 1..=2 * MOST_OPENING_CALLS + 8 {
+        let seen = play(rt.alloc(), &script, Start { fails, ..PLAIN })?;
+        match seen.exit {
+            Exit::DiskFault | Exit::PrintFault => faults = faults.saturating_add(1),
+            exit => assert!(rt; exit == Exit::Done && seen.out == whole.out, "call {fails}"),
+        }
+        assert!(rt; whole.out.starts_with(&seen.out), "call {fails}");
     }
-    // A stop line is the first call that prints.
-    let seen = play(rt.alloc(), &["restart 1\n"], Start { fails: 2, ..PLAIN })?;
-    assert!(rt; seen.exit == Exit::PrintFault && seen.out.is_empty());
+    // four calls of the link, and four prints; each opening syncs, asks and reads
+    assert!(rt; faults >= 8 + 4 + 4 + 6 && faults < 2 * MOST_OPENING_CALLS + 8);
     Ok(())
 }
 

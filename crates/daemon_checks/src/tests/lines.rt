@@ -3,7 +3,7 @@ use super::{EVERYDAY, LOGGED, does};
 use std::test::Fail;
 
 // Lines that are refused where they come first, and the reason.
-const REFUSED: [(&str, &str); 33] = [
+const REFUSED: [(&str, &str); 41] = [
     ("frob\n", "line.1"),
     ("restart 1\n", "line.2"),
     ("restart restart\n", "line.2"),
@@ -37,6 +37,14 @@ const REFUSED: [(&str, &str); 33] = [
     ("limit 2 10000001", "line.3"),
     ("limit x 60", "line.3"),
     ("limit 2 3c", "line.3"),
+    ("module-limit 0 60", "line.3"),
+    ("retire", "line.2"),
+    ("retire 18446744073709551616", "line.3"),
+    ("hest 0", "line.4"),
+    ("hest 00", "hest.1"),
+    ("put 0 00", "line.1"),
+    ("poll x", "line.1"),
+    ("place A 0 0 0", "topology.1"),
 ];
 
 #[test]

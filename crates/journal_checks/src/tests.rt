@@ -1,0 +1,11 @@
+//! Each journal is played on a board in memory, by functions that state nothing.
+
+mod bytes;
+mod chains;
+mod checkpoints;
+mod cuts;
+mod large;
+mod opening;
+mod pairs;
+mod steps;
+mod stops;
