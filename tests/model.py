@@ -1,0 +1,70 @@
+#!/usr/bin/env python3
+"""What a run must print, how it must end and what it must leave, computed anew from the definitions.
+
+usage: tests/model.py run < SCRIPT    does what the program must do, over the working folder's files
+       tests/model.py --rows          tries the model on worked rows: tests/reference/rows.py
+
+The model stands in tests/reference/. It is written from the description of the product alone, and
+shares nothing with the code of crates/. It is slow and plain: each rule stands once. `run` answers
+an `Outcome` for the bytes of a script and of the two journal files; tests/run compares with that.
+The number of reads of an opening is left open, so the list of disk calls doesn't hold them.
+"""
+import dataclasses
+import os
+import sys
+
+sys.dont_write_bytecode = True
+from reference.journal import Disk, FolderDisk
+from reference.run import Run
+
+
+@dataclasses.dataclass
+class Outcome:
+    """What a run comes to: what it printed, its status, the two files, and the disk calls."""
+
+    printed: bytes
+    status: int
+    files: tuple
+    calls: list
+
+
+def run(script, files=(None, None), events=None):
+    """The run over a script and two files, to its end, or so many events of it."""
+    disk, printed = Disk(files), []
+    status = Run(disk, printed.append).take_all([script], events)
+    return Outcome(b"".join(printed), status, tuple(map(bytes, disk.files)), disk.calls)
+
+
+def usage():
+    """The run of no words that are a command."""
+    return Outcome(b"stop 1 usage\n", 1, (None, None), [])
+
+
+def ending(status, call):
+    """A call of the system that ends the run with this status where it fails."""
+
+    def called(*words):
+        try:
+            return call(*words)
+        except OSError:
+            sys.exit(status)
+
+    return called
+
+
+def main():
+    """Does as the program does, or tries the worked rows."""
+    read, write = ending(3, lambda: os.read(0, 4096)), ending(6, lambda data: os.write(1, data))
+    if sys.argv[1:] == ["--rows"]:
+        from reference import rows
+
+        return rows.main()
+    if sys.argv[1:] != ["run"]:
+        write(usage().printed)
+        return usage().status
+    go = ending(4, lambda: Run(FolderDisk(), write).take_all(iter(read, b"")))
+    return go()
+
+
+if __name__ == "__main__":
+    sys.exit(main())
