@@ -104,11 +104,35 @@ fn gives_the_longest_lines_in_pieces(rt: HostRuntime) -> Result<(), Fail> {
     Ok(())
 }
 
-#[test]
-fn gives_the_longest_lines_along_the_buffer(rt: HostRuntime) -> Result<(), Fail> {
-    for step in 0..413usize {
-        expect_behind(&rt, rt.alloc(), step * 97 + 1, LONGEST)?;
+// The same at each place of the buffer from one up to another.
+fn expect_along(rt: &impl Abort, alloc: Global, from: usize, to: usize) -> Result<(), NoMemory> {
+    for first in from..to {
+        expect_behind(rt, alloc, first, LONGEST)?;
     }
+    Ok(())
+}
+
+#[test]
+fn gives_the_longest_lines_at_the_front_of_the_buffer(rt: HostRuntime) -> Result<(), Fail> {
+    expect_along(&rt, rt.alloc(), 1, 10_001)?;
+    Ok(())
+}
+
+#[test]
+fn gives_the_longest_lines_before_its_middle(rt: HostRuntime) -> Result<(), Fail> {
+    expect_along(&rt, rt.alloc(), 10_001, 20_001)?;
+    Ok(())
+}
+
+#[test]
+fn gives_the_longest_lines_after_its_middle(rt: HostRuntime) -> Result<(), Fail> {
+    expect_along(&rt, rt.alloc(), 20_001, 30_001)?;
+    Ok(())
+}
+
+#[test]
+fn gives_the_longest_lines_at_its_end(rt: HostRuntime) -> Result<(), Fail> {
+    expect_along(&rt, rt.alloc(), 30_001, LONGEST + 1)?;
     Ok(())
 }
 
