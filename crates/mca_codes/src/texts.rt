@@ -156,7 +156,8 @@ fn compound_text(
     words: &[&str],
     filter: bool,
 ) -> Result<String, AllocError>
-    ensures { IfOk result (λ text. string_bytes text ≡ compound_text kind.now (map (λ word. word.now) words.now) filter) }
+    ensures { IfOk result (λ text. string_bytes text
+        ≡ compound_text kind.now (map (λ word. word.now) words.now) filter) }
 {
     let mut text = String::from_str(alloc, kind)?;
     for word in words {

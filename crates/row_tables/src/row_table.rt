@@ -253,7 +253,8 @@ fn row_at<K: Hash + ExactEq + Copy, R: Copy>(
     place: usize,
 ) -> Option<R>
     requires { place < length table.now.entries }
-    ensures { (key : _) → IsPlace K.eq key (keys_of table.now.entries) place → result ≡ lookup (K.eq key) (take held table.now.entries) }
+    ensures { (key : _) → IsPlace K.eq key (keys_of table.now.entries) place
+        → result ≡ lookup (K.eq key) (take held table.now.entries) }
 {
     if place < held {
         Some(table[place])
@@ -268,7 +269,8 @@ fn insert_last<K: Hash + ExactEq + Copy, R: Copy>(
     key: K,
     row: R,
 ) -> Result<bool, NoMemory>
-    ensures ok { OnOk result (table.new.entries ≡ table.old.entries ++ waiting_rows row (added_keys K.eq (keys_of table.old.entries) (key ∷ []))) }
+    ensures ok { OnOk result (table.new.entries ≡ table.old.entries
+        ++ waiting_rows row (added_keys K.eq (keys_of table.old.entries) (key ∷ []))) }
     ensures fresh { IfOk result (λ fresh. fresh ≡ not (is_held K.eq table.old.entries key)) }
     ensures err { OnErr result (table.new.entries ≡ table.old.entries) }
     ensures absent { OnErr result (IsFalse (is_held K.eq table.old.entries key)) }
