@@ -3,7 +3,7 @@ use Rattle.std.proofs.Common.{◌≡◌, ℕ, zero, suc, ◌+◌, ◌-◌, ◌<�
 use Rattle.std.specs.Option.{option_map}
 use Rattle.std.specs.List.{concat, AllByRecursion}
 use Rattle.std.proofs.lemmas.List.{length-take, length-drop, nil_from_length, take-append-drop, take_at, drop_at}
-use Rattle.apei_sources.specs.Entries.{header_length, entry_length, first_of, rest_of, has_entry, entries_in, entries_of}
+use Rattle.apei_sources.specs.Entries.{entry_header_length, entry_length, first_of, rest_of, has_entry, entries_in, entries_of}
 use Rattle.apei_sources.specs.Laid.{IsEntry}
 use Rattle.apei_sources.specs.Cut.{cut, AreInside}
 use Rattle.ras_base.specs.LittleEndianLemmas.{number_at-append, number_at-take}
@@ -22,7 +22,7 @@ pub record Fits (bytes : List ℕ) : Type 0 where
   pub inside : entry_length bytes ≤ length bytes
   pub long : 64 ≤ entry_length bytes
 
-header_long : (bytes : List ℕ) → 64 ≤ header_length bytes
+header_long : (bytes : List ℕ) → 64 ≤ entry_header_length bytes
 header_long bytes = grind arith
 
 pub fits : (bytes : List ℕ) → has_entry bytes ≡ true → Fits bytes

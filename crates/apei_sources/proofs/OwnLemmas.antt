@@ -6,7 +6,8 @@ use Rattle.std.proofs.lemmas.List.{length-take, take-take, drop-take}
 use Rattle.ras_base.specs.LittleEndian.{number_at}
 use Rattle.apei_sources.specs.declared.refusals.TableRefused.{TableRefused}
 use Rattle.ras_base.specs.Chaining.{◌>>=◌}
-use Rattle.apei_sources.specs.Tables.{table_length, own_bytes, has_length, table_of}
+use Rattle.ras_base.specs.AcpiTable.{table_length, own_bytes, has_length}
+use Rattle.apei_sources.specs.Tables.{table_of}
 use Rattle.apei_sources.specs.Hest.{hest_of, sources_of}
 use Rattle.apei_sources.specs.Bert.{bert_of}
 use Rattle.apei_sources.specs.Blocks.{block_status, data_length, data_of, block_of}

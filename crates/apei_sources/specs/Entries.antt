@@ -14,12 +14,12 @@ abbrev pub major_revision : List ℕ → ℕ
 major_revision entry = bits 8 8 (number_at 20 2 entry)
 
 -- the bytes of an entry's header: from revision 3 on a timestamp ends it
-abbrev pub header_length : List ℕ → ℕ
-header_length entry = if nat_le TIMESTAMP_REVISION (major_revision entry) then LONG_ENTRY_HEADER_LENGTH else ENTRY_HEADER_LENGTH
+abbrev pub entry_header_length : List ℕ → ℕ
+entry_header_length entry = if nat_le TIMESTAMP_REVISION (major_revision entry) then LONG_ENTRY_HEADER_LENGTH else ENTRY_HEADER_LENGTH
 
 -- the bytes of an entry, its header and its data
 abbrev pub entry_length : List ℕ → ℕ
-entry_length entry = header_length entry + number_at 24 4 entry
+entry_length entry = entry_header_length entry + number_at 24 4 entry
 
 -- the type of the section that an entry holds, a GUID
 abbrev pub entry_guid : List ℕ → List ℕ
@@ -31,7 +31,7 @@ entry_severity entry = number_at 16 4 entry
 
 -- the section that an entry holds: its data, which follows its header
 abbrev pub entry_data : List ℕ → List ℕ
-entry_data entry = drop (header_length entry) entry
+entry_data entry = drop (entry_header_length entry) entry
 
 -- whether an entry's section can't be read
 unfoldable pub is_refused : List ℕ → Bool

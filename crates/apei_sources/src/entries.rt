@@ -3,7 +3,7 @@
 ghost use Rattle.std.specs.Prelude.{◌≡◌, ◌≤◌, ◌<◌, [], length, get_or, IfSome, IsTrue};
 ghost use Rattle.std.specs.Option.{option_map};
 ghost use Rattle.std.specs.List.{list_any};
-ghost use Rattle.apei_sources.specs.Entries.{header_length, entry_length, first_of, rest_of, entry_guid, entry_severity, entry_data, has_entry, is_refused, entries_of};
+ghost use Rattle.apei_sources.specs.Entries.{entry_header_length, entry_length, first_of, rest_of, entry_guid, entry_severity, entry_data, has_entry, is_refused, entries_of};
 ghost use Rattle.apei_sources.specs.Laid.{IsEntry};
 ghost use Rattle.apei_sources.specs.Cut.{cut, AreInside};
 
@@ -20,9 +20,9 @@ pub const LONG_ENTRY_HEADER_LENGTH: usize = 72;
 pub const TIMESTAMP_REVISION: u16 = 3;
 
 // The bytes of the header of the entry at the front.
-fn header_length(bytes: &[u8]) -> usize
+fn entry_header_length(bytes: &[u8]) -> usize
     requires { ENTRY_HEADER_LENGTH ≤ length bytes.now }
-    ensures value { result ≡ header_length bytes.now }
+    ensures value { result ≡ entry_header_length bytes.now }
     ensures small { result ≤ LONG_ENTRY_HEADER_LENGTH }
 {
     let major_revision = u16_at(bytes, 20) >> 8;
@@ -38,7 +38,7 @@ fn entry_length(bytes: &[u8]) -> usize
     requires { ENTRY_HEADER_LENGTH ≤ length bytes.now }
     ensures { result ≡ entry_length bytes.now }
 {
-    header_length(bytes) + u32_at(bytes, 24) as usize
+    entry_header_length(bytes) + u32_at(bytes, 24) as usize
 }
 
 // Whether the entry at the front lies inside the bytes.
@@ -127,5 +127,9 @@ pub(crate) fn entry_section(entry: &[u8]) -> RawSection<'_>
     ensures guid { result.guid ≡ entry_guid entry.now }
     ensures bytes { result.bytes.now ≡ entry_data entry.now }
 {
-    RawSection::new(entry, u32_at(entry, 16), &entry[header_length(entry)..])
+    RawSection::new(
+        entry,
+        u32_at(entry, 16),
+        &entry[entry_header_length(entry)..],
+    )
 }

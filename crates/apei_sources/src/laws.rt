@@ -5,7 +5,7 @@ ghost use Rattle.apei_sources.specs.declared.blocks.TheConstants.{BLOCK_HEADER_L
 ghost use Rattle.apei_sources.specs.declared.hest_table.TheConstants.{HEST_FIXED_LENGTH};
 ghost use Rattle.apei_sources.specs.declared.bert_table.TheConstants.{BERT_FIXED_LENGTH};
 ghost use Rattle.apei_sources.specs.declared.refusals.TableRefused.{TableRefused};
-ghost use Rattle.apei_sources.specs.Tables.{table_length};
+ghost use Rattle.ras_base.specs.AcpiTable.{table_length};
 ghost use Rattle.apei_sources.specs.Hest.{Sources, hest_table, hest_of};
 ghost use Rattle.apei_sources.specs.Bert.{bert_of};
 ghost use Rattle.apei_sources.specs.Entries.{entries_of};

@@ -2,9 +2,10 @@
 
 ghost use Rattle.std.specs.Prelude.{◌≡◌, ◌≤◌, length, IfOk};
 ghost use Rattle.apei_sources.specs.Steps.{Reads};
-ghost use Rattle.apei_sources.specs.Tables.{has_sum, table_of};
+ghost use Rattle.apei_sources.specs.Tables.{table_of};
 
 use crate::TableRefused;
+use ras_base::has_sum;
 use ras_base::little_endian::u32_at;
 
 // The table of a signature at the front of bytes, whose fixed part has so many.
@@ -33,15 +34,4 @@ pub(crate) fn table_at<'a>(
         return Err(TableRefused::Sum);
     }
     Ok(table)
-}
-
-// Whether the bytes of a table sum to 0 modulo 256.
-fn has_sum(table: &[u8]) -> bool
-    ensures { result ≡ has_sum table.now }
-{
-    let mut sum = 0u8;
-    for byte in table {
-        sum = sum.wrapping_add(*byte);
-    }
-    sum == 0
 }

@@ -22,7 +22,8 @@ pub fn write_sync_print<B: Board>(
     board: &mut B,
 ) -> Result<(), Failed>
     requires { IfSome (B.told board.old) (λ told. place ≤ length (file_of FileNo.Zero told)) }
-    ensures told { OnOk result (Steps (λ t. after_print line.now (after_write_through FileNo.Zero place entry.now t))
+    ensures told { OnOk result
+        (Steps (λ t. after_print line.now (after_write_through FileNo.Zero place entry.now t))
         (B.told board.old) (B.told board.new)) }
     ensures failed { OnErr result (Relates (FailsEntry place entry.now line.now) (B.told board.old) (B.told board.new)) }
     // One count rose where it failed, and none where it didn't.

@@ -10,7 +10,7 @@ use Rattle.dimm_topology.specs.Labels.{Bytes}
 use Rattle.dimm_topology.specs.declared.row.Location.{Location}
 use Rattle.dimm_topology.specs.declared.row.Row.{Row}
 use Rattle.dimm_topology.specs.declared.row.Row.TheVariants.{Cpu, Module, Range, Place}
-use Rattle.dimm_topology.specs.Rows.{labels_of_rows, names_module, is_module_label, is_at, holds}
+use Rattle.dimm_topology.specs.Rows.{labels_of_rows, names_module, is_module_label, is_at, is_range_over}
 use Rattle.dimm_topology.specs.Owners.{the_one, owner_by_rows, owner_of_address, owner_at}
 use Rattle.dimm_topology.specs.Topology.{IsTopology}
 
@@ -50,7 +50,7 @@ owner_named rows address location topology =
 
     over : (address : Option ℕ) → IfSome (option_and_then (owner_of_address rows) address) P
     over None = tt
-    over (Some a) = fitting rows (holds a) topology
+    over (Some a) = fitting rows (is_range_over a) topology
 
     at : (location : Option Location) → IfSome (option_and_then (owner_at rows) location) P
     at None = tt

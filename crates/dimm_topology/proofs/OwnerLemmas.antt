@@ -9,7 +9,7 @@ use Rattle.dimm_topology.specs.Labels.{Bytes, same_label}
 use Rattle.dimm_topology.specs.declared.row.Location.{Location}
 use Rattle.dimm_topology.specs.declared.row.Row.{Row}
 use Rattle.dimm_topology.specs.declared.row.Row.TheVariants.{Cpu, Module, Range, Place}
-use Rattle.dimm_topology.specs.Rows.{label_in, labels_of_rows, is_at, names, holds, overlap}
+use Rattle.dimm_topology.specs.Rows.{label_in, labels_of_rows, is_at, names, is_range_over, overlap}
 use Rattle.dimm_topology.specs.Owners.{the_one, owner_of_address, owner_at}
 use Rattle.dimm_topology.specs.Topology.{IsApart}
 
@@ -19,7 +19,7 @@ map_same [] = refl
 map_same (x ∷ xs) = ap (λ (ys : List ℕ). x ∷ ys) (map_same xs)
 
 -- two rows that hold one address overlap
-pub overlap_at : (address : ℕ) (one other : Row) → holds address one ≡ true → holds address other ≡ true → overlap one other ≡ true
+pub overlap_at : (address : ℕ) (one other : Row) → is_range_over address one ≡ true → is_range_over address other ≡ true → overlap one other ≡ true
 overlap_at address (Range label first last) (Range label' first' last') p q = grind (arith, nat_tests)
 overlap_at address (Range label first last) (Cpu cpu socket) p q = cc
 overlap_at address (Range label first last) (Module label' socket bank channel) p q = cc
@@ -29,12 +29,12 @@ overlap_at address (Module label socket bank channel) other p q = cc
 overlap_at address (Place label node card module') other p q = cc
 
 -- where a row holds an address, no row that it doesn't overlap does
-pub none_over : (address : ℕ) (row : Row) (rows : List Row) → holds address row ≡ true → list_any (overlap row) rows ≡ false → filter (holds address) rows ≡ []
+pub none_over : (address : ℕ) (row : Row) (rows : List Row) → is_range_over address row ≡ true → list_any (overlap row) rows ≡ false → filter (is_range_over address) rows ≡ []
 none_over address row [] p q = refl
 none_over address row (other ∷ rows) p q = grind (arith, common_steps, overlap_at address row other p, none_over address row rows p)
 
 -- an address is in one range at most
-pub one_over : (address : ℕ) (rows : List Row) → IsApart rows → length (filter (holds address) rows) ≤ 1
+pub one_over : (address : ℕ) (rows : List Row) → IsApart rows → length (filter (is_range_over address) rows) ≤ 1
 one_over address [] apart = omega arith
 one_over address (row ∷ rows) apart = grind (arith, common_steps, none_over address row rows, one_over address rows apart.1, apart.0)
 
@@ -53,9 +53,9 @@ the_one_of_one (Place label node card module' ∷ []) small = refl
 the_one_of_one (row ∷ other ∷ rows) small = absurd (omega arith)
 
 -- the owner of an address is the label of the first range that holds it
-pub address_owner : (address : ℕ) (rows : List Row) → IsApart rows → owner_of_address rows address ≡ option_and_then label_in (find (holds address) rows)
+pub address_owner : (address : ℕ) (rows : List Row) → IsApart rows → owner_of_address rows address ≡ option_and_then label_in (find (is_range_over address) rows)
 address_owner address rows apart =
-    the_one_of_one (filter (holds address) rows) (one_over address rows apart) ∙ ap (option_and_then label_in) (sym (find_filter (holds address) rows))
+    the_one_of_one (filter (is_range_over address) rows) (one_over address rows apart) ∙ ap (option_and_then label_in) (sym (find_filter (is_range_over address) rows))
 
 -- of the rows of a location, the labels are the same as one where each row names it
 same_at : (label : Bytes) (location : Location) (rows : List Row)

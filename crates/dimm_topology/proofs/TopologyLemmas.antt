@@ -10,9 +10,9 @@ use Rattle.dimm_topology.specs.Labels.{Bytes}
 use Rattle.dimm_topology.specs.declared.row.Row.{Row}
 use Rattle.dimm_topology.specs.declared.row.Row.TheVariants.{Cpu, Module, Range, Place}
 use Rattle.dimm_topology.specs.declared.topology.TopologyRefused.{TopologyRefused}
-use Rattle.dimm_topology.specs.Rows.{holds, overlap, names_module, is_module_of, socket_of}
+use Rattle.dimm_topology.specs.Rows.{is_range_over, overlap, names_module, is_module_of, socket_of}
 use Rattle.dimm_topology.specs.Owners.{owner_of_address, socket_by_rows}
-use Rattle.dimm_topology.specs.Refusals.{SharesAddress, Answers, refusal_of}
+use Rattle.dimm_topology.specs.Refusals.{SharesAddress, Answers, row_refusal}
 use Rattle.dimm_topology.specs.Topology.{IsApart, IsTopology, is_upright}
 use Rattle.dimm_topology.proofs.OwnerLemmas.{overlap_at, none_over}
 
@@ -66,12 +66,12 @@ pushed true rows new row e old more = rw e more
 pushed false rows new row e old more = rw e old
 
 -- a row that is no range over an address leaves its owner
-pub other_row : (result : Result (Unit {0}) TopologyRefused) (old new : List Row) (row : Row) → ((address : ℕ) → holds address row ≡ false)
+pub other_row : (result : Result (Unit {0}) TopologyRefused) (old new : List Row) (row : Row) → ((address : ℕ) → is_range_over address row ≡ false)
     → OnOk result (new ≡ old ++ row ∷ []) → OnErr result (new ≡ old) → (address : ℕ) → owner_of_address new address ≡ owner_of_address old address
 other_row result old new row other ok err address = by result ok err
   where
-    more : filter (holds address) (old ++ row ∷ []) ≡ filter (holds address) old
-    more = filter-append (holds address) old (row ∷ []) ∙ rw (other address) (append-nil (filter (holds address) old))
+    more : filter (is_range_over address) (old ++ row ∷ []) ≡ filter (is_range_over address) old
+    more = filter-append (is_range_over address) old (row ∷ []) ∙ rw (other address) (append-nil (filter (is_range_over address) old))
 
     by : (result : Result (Unit {0}) TopologyRefused) → OnOk result (new ≡ old ++ row ∷ []) → OnErr result (new ≡ old) → owner_of_address new address ≡ owner_of_address old address
     by (Ok done) ok err = rw (ok, more) refl
@@ -93,10 +93,10 @@ shares label first last (Range label' first' last' ∷ rows) upright all meets =
     by false here meets later = let found = later meets in (found.0, found.1, found.2, grind (arith, common_steps, found.3))
 
 pub overlaps_at : (label : Bytes) (first last address : ℕ) (rows : List Row) → first ≤ address → address ≤ last
-    → list_any (holds address) rows ≡ true → list_any (overlap (Range label first last)) rows ≡ true
+    → list_any (is_range_over address) rows ≡ true → list_any (overlap (Range label first last)) rows ≡ true
 overlaps_at label first last address [] low high held = cc
 overlaps_at label first last address (row ∷ rows) low high held =
-    let over : holds address (Range label first last) ≡ true = grind (arith, nat_tests) in
+    let over : is_range_over address (Range label first last) ≡ true = grind (arith, nat_tests) in
     grind (arith, common_steps, overlap_at address (Range label first last) row over, overlaps_at label first last address rows low high)
 
 last_added : (xs : List ℕ) (first : Option ℕ) (x : ℕ) → last_or first (xs ++ x ∷ []) ≡ Some x
@@ -113,19 +113,19 @@ last_socket (Ok done) old new cpu socket ok =
     rw (ok, more) (last_added (filter_map (socket_of cpu) old) None socket)
 
 -- where an address is in a range, a row that overlaps none doesn't hold it
-not_over : (address : ℕ) (row : Row) (rows : List Row) → list_any (overlap row) rows ≡ false → IsSome (owner_of_address rows address) → holds address row ≡ false
-not_over address row rows free owned = by (holds address row) refl
+not_over : (address : ℕ) (row : Row) (rows : List Row) → list_any (overlap row) rows ≡ false → IsSome (owner_of_address rows address) → is_range_over address row ≡ false
+not_over address row rows free owned = by (is_range_over address row) refl
   where
-    by : (b : Bool) → holds address row ≡ b → b ≡ false
+    by : (b : Bool) → is_range_over address row ≡ b → b ≡ false
     by false e = refl
     by true e = let none = rw (none_over address row rows e free) at owned in cc
 
 -- a range that is taken leaves the owners of the other ranges' addresses
-pub range_keeps : (result : Result (Unit {0}) TopologyRefused) (old new : List Row) (row : Row) → Answers result (refusal_of old row)
+pub range_keeps : (result : Result (Unit {0}) TopologyRefused) (old new : List Row) (row : Row) → Answers result (row_refusal old row)
     → OnOk result (new ≡ old ++ row ∷ []) → OnErr result (new ≡ old) → (address : ℕ) → IsSome (owner_of_address old address) → owner_of_address new address ≡ owner_of_address old address
 range_keeps (Err refused) old new row answer ok err address owned = rw err refl
 range_keeps (Ok done) old new row answer ok err address owned =
     let free : list_any (overlap row) old ≡ false = grind (arith, common_steps, answer) in
-    let more : filter (holds address) (old ++ row ∷ []) ≡ filter (holds address) old =
-    filter-append (holds address) old (row ∷ []) ∙ rw (not_over address row old free owned) (append-nil (filter (holds address) old)) in
+    let more : filter (is_range_over address) (old ++ row ∷ []) ≡ filter (is_range_over address) old =
+    filter-append (is_range_over address) old (row ∷ []) ∙ rw (not_over address row old free owned) (append-nil (filter (is_range_over address) old)) in
     rw (ok, more) refl

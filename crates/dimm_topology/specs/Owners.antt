@@ -7,7 +7,7 @@ use Rattle.mca_codes.specs.declared.codes.Code.{Code}
 use Rattle.mca_codes.specs.declared.codes.Code.TheVariants.{Memory}
 use Rattle.cper_sections.specs.declared.memory.MemSection.{MemSection}
 use Rattle.dimm_topology.specs.Labels.{Bytes, same_label}
-use Rattle.dimm_topology.specs.Rows.{socket_of, labels_of_rows, is_at, holds}
+use Rattle.dimm_topology.specs.Rows.{socket_of, labels_of_rows, is_at, is_range_over}
 use Rattle.dimm_topology.specs.declared.row.Location.{Location}
 use Rattle.dimm_topology.specs.declared.row.Location.TheVariants.{Channel, Numbers}
 use Rattle.dimm_topology.specs.declared.row.Row.{Row}
@@ -19,7 +19,7 @@ the_one (label ∷ labels) = if list_all (same_label label) labels then Some lab
 
 -- the ranges that hold an address: one at most, since no two ranges overlap
 abbrev pub ranges_over : List Row → ℕ → List Row
-ranges_over rows address = filter (holds address) rows
+ranges_over rows address = filter (is_range_over address) rows
 
 -- the label of the range that holds an address
 abbrev pub owner_of_address : List Row → ℕ → Option Bytes

@@ -5,11 +5,11 @@ use Rattle.dimm_topology.specs.declared.row.Row.{Row}
 use Rattle.dimm_topology.specs.declared.topology.TheConstants.{MOST_ROWS}
 use Rattle.dimm_topology.specs.declared.topology.TopologyRefused.{TopologyRefused}
 use Rattle.dimm_topology.specs.declared.topology.TopologyRefused.TheVariants.{Label, Overlap, Full, NoMemory}
-use Rattle.dimm_topology.specs.Rows.{names_module, holds, overlap}
+use Rattle.dimm_topology.specs.Rows.{names_module, is_range_over, overlap}
 
 -- why a topology of these rows can't take another, if it can't: the first of these that applies
-abbrev pub refusal_of : List Row → Row → Option TopologyRefused
-refusal_of rows row =
+abbrev pub row_refusal : List Row → Row → Option TopologyRefused
+row_refusal rows row =
     if not (names_module rows row) then Some Label
     else (if list_any (overlap row) rows then Some Overlap
     else (if nat_le MOST_ROWS (length rows) then Some Full else None))
@@ -24,4 +24,4 @@ Answers (Err refused) refusal = refusal ≡ Some refused
 -- some address is in a held range and from `first` to `last`
 abbrev pub SharesAddress : List Row → ℕ → ℕ → Type 0
 SharesAddress rows first last =
-    (address : ℕ) × (first ≤ address) × (address ≤ last) × IsTrue (list_any (holds address) rows)
+    (address : ℕ) × (first ≤ address) × (address ≤ last) × IsTrue (list_any (is_range_over address) rows)

@@ -41,9 +41,9 @@ abbrev pub names : Bytes → Row → Bool
 names label row = option_map_or (same_label label) (label_in row) false
 
 -- whether a row is a range that holds an address; both ends belong to a range
-abbrev pub holds : ℕ → Row → Bool
-holds address (Range label first last) = nat_le first address && nat_le address last
-holds address _ = false
+abbrev pub is_range_over : ℕ → Row → Bool
+is_range_over address (Range label first last) = nat_le first address && nat_le address last
+is_range_over address _ = false
 
 -- whether a row is a module row of this label
 abbrev pub is_module_of : Bytes → Row → Bool

@@ -2,7 +2,7 @@
 
 ghost use Rattle.std.specs.Prelude.{◌≡◌, Option};
 ghost use Rattle.std.specs.Option.{option_copied};
-ghost use Rattle.dimm_topology.specs.Rows.{socket_of, label_in, is_at, names, holds, is_module_of, overlap};
+ghost use Rattle.dimm_topology.specs.Rows.{socket_of, label_in, is_at, names, is_range_over, is_module_of, overlap};
 
 use crate::Label;
 
@@ -117,8 +117,8 @@ impl Row {
     }
 
     // Whether this is a range that holds this address.
-    pub(crate) fn holds(&self, address: u64) -> bool
-        ensures { result ≡ holds address self.now }
+    pub(crate) fn is_range_over(&self, address: u64) -> bool
+        ensures { result ≡ is_range_over address self.now }
     {
         match self {
             Row::Range { first, last, .. } => (*first..=*last).contains(&address),

@@ -4,8 +4,8 @@ ghost use Rattle.std.specs.Prelude.{◌≡◌, ◌≤◌, ◌↔◌, ℕ, List, 
 ghost use Rattle.std.specs.List.{list_any, list_all, find};
 ghost use Rattle.std.specs.Option.{option_copied};
 ghost use Rattle.dimm_topology.specs.declared.row.Row.{Row};
-ghost use Rattle.dimm_topology.specs.Rows.{names_module, labels_of_rows, overlap, is_at, names, holds, is_module_label};
-ghost use Rattle.dimm_topology.specs.Refusals.{refusal_of, Answers, SharesAddress};
+ghost use Rattle.dimm_topology.specs.Rows.{names_module, labels_of_rows, overlap, is_at, names, is_range_over, is_module_label};
+ghost use Rattle.dimm_topology.specs.Refusals.{row_refusal, Answers, SharesAddress};
 ghost use Rattle.dimm_topology.specs.Owners.{owner_by_rows, owner_of_address, owner_at, socket_by_rows, channel_of, bank_location, section_location, ranges_over};
 ghost use Rattle.dimm_topology.specs.Topology.{is_upright, IsApart, IsTopology};
 
@@ -72,7 +72,7 @@ impl Topology {
     ///
     /// `Full` comes exactly where `MOST_ROWS` rows are held. The rows stay after a refusal.
     pub fn add_cpu(&mut self, cpu: u16, socket: u8) -> Result<(), TopologyRefused>
-        ensures answer { Answers result (refusal_of self.old (Row.Cpu cpu socket)) }
+        ensures answer { Answers result (row_refusal self.old (Row.Cpu cpu socket)) }
         ensures ok { OnOk result (self.new ≡ self.old ++ Row.Cpu cpu socket ∷ []) }
         ensures err { OnErr result (self.new ≡ self.old) }
 
@@ -99,7 +99,7 @@ impl Topology {
         channel: u8,
     ) -> Result<(), TopologyRefused>
         ensures answer { Answers result
-            (refusal_of self.old (Row.Module label socket bank channel)) }
+            (row_refusal self.old (Row.Module label socket bank channel)) }
         ensures ok { OnOk result (self.new
             ≡ self.old ++ Row.Module label socket bank channel ∷ []) }
         ensures err { OnErr result (self.new ≡ self.old) }
@@ -124,7 +124,7 @@ impl Topology {
     /// are held. The rows stay after a refusal.
     pub fn add_range(&mut self, label: Label, first: u64, last: u64) -> Result<(), TopologyRefused>
         requires { first ≤ last }
-        ensures answer { Answers result (refusal_of self.old (Row.Range label first last)) }
+        ensures answer { Answers result (row_refusal self.old (Row.Range label first last)) }
         ensures ok { OnOk result (self.new ≡ self.old ++ Row.Range label first last ∷ []) }
         ensures err { OnErr result (self.new ≡ self.old) }
 
@@ -150,7 +150,7 @@ impl Topology {
         card: u16,
         module: u16,
     ) -> Result<(), TopologyRefused>
-        ensures answer { Answers result (refusal_of self.old (Row.Place label node card «module»)) }
+        ensures answer { Answers result (row_refusal self.old (Row.Place label node card «module»)) }
         ensures ok { OnOk result (self.new ≡ self.old ++ Row.Place label node card «module» ∷ []) }
         ensures err { OnErr result (self.new ≡ self.old) }
 
@@ -224,7 +224,7 @@ impl Topology {
     /// `Full` exactly where `MOST_ROWS` rows are held. The rows stay after a refusal.
     pub fn add(&mut self, row: Row) -> Result<(), TopologyRefused>
         requires { IsTrue (is_upright row) }
-        ensures answer { Answers result (refusal_of self.old row) }
+        ensures answer { Answers result (row_refusal self.old row) }
         ensures ok { OnOk result (self.new ≡ self.old ++ row ∷ []) }
         ensures err { OnErr result (self.new ≡ self.old) }
         ensures topology { IsTopology self.old }
@@ -277,10 +277,10 @@ impl Topology {
 
     // The range that holds an address.
     fn range_over(&self, address: u64) -> Option<&Row>
-        ensures row { option_copied result ≡ find (holds address) self.now }
+        ensures row { option_copied result ≡ find (is_range_over address) self.now }
         ensures apart { IsApart self.now }
     {
-        self.rows.iter().find(|row| row.holds(address))
+        self.rows.iter().find(|row| row.is_range_over(address))
     }
 
     // The location of an error in a bank.

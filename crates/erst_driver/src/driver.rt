@@ -359,8 +359,10 @@ impl Driver {
 // Copies the range into a buffer.
 fn fetch<B: Board>(buf: &mut [u8], board: &mut B) -> Result<(), Failed>
     requires { length buf.old ≡ range_length }
-    ensures read { OnOk result (IfSome (B.told board.old) (λ t. buf.new ≡ take (length buf.old) (drop 0 (device_of t).range))) }
-    ensures told { OnOk result (Steps (with_access (RangeRead 0 (length buf.old))) (B.told board.old) (B.told board.new)) }
+    ensures read { OnOk result (IfSome (B.told board.old)
+        (λ t. buf.new ≡ take (length buf.old) (drop 0 (device_of t).range))) }
+    ensures told { OnOk result
+        (Steps (with_access (RangeRead 0 (length buf.old))) (B.told board.old) (B.told board.new)) }
     ensures breaks { OnErr result (IfSome (B.told board.old)
         (λ t. IsCutShort (with_access (RangeRead 0 range_length) t).accesses t (B.told board.new))) }
     ensures touches { Touches Unchanged result

@@ -1,30 +1,16 @@
--- The error record serialization table: ACPI 6.5, section 18.5.1, "Serialization Action Table". Its
--- signature stands at 0, its length (4) at 4, a checksum byte at 9, the size of the serialization
--- header (4) at 36, and the count of its entries (4) at 44. The entries follow from 48 on.
-use Rattle.std.specs.Prelude.{◌≡◌, ℕ, zero, suc, ◌+◌, ◌*◌, ◌%◌, ◌<◌, Bool, ◌&&◌, ◌||◌, ◌==◌, not, nat_eq, nat_le, nat_lt, List, [], ◌∷◌, length, take, drop, filter, sum, get_or, codes, Result, Ok, Err, if◌then◌else◌}
+-- The error record serialization table: ACPI 6.5, section 18.5.1, "Serialization Action Table".
+-- After the header of all tables come the size of the serialization header (4) at 36 and the count
+-- of its entries (4) at 44. The entries follow from 48 on.
+use Rattle.std.specs.Prelude.{◌≡◌, ℕ, zero, suc, ◌+◌, ◌*◌, ◌<◌, Bool, ◌||◌, not, nat_eq, nat_le, nat_lt, List, [], ◌∷◌, length, drop, filter, get_or, codes, Result, Ok, Err, if◌then◌else◌}
 use Rattle.std.specs.List.{starts_with}
 use Rattle.ras_base.specs.LittleEndian.{number_at}
+use Rattle.ras_base.specs.AcpiTable.{own_bytes, has_length, has_sum}
 use Rattle.erst_interp.specs.declared.entries.Entry.{Entry}
 use Rattle.erst_interp.specs.declared.entries.TheConstants.{ENTRY_LENGTH}
 use Rattle.erst_interp.specs.declared.table.TheConstants.{ERST_FIXED_LENGTH}
 use Rattle.erst_interp.specs.declared.refusals.ErstTableRefused.{ErstTableRefused}
 use Rattle.erst_interp.specs.declared.refusals.ErstTableRefused.TheVariants.{Short, Signature, Length, Sum, HeaderSize, Count}
 use Rattle.erst_interp.specs.Entries.{entry_of}
-
--- the length that a table says, header and all, and so many bytes from the front
-abbrev pub table_length : List ℕ → ℕ
-table_length bytes = number_at 4 4 bytes
-
-abbrev pub own_bytes : List ℕ → List ℕ
-own_bytes bytes = take (table_length bytes) bytes
-
--- whether the table's length takes in its fixed part, and lies inside the bytes
-abbrev pub has_length : List ℕ → Bool
-has_length bytes = nat_le ERST_FIXED_LENGTH (table_length bytes) && nat_le (table_length bytes) (length bytes)
-
--- whether the bytes of a table sum to 0 modulo 256
-abbrev pub has_sum : List ℕ → Bool
-has_sum table = sum table % 256 == 0
 
 -- the size of the serialization header: firmware counts its own 12 bytes, or those of the table's
 -- header too
@@ -43,7 +29,7 @@ unfoldable pub erst_table : List ℕ → Result (List ℕ) ErstTableRefused
 erst_table bytes =
     if nat_lt (length bytes) ERST_FIXED_LENGTH then Err Short
     else (if not (starts_with nat_eq bytes (codes "ERST")) then Err Signature
-    else (if not (has_length bytes) then Err Length
+    else (if not (has_length ERST_FIXED_LENGTH bytes) then Err Length
     else (if not (has_sum (own_bytes bytes)) then Err Sum
     else (if not (has_header_size (own_bytes bytes)) then Err HeaderSize
     else (if not (has_entries (own_bytes bytes)) then Err Count

@@ -4,12 +4,12 @@ ghost use Rattle.std.specs.Prelude.{◌≡◌, ◌<◌, ◌≤◌, ◌*◌, ℕ,
 ghost use Rattle.erst_interp.specs.declared.refusals.ErstTableRefused.{ErstTableRefused};
 ghost use Rattle.erst_interp.specs.Refusals.{ReadsInto};
 ghost use Rattle.erst_interp.specs.Lists.{AreEmpty, ReadsTable, HoldsEntries, with_entry};
-ghost use Rattle.erst_interp.specs.Table.{list_of, HasLists, has_sum, entries_at, erst_table, erst_of};
+ghost use Rattle.erst_interp.specs.Table.{list_of, HasLists, entries_at, erst_table, erst_of};
 
 use crate::entries::{ENTRY_LENGTH, Entry, entry_at};
 use crate::refusals::ErstTableRefused;
-use ras_base::NoMemory;
 use ras_base::little_endian::u32_at;
+use ras_base::{NoMemory, has_sum};
 use std::alloc::Global;
 use std::marker::Model;
 
@@ -94,17 +94,6 @@ fn table_at(bytes: &[u8]) -> Result<&[u8], ErstTableRefused>
         return Err(ErstTableRefused::Count);
     }
     Ok(table)
-}
-
-// Whether the bytes of a table sum to 0 modulo 256.
-fn has_sum(table: &[u8]) -> bool
-    ensures { result ≡ has_sum table.now }
-{
-    let mut sum = 0u8;
-    for byte in table {
-        sum = sum.wrapping_add(*byte);
-    }
-    sum == 0
 }
 
 // No list for any action yet.

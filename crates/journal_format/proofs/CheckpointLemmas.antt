@@ -29,7 +29,7 @@ use Rattle.entry_format.proofs.NameFormatLemmas.{name_read}
 use Rattle.entry_format.proofs.EntryLemmas.{limit_read}
 use Rattle.journal_format.specs.PayloadReading.{found_in}
 use Rattle.journal_format.specs.Checkpoints.{module_bytes, page_row_bytes, list_bytes, front_bytes, end_bytes, checkpoint_bytes, CanTell, IsCheckpoint}
-use Rattle.journal_format.specs.CheckpointReading.{list_at, CheckpointFront, entries_at, front_at, module_at, page_row_at, end_floor_at, floor_in, is_sound, state_with, checkpoint_in, checkpoint_of}
+use Rattle.journal_format.specs.CheckpointReading.{list_at, CheckpointFront, entry_count_at, front_at, module_at, page_row_at, end_floor_at, floor_in, is_sound, state_with, checkpoint_in, checkpoint_of}
 use Rattle.journal_format.specs.Decoding.{Holds, AreTaken, account_with, with_rows_of}
 use Rattle.ras_account.specs.Rows.{has_retired}
 use Rattle.journal_format.proofs.WholeLemmas.{whole_takes, whole_again, found_is}
@@ -45,8 +45,8 @@ IsCount n = n ≤ MOST_ENTRIES
 abbrev Fits8 : ℕ → Type 0
 Fits8 n = n < 2 ^ 64
 
-entries_read : Reads entries_at u64_bytes IsCount
-unfolding entries_at
+entries_read : Reads entry_count_at u64_bytes IsCount
+unfolding entry_count_at
 entries_read =
     made_read (if_passes (λ n. leb n MOST_ENTRIES)) (λ n. n) u64_at u64_bytes Fits8 IsCount
     (tested (λ n. leb n MOST_ENTRIES) Fits8 IsCount (λ n lt is. leb-true n MOST_ENTRIES is) (λ n v. (le-leb n MOST_ENTRIES v, omega (arith, v)))) u64_read
@@ -71,16 +71,16 @@ first_front p = (p.0, (FIRST_MODULE_LIMIT, (p.1, 0)))
 pub front_read : (version : Version) → Reads (front_at version) (spell_front version) (TellsFront version)
 unfolding front_at
 front_read One =
-    made_read (λ p. Some (first_front p)) (λ f. (f.0, f.1.1.0)) (both_at limit_at entries_at) (λ p. limit_bytes p.0 ++ u64_bytes p.1) (λ p. IsLimit p.0 × IsCount p.1) FirstFront
+    made_read (λ p. Some (first_front p)) (λ f. (f.0, f.1.1.0)) (both_at limit_at entry_count_at) (λ p. limit_bytes p.0 ++ u64_bytes p.1) (λ p. IsLimit p.0 × IsCount p.1) FirstFront
     (tested_make (λ p. true) first_front (λ f. (f.0, f.1.1.0)) (λ p. IsLimit p.0 × IsCount p.1) FirstFront (λ p. refl)
     (λ f w. let front : ℕ → Limit → CheckpointFront = λ floor limit. (f.0, (limit, (f.1.1.0, floor))) in ap (front 0) (sym w.module_limit) ∙ ap (λ n. front n f.1.0) (sym w.floor))
     (λ p v is. record { limit = v.0; module_limit = refl; entries = v.1; floor = refl })
     (λ f w. (refl, (w.limit, w.entries))))
-    (both_read limit_at entries_at limit_bytes u64_bytes IsLimit IsCount limit_read entries_read)
+    (both_read limit_at entry_count_at limit_bytes u64_bytes IsLimit IsCount limit_read entries_read)
 front_read Two =
-    let last = both_read entries_at u64_at u64_bytes u64_bytes IsCount Fits8 entries_read u64_read in
-    let more = both_read limit_at (both_at entries_at u64_at) limit_bytes (λ (p : ℕ × ℕ). u64_bytes p.0 ++ u64_bytes p.1) IsLimit (λ p. IsCount p.0 × Fits8 p.1) limit_read last in
-    both_read limit_at (both_at limit_at (both_at entries_at u64_at)) limit_bytes (λ (p : Limit × (ℕ × ℕ)). limit_bytes p.0 ++ (u64_bytes p.1.0 ++ u64_bytes p.1.1)) IsLimit (λ p. IsLimit p.0 × (IsCount p.1.0 × Fits8 p.1.1)) limit_read more
+    let last = both_read entry_count_at u64_at u64_bytes u64_bytes IsCount Fits8 entries_read u64_read in
+    let more = both_read limit_at (both_at entry_count_at u64_at) limit_bytes (λ (p : ℕ × ℕ). u64_bytes p.0 ++ u64_bytes p.1) IsLimit (λ p. IsCount p.0 × Fits8 p.1) limit_read last in
+    both_read limit_at (both_at limit_at (both_at entry_count_at u64_at)) limit_bytes (λ (p : Limit × (ℕ × ℕ)). limit_bytes p.0 ++ (u64_bytes p.1.0 ++ u64_bytes p.1.1)) IsLimit (λ p. IsLimit p.0 × (IsCount p.1.0 × Fits8 p.1.1)) limit_read more
 
 -- ---- the floor at the end
 

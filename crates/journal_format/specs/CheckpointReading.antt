@@ -37,12 +37,12 @@ list_at read bytes = do
 abbrev pub CheckpointFront : Type 0
 CheckpointFront = Limit × (Limit × (ℕ × ℕ))
 
-unfoldable pub entries_at : Reader ℕ
-entries_at = made_at (if_passes (λ entries. nat_le entries MOST_ENTRIES)) u64_at
+unfoldable pub entry_count_at : Reader ℕ
+entry_count_at = made_at (if_passes (λ entries. nat_le entries MOST_ENTRIES)) u64_at
 
 unfoldable pub front_at : Version → Reader CheckpointFront
-front_at One = made_at (λ p. Some (p.0, (FIRST_MODULE_LIMIT, (p.1, 0)))) (both_at limit_at entries_at)
-front_at Two = both_at limit_at (both_at limit_at (both_at entries_at u64_at))
+front_at One = made_at (λ p. Some (p.0, (FIRST_MODULE_LIMIT, (p.1, 0)))) (both_at limit_at entry_count_at)
+front_at Two = both_at limit_at (both_at limit_at (both_at entry_count_at u64_at))
 
 -- ---- rows
 

@@ -6,7 +6,7 @@ ghost use Rattle.ras_facts.specs.Valid.{IsPage};
 ghost use Rattle.ras_account.specs.Accounts.{IsModuleRow};
 ghost use Rattle.entry_format.specs.Reading.{Gives, u64_at, many_at};
 ghost use Rattle.ras_account.specs.Rows.{row_of};
-ghost use Rattle.journal_format.specs.CheckpointReading.{replace_of, replace_at, bucket_at, replacement_at, module_at, page_state_of, page_state_at, page_row_at, entries_at, front_at, end_floor_at, floor_in};
+ghost use Rattle.journal_format.specs.CheckpointReading.{replace_of, replace_at, bucket_at, replacement_at, module_at, page_state_of, page_state_at, page_row_at, entry_count_at, front_at, end_floor_at, floor_in};
 ghost use Rattle.journal_format.specs.Fronts.{front_of};
 
 use entry_format::{EntryRefused, Version, byte_at, label_at, limit_at, page_number_at, u64_at};
@@ -158,7 +158,8 @@ fn read_page_row(bytes: &[u8]) -> Result<((u64, Bucket, PageState), &[u8]), Entr
 
 /// The row of a page: its number, its bucket and its state.
 pub(crate) fn page_row_at(bytes: &[u8]) -> Result<((u64, Bucket, PageState), &[u8]), EntryRefused>
-    ensures read { Gives (λ x. ((x.0.0, record { bucket = x.0.1; state = x.0.2 }), x.1.now)) result (page_row_at bytes.now) }
+    ensures read { Gives (λ x. ((x.0.0, record { bucket = x.0.1; state = x.0.2 }), x.1.now)) result
+        (page_row_at bytes.now) }
     ensures page { IfOk result (λ x. IsPage x.0.0) }
     ensures count { IfOk result (λ x. x.0.1.count ≤ most_count) }
 {
@@ -166,9 +167,9 @@ pub(crate) fn page_row_at(bytes: &[u8]) -> Result<((u64, Bucket, PageState), &[u
 }
 
 // The number of entries.
-#[tactic(auto, unfolding(crate::specs::CheckpointReading::entries_at))]
-fn entries_at(bytes: &[u8]) -> Result<(u64, &[u8]), EntryRefused>
-    ensures { Gives (λ x. (x.0, x.1.now)) result (entries_at bytes.now) }
+#[tactic(auto, unfolding(crate::specs::CheckpointReading::entry_count_at))]
+fn entry_count_at(bytes: &[u8]) -> Result<(u64, &[u8]), EntryRefused>
+    ensures { Gives (λ x. (x.0, x.1.now)) result (entry_count_at bytes.now) }
 {
     let (entries, rest) = u64_at(bytes)?;
     if entries > MOST_ENTRIES {
@@ -185,7 +186,7 @@ fn read_front(version: Version, bytes: &[u8]) -> Result<(CheckpointFront, &[u8])
     let (limit, rest) = limit_at(bytes)?;
     match version {
         Version::One => {
-            let (entries, rest) = entries_at(rest)?;
+            let (entries, rest) = entry_count_at(rest)?;
             let front = CheckpointFront {
                 limit,
                 module_limit: FIRST_MODULE_LIMIT,
@@ -196,7 +197,7 @@ fn read_front(version: Version, bytes: &[u8]) -> Result<(CheckpointFront, &[u8])
         }
         Version::Two => {
             let (module_limit, rest) = limit_at(rest)?;
-            let (entries, rest) = entries_at(rest)?;
+            let (entries, rest) = entry_count_at(rest)?;
             let (floor, rest) = u64_at(rest)?;
             let front = CheckpointFront {
                 limit,

@@ -1,3 +1,4 @@
+pub mod AcpiTable
 pub mod Places
 pub mod PlacesLemmas
 pub mod Prefix

@@ -1,13 +1,15 @@
-//! What several crates share: want of memory, bits and little-endian numbers, and words that their
-//! contracts cite.
+//! What several crates share: want of memory, bits and little-endian numbers, the sum of a table,
+//! and words that their contracts cite.
 #![tactic(auto)]
 
 ghost use Rattle.std.specs.Prelude.{◌≡◌};
 
+mod acpi_table;
 mod bit_fields;
 mod exact;
 pub mod little_endian;
 
+pub use acpi_table::has_sum;
 pub use bit_fields::{bits, is_set};
 pub use exact::ExactEq;
 use std::alloc::{AllocError, AllocFailed};

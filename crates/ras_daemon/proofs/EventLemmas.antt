@@ -12,7 +12,7 @@ use Rattle.ras_base.specs.PlacesLemmas.{places-snoc}
 use Rattle.apei_sources.specs.Bert.{bert_of}
 use Rattle.apei_sources.specs.Blocks.{block_of}
 use Rattle.apei_sources.specs.Hest.{hest_of}
-use Rattle.dimm_topology.specs.Refusals.{refusal_of}
+use Rattle.dimm_topology.specs.Refusals.{row_refusal}
 use Rattle.dimm_topology.specs.declared.row.Row.{Row}
 use Rattle.ras_facts.specs.declared.entry.Entry.{Entry}
 use Rattle.ras_facts.specs.declared.name.Name.{Name}
@@ -173,7 +173,7 @@ module _ (start : Start) (before : List NumberedLine) (number : ℕ) where
   tells-line : (line : Line) → IsTaken line → IsAccepted start (before, (number, Ok line)) → IsAccount (account_at start before) → Tells start (before, (number, Ok line))
   tells-line asks.Nothing taken accepted account = inr (record { event = refl; silent = refl; reports = refl })
   tells-line (asks.Row row) taken accepted account =
-      inl (prints start before number (Ok (asks.Row row)) (row_event (settings_told before).topology row) refl refl accepted.taken accepted.fit (refused-something reason.Topology (refusal_of (settings_told before).topology row)) account)
+      inl (prints start before number (Ok (asks.Row row)) (row_event (settings_told before).topology row) refl refl accepted.taken accepted.fit (refused-something reason.Topology (row_refusal (settings_told before).topology row)) account)
   tells-line (asks.Table (Hest bytes)) taken accepted account =
       inl (prints start before number (Ok (asks.Table (Hest bytes))) (hest_event bytes) refl refl accepted.taken accepted.fit (then-something reason.Hest (hest_of bytes) (λ sources. Ok Settled) (λ sources. record { is = refl })) account)
   tells-line (asks.Table (Erst bytes)) taken accepted account = absurd taken

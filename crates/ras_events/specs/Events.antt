@@ -7,7 +7,7 @@ use Rattle.apei_sources.specs.Bert.{bert_of}
 use Rattle.apei_sources.specs.Blocks.{block_of}
 use Rattle.apei_sources.specs.Hest.{Sources, hest_of, type_with_id}
 use Rattle.dimm_topology.specs.declared.row.Row.{Row}
-use Rattle.dimm_topology.specs.Refusals.{refusal_of}
+use Rattle.dimm_topology.specs.Refusals.{row_refusal}
 use Rattle.ras_facts.specs.declared.entry.Entry.{Entry}
 use Rattle.ras_facts.specs.declared.name.Name.{Name}
 use Rattle.ras_facts.specs.declared.name.Name.TheVariants as names
@@ -38,7 +38,7 @@ or_reason why (Err refused) = Err (why refused)
 
 -- a row of the machine, which its rows take or refuse
 abbrev pub row_event : List Row → Row → Result Event Reason
-row_event rows row = option_map_or (λ why. Err (reason.Topology why)) (refusal_of rows row) (Ok Settled)
+row_event rows row = option_map_or (λ why. Err (reason.Topology why)) (row_refusal rows row) (Ok Settled)
 
 -- a table of error sources
 abbrev pub hest_event : List ℕ → Result Event Reason

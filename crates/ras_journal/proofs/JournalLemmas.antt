@@ -11,7 +11,7 @@ use Rattle.ras_account.specs.Account.{State}
 use Rattle.ras_journal.specs.declared.limits.TheConstants.{LONGEST_FILE}
 use Rattle.ras_journal.specs.declared.standing.Standing.{Standing}
 use Rattle.ras_journal.specs.File.{FileFront, front_of, account_by}
-use Rattle.ras_journal.specs.Recovered.{Refusal, too_long, in_file, JournalFile, greater, generation_in, is_too_long, journal_of, account_of_journal, recovered, standing_of, standing_in, position_of, Recovers, IsAt}
+use Rattle.ras_journal.specs.Recovered.{Refusal, too_long, in_file, JournalFile, greater, generation_in, is_file_too_long, journal_of, account_of_journal, recovered, standing_of, standing_in, position_of, Recovers, IsAt}
 use Rattle.ras_journal.proofs.PartLemmas.{bind_ok, bind_of, same_ok}
 
 in_file_ok : {A : Type 0} (file : FileNo) (r : Result A ℕ) (x : A) → in_file file r ≡ Ok x → r ≡ Ok x
@@ -35,18 +35,18 @@ unfolding journal_of
 both_whole file0 file1 both =
     let short0 : length file0 ≤ LONGEST_FILE = both.short_zero in
     let short1 : length file1 ≤ LONGEST_FILE = both.short_one in
-    let test0 : is_too_long file0 ≡ false = grind (arith, nat_tests) in
-    let test1 : is_too_long file1 ≡ false = grind (arith, nat_tests) in
+    let test0 : is_file_too_long file0 ≡ false = grind (arith, nat_tests) in
+    let test1 : is_file_too_long file1 ≡ false = grind (arith, nat_tests) in
     rw test0 (rw test1 (bind_of _ _ _ (in_file_of Zero _ _ both.reads_zero) ∙ bind_of _ _ _ (in_file_of One _ _ both.reads_one)))
 
 pub both_parts : (file0 file1 : List ℕ) (journal : Option JournalFile) → journal_of file0 file1 ≡ Ok journal → (both : BothRead file0 file1) × (greater both.zero both.one ≡ journal)
 unfolding journal_of
-both_parts file0 file1 journal e = by (is_too_long file0) refl (is_too_long file1) refl e
+both_parts file0 file1 journal e = by (is_file_too_long file0) refl (is_file_too_long file1) refl e
   where
     rest : Result (Option JournalFile) Refusal
     rest = in_file Zero (front_of None file0) >>= λ zero. in_file One (front_of (generation_in zero) file1) >>= λ one. Ok (greater zero one)
 
-    by : (b : Bool) → is_too_long file0 ≡ b → (c : Bool) → is_too_long file1 ≡ c → ◌≡◌ {A = Result (Option JournalFile) Refusal} (if b || c then Err too_long else rest) (Ok journal)
+    by : (b : Bool) → is_file_too_long file0 ≡ b → (c : Bool) → is_file_too_long file1 ≡ c → ◌≡◌ {A = Result (Option JournalFile) Refusal} (if b || c then Err too_long else rest) (Ok journal)
         → (both : BothRead file0 file1) × (greater both.zero both.one ≡ journal)
     by true is c is1 e = absurd cc
     by false is true is1 e = absurd cc

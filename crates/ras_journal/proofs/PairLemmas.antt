@@ -10,7 +10,7 @@ use Rattle.ras_account.specs.Account.{account_of}
 use Rattle.ras_journal.specs.declared.limits.TheConstants.{LONGEST_FILE, LAST_GENERATION}
 use Rattle.ras_journal.specs.Fields.{some_or, field, generation_of, is_generation}
 use Rattle.ras_journal.specs.File.{FileFront, first_front, front_of, has_open_gate}
-use Rattle.ras_journal.specs.Recovered.{Refusal, too_long, damaged, in_file, JournalFile, generation_in, is_too_long, journal_of, recovered}
+use Rattle.ras_journal.specs.Recovered.{Refusal, too_long, damaged, in_file, JournalFile, generation_in, is_file_too_long, journal_of, recovered}
 use Rattle.ras_journal.proofs.PartLemmas.{bind_of, bind_err, field_made, field_within, part_within}
 use Rattle.ras_journal.proofs.FrontLemmas.{FirstFront, first_parts, front_parts, walk_continues}
 use Rattle.ras_journal.proofs.JournalLemmas.{both_whole}
@@ -20,10 +20,10 @@ refused : (file0 file1 : List ℕ) (why : Refusal) → journal_of file0 file1 �
 unfolding recovered
 refused file0 file1 why e = bind_err (journal_of file0 file1) _ why e
 
-long_test : (file : List ℕ) → LONGEST_FILE < length file → is_too_long file ≡ true
+long_test : (file : List ℕ) → LONGEST_FILE < length file → is_file_too_long file ≡ true
 long_test file long = grind (arith, nat_tests)
 
-short_test : (file : List ℕ) → length file ≤ LONGEST_FILE → is_too_long file ≡ false
+short_test : (file : List ℕ) → length file ≤ LONGEST_FILE → is_file_too_long file ≡ false
 short_test file short = grind (arith, nat_tests)
 
 either : (b : Bool) (r : Result (Option JournalFile) Refusal) → (if b || true then Err too_long else r) ≡ Err too_long
@@ -36,7 +36,7 @@ journal_zero_long file0 file1 long = rw (long_test file0 long) refl
 
 journal_one_long : (file0 file1 : List ℕ) → LONGEST_FILE < length file1 → journal_of file0 file1 ≡ Err too_long
 unfolding journal_of
-journal_one_long file0 file1 long = rw (long_test file1 long) (either (is_too_long file0) _)
+journal_one_long file0 file1 long = rw (long_test file1 long) (either (is_file_too_long file0) _)
 
 pub zero_long : (file0 file1 : List ℕ) → LONGEST_FILE < length file0 → recovered file0 file1 ≡ Err too_long
 zero_long file0 file1 long = refused file0 file1 too_long (journal_zero_long file0 file1 long)

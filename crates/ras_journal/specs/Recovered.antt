@@ -37,14 +37,14 @@ greater (Some zero) (Some one) =
 abbrev pub generation_in : Option FileFront → Option ℕ
 generation_in front = option_map (λ (f : FileFront). f.generation) front
 
-abbrev pub is_too_long : List ℕ → Bool
-is_too_long file = nat_lt LONGEST_FILE (length file)
+abbrev pub is_file_too_long : List ℕ → Bool
+is_file_too_long file = nat_lt LONGEST_FILE (length file)
 
 -- File 0 is tried before file 1. Where both stand, file 1 is damaged at its generation if that is
 -- file 0's. Damage counts also in the file with the lesser generation.
 unfoldable pub journal_of : List ℕ → List ℕ → Result (Option JournalFile) Refusal
 journal_of file0 file1 =
-    if is_too_long file0 || is_too_long file1 then Err too_long else (do
+    if is_file_too_long file0 || is_file_too_long file1 then Err too_long else (do
       zero ← in_file Zero (front_of None file0)
       one ← in_file One (front_of (generation_in zero) file1)
       Ok (greater zero one))

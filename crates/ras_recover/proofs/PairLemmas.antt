@@ -8,7 +8,7 @@ use Rattle.board_core.specs.declared.board.FileNo.TheVariants.{Zero, One}
 use Rattle.board_core.specs.Told.{Told}
 use Rattle.ras_journal.specs.declared.limits.TheConstants.{LONGEST_FILE}
 use Rattle.ras_journal.specs.File.{FileFront, front_of}
-use Rattle.ras_journal.specs.Recovered.{Refusal, too_long, in_file, JournalFile, greater, generation_in, is_too_long, journal_of, account_of_journal, recovered, standing_of, standing_in, position_of}
+use Rattle.ras_journal.specs.Recovered.{Refusal, too_long, in_file, JournalFile, greater, generation_in, is_file_too_long, journal_of, account_of_journal, recovered, standing_of, standing_in, position_of}
 use Rattle.ras_journal.proofs.PartLemmas.{bind_of, bind_err}
 use Rattle.ras_journal.proofs.PairLemmas.{zero_long, one_long}
 use Rattle.ras_recover.specs.declared.refused.OpenRefused.{OpenRefused}
@@ -28,8 +28,8 @@ both file0 file1 = in_file Zero (front_of None file0) >>= λ zero. in_file One (
 journal_is : (file0 file1 : List ℕ) → length file0 ≤ LONGEST_FILE → length file1 ≤ LONGEST_FILE → journal_of file0 file1 ≡ both file0 file1
 unfolding journal_of both
 journal_is file0 file1 short0 short1 =
-    let test0 : is_too_long file0 ≡ false = grind (arith, nat_tests) in
-    let test1 : is_too_long file1 ≡ false = grind (arith, nat_tests) in
+    let test0 : is_file_too_long file0 ≡ false = grind (arith, nat_tests) in
+    let test1 : is_file_too_long file1 ≡ false = grind (arith, nat_tests) in
     rw test0 (rw test1 refl)
 
 pub zero_fails : (refused : OpenRefused) (file0 file1 : List ℕ) → length file0 ≤ LONGEST_FILE → length file1 ≤ LONGEST_FILE → Refuses refused (in_file Zero (front_of None file0)) → Refuses refused (journal_of file0 file1)

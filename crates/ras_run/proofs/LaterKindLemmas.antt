@@ -16,7 +16,7 @@ use Rattle.ras_script.specs.declared.line.Line.{Line}
 use Rattle.ras_script.specs.declared.line.Line.TheVariants as asks
 use Rattle.ras_script.specs.declared.line.LineRefused.{LineRefused}
 use Rattle.ras_script.specs.declared.reader.TheConstants.{LONGEST_LINE}
-use Rattle.ras_script.specs.Fields.{bytes_at, decimal_at, hexadecimal_at, label_at, limit_at, report_at}
+use Rattle.ras_script.specs.Fields.{hex_bytes_at, decimal_at, hexadecimal_at, label_word_at, limit_from_words, report_at}
 use Rattle.ras_script.specs.Kinds.{bank_asks, cpu_asks, module_asks, range_asks, place_asks, limit_asks, module_limit_asks, hest_asks, bert_asks, ghes_asks, retire_asks, restart_asks}
 use Rattle.ras_script.specs.Line.{Gives, kinds, line_named, line_of, line_of_words}
 use Rattle.ras_script.specs.Splitting.{words_of}
@@ -73,7 +73,7 @@ read_short most word true decoded short is = tt
 read_short most word false (Err why) short is = tt
 read_short most word false (Ok bytes) short is = (let twice : length word ≡ 2 * length bytes = (decode_of-ok word bytes is).2 in omega arith)
 
-bytes_short : (most : ℕ) (words : List (List ℕ)) (place : ℕ) → AreShort most words → IfOk (bytes_at words place) (IsShort most)
+bytes_short : (most : ℕ) (words : List (List ℕ)) (place : ℕ) → AreShort most words → IfOk (hex_bytes_at words place) (IsShort most)
 bytes_short most words place all =
     let word : List ℕ = slice_index_or words place [] in
     read_short most word (length word == 0) (decode_of word) (word_short most words place all) refl
@@ -113,7 +113,7 @@ module _ (most : ℕ) where
 
   module-good : (words : List (List ℕ)) → IfOk (module_asks words) (IsGood most)
   module-good words = if_words (length words == 4) _ (
-      then_any (label_at words 0) _ (λ label.
+      then_any (label_word_at words 0) _ (λ label.
       then_any (decimal_at words 1 255) _ (λ socket.
       then_any (decimal_at words 2 255) _ (λ bank.
       then_any (decimal_at words 3 14) _ (λ channel.
@@ -121,7 +121,7 @@ module _ (most : ℕ) where
 
   range-good : (words : List (List ℕ)) → IfOk (range_asks words) (IsGood most)
   range-good words = if_words (length words == 3) _ (
-      then_any (label_at words 0) _ (λ label.
+      then_any (label_word_at words 0) _ (λ label.
       then_any (hexadecimal_at words 1) _ (λ first.
       then_any (hexadecimal_at words 2) _ (λ last.
       upright label first last (nat_le first last)))))
@@ -132,7 +132,7 @@ module _ (most : ℕ) where
 
   place-good : (words : List (List ℕ)) → IfOk (place_asks words) (IsGood most)
   place-good words = if_words (length words == 4) _ (
-      then_any (label_at words 0) _ (λ label.
+      then_any (label_word_at words 0) _ (λ label.
       then_any (decimal_at words 1 65535) _ (λ node.
       then_any (decimal_at words 2 65535) _ (λ card.
       then_any (decimal_at words 3 65535) _ (λ number.
@@ -140,25 +140,25 @@ module _ (most : ℕ) where
 
   limit-good : (words : List (List ℕ)) → IfOk (limit_asks words) (IsGood most)
   limit-good words = if_words (length words == 2) _ (
-      then_any (limit_at words) _ (λ limit.
+      then_any (limit_from_words words) _ (λ limit.
       (tt, tt)))
 
   module_limit-good : (words : List (List ℕ)) → IfOk (module_limit_asks words) (IsGood most)
   module_limit-good words = if_words (length words == 2) _ (
-      then_any (limit_at words) _ (λ limit.
+      then_any (limit_from_words words) _ (λ limit.
       (tt, tt)))
 
   hest-good : (words : List (List ℕ)) → IfOk (hest_asks words) (IsGood most)
   hest-good words = if_words (length words == 1) _ (
-      then_any (bytes_at words 0) _ (λ bytes.
+      then_any (hex_bytes_at words 0) _ (λ bytes.
       (tt, tt)))
 
   bert-good : (words : List (List ℕ)) → AreShort most words → IfOk (bert_asks words) (IsGood most)
   bert-good words short = if_words (length words == 4) _ (
       then_any (decimal_at words 0 (18446744073709551615)) _ (λ boot.
       then_any (decimal_at words 1 (18446744073709551615)) _ (λ seconds.
-      then_any (bytes_at words 2) _ (λ table.
-      then_within (IsShort most) (IsGood most) (bytes_at words 3) _ (bytes_short most words 3 short) (λ region region_short.
+      then_any (hex_bytes_at words 2) _ (λ table.
+      then_within (IsShort most) (IsGood most) (hex_bytes_at words 3) _ (bytes_short most words 3 short) (λ region region_short.
       (tt, region_short))))))
 
   ghes-good : (words : List (List ℕ)) → AreShort most words → IfOk (ghes_asks words) (IsGood most)
@@ -167,7 +167,7 @@ module _ (most : ℕ) where
       then_any (decimal_at words 1 (18446744073709551615)) _ (λ seconds.
       then_any (decimal_at words 2 65535) _ (λ source.
       then_any (decimal_at words 3 (18446744073709551615)) _ (λ number.
-      then_within (IsShort most) (IsGood most) (bytes_at words 4) _ (bytes_short most words 4 short) (λ bytes bytes_are.
+      then_within (IsShort most) (IsGood most) (hex_bytes_at words 4) _ (bytes_short most words 4 short) (λ bytes bytes_are.
       (tt, bytes_are)))))))
 
   retire-good : (words : List (List ℕ)) → IfOk (retire_asks words) (IsGood most)

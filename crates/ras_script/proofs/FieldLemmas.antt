@@ -9,7 +9,7 @@ use Rattle.page_policy.specs.Buckets.{IsLimit}
 use Rattle.ras_base.specs.Chaining.{◌>>=◌}
 use Rattle.ras_script.specs.declared.line.LineRefused.{LineRefused}
 use Rattle.ras_script.specs.Bytes.{AreBytes, bytes_of}
-use Rattle.ras_script.specs.Fields.{bytes_at, decimal_at, hexadecimal_at, label_at, limit_at, positive_at, report_at}
+use Rattle.ras_script.specs.Fields.{hex_bytes_at, decimal_at, hexadecimal_at, label_word_at, limit_from_words, positive_at, report_at}
 use Rattle.ras_script.specs.LineLaws.{IsBankInRange}
 use Rattle.ras_script.specs.Number.{is_numeral}
 use Rattle.ras_script.proofs.ByteLemmas.{bytes_read}
@@ -38,15 +38,15 @@ some_within : (P : List ℕ → Type 0) (read : Option (List ℕ)) → IfSome re
 some_within P None h = tt
 some_within P (Some bytes) h = h
 
-pub bytes_within : (words : List (List ℕ)) (place : ℕ) → IfOk (bytes_at words place) AreBytes
+pub bytes_within : (words : List (List ℕ)) (place : ℕ) → IfOk (hex_bytes_at words place) AreBytes
 bytes_within words place =
     let word : List ℕ = slice_index_or words place [] in
     some_within AreBytes (bytes_of word) (bytes_read word)
 
-pub label_within : (words : List (List ℕ)) (place : ℕ) → IfOk (label_at words place) (λ label. IsTrue (is_label label))
+pub label_within : (words : List (List ℕ)) (place : ℕ) → IfOk (label_word_at words place) (λ label. IsTrue (is_label label))
 label_within words place = by (is_label (slice_index_or words place [])) refl
   where
-    by : (b : Bool) → is_label (slice_index_or words place []) ≡ b → IfOk (label_at words place) (λ label. IsTrue (is_label label))
+    by : (b : Bool) → is_label (slice_index_or words place []) ≡ b → IfOk (label_word_at words place) (λ label. IsTrue (is_label label))
     by true is = rw is is
     by false is = rw is tt
 
@@ -58,7 +58,7 @@ positive_within words place most =
     by n small true zero = tt
     by n small false more = (grind (arith, nat_tests, more), small)
 
-pub two_within : (words : List (List ℕ)) → IfOk (limit_at words) IsLimit
+pub two_within : (words : List (List ℕ)) → IfOk (limit_from_words words) IsLimit
 two_within words =
     then_within (λ n. (1 ≤ n) × (n ≤ 1000000)) IsLimit (positive_at words 0 1000000) _ (positive_within words 0 1000000) (λ capacity capacity_in.
     then_within (λ n. (1 ≤ n) × (n ≤ 10000000)) IsLimit (positive_at words 1 10000000) _ (positive_within words 1 10000000) (λ period period_in.

@@ -9,7 +9,7 @@ use Rattle.page_policy.specs.Buckets.{IsLimit}
 use Rattle.ras_script.specs.declared.line.Line.{Line}
 use Rattle.ras_script.specs.declared.line.LineRefused.{LineRefused}
 use Rattle.ras_script.specs.Bytes.{AreBytes}
-use Rattle.ras_script.specs.Fields.{bytes_at, decimal_at, hexadecimal_at, label_at, limit_at, report_at}
+use Rattle.ras_script.specs.Fields.{hex_bytes_at, decimal_at, hexadecimal_at, label_word_at, limit_from_words, report_at}
 use Rattle.ras_script.specs.Kinds.{Reading, bank_asks, cpu_asks, module_asks, range_asks, place_asks, limit_asks, module_limit_asks, hest_asks, erst_asks, bert_asks, ghes_asks, put_asks, poll_asks, retire_asks, panic_asks, restart_asks}
 use Rattle.ras_script.specs.Line.{kinds, line_named, line_of_words, line_of, ReadsLine}
 use Rattle.ras_script.specs.LineLaws.{IsInRange, IsBankInRange}
@@ -33,7 +33,7 @@ cpu_within words = if_words (length words == 2) _ (
 
 module_within : (words : List (List ℕ)) → IfOk (module_asks words) IsInRange
 module_within words = if_words (length words == 4) _ (
-    then_within (λ label. IsTrue (is_label label)) IsInRange (label_at words 0) _ (label_within words 0) (λ label label_in.
+    then_within (λ label. IsTrue (is_label label)) IsInRange (label_word_at words 0) _ (label_within words 0) (λ label label_in.
     then_within (λ n. n ≤ 255) IsInRange (decimal_at words 1 255) _ (decimal_within words 1 255) (λ socket socket_in.
     then_within (λ n. n ≤ 255) IsInRange (decimal_at words 2 255) _ (decimal_within words 2 255) (λ bank bank_in.
     then_within (λ n. n ≤ 14) IsInRange (decimal_at words 3 14) _ (decimal_within words 3 14) (λ channel channel_in.
@@ -41,7 +41,7 @@ module_within words = if_words (length words == 4) _ (
 
 range_within : (words : List (List ℕ)) → IfOk (range_asks words) IsInRange
 range_within words = if_words (length words == 3) _ (
-    then_within (λ label. IsTrue (is_label label)) IsInRange (label_at words 0) _ (label_within words 0) (λ label label_in.
+    then_within (λ label. IsTrue (is_label label)) IsInRange (label_word_at words 0) _ (label_within words 0) (λ label label_in.
     then_within (λ n. n ≤ 2 ^ 64 - 1) IsInRange (hexadecimal_at words 1) _ (hexadecimal_within words 1) (λ first first_in.
     then_within (λ n. n ≤ 2 ^ 64 - 1) IsInRange (hexadecimal_at words 2) _ (hexadecimal_within words 2) (λ last last_in.
     by label first last label_in last_in (nat_le first last) refl))))
@@ -53,7 +53,7 @@ range_within words = if_words (length words == 3) _ (
 
 place_within : (words : List (List ℕ)) → IfOk (place_asks words) IsInRange
 place_within words = if_words (length words == 4) _ (
-    then_within (λ label. IsTrue (is_label label)) IsInRange (label_at words 0) _ (label_within words 0) (λ label label_in.
+    then_within (λ label. IsTrue (is_label label)) IsInRange (label_word_at words 0) _ (label_within words 0) (λ label label_in.
     then_within (λ n. n ≤ 65535) IsInRange (decimal_at words 1 65535) _ (decimal_within words 1 65535) (λ node node_in.
     then_within (λ n. n ≤ 65535) IsInRange (decimal_at words 2 65535) _ (decimal_within words 2 65535) (λ card card_in.
     then_within (λ n. n ≤ 65535) IsInRange (decimal_at words 3 65535) _ (decimal_within words 3 65535) (λ number number_in.
@@ -61,30 +61,30 @@ place_within words = if_words (length words == 4) _ (
 
 limit_within : (words : List (List ℕ)) → IfOk (limit_asks words) IsInRange
 limit_within words = if_words (length words == 2) _ (
-    then_within IsLimit IsInRange (limit_at words) _ (two_within words) (λ limit limit_in.
+    then_within IsLimit IsInRange (limit_from_words words) _ (two_within words) (λ limit limit_in.
     limit_in))
 
 module_limit_within : (words : List (List ℕ)) → IfOk (module_limit_asks words) IsInRange
 module_limit_within words = if_words (length words == 2) _ (
-    then_within IsLimit IsInRange (limit_at words) _ (two_within words) (λ limit limit_in.
+    then_within IsLimit IsInRange (limit_from_words words) _ (two_within words) (λ limit limit_in.
     limit_in))
 
 hest_within : (words : List (List ℕ)) → IfOk (hest_asks words) IsInRange
 hest_within words = if_words (length words == 1) _ (
-    then_within AreBytes IsInRange (bytes_at words 0) _ (bytes_within words 0) (λ bytes bytes_in.
+    then_within AreBytes IsInRange (hex_bytes_at words 0) _ (bytes_within words 0) (λ bytes bytes_in.
     bytes_in))
 
 erst_within : (words : List (List ℕ)) → IfOk (erst_asks words) IsInRange
 erst_within words = if_words (length words == 1) _ (
-    then_within AreBytes IsInRange (bytes_at words 0) _ (bytes_within words 0) (λ bytes bytes_in.
+    then_within AreBytes IsInRange (hex_bytes_at words 0) _ (bytes_within words 0) (λ bytes bytes_in.
     bytes_in))
 
 bert_within : (words : List (List ℕ)) → IfOk (bert_asks words) IsInRange
 bert_within words = if_words (length words == 4) _ (
     then_within (λ n. n ≤ 2 ^ 64 - 1) IsInRange (decimal_at words 0 (2 ^ 64 - 1)) _ (decimal_within words 0 (2 ^ 64 - 1)) (λ boot boot_in.
     then_within (λ n. n ≤ 2 ^ 64 - 1) IsInRange (decimal_at words 1 (2 ^ 64 - 1)) _ (decimal_within words 1 (2 ^ 64 - 1)) (λ seconds seconds_in.
-    then_within AreBytes IsInRange (bytes_at words 2) _ (bytes_within words 2) (λ table table_in.
-    then_within AreBytes IsInRange (bytes_at words 3) _ (bytes_within words 3) (λ region region_in.
+    then_within AreBytes IsInRange (hex_bytes_at words 2) _ (bytes_within words 2) (λ table table_in.
+    then_within AreBytes IsInRange (hex_bytes_at words 3) _ (bytes_within words 3) (λ region region_in.
     (omega arith, omega arith, table_in, region_in))))))
 
 ghes_within : (words : List (List ℕ)) → IfOk (ghes_asks words) IsInRange
@@ -93,13 +93,13 @@ ghes_within words = if_words (length words == 5) _ (
     then_within (λ n. n ≤ 2 ^ 64 - 1) IsInRange (decimal_at words 1 (2 ^ 64 - 1)) _ (decimal_within words 1 (2 ^ 64 - 1)) (λ seconds seconds_in.
     then_within (λ n. n ≤ 65535) IsInRange (decimal_at words 2 65535) _ (decimal_within words 2 65535) (λ source source_in.
     then_within (λ n. n ≤ 2 ^ 64 - 1) IsInRange (decimal_at words 3 (2 ^ 64 - 1)) _ (decimal_within words 3 (2 ^ 64 - 1)) (λ number number_in.
-    then_within AreBytes IsInRange (bytes_at words 4) _ (bytes_within words 4) (λ bytes bytes_in.
+    then_within AreBytes IsInRange (hex_bytes_at words 4) _ (bytes_within words 4) (λ bytes bytes_in.
     (omega arith, omega arith, omega arith, omega arith, bytes_in)))))))
 
 put_within : (words : List (List ℕ)) → IfOk (put_asks words) IsInRange
 put_within words = if_words (length words == 2) _ (
     then_within (λ n. n ≤ 2 ^ 64 - 1) IsInRange (hexadecimal_at words 0) _ (hexadecimal_within words 0) (λ id id_in.
-    then_within AreBytes IsInRange (bytes_at words 1) _ (bytes_within words 1) (λ bytes bytes_in.
+    then_within AreBytes IsInRange (hex_bytes_at words 1) _ (bytes_within words 1) (λ bytes bytes_in.
     (omega arith, bytes_in))))
 
 poll_within : (words : List (List ℕ)) → IfOk (poll_asks words) IsInRange

@@ -27,7 +27,7 @@ use Rattle.ras_script.specs.declared.line.ErrorReport.TheVariants.{Bank, Block, 
 use Rattle.ras_script.specs.declared.line.Table.{Table}
 use Rattle.ras_script.specs.declared.line.Table.TheVariants.{Hest, Erst}
 use Rattle.ras_script.specs.Bytes.{AreBytes, bytes_of}
-use Rattle.ras_script.specs.Fields.{label_at, limit_at, report_at}
+use Rattle.ras_script.specs.Fields.{label_word_at, limit_from_words, report_at}
 use Rattle.ras_script.specs.Kinds.{range_asks}
 use Rattle.ras_script.specs.Line.{line_of_words, line_of}
 use Rattle.ras_script.specs.LineLaws.{IsInRange, IsBankInRange, IsEntryInRange, IsReportInRange, IsRowInRange, IsTableInRange, hexadecimal, bank_words, entry_words, limit_words, line_text, line_words, report_words, row_words, table_words}
@@ -108,7 +108,7 @@ hexadecimal_is n small is = is ∙ ap (λ o. ok_or o LineRefused.Number) (hexade
 bytes_is : {read : Result (List ℕ) LineRefused} (bytes : List ℕ) → AreBytes bytes → read ≡ ok_or (bytes_of (encode_lower bytes)) LineRefused.Hex → read ≡ Ok bytes
 bytes_is bytes are is = is ∙ ap (λ o. ok_or o LineRefused.Hex) (lower_read bytes are)
 
-label_is : (label : List ℕ) (words : List (List ℕ)) → IsTrue (is_label label) → label_at (label ∷ words) 0 ≡ Ok label
+label_is : (label : List ℕ) (words : List (List ℕ)) → IsTrue (is_label label) → label_word_at (label ∷ words) 0 ≡ Ok label
 label_is label words is = rw is refl
 
 -- a number from 1 on
@@ -120,7 +120,7 @@ positive_is n more is =
     let zero : (n == 0) ≡ false = not_zero n more in
     then_is n (λ n. if n == 0 then Err LineRefused.Number else Ok n) is (rw zero refl)
 
-limit_is : (limit : LimitOf) → IsLimit limit → limit_at (limit_words limit) ≡ Ok limit
+limit_is : (limit : LimitOf) → IsLimit limit → limit_from_words (limit_words limit) ≡ Ok limit
 limit_is limit within =
     let low = within.capacity_from in
     let high = within.capacity_to in

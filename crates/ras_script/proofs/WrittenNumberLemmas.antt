@@ -9,7 +9,7 @@ use Rattle.std.specs.Fmt.{decimal, digit_glyph, digits_onto}
 use Rattle.std.specs.Fmt.{digits}
 use Rattle.std.specs.List.{list_all}
 use Rattle.std.specs.Str.Parse.{AllDigits, IsNumeral, digits_value}
-use Rattle.ras_script.specs.Number.{number_of, decimal_of, hexadecimal_of}
+use Rattle.ras_script.specs.Number.{numeral_value, decimal_of, hexadecimal_of}
 
 digits_pass : (radix : ℕ) (word : List ℕ) → AllDigits radix word → list_all (λ c. is_digit c radix) word ≡ true
 digits_pass radix [] all = refl
@@ -22,7 +22,7 @@ numeral_is radix longest most n value some short all s l a is small =
     let test : nat_le value most ≡ true = grind (arith, nat_tests, small, is) in
     rw (s, l, a, test) (ap Some is)
 
-number_is : (radix longest most n : ℕ) (word : List ℕ) → IsNumeral radix word × (digits_value radix word ≡ n) → length word ≤ longest → n ≤ most → number_of radix longest most word ≡ Some n
+number_is : (radix longest most n : ℕ) (word : List ℕ) → IsNumeral radix word × (digits_value radix word ≡ n) → length word ≤ longest → n ≤ most → numeral_value radix longest most word ≡ Some n
 number_is radix longest most n word numeral short small =
     let some : nat_lt 0 (length word) ≡ true = lt-ltb _ _ numeral.0.0 in
     let few : nat_le (length word) longest ≡ true = grind (arith, nat_tests, short) in

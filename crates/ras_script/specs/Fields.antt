@@ -25,19 +25,19 @@ abbrev pub hexadecimal_at : List (List ℕ) → ℕ → Result ℕ LineRefused
 hexadecimal_at words place = ok_or (hexadecimal_of (slice_index_or words place [])) Number
 
 -- bytes
-abbrev pub bytes_at : List (List ℕ) → ℕ → Result (List ℕ) LineRefused
-bytes_at words place = ok_or (bytes_of (slice_index_or words place [])) Hex
+abbrev pub hex_bytes_at : List (List ℕ) → ℕ → Result (List ℕ) LineRefused
+hex_bytes_at words place = ok_or (bytes_of (slice_index_or words place [])) Hex
 
 -- a label
-abbrev pub label_at : List (List ℕ) → ℕ → Result (List ℕ) LineRefused
-label_at words place =
+abbrev pub label_word_at : List (List ℕ) → ℕ → Result (List ℕ) LineRefused
+label_word_at words place =
     let word = slice_index_or words place [] in
     if is_label word then Ok word else Err NoLabel
 
 -- the first two words as a limit: how many corrected errors within how many seconds are too many,
 -- in decimal and from 1 on
-abbrev pub limit_at : List (List ℕ) → Result Limit LineRefused
-limit_at words = do
+abbrev pub limit_from_words : List (List ℕ) → Result Limit LineRefused
+limit_from_words words = do
   capacity ← positive_at words 0 MOST_CAPACITY
   period ← positive_at words 1 MOST_PERIOD
   Ok (record { capacity = capacity; period = period })

@@ -11,7 +11,7 @@ use Rattle.ras_script.specs.declared.line.LineRefused.{LineRefused}
 use Rattle.ras_script.specs.declared.line.LineRefused.TheVariants.{Words, Number}
 use Rattle.ras_script.specs.declared.line.ErrorReport.TheVariants.{Bank, Block, Boot}
 use Rattle.ras_script.specs.declared.line.Table.TheVariants.{Hest, Erst}
-use Rattle.ras_script.specs.Fields.{bytes_at, decimal_at, hexadecimal_at, label_at, limit_at, report_at}
+use Rattle.ras_script.specs.Fields.{hex_bytes_at, decimal_at, hexadecimal_at, label_word_at, limit_from_words, report_at}
 
 -- what the words after a kind's name ask for
 abbrev pub Reading : Type 0
@@ -33,7 +33,7 @@ cpu_asks words = if length words == CPU_WORDS then (do
 -- a memory module: its label, and the socket, the bank and the memory channel that report it
 abbrev pub module_asks : Reading
 module_asks words = if length words == MODULE_WORDS then (do
-  label ← label_at words 0
+  label ← label_word_at words 0
   socket ← decimal_at words 1 255
   bank ← decimal_at words 2 255
   channel ← decimal_at words 3 LAST_CHANNEL
@@ -43,7 +43,7 @@ module_asks words = if length words == MODULE_WORDS then (do
 -- hexadecimal. The first is not above the last.
 abbrev pub range_asks : Reading
 range_asks words = if length words == RANGE_WORDS then (do
-  label ← label_at words 0
+  label ← label_word_at words 0
   first ← hexadecimal_at words 1
   last ← hexadecimal_at words 2
   (if nat_le first last then Ok (asks.Row (Range label first last)) else Err Number)) else Err Words
@@ -51,7 +51,7 @@ range_asks words = if length words == RANGE_WORDS then (do
 -- where firmware finds a module: its label, and its node, its card and its module number
 abbrev pub place_asks : Reading
 place_asks words = if length words == PLACE_WORDS then (do
-  label ← label_at words 0
+  label ← label_word_at words 0
   node ← decimal_at words 1 65535
   card ← decimal_at words 2 65535
   number ← decimal_at words 3 65535
@@ -60,23 +60,23 @@ place_asks words = if length words == PLACE_WORDS then (do
 -- a limit for pages, and one for modules
 abbrev pub limit_asks : Reading
 limit_asks words = if length words == LIMIT_WORDS then (do
-  limit ← limit_at words
+  limit ← limit_from_words words
   Ok (asks.Entry (Limit limit))) else Err Words
 
 abbrev pub module_limit_asks : Reading
 module_limit_asks words = if length words == LIMIT_WORDS then (do
-  limit ← limit_at words
+  limit ← limit_from_words words
   Ok (asks.Entry (ModuleLimit limit))) else Err Words
 
 -- the bytes of a hardware error source table, and of an error record serialization table
 abbrev pub hest_asks : Reading
 hest_asks words = if length words == TABLE_WORDS then (do
-  bytes ← bytes_at words 0
+  bytes ← hex_bytes_at words 0
   Ok (asks.Table (Hest bytes))) else Err Words
 
 abbrev pub erst_asks : Reading
 erst_asks words = if length words == TABLE_WORDS then (do
-  bytes ← bytes_at words 0
+  bytes ← hex_bytes_at words 0
   Ok (asks.Table (Erst bytes))) else Err Words
 
 -- a boot error region: boot, seconds, the bytes of the boot error record table, and the region's
@@ -84,8 +84,8 @@ abbrev pub bert_asks : Reading
 bert_asks words = if length words == BERT_WORDS then (do
   boot ← decimal_at words 0 (2 ^ 64 - 1)
   seconds ← decimal_at words 1 (2 ^ 64 - 1)
-  table ← bytes_at words 2
-  region ← bytes_at words 3
+  table ← hex_bytes_at words 2
+  region ← hex_bytes_at words 3
   Ok (asks.Report (Boot boot seconds table region))) else Err Words
 
 -- a generic error status block: boot, seconds, the identifier of its source, its number, its bytes
@@ -95,14 +95,14 @@ ghes_asks words = if length words == GHES_WORDS then (do
   seconds ← decimal_at words 1 (2 ^ 64 - 1)
   source ← decimal_at words 2 65535
   number ← decimal_at words 3 (2 ^ 64 - 1)
-  bytes ← bytes_at words 4
+  bytes ← hex_bytes_at words 4
   Ok (asks.Report (Block boot seconds source number bytes))) else Err Words
 
 -- a record for the store: its identifier in hexadecimal, and its bytes
 abbrev pub put_asks : Reading
 put_asks words = if length words == PUT_WORDS then (do
   id ← hexadecimal_at words 0
-  bytes ← bytes_at words 1
+  bytes ← hex_bytes_at words 1
   Ok (asks.Put id bytes)) else Err Words
 
 -- the seconds at which the records of the store are counted

@@ -12,15 +12,15 @@ is_numeral radix longest word =
     && (nat_le (length word) longest && list_all (λ c. is_digit c radix) word)
 
 -- the value of a word of 1 to so many digits, where it is within its range
-abbrev pub number_of : ℕ → ℕ → ℕ → List ℕ → Option ℕ
-number_of radix longest most word =
+abbrev pub numeral_value : ℕ → ℕ → ℕ → List ℕ → Option ℕ
+numeral_value radix longest most word =
     if is_numeral radix longest word && nat_le (digits_value radix word) most
     then Some (digits_value radix word) else None
 
 -- a decimal word: 1 to 20 digits, leading zeros too, and a value in the word's range
 abbrev pub decimal_of : ℕ → List ℕ → Option ℕ
-decimal_of most word = number_of 10 DECIMAL_DIGITS most word
+decimal_of most word = numeral_value 10 DECIMAL_DIGITS most word
 
 -- a hexadecimal word: 1 to 16 digits of either case, with no prefix
 abbrev pub hexadecimal_of : List ℕ → Option ℕ
-hexadecimal_of word = number_of 16 HEXADECIMAL_DIGITS (2 ^ 64 - 1) word
+hexadecimal_of word = numeral_value 16 HEXADECIMAL_DIGITS (2 ^ 64 - 1) word

@@ -1,8 +1,8 @@
 //! What the words of a line say at their places.
 
 ghost use Rattle.std.specs.Prelude.{◌≡◌, ◌+◌, ◌-◌, ◌^◌, ◌<◌, ◌≤◌, length, map, IfOk};
-ghost use Rattle.ras_script.specs.Fields.{bytes_at, decimal_at, hexadecimal_at, label_at};
-ghost use Rattle.ras_script.specs.Fields.{limit_at, positive_at, report_at};
+ghost use Rattle.ras_script.specs.Fields.{hex_bytes_at, decimal_at, hexadecimal_at, label_word_at};
+ghost use Rattle.ras_script.specs.Fields.{limit_from_words, positive_at, report_at};
 ghost use Rattle.ras_script.specs.Line.{Gives};
 
 use crate::LineRefused;
@@ -75,9 +75,9 @@ pub(crate) fn hexadecimal_at(words: &[&[u8]], place: usize) -> Result<u64, LineR
 }
 
 // The word at a place as a label.
-pub(crate) fn label_at(alloc: Global, words: &[&[u8]], place: usize) -> Result<Label, LineRefused>
+pub(crate) fn label_word_at(alloc: Global, words: &[&[u8]], place: usize) -> Result<Label, LineRefused>
     requires { place < length words.now }
-    ensures { Gives result (label_at (map (λ word. word.now) words.now) place) }
+    ensures { Gives result (label_word_at (map (λ word. word.now) words.now) place) }
 {
     match Label::new(alloc, words[place]) {
         Ok(label) => Ok(label),
@@ -87,17 +87,17 @@ pub(crate) fn label_at(alloc: Global, words: &[&[u8]], place: usize) -> Result<L
 }
 
 // The word at a place as bytes.
-pub(crate) fn bytes_at(alloc: Global, words: &[&[u8]], place: usize) -> Result<Text, LineRefused>
+pub(crate) fn hex_bytes_at(alloc: Global, words: &[&[u8]], place: usize) -> Result<Text, LineRefused>
     requires { place < length words.now }
-    ensures { Gives result (bytes_at (map (λ word. word.now) words.now) place) }
+    ensures { Gives result (hex_bytes_at (map (λ word. word.now) words.now) place) }
 {
     bytes_of(alloc, words[place])?.ok_or(LineRefused::Hex)
 }
 
 // The first two words as a limit.
-pub(crate) fn limit_at(words: &[&[u8]]) -> Result<Limit, LineRefused>
+pub(crate) fn limit_from_words(words: &[&[u8]]) -> Result<Limit, LineRefused>
     requires { LIMIT_WORDS ≤ length words.now }
-    ensures { result ≡ limit_at (map (λ word. word.now) words.now) }
+    ensures { result ≡ limit_from_words (map (λ word. word.now) words.now) }
 {
     let capacity = positive_at(words, 0, u64::from(MOST_CAPACITY))? as u32;
     let period = positive_at(words, 1, u64::from(MOST_PERIOD))? as u32;

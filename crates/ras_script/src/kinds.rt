@@ -8,7 +8,7 @@ ghost use Rattle.ras_script.specs.Kinds.{restart_asks, retire_asks};
 ghost use Rattle.ras_script.specs.Line.{Gives, kinds, line_named};
 
 use crate::fields::{
-    BANK_WORDS, LIMIT_WORDS, bytes_at, decimal_at, hexadecimal_at, label_at, limit_at, report_at,
+    BANK_WORDS, LIMIT_WORDS, hex_bytes_at, decimal_at, hexadecimal_at, label_word_at, limit_from_words, report_at,
     u8_at, u16_at, u64_at,
 };
 use crate::{ErrorReport, Line, LineRefused, Table};
@@ -127,7 +127,7 @@ fn module_asks(alloc: Global, words: &[&[u8]]) -> Result<Line, LineRefused>
     if words.len() != MODULE_WORDS {
         return Err(LineRefused::Words);
     }
-    let label = label_at(alloc, words, 0)?;
+    let label = label_word_at(alloc, words, 0)?;
     let socket = u8_at(words, 1)?;
     let bank = u8_at(words, 2)?;
     let channel = decimal_at(words, 3, LAST_CHANNEL)? as u8;
@@ -146,7 +146,7 @@ fn range_asks(alloc: Global, words: &[&[u8]]) -> Result<Line, LineRefused>
     if words.len() != RANGE_WORDS {
         return Err(LineRefused::Words);
     }
-    let label = label_at(alloc, words, 0)?;
+    let label = label_word_at(alloc, words, 0)?;
     let first = hexadecimal_at(words, 1)?;
     let last = hexadecimal_at(words, 2)?;
     if first > last {
@@ -162,7 +162,7 @@ fn place_asks(alloc: Global, words: &[&[u8]]) -> Result<Line, LineRefused>
     if words.len() != PLACE_WORDS {
         return Err(LineRefused::Words);
     }
-    let label = label_at(alloc, words, 0)?;
+    let label = label_word_at(alloc, words, 0)?;
     let node = u16_at(words, 1)?;
     let card = u16_at(words, 2)?;
     let module = u16_at(words, 3)?;
@@ -181,7 +181,7 @@ fn limit_asks(words: &[&[u8]]) -> Result<Line, LineRefused>
     if words.len() != LIMIT_WORDS {
         return Err(LineRefused::Words);
     }
-    let limit = limit_at(words)?;
+    let limit = limit_from_words(words)?;
     Ok(Line::Entry(Entry::Limit(limit)))
 }
 
@@ -192,7 +192,7 @@ fn module_limit_asks(words: &[&[u8]]) -> Result<Line, LineRefused>
     if words.len() != LIMIT_WORDS {
         return Err(LineRefused::Words);
     }
-    let limit = limit_at(words)?;
+    let limit = limit_from_words(words)?;
     Ok(Line::Entry(Entry::ModuleLimit(limit)))
 }
 
@@ -203,7 +203,7 @@ fn hest_asks(alloc: Global, words: &[&[u8]]) -> Result<Line, LineRefused>
     if words.len() != TABLE_WORDS {
         return Err(LineRefused::Words);
     }
-    let bytes = bytes_at(alloc, words, 0)?;
+    let bytes = hex_bytes_at(alloc, words, 0)?;
     Ok(Line::Table(Table::Hest(bytes)))
 }
 
@@ -214,7 +214,7 @@ fn erst_asks(alloc: Global, words: &[&[u8]]) -> Result<Line, LineRefused>
     if words.len() != TABLE_WORDS {
         return Err(LineRefused::Words);
     }
-    let bytes = bytes_at(alloc, words, 0)?;
+    let bytes = hex_bytes_at(alloc, words, 0)?;
     Ok(Line::Table(Table::Erst(bytes)))
 }
 
@@ -227,8 +227,8 @@ fn bert_asks(alloc: Global, words: &[&[u8]]) -> Result<Line, LineRefused>
     }
     let boot = u64_at(words, 0)?;
     let seconds = u64_at(words, 1)?;
-    let table = bytes_at(alloc, words, 2)?;
-    let region = bytes_at(alloc, words, 3)?;
+    let table = hex_bytes_at(alloc, words, 2)?;
+    let region = hex_bytes_at(alloc, words, 3)?;
     Ok(Line::Report(ErrorReport::Boot {
         boot,
         seconds,
@@ -248,7 +248,7 @@ fn ghes_asks(alloc: Global, words: &[&[u8]]) -> Result<Line, LineRefused>
     let seconds = u64_at(words, 1)?;
     let source = u16_at(words, 2)?;
     let number = u64_at(words, 3)?;
-    let bytes = bytes_at(alloc, words, 4)?;
+    let bytes = hex_bytes_at(alloc, words, 4)?;
     Ok(Line::Report(ErrorReport::Block {
         boot,
         seconds,
@@ -266,7 +266,7 @@ fn put_asks(alloc: Global, words: &[&[u8]]) -> Result<Line, LineRefused>
         return Err(LineRefused::Words);
     }
     let id = hexadecimal_at(words, 0)?;
-    let bytes = bytes_at(alloc, words, 1)?;
+    let bytes = hex_bytes_at(alloc, words, 1)?;
     Ok(Line::Put { id, bytes })
 }
 

@@ -2,7 +2,7 @@
 
 ghost use Rattle.std.specs.Prelude.{◌≡◌, ℕ, ◌^◌, ◌<◌, ◌≤◌, Bool, IfSome};
 ghost use Rattle.std.specs.Fmt.{decimal, digits};
-ghost use Rattle.ras_script.specs.Number.{number_of, decimal_of, hexadecimal_of};
+ghost use Rattle.ras_script.specs.Number.{numeral_value, decimal_of, hexadecimal_of};
 
 /// The most digits that a decimal word may have.
 pub const DECIMAL_DIGITS: usize = 20;
@@ -39,7 +39,7 @@ fn number(word: &[u8], radix: u32, longest: usize, most: u64) -> Option<u64>
     requires some_radix { 2 ≤ radix }
     requires small_radix { radix ≤ 16 }
     requires short { longest ≤ 30 }
-    ensures value { result ≡ number_of radix longest most word.now }
+    ensures value { result ≡ numeral_value radix longest most word.now }
     ensures within { IfSome result (λ n. n ≤ most) }
 {
     if word.is_empty() || word.len() > longest {

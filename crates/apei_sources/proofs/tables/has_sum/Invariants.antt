@@ -1,7 +1,0 @@
--- The sum of the bytes so far.
-use Rattle.std.proofs.Common.{◌≡◌, ◌%◌, take}
-use Rattle.std.specs.Prelude.{sum}
-use Rattle.apei_sources.proofs.tables.has_sum.Given as goal
-
-abbrev pub invariant-loop-byte : goal.invariant-loop-byte
-invariant-loop-byte l = l.sum ≡ sum (take l.byte-index l.table) % 256
