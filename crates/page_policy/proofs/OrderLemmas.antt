@@ -1,5 +1,5 @@
 -- The orders of a page: which there can be, and when single corrected errors give one.
-use Rattle.std.proofs.Common.{◌≡◌, ℕ, suc, ◌+◌, ◌-◌, ◌<◌, ◌≤◌, ◌⊎◌, inl, inr, Bool, true, false, if◌then◌else◌, nat_le, nat_lt, ◌==◌, List, [], ◌∷◌, ◌++◌, length, fold, None, Some, refl, sym, ap, subst, ◌∙◌, add-zero, zero-add, arith, All}
+use Rattle.std.proofs.Common.{◌≡◌, ℕ, suc, ◌+◌, ◌-◌, ◌<◌, ◌≤◌, ◌⊎◌, inl, inr, Bool, true, false, if◌then◌else◌, nat_le, nat_lt, ◌==◌, List, [], ◌∷◌, ◌++◌, length, fold, Option, None, Some, refl, sym, ap, subst, ◌∙◌, append-nil, append_assoc, add-zero, zero-add, arith, All}
 use Rattle.std.specs.List.{filter_map, cons_option, AllByRecursion}
 use Rattle.std.proofs.lemmas.Bool.Decides.{nat_tests}
 use Rattle.std.proofs.lemmas.List.Sums.{fold-append}
@@ -16,7 +16,8 @@ use Rattle.page_policy.specs.declared.rows.PageState.TheVariants.{Kept, Soft, Ha
 use Rattle.page_policy.specs.declared.rows.PageRow.{PageRow}
 use Rattle.page_policy.specs.Buckets.{IsLimit, leak, aged_bucket, trips, bucket_after}
 use Rattle.page_policy.specs.Rows.{PageReport, higher, new_row, row_after, is_corrected, state_called_for, state_called_by, order_between}
-use Rattle.page_policy.specs.Histories.{first_seconds, page_history, page_row, order_behind, orders_of, AreOnceInOrder, IsSingle}
+use Rattle.page_policy.proofs.HistoryLemmas.{state_in-rows_of}
+use Rattle.page_policy.specs.Histories.{first_seconds, page_history, page_row, page_rows_of, state_in, state_asked, state_under, order_behind, orders_of, AreOnceInOrder, IsSingle}
 
 -- the orders that a page in a state may still be given
 abbrev AreLeft : ℕ → PageState → List Order → Type 0
@@ -64,7 +65,65 @@ pub once_in_order : (history : List PageReport) (page : ℕ) → AreOnceInOrder 
 unfolding orders_from
 once_in_order history page = left_from page [] (page_history history page)
 
--- single corrected errors within a period
+-- ---- the state that a page comes to by its orders
+
+abbrev with_order : Option Order → PageState → PageState
+with_order None state = state
+with_order (Some order) state = higher (state_asked order) state
+
+under-more : (order : Option Order) (orders : List Order) → state_under (cons_option order orders) ≡ with_order order (state_under orders)
+under-more None orders = refl
+under-more (Some order) orders = refl
+
+-- where a state rises the order that comes then asks for it
+raised : (page : ℕ) (state called rest : PageState) → higher state (with_order (order_between page state (higher state called)) rest) ≡ higher (higher state called) rest
+raised page Kept Kept rest = refl
+raised page Kept Soft Kept = refl
+raised page Kept Soft Soft = refl
+raised page Kept Soft Hard = refl
+raised page Kept Hard Kept = refl
+raised page Kept Hard Soft = refl
+raised page Kept Hard Hard = refl
+raised page Soft Kept rest = refl
+raised page Soft Soft rest = refl
+raised page Soft Hard Kept = refl
+raised page Soft Hard Soft = refl
+raised page Soft Hard Hard = refl
+raised page Hard Kept rest = refl
+raised page Hard Soft rest = refl
+raised page Hard Hard rest = refl
+
+highest : (state : PageState) → higher state Kept ≡ state
+highest Kept = refl
+highest Soft = refl
+highest Hard = refl
+
+state_from : (page : ℕ) (earlier rs : List PageReport) → higher (page_row earlier).state (state_under (orders_from page earlier rs)) ≡ (page_row (earlier ++ rs)).state
+unfolding orders_from
+state_from page earlier [] = highest (page_row earlier).state ∙ ap (λ rs. (page_row rs).state) (sym (append-nil earlier))
+state_from page earlier (r ∷ rs) =
+    let more : (called : PageState) × ((page_row (earlier ++ r ∷ [])).state ≡ higher (page_row earlier).state called) = state-more earlier r in
+    let rest : List Order = filter_map (λ p. order_behind page p.0 p.1) (places_behind (earlier ++ r ∷ []) rs) in
+    let order : Option Order = order_behind page earlier r in
+    ap (higher (page_row earlier).state) (under-more order rest)
+    ∙ ap (λ state. higher (page_row earlier).state (with_order (order_between page (page_row earlier).state state) (state_under rest))) more.1
+    ∙ raised page (page_row earlier).state more.0 (state_under rest)
+    ∙ ap (λ state. higher state (state_under rest)) (sym more.1)
+    ∙ state_from page (earlier ++ r ∷ []) rs
+    ∙ ap (λ rs. (page_row rs).state) (append_assoc earlier (r ∷ []) rs)
+
+-- a page stands in the highest state that its orders ask for
+pub state-under : (history : List PageReport) (page : ℕ) → state_in (page_rows_of history) page ≡ state_under (orders_of history page)
+unfolding orders_from
+state-under history page =
+    state_in-rows_of history page ∙ sym (state_from page [] (page_history history page)) ∙ lowest (state_under (orders_of history page))
+  where
+    lowest : (state : PageState) → higher Kept state ≡ state
+    lowest Kept = refl
+    lowest Soft = refl
+    lowest Hard = refl
+
+-- ---- single corrected errors within a period
 
 -- nothing leaks within a period
 pub unaged : (limit : Limit) (now : ℕ) (bucket : Bucket) → IsLimit limit → now < bucket.stamp + limit.period → aged_bucket limit now bucket ≡ bucket

@@ -6,11 +6,12 @@ use Rattle.std.specs.Option.{option_map_or}
 use Rattle.ras_base.specs.Places.{places}
 use Rattle.page_policy.specs.declared.buckets.Limit.{Limit}
 use Rattle.page_policy.specs.declared.rows.Order.{Order}
-use Rattle.page_policy.specs.declared.rows.Order.TheVariants.{Soft, Hard}
+use Rattle.page_policy.specs.declared.rows.Order.TheVariants.{Soft, Hard, Module}
 use Rattle.page_policy.specs.declared.rows.PageState.{PageState}
 use Rattle.page_policy.specs.declared.rows.PageState.TheVariants.{Kept}
+use Rattle.page_policy.specs.declared.rows.PageState.TheVariants as state
 use Rattle.page_policy.specs.declared.rows.PageRow.{PageRow}
-use Rattle.page_policy.specs.Rows.{PageReport, height, new_row, row_after, is_corrected, order_between}
+use Rattle.page_policy.specs.Rows.{PageReport, height, higher, new_row, row_after, is_corrected, order_between}
 use Rattle.row_tables.specs.Tables.{of_key, table, updated_rows}
 
 -- the page that a report names
@@ -71,6 +72,16 @@ order_in history r = order_behind r.page (page_history history r.page) r
 -- the orders of a page in a history, in order
 abbrev pub orders_of : List PageReport → ℕ → List Order
 orders_of history page = filter_map (λ p. order_behind page p.0 p.1) (places (page_history history page))
+
+-- the state that an order asks for, and the highest one that orders ask for
+abbrev pub state_asked : Order → PageState
+state_asked (Soft page) = state.Soft
+state_asked (Hard page) = state.Hard
+state_asked (Module place) = Kept
+
+abbrev pub state_under : List Order → PageState
+state_under [] = Kept
+state_under (order ∷ orders) = higher (state_asked order) (state_under orders)
 
 -- the orders that a page may be given in all its time: at most one Soft and one Hard, the Soft
 -- first

@@ -8,7 +8,7 @@ ghost use Rattle.page_policy.specs.declared.buckets.Bucket.{Bucket};
 ghost use Rattle.page_policy.specs.declared.rows.Order.{Order};
 ghost use Rattle.page_policy.specs.Buckets.{IsLimit, aged_bucket};
 ghost use Rattle.page_policy.specs.Rows.{PageReport};
-ghost use Rattle.page_policy.specs.Histories.{page_rows_of, pages_named, orders_of, order_behind, AreOnceInOrder, AreSingle};
+ghost use Rattle.page_policy.specs.Histories.{page_rows_of, pages_named, orders_of, order_behind, state_in, state_under, AreOnceInOrder, AreSingle};
 ghost use Rattle.page_policy.specs.Pages.{AreReservedFor};
 ghost use Rattle.page_policy.specs.declared.rows.PageRow.{PageRow};
 ghost use Rattle.row_tables.specs.Held.{Held, is_ready};
@@ -25,6 +25,10 @@ pub fn page_laws()
     // hard.
     ensures orders { (history : List PageReport) (page : ℕ)
         → AreOnceInOrder page (orders_of history page) }
+
+    // A page stands in the highest state that its orders ask for.
+    ensures stands { (history : List PageReport) (page : ℕ)
+        → state_in (page_rows_of history) page ≡ state_under (orders_of history page) }
 
     // Single corrected errors of a page within one period give an order exactly where their number
     // reaches the capacity.
