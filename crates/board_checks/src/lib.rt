@@ -25,7 +25,8 @@ pub fn write_sync_print<B: Board>(
     ensures told { OnOk result
         (Steps (λ t. after_print line.now (after_write_through FileNo.Zero place entry.now t))
         (B.told board.old) (B.told board.new)) }
-    ensures failed { OnErr result (Relates (FailsEntry place entry.now line.now) (B.told board.old) (B.told board.new)) }
+    ensures failed { OnErr result
+        (Relates (FailsEntry place entry.now line.now) (B.told board.old) (B.told board.new)) }
     // One count rose where it failed, and none where it didn't.
     ensures cause { FailsAs disk_call (B.faults board.old) (B.faults board.new) result
         ⊎ FailsAs print_call (B.faults board.old) (B.faults board.new) result }

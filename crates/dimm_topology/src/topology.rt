@@ -150,7 +150,8 @@ impl Topology {
         card: u16,
         module: u16,
     ) -> Result<(), TopologyRefused>
-        ensures answer { Answers result (row_refusal self.old (Row.Place label node card «module»)) }
+        ensures answer { Answers result
+            (row_refusal self.old (Row.Place label node card «module»)) }
         ensures ok { OnOk result (self.new ≡ self.old ++ Row.Place label node card «module» ∷ []) }
         ensures err { OnErr result (self.new ≡ self.old) }
 

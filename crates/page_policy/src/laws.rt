@@ -19,7 +19,8 @@ pub fn page_laws()
     // The pages that have a row are exactly those that a report names, and each has one.
     ensures named { (history : List PageReport) (page : ℕ)
         → Contains (keys_of (page_rows_of history)) page ↔ Contains (pages_named history) page }
-    ensures once { (history : List PageReport) → IsDistinct nat_eq (keys_of (page_rows_of history)) }
+    ensures once { (history : List PageReport)
+        → IsDistinct nat_eq (keys_of (page_rows_of history)) }
 
     // A page is ordered away at most once softly and at most once hard, and never softly after
     // hard.

@@ -75,7 +75,11 @@ pub(crate) fn hexadecimal_at(words: &[&[u8]], place: usize) -> Result<u64, LineR
 }
 
 // The word at a place as a label.
-pub(crate) fn label_word_at(alloc: Global, words: &[&[u8]], place: usize) -> Result<Label, LineRefused>
+pub(crate) fn label_word_at(
+    alloc: Global,
+    words: &[&[u8]],
+    place: usize,
+) -> Result<Label, LineRefused>
     requires { place < length words.now }
     ensures { Gives result (label_word_at (map (λ word. word.now) words.now) place) }
 {
@@ -87,7 +91,11 @@ pub(crate) fn label_word_at(alloc: Global, words: &[&[u8]], place: usize) -> Res
 }
 
 // The word at a place as bytes.
-pub(crate) fn hex_bytes_at(alloc: Global, words: &[&[u8]], place: usize) -> Result<Text, LineRefused>
+pub(crate) fn hex_bytes_at(
+    alloc: Global,
+    words: &[&[u8]],
+    place: usize,
+) -> Result<Text, LineRefused>
     requires { place < length words.now }
     ensures { Gives result (hex_bytes_at (map (λ word. word.now) words.now) place) }
 {

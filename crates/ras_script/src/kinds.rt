@@ -8,8 +8,8 @@ ghost use Rattle.ras_script.specs.Kinds.{restart_asks, retire_asks};
 ghost use Rattle.ras_script.specs.Line.{Gives, kinds, line_named};
 
 use crate::fields::{
-    BANK_WORDS, LIMIT_WORDS, hex_bytes_at, decimal_at, hexadecimal_at, label_word_at, limit_from_words, report_at,
-    u8_at, u16_at, u64_at,
+    BANK_WORDS, LIMIT_WORDS, decimal_at, hex_bytes_at, hexadecimal_at, label_word_at,
+    limit_from_words, report_at, u8_at, u16_at, u64_at,
 };
 use crate::{ErrorReport, Line, LineRefused, Table};
 use dimm_topology::Row;
