@@ -1,5 +1,5 @@
 -- Entries that come again change an account in nothing but the number of its entries.
-use Rattle.std.proofs.Common.{◌≡◌, ℕ, ◌≤◌, max, nat_lt, Bool, true, false, not, ◌||◌, ◌&&◌, List, [], ◌∷◌, ◌++◌, refl, sym, ap, ◌∙◌, subst, append-nil, inl, inr, arith}
+use Rattle.std.proofs.Common.{◌≡◌, ℕ, ◌≤◌, max, nat_lt, Bool, true, false, not, ◌||◌, ◌&&◌, List, [], ◌∷◌, ◌++◌, refl, sym, ap, ◌∙◌, subst, append-nil, inl, inr, arith, map}
 use Rattle.std.specs.Prelude.{◌⊎◌, if◌then◌else◌}
 use Rattle.std.specs.List.{AllByRecursion, sum_by}
 use Rattle.std.proofs.lemmas.List.Folds.{list_any-append}
@@ -15,8 +15,7 @@ use Rattle.ras_account.specs.Account.{account_of, kept_names, modules_of, names_
 use Rattle.ras_account.specs.Fresh.{fresh_entries, is_among, is_fresh_behind, same_limit}
 use Rattle.ras_account.specs.History.{History, floor_after, is_retired, limit_after, module_limit_after, names_in, with_entries, with_entry}
 use Rattle.ras_account.specs.Sightings.{Sighting, reports_of, sighting_weight, sightings, sightings_in, sightings_since_mark}
-use Rattle.ras_account.proofs.FreshLemmas.{names_of-append}
-use Rattle.ras_daemon.specs.Runs.{CountTheSame}
+use Rattle.ras_daemon.specs.Runs.{CountTheSame, facts_of}
 use Rattle.ras_daemon.proofs.HistoryLemmas.{with_entries-append}
 
 -- ---- histories that are alike
@@ -25,7 +24,7 @@ use Rattle.ras_daemon.proofs.HistoryLemmas.{with_entries-append}
 pub record IsLike (one other : History) : Type 0 where
   pub among : (name : Name) → is_among (names_in one) name ≡ is_among (names_in other) name
   pub floor : floor_after one ≡ floor_after other
-  pub names : names_of (fresh_entries one) ≡ names_of (fresh_entries other)
+  pub facts : facts_of (fresh_entries one) ≡ facts_of (fresh_entries other)
   pub items : sightings one ≡ sightings other
   pub since : sightings_since_mark one ≡ sightings_since_mark other
 
@@ -35,9 +34,21 @@ pub record IsSame (one other : History) : Type 0 where
   pub limit : limit_after one ≡ limit_after other
   pub module_limit : module_limit_after one ≡ module_limit_after other
 
+-- facts have names, and these are the names of entries
+names-facts : (es : List Entry) → names_of es ≡ map (λ (fact : FactOf). fact.name) (facts_of es)
+names-facts [] = refl
+names-facts (Fact fact ∷ es) = ap (λ (ns : List Name). fact.name ∷ ns) (names-facts es)
+names-facts (PageLimit limit ∷ es) = names-facts es
+names-facts (Retire boot ∷ es) = names-facts es
+names-facts (ModuleLimit limit ∷ es) = names-facts es
+
+like-names : (one other : History) → IsLike one other → names_of (fresh_entries one) ≡ names_of (fresh_entries other)
+like-names one other like =
+    names-facts (fresh_entries one) ∙ ap (map (λ (fact : FactOf). fact.name)) like.facts ∙ sym (names-facts (fresh_entries other))
+
 pub same-counts : (one other : History) → IsSame one other → CountTheSame (account_of one) (account_of other)
 same-counts one other same = λ i. record {
-  names = kept_names (same.like.floor i) (same.like.names i);
+  names = kept_names (same.like.floor i) (like-names one other same.like i);
   floor = same.like.floor i;
   limit = same.limit i;
   module_limit = same.module_limit i;
@@ -49,12 +60,19 @@ same-counts one other same = λ i. record {
 
 -- ---- one entry more
 
-names-one : (b : Bool) (es : List Entry) (e : Entry) → names_of (if b then es ++ e ∷ [] else es) ≡ names_of es ++ (if b then names_of (e ∷ []) else [])
-names-one true es e = names_of-append es (e ∷ [])
-names-one false es e = sym (append-nil (names_of es))
+pub facts_of-append : (xs ys : List Entry) → facts_of (xs ++ ys) ≡ facts_of xs ++ facts_of ys
+facts_of-append [] ys = refl
+facts_of-append (Fact fact ∷ xs) ys = ap (λ (facts : List FactOf). fact ∷ facts) (facts_of-append xs ys)
+facts_of-append (PageLimit limit ∷ xs) ys = facts_of-append xs ys
+facts_of-append (Retire boot ∷ xs) ys = facts_of-append xs ys
+facts_of-append (ModuleLimit limit ∷ xs) ys = facts_of-append xs ys
 
-names-more : (h : History) (e : Entry) → names_of (fresh_entries (with_entry h e)) ≡ names_of (fresh_entries h) ++ (if is_fresh_behind h e then names_of (e ∷ []) else [])
-names-more h e = names-one (is_fresh_behind h e) (fresh_entries h) e
+facts-one : (b : Bool) (es : List Entry) (e : Entry) → facts_of (if b then es ++ e ∷ [] else es) ≡ facts_of es ++ (if b then facts_of (e ∷ []) else [])
+facts-one true es e = facts_of-append es (e ∷ [])
+facts-one false es e = sym (append-nil (facts_of es))
+
+facts-more : (h : History) (e : Entry) → facts_of (fresh_entries (with_entry h e)) ≡ facts_of (fresh_entries h) ++ (if is_fresh_behind h e then facts_of (e ∷ []) else [])
+facts-more h e = facts-one (is_fresh_behind h e) (fresh_entries h) e
 
 among-more : (names : List Name) (last name : Name) → is_among (names ++ last ∷ []) name ≡ (is_among names name || (same_name name last || false))
 among-more names last name = list_any-append (same_name name) names (last ∷ [])
@@ -97,7 +115,7 @@ module _ (one other : History) (same : IsSame one other) where
         like = record {
           among = among-same e;
           floor = floor-same e;
-          names = names-more one e ∙ (λ i. same.like.names i ++ (if fresh i then names_of (e ∷ []) else [])) ∙ sym (names-more other e);
+          facts = facts-more one e ∙ (λ i. same.like.facts i ++ (if fresh i then facts_of (e ∷ []) else [])) ∙ sym (facts-more other e);
           items = λ i. same.like.items i ++ (if fresh i then sightings_in (same.limit i) (same.module_limit i) e else []);
           since = λ i. same.like.since i ++ (if fresh i then sightings_in (same.limit i) (same.module_limit i) e else []);
         };
@@ -178,25 +196,25 @@ module _ (one other : History) (like : IsLike one other) where
             ∙ name-known (is_among (names_in one) name) (same_name name fact.name) (is_among (names_in other) name) (like.among name)
             (λ is. subst (λ n. is_among (names_in other) n ≡ true) (sym (same_name-exact name fact.name is)) old);
         floor = like.floor;
-        names = names-more one (Fact fact)
-            ∙ ap (λ b. names_of (fresh_entries one) ++ (if b then fact.name ∷ [] else [])) stale
-            ∙ append-nil (names_of (fresh_entries one)) ∙ like.names;
+        facts = facts-more one (Fact fact)
+            ∙ ap (λ b. facts_of (fresh_entries one) ++ (if b then fact ∷ [] else [])) stale
+            ∙ append-nil (facts_of (fresh_entries one)) ∙ like.facts;
         items = ap (λ b. sightings one ++ (if b then sightings_in (limit_after one) (module_limit_after one) (Fact fact) else [])) stale ∙ append-nil (sightings one) ∙ like.items;
         since = ap (λ b. sightings_since_mark one ++ (if b then sightings_in (limit_after one) (module_limit_after one) (Fact fact) else [])) stale
             ∙ append-nil (sightings_since_mark one) ∙ like.since;
       }
 
   -- an entry that brings no name and no item
-  like-quiet : (e : Entry) → names_of (e ∷ []) ≡ [] → sightings_in (limit_after one) (module_limit_after one) e ≡ [] → names_in (with_entry one e) ≡ names_in one
+  like-quiet : (e : Entry) → facts_of (e ∷ []) ≡ [] → sightings_in (limit_after one) (module_limit_after one) e ≡ [] → names_in (with_entry one e) ≡ names_in one
       → floor_after (with_entry one e) ≡ floor_after other → IsLike (with_entry one e) other
-  like-quiet e nameless itemless names floor =
+  like-quiet e factless itemless names floor =
       let none : (if is_fresh_behind one e then sightings_in (limit_after one) (module_limit_after one) e else []) ≡ [] =
       ap (λ (ss : List Sighting). if is_fresh_behind one e then ss else []) itemless ∙ either-same (is_fresh_behind one e) [] in record {
         among = λ name. ap (λ (ns : List Name). is_among ns name) names ∙ like.among name;
         floor = floor;
-        names = names-more one e
-            ∙ ap (λ (ns : List Name). names_of (fresh_entries one) ++ ns) (ap (λ (ns : List Name). if is_fresh_behind one e then ns else []) nameless ∙ either-same (is_fresh_behind one e) [])
-            ∙ append-nil (names_of (fresh_entries one)) ∙ like.names;
+        facts = facts-more one e
+            ∙ ap (λ (facts : List FactOf). facts_of (fresh_entries one) ++ facts) (ap (λ (facts : List FactOf). if is_fresh_behind one e then facts else []) factless ∙ either-same (is_fresh_behind one e) [])
+            ∙ append-nil (facts_of (fresh_entries one)) ∙ like.facts;
         items = ap (λ (ss : List Sighting). sightings one ++ ss) none ∙ append-nil (sightings one) ∙ like.items;
         since = ap (λ (ss : List Sighting). sightings_since_mark one ++ ss) none ∙ append-nil (sightings_since_mark one) ∙ like.since;
       }
@@ -250,7 +268,7 @@ module_limit-step (ModuleLimit limit) = inl (λ g h. refl)
 same-again : (h : History) (es : List Entry) → IsSame (with_entries (with_entries h es) es) (with_entries h es)
 same-again h es = record {
   like = like-olds es (with_entries h es) (with_entries h es)
-      (record { among = λ name. refl; floor = refl; names = refl; items = refl; since = refl }) (old-all h es);
+      (record { among = λ name. refl; floor = refl; facts = refl; items = refl; since = refl }) (old-all h es);
   limit = settled-again limit_after limit-step h es;
   module_limit = settled-again module_limit_after module_limit-step h es;
 }
@@ -261,3 +279,10 @@ counts-again h xs ys =
     (subst (λ (g : History). CountTheSame (account_of (with_entries (with_entries (with_entries h xs) xs) ys)) (account_of g)) (sym (with_entries-append h xs ys))
     (same-counts (with_entries (with_entries (with_entries h xs) xs) ys) (with_entries (with_entries h xs) ys)
     (same-entries ys (with_entries (with_entries h xs) xs) (with_entries h xs) (same-again h xs))))
+
+-- the facts that are news of entries and then of all of them again are those of all of them
+pub facts-again : (h : History) (xs ys : List Entry) → facts_of (fresh_entries (with_entries (with_entries h xs) (xs ++ ys))) ≡ facts_of (fresh_entries (with_entries h (xs ++ ys)))
+facts-again h xs ys =
+    ap (λ (g : History). facts_of (fresh_entries g)) (with_entries-append (with_entries h xs) xs ys)
+    ∙ (same-entries ys (with_entries (with_entries h xs) xs) (with_entries h xs) (same-again h xs)).like.facts
+    ∙ ap (λ (g : History). facts_of (fresh_entries g)) (sym (with_entries-append h xs ys))

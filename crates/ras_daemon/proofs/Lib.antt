@@ -19,3 +19,4 @@ pub mod SameLemmas
 pub mod AgainLemmas
 pub mod CompleteLemmas
 pub mod UsageLemmas
+pub mod JoinedLemmas

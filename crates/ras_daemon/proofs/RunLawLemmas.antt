@@ -1,25 +1,28 @@
 -- The laws of runs on one journal.
-use Rattle.std.proofs.Common.{Bool, Err, List, Ok, Result, [], ap, append-nil, append_assoc, arith, drop, false, refl, subst, suc, sym, take, true, zero, ℕ, ◌++◌, ◌∙◌, ◌∷◌, ◌≡◌, map, ◌+◌}
+use Rattle.std.proofs.Common.{Bool, Err, List, None, Ok, Option, Result, Some, [], ap, append-nil, append_assoc, arith, drop, false, refl, subst, suc, sym, take, true, zero, ℕ, ◌++◌, ◌∙◌, ◌∷◌, ◌≡◌, map, ◌+◌}
 use Rattle.std.specs.Prelude.{filter, if◌then◌else◌, is_some}
 use Rattle.std.specs.List.{AllByRecursion, IsDistinct, flat_map, enumerate_from}
-use Rattle.std.proofs.lemmas.List.{take-append-drop, map-append}
+use Rattle.std.specs.Map.{lookup}
+use Rattle.std.specs.Option.{option_map_or}
+use Rattle.std.proofs.lemmas.List.{append_cancel_left, take-append-drop, map-append}
 use Rattle.std.proofs.lemmas.List.Concat.{flat_map-append}
 use Rattle.std.proofs.lemmas.List.Elements.{filter-append, recursion_from_All}
 use Rattle.ras_base.specs.Places.{places, places_behind}
 use Rattle.ras_base.specs.Prefix.{IsPrefixOf}
 use Rattle.ras_base.specs.PrefixLemmas.{IsPrefixOf-trans}
-use Rattle.page_policy.specs.Histories.{AreOnceInOrder}
+use Rattle.page_policy.specs.Histories.{AreOnceInOrder, state_in, state_under}
 use Rattle.page_policy.specs.declared.rows.Order.{Order}
-use Rattle.page_policy.proofs.OrderLemmas.{once_in_order}
+use Rattle.page_policy.proofs.OrderLemmas.{once_in_order, state-under}
 use Rattle.ras_facts.specs.declared.entry.Entry.{Entry}
 use Rattle.ras_facts.specs.Names.{same_name}
-use Rattle.ras_account.specs.Account.{State, account_of, names_of, module_errors}
+use Rattle.ras_account.specs.Account.{State, account_of, is_seen, names_of, module_errors, module_of}
 use Rattle.ras_account.specs.Asked.{orders_for_page, HasRow, module_place, orders_for_module, replace_order}
 use Rattle.ras_account.specs.Fresh.{fresh_entries, is_among}
 use Rattle.ras_account.specs.History.{History, names_in, with_entries, with_entry}
 use Rattle.ras_account.specs.Orders.{orders, orders_behind, orders_since_mark}
 use Rattle.ras_account.specs.Sightings.{reports_of, sightings}
 use Rattle.ras_account.proofs.FreshLemmas.{names_of-append}
+use Rattle.ras_account.proofs.LawLemmas.{module-row}
 use Rattle.ras_account.proofs.PageOrderLemmas.{page-orders}
 use Rattle.ras_script.specs.declared.line.Line.TheVariants as asks
 use Rattle.ras_texts.specs.Orders.{standing_lines}
@@ -33,9 +36,9 @@ use Rattle.ras_events.proofs.HistoryLemmas.{news_behind}
 use Rattle.ras_run.specs.Output.{event_output, output_at}
 use Rattle.ras_run.specs.Places.{Start, account_at, history_at}
 use Rattle.ras_run.specs.Status.{places_before_refusal, refusal_at}
-use Rattle.ras_account.specs.Modules.{has_tripped}
+use Rattle.ras_account.specs.Modules.{Module, has_tripped}
 use Rattle.ras_account.proofs.ModuleOrderLemmas.{module-orders}
-use Rattle.dimm_topology.specs.Labels.{Bytes}
+use Rattle.dimm_topology.specs.Labels.{Bytes, same_label}
 use Rattle.ras_base.specs.PlacesLemmas.{places_behind-append}
 use Rattle.ras_script.specs.declared.line.Line.{Line}
 use Rattle.ras_script.specs.declared.line.LineRefused.{LineRefused}
@@ -43,10 +46,10 @@ use Rattle.ras_run.specs.LaterKinds.{taken_line}
 use Rattle.ras_daemon.specs.Headline.{account_with, reported}
 use Rattle.ras_daemon.specs.RunOutput.{closing_line, lines_output, output_upto, run_output}
 use Rattle.ras_daemon.specs.RunStatus.{run_exit}
-use Rattle.ras_daemon.specs.Runs.{CountTheSame, Follows, IsTakenWhole, ReportsFacts, event_count, history_after, logged, ordered}
+use Rattle.ras_daemon.specs.Runs.{CountTheSame, Follows, IsTakenWhole, ReportsFacts, event_count, facts_of, history_after, logged, ordered}
 use Rattle.ras_daemon.specs.Script.{events_of, is_event, reads_of, reads_in}
 use Rattle.ras_daemon.proofs.EventLemmas.{reports-snoc}
-use Rattle.ras_daemon.proofs.AgainLemmas.{counts-again}
+use Rattle.ras_daemon.proofs.AgainLemmas.{counts-again, facts-again, facts_of-append}
 use Rattle.ras_daemon.proofs.HistoryLemmas.{again-counted, among-own, fresh-once, none-logged, orders-entries, with_entries-append}
 use Rattle.ras_daemon.proofs.ListLemmas.{all-front, flat_map-passing, take-whole}
 use Rattle.ras_daemon.proofs.FirstLinesLemmas.{done-all}
@@ -63,10 +66,10 @@ all-any P each [] = tt
 all-any P each (x ∷ xs) = (each x, all-any P each xs)
 
 -- what such lines don't give needs events alone
-by-events : {Y : Type 0} (f : Place → List Y) → ((p : Place) → is_event p ≡ false → f p ≡ []) → (ps : List Place) → flat_map f (filter is_event ps) ≡ flat_map f ps
+pub by-events : {Y : Type 0} (f : Place → List Y) → ((p : Place) → is_event p ≡ false → f p ≡ []) → (ps : List Place) → flat_map f (filter is_event ps) ≡ flat_map f ps
 by-events f none ps = flat_map-passing is_event f ps (all-any (λ p. is_event p ≡ false → f p ≡ []) none ps)
 
-reports-none : (p : Place) → is_event p ≡ false → entries_at p ≡ []
+pub reports-none : (p : Place) → is_event p ≡ false → entries_at p ≡ []
 reports-none p is = ap (λ (event : Result Event Reason). (made_in event).entries) (no-event p is)
 
 prints-none : (start : Start) (p : Place) → is_event p ≡ false → output_at start p ≡ []
@@ -124,10 +127,10 @@ pub logs-once : (start : Start) (script : List ℕ) (n : ℕ) → IsDistinct sam
 logs-once start script n = subst (λ (es : List Entry). IsDistinct same_name (names_of es)) (logs-follow start script n) (fresh-once (history_after start script n))
 
 -- the events of a script that is taken whole are all of its events
-taken-events : (start : Start) (script : List ℕ) → IsTakenWhole start script → events_of start script ≡ filter is_event (places (reads_of script))
+pub taken-events : (start : Start) (script : List ℕ) → IsTakenWhole start script → events_of start script ≡ filter is_event (places (reads_of script))
 taken-events start script taken = ap (filter is_event) (done-all start script taken)
 
-reported-all : (start : Start) (script : List ℕ) → reported start script (event_count start script) ≡ flat_map entries_at (events_of start script)
+pub reported-all : (start : Start) (script : List ℕ) → reported start script (event_count start script) ≡ flat_map entries_at (events_of start script)
 reported-all start script = ap (flat_map entries_at) (take-whole (events_of start script) (event_count start script) (omega arith))
 
 -- and what any run reports of it is among what these report
@@ -169,6 +172,29 @@ module _ (start next : Start) (script : List ℕ) (n : ℕ) (taken : IsTakenWhol
       subst (λ (a : State). CountTheSame a (account_with start script (event_count start script))) (sym (account-again front.0 front.1))
       (subst (λ (es : List Entry). CountTheSame (account_of (with_entries (with_entries start.history (reported start script n)) (reported start script n ++ front.0))) (account_of (with_entries start.history es)))
       front.1 (counts-again start.history (reported start script n) front.0))
+
+  -- what both runs log
+  pub logs-together : facts_of (logged start script n ++ logged next script (event_count next script)) ≡ facts_of (logged start script (event_count start script))
+  logs-together =
+      let h : History = start.history in
+      let xs : List Entry = reported start script n in
+      let (rest, is) = reported-front start start script n taken in
+      let one : List Entry = logged start script n in
+      let other : List Entry = logged next script (event_count next script) in
+      let all : List Entry = logged start script (event_count start script) in
+      let news : fresh_entries (history_after next script (event_count next script)) ≡ fresh_entries h ++ (one ++ other) =
+      logs-follow next script (event_count next script)
+      ∙ ap (λ (es : List Entry). es ++ other) (ap fresh_entries follows ∙ logs-follow start script n)
+      ∙ append_assoc (fresh_entries h) one other in
+      let history : history_after next script (event_count next script) ≡ with_entries (with_entries h xs) (xs ++ rest) =
+      (λ i. with_entries (follows i) (all-again i)) ∙ ap (with_entries (with_entries h xs)) (sym is) in
+      append_cancel_left (facts_of (fresh_entries h)) (facts_of (one ++ other)) (facts_of all)
+      (sym (facts_of-append (fresh_entries h) (one ++ other))
+      ∙ ap facts_of (sym news ∙ ap fresh_entries history)
+      ∙ facts-again h xs rest
+      ∙ ap (λ (es : List Entry). facts_of (fresh_entries (with_entries h es))) is
+      ∙ ap facts_of (logs-follow start script (event_count start script))
+      ∙ facts_of-append (fresh_entries h) all)
 
   pub resumed-same : ReportsFacts start script → account_with next script (event_count next script) ≡ account_with start script (event_count start script)
   resumed-same facts =
@@ -244,6 +270,28 @@ module-once start script n label row =
     let history : History = history_after start script n in
     ap (orders_for_module (module_place history label)) (sym (given-follow orders_since_mark (λ h e. refl) start script n))
     ∙ module-orders history label row
+
+-- ---- what stands after the orders
+
+pub page-stands : (start : Start) (script : List ℕ) (n page : ℕ)
+    → state_in (account_of (history_after start script n)).pages page ≡ state_under (orders_for_page page (orders start.history ++ ordered start script n))
+page-stands start script n page =
+    let history : History = history_after start script n in
+    state-under (reports_of (sightings history)) page
+    ∙ ap state_under (sym (page-orders page history))
+    ∙ ap (λ (given : List Order). state_under (orders_for_page page given)) (orders-follow start script n)
+
+pub module-stands : (start : Start) (script : List ℕ) (n : ℕ) (label : Bytes) (row : Module)
+    → lookup (same_label label) (account_of (history_after start script n)).modules ≡ Some row
+    → row.replace ≡ has_tripped (module_errors (history_after start script n) label)
+module-stands start script n label row there = by (is_seen history label) (sym (module-row history label) ∙ there)
+  where
+    history : History
+    history = history_after start script n
+
+    by : (b : Bool) → (if b then Some (module_of history label) else None) ≡ Some row → row.replace ≡ has_tripped (module_errors history label)
+    by true is = ap (λ (m : Option Module). option_map_or (λ (m : Module). m.replace) m false) (sym is)
+    by false is = cc
 
 -- ---- lines behind others
 

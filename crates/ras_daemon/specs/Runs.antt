@@ -1,19 +1,23 @@
 -- What the laws of runs speak of: what runs log and order, one run after the other.
-use Rattle.std.specs.Prelude.{◌≡◌, ℕ, List, length, take, All}
+use Rattle.std.specs.Prelude.{◌≡◌, ℕ, List, [], ◌∷◌, ◌++◌, length, take, All, None}
 use Rattle.std.specs.List.{flat_map}
 use Rattle.page_policy.specs.declared.rows.Order.{Order}
 use Rattle.ras_facts.specs.declared.entry.Entry.{Entry}
+use Rattle.ras_facts.specs.declared.entry.Entry.TheVariants.{Fact}
+use Rattle.ras_facts.specs.declared.fact.Fact.{Fact as FactOf}
 use Rattle.ras_account.specs.Account.{State, account_of}
 use Rattle.ras_account.specs.History.{History, with_entries}
 use Rattle.ras_account.specs.Numbers.{fresh_entries_in}
-use Rattle.ras_events.specs.Reports.{entries_at}
+use Rattle.ras_events.specs.declared.settings.Settings.{Settings}
+use Rattle.ras_events.specs.Reports.{entries_at, reports, settings_told}
 use Rattle.ras_events.specs.Sizes.{IsFact}
 use Rattle.ras_events.specs.Texts.{orders_of_entries}
 use Rattle.ras_run.specs.declared.exit.Exit.TheVariants.{Done}
 use Rattle.ras_run.specs.Places.{Start, history_at}
 use Rattle.ras_daemon.specs.Headline.{reported}
 use Rattle.ras_daemon.specs.RunStatus.{run_exit}
-use Rattle.ras_daemon.specs.Script.{events_of}
+use Rattle.ras_script.specs.Lines.{script_lines}
+use Rattle.ras_daemon.specs.Script.{events_of, reads_in}
 
 -- the history that a run leaves once its first n events are done
 abbrev pub history_after : Start → List ℕ → ℕ → History
@@ -22,6 +26,12 @@ history_after start script n = with_entries start.history (reported start script
 -- what these events log: of the entries that they report those that are news, each at its place
 abbrev pub logged : Start → List ℕ → ℕ → List Entry
 logged start script n = fresh_entries_in (account_of start.history) (reported start script n)
+
+-- the reports among entries
+abbrev pub facts_of : List Entry → List FactOf
+facts_of [] = []
+facts_of (Fact fact ∷ entries) = fact ∷ facts_of entries
+facts_of (other ∷ entries) = facts_of entries
 
 -- the orders that these events give, each behind all that was reported before it
 abbrev pub ordered : Start → List ℕ → ℕ → List Order
@@ -47,3 +57,20 @@ ReportsFacts start script = All IsFact (reported start script (event_count start
 -- two accounts are the same but for the number of their entries
 abbrev pub CountTheSame : State → State → Type 0
 CountTheSame one other = record one { entries = 0 } ≡ record other { entries = 0 }
+
+-- what is known of a machine of which nothing was told
+abbrev pub no_settings : Settings
+no_settings = record { topology = []; sources = None }
+
+-- Two scripts begin with the same lines, which report nothing: they tell of the machine. The other
+-- lines of the first script tell nothing of it. A third script has these first lines once, and then
+-- the others of both.
+pub record AreJoined (one other both : List ℕ) : Type 0 where
+  pub rows : List (List ℕ)
+  pub first : List (List ℕ)
+  pub second : List (List ℕ)
+  pub one_is : (script_lines one).whole ≡ rows ++ first
+  pub other_is : (script_lines other).whole ≡ rows ++ second
+  pub both_is : (script_lines both).whole ≡ rows ++ (first ++ second)
+  pub silent : reports (reads_in rows) ≡ []
+  pub untold : settings_told (reads_in first) ≡ no_settings

@@ -1,23 +1,24 @@
 //! What runs log and order, one after the other on one journal.
 
-ghost use Rattle.std.specs.Prelude.{◌≡◌, ◌++◌, ℕ, List, [], ◌∷◌, if◌then◌else◌};
+ghost use Rattle.std.specs.Prelude.{◌≡◌, ◌++◌, ℕ, List, [], ◌∷◌, Some, if◌then◌else◌};
 ghost use Rattle.std.specs.List.{IsDistinct};
-ghost use Rattle.dimm_topology.specs.Labels.{Bytes};
-ghost use Rattle.page_policy.specs.Histories.{AreOnceInOrder};
+ghost use Rattle.std.specs.Map.{lookup};
+ghost use Rattle.dimm_topology.specs.Labels.{Bytes, same_label};
+ghost use Rattle.page_policy.specs.Histories.{AreOnceInOrder, state_in, state_under};
 ghost use Rattle.ras_base.specs.Prefix.{IsPrefixOf};
 ghost use Rattle.ras_facts.specs.Names.{same_name};
-ghost use Rattle.ras_account.specs.Account.{AreSame, module_errors, names_of};
+ghost use Rattle.ras_account.specs.Account.{AreSame, account_of, module_errors, names_of};
 ghost use Rattle.ras_account.specs.Asked.{HasRow, module_place, orders_for_module, orders_for_page};
 ghost use Rattle.ras_account.specs.Asked.{replace_order};
 ghost use Rattle.ras_account.specs.Fresh.{fresh_entries};
-ghost use Rattle.ras_account.specs.Modules.{has_tripped};
+ghost use Rattle.ras_account.specs.Modules.{Module, has_tripped};
 ghost use Rattle.ras_account.specs.Orders.{orders, orders_since_mark};
 ghost use Rattle.ras_run.specs.Places.{Start};
 ghost use Rattle.ras_daemon.specs.Headline.{account_with};
 ghost use Rattle.ras_daemon.specs.RunOutput.{lines_output, output_upto, run_output};
 ghost use Rattle.ras_daemon.specs.RunStatus.{run_exit};
-ghost use Rattle.ras_daemon.specs.Runs.{CountTheSame, Follows, IsTakenWhole, ReportsFacts};
-ghost use Rattle.ras_daemon.specs.Runs.{event_count, history_after};
+ghost use Rattle.ras_daemon.specs.Runs.{AreJoined, CountTheSame, Follows, IsTakenWhole};
+ghost use Rattle.ras_daemon.specs.Runs.{ReportsFacts, event_count, facts_of, history_after};
 ghost use Rattle.ras_daemon.specs.Runs.{logged, ordered};
 ghost use Rattle.ras_daemon.specs.Script.{reads_in};
 
@@ -64,6 +65,23 @@ pub fn run_laws()
         → account_with next script (event_count next script)
         ≡ account_with start script (event_count start script) }
 
+    // Together such runs log each report of the run that isn't stopped once, in the same order. The
+    // stop can keep a report's lines from being printed only where it comes between the report's
+    // link and its print; what the report ordered stands then at the next start, by the clauses
+    // on what stands.
+    ensures together { (start next : Start) (script : List ℕ) (n : ℕ) → IsTakenWhole start script
+        → Follows start script n next → IsTakenWhole next script
+        → facts_of (logged start script n ++ logged next script (event_count next script))
+        ≡ facts_of (logged start script (event_count start script)) }
+
+    // Two scripts that are run one after the other leave the account of the script that joins them,
+    // where both begin with the same rows of the machine, which the joined script has once.
+    ensures joined { (start next : Start) (one other both : List ℕ) → AreJoined one other both
+        → IsTakenWhole start one → Follows start one (event_count start one) next
+        → IsTakenWhole next other → IsTakenWhole start both
+        → account_with next other (event_count next other)
+        ≡ account_with start both (event_count start both) }
+
     // The orders of a run come behind those of the earlier runs, and together they take a page out
     // of use at most once softly and at most once hard, and never softly after that.
     ensures ordered { (start : Start) (script : List ℕ) (n : ℕ)
@@ -81,4 +99,15 @@ pub fn run_laws()
         (orders_since_mark start.history ++ ordered start script n)
         ≡ (if has_tripped (module_errors history label)
         then replace_order history label ∷ [] else []) }
+
+    // What stands, and is printed when the next run starts: a page in the highest state that its
+    // orders asked for, and a module that is to be replaced where its own errors made its bucket
+    // trip.
+    ensures page_stands { (start : Start) (script : List ℕ) (n page : ℕ)
+        → state_in (account_of (history_after start script n)).pages page
+        ≡ state_under (orders_for_page page (orders start.history ++ ordered start script n)) }
+    ensures module_stands { (start : Start) (script : List ℕ) (n : ℕ) (label : Bytes)
+        (row : Module) → let history = history_after start script n in
+        lookup (same_label label) (account_of history).modules ≡ Some row
+        → row.replace ≡ has_tripped (module_errors history label) }
 {}

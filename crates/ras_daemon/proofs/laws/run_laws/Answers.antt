@@ -1,4 +1,5 @@
-use Rattle.ras_daemon.proofs.RunLawLemmas.{lines-stay, logs-again, logs-follow, logs-once, module-once, orders-follow, output-begins, page-once, resumed-counts, resumed-same}
+use Rattle.ras_daemon.proofs.JoinedLemmas.{account-joined}
+use Rattle.ras_daemon.proofs.RunLawLemmas.{lines-stay, logs-again, logs-follow, logs-once, logs-together, module-once, module-stands, page-stands, orders-follow, output-begins, page-once, resumed-counts, resumed-same}
 use Rattle.ras_daemon.proofs.SameLemmas.{exits-same, runs-same}
 use Rattle.ras_daemon.proofs.laws.run_laws.Goals as goal
 
@@ -19,6 +20,18 @@ returns-clause-resumed c = resumed-counts
 
 pub returns-clause-same : goal.returns-clause-same
 returns-clause-same c = resumed-same
+
+pub returns-clause-together : goal.returns-clause-together
+returns-clause-together c = logs-together
+
+pub returns-clause-page_stands : goal.returns-clause-page_stands
+returns-clause-page_stands c = page-stands
+
+pub returns-clause-module_stands : goal.returns-clause-module_stands
+returns-clause-module_stands c = module-stands
+
+pub returns-clause-joined : goal.returns-clause-joined
+returns-clause-joined c = account-joined
 
 pub returns-clause-ordered : goal.returns-clause-ordered
 returns-clause-ordered c = orders-follow
