@@ -4,6 +4,7 @@ use Rattle.std.specs.Prelude.{◌≡◌, ℕ, ◌<◌, ◌≤◌, ◌^◌, nat_e
 use Rattle.std.specs.Bool.{IsFalse}
 use Rattle.std.specs.List.{IsDistinct}
 use Rattle.std.specs.Map.{keys_of}
+use Rattle.mca_status.specs.declared.classes.TheConstants.{CLASS_COUNT}
 use Rattle.dimm_topology.specs.Labels.{Bytes, same_label, is_label_or_none}
 use Rattle.page_policy.specs.declared.buckets.Bucket.{Bucket}
 use Rattle.page_policy.specs.declared.rows.PageRow.{PageRow}
@@ -31,7 +32,7 @@ pub record IsBucket (bucket : Bucket) : Type 0 where
 -- a row of a module: ten sums, no bucket without a label, and nothing to replace without a bucket
 pub record IsModuleRow (row : Bytes × Module) : Type 0 where
   pub label : IsTrue (is_label_or_none row.0)
-  pub ten : length row.1.sums ≡ 10
+  pub ten : length row.1.sums ≡ CLASS_COUNT
   pub bucket : IfSome row.1.bucket IsBucket
   pub unlabeled : row.0 ≡ [] → row.1.bucket ≡ None
   pub replace : row.1.bucket ≡ None → IsFalse row.1.replace

@@ -2,6 +2,7 @@
 use Rattle.std.specs.Prelude.{ℕ, ◌+◌, Bool, false, ◌&&◌, ◌||◌, not, nat_lt, if◌then◌else◌, None, Some, List, [], ◌∷◌, ◌++◌, fold, map, replicate, slice_index, slice_set}
 use Rattle.std.specs.Option.{option_map_or}
 use Rattle.mca_status.specs.Classes.{class_number}
+use Rattle.mca_status.specs.declared.classes.TheConstants.{CLASS_COUNT}
 use Rattle.dimm_topology.specs.Labels.{Bytes, same_label}
 use Rattle.page_policy.specs.declared.rows.PageRow.{PageRow}
 use Rattle.row_tables.specs.Tables.{updated_rows}
@@ -30,7 +31,7 @@ is_fresh_in a (ModuleLimit limit) = not (same_limit limit a.module_limit)
 
 -- a module of which nothing was seen
 abbrev pub no_sums : List ℕ
-no_sums = replicate 10 0
+no_sums = replicate CLASS_COUNT 0
 
 abbrev pub new_module : Module
 new_module = record { sums = no_sums; bucket = None; replace = false }

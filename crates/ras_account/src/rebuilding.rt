@@ -1,6 +1,7 @@
 //! The account made again from its numbers and rows, as they are read back one after the other.
 ghost use Rattle.std.specs.Prelude.{◌≡◌, ◌↔◌, ◌+◌, ◌<◌, ◌≤◌, ◌^◌, ◌++◌, [], ◌∷◌, None, Err, IsTrue, IfSome, IfNone, OnOk, OnErr, not, sum, length};
 ghost use Rattle.std.specs.Bool.{IsFalse, OnTrue, OnFalse};
+ghost use Rattle.mca_status.specs.declared.classes.TheConstants.{CLASS_COUNT};
 ghost use Rattle.dimm_topology.specs.Labels.{is_label_or_none};
 ghost use Rattle.row_tables.specs.declared.row_table.RowRefused.TheVariants.{Repeated as RowRepeated};
 ghost use Rattle.page_policy.specs.Pages.{page_entry};
@@ -14,6 +15,7 @@ ghost use Rattle.ras_account.specs.View.{nothing};
 ghost use Rattle.ras_account.specs.Rows.{row_of};
 
 use crate::{Account, MOST_ENTRIES, MOST_NAMES, MOST_TOTAL, ModuleRow};
+use mca_status::CLASS_COUNT;
 use page_policy::{Bucket, Limit, PageState};
 use ras_facts::Name;
 use row_tables::RowRefused;
@@ -210,7 +212,7 @@ fn tell_valid_bucket(bucket: Bucket)
 // And a row's label, its ten sums and the time of its bucket.
 fn tell_valid_row(row: &ModuleRow)
     ensures label { IsTrue (is_label_or_none row.now.label) }
-    ensures ten { length row.now.sums ≡ 10 }
+    ensures ten { length row.now.sums ≡ CLASS_COUNT }
     ensures stamp { IfSome row.now.bucket (λ bucket. bucket.stamp < 2 ^ 64) }
 {
     let _ = row.label.bytes();
@@ -221,7 +223,7 @@ fn tell_valid_row(row: &ModuleRow)
 }
 
 // The total weight with ten sums more; None where it passes `MOST_TOTAL`.
-fn weight_with(total: u64, sums: &[u64; 10]) -> Option<u64>
+fn weight_with(total: u64, sums: &[u64; CLASS_COUNT]) -> Option<u64>
     requires { total ≤ MOST_TOTAL }
     ensures some { IfSome result (λ more. more ≡ total + sum sums.now) }
     ensures within { IfSome result (λ more. more ≤ MOST_TOTAL) }
