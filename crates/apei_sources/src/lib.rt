@@ -17,6 +17,3 @@ pub use blocks::{Block, read_block};
 pub use hest_table::{Hest, read_hest};
 pub use laws::{entries_fill_the_data, only_own_bytes, sources_are_laid_end_to_end};
 pub use refusals::{BlockRefused, TableRefused};
-
-#[cfg(test)]
-mod tests;

@@ -15,6 +15,3 @@ pub use memory::MemSection;
 pub use processor::ProcSection;
 pub use sections::{Descriptor, RawSection, Section, SectionRefused, read_section};
 pub use x64::{Context, X64Section, context_at};
-
-#[cfg(test)]
-mod tests;

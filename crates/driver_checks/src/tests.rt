@@ -3,4 +3,5 @@
 mod accesses;
 mod answers;
 mod faults;
+mod machine;
 mod steps;

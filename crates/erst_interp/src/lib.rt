@@ -18,6 +18,3 @@ pub use laws::admitted_lists_are_faithful;
 pub use refusals::{ErstTableRefused, RunRefused};
 pub use run::MOST_TURNS;
 pub use table::{Table, read_erst};
-
-#[cfg(test)]
-mod tests;

@@ -4,5 +4,8 @@
 
 mod codes;
 mod facts;
+mod panics;
+mod sections;
+mod sources;
 mod status;
 mod topology;

@@ -15,6 +15,3 @@ pub use laws::{reports_are_held, reports_are_read_back};
 pub use making::{PanicRefused, panic_record};
 pub use reading::panic_of;
 pub use stored::fact_of_stored;
-
-#[cfg(test)]
-mod tests;

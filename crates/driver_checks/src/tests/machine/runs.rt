@@ -1,7 +1,7 @@
 //! The instructions one by one, and the ends of runs.
 use super::steps::{ACTION, ALL, Row, VALUE, board, last_access, plain, run, run_rows, table};
-use crate::RunRefused;
 use board_core::{Access, Reg};
+use erst_interp::RunRefused;
 use std::test::Fail;
 
 // An entry of action 16 that uses Value.

@@ -2,7 +2,7 @@
 //! and blocks of two entries.
 ghost use Rattle.std.specs.Prelude.{◌≤◌, ◌+◌, length};
 
-use crate::{Bert, BlockRefused, TableRefused, read_bert, read_block, read_hest};
+use apei_sources::{Bert, BlockRefused, TableRefused, read_bert, read_block, read_hest};
 use cper_sections::{MemSection, Section, guid_at};
 
 // The bytes of the greatest table that is tried, and of the greatest block.

@@ -2,8 +2,8 @@
 //! program give.
 
 mod admission;
-mod machine;
 mod moves;
+mod runs;
 mod samples;
 mod steps;
 mod tables;

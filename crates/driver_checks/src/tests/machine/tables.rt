@@ -1,7 +1,7 @@
 //! The reading of tables.
 use super::samples::PLAIN;
 use super::steps::{bytes_of, mend, refusal, set_number};
-use crate::ErstTableRefused;
+use erst_interp::ErstTableRefused;
 use std::test::Fail;
 
 // The plain table has the length and the checksum that were worked out by hand.

@@ -1,7 +1,7 @@
 //! Sections at the lengths where they begin to read, and contexts that fit and don't fit.
 ghost use Rattle.std.specs.Prelude.{◌≤◌, length};
 
-use crate::{
+use cper_sections::{
     Context, MemSection, ProcSection, Section, SectionRefused, X64Section, context_at, guid_at,
     read_section,
 };

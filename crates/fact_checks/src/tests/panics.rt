@@ -2,11 +2,11 @@
 //! fail one condition.
 ghost use Rattle.std.specs.Prelude.{◌≤◌, ◌+◌, length};
 
-use crate::{PanicRefused, fact_of_stored, panic_of, panic_record};
 use cper_records::read_record;
 use dimm_topology::Topology;
 use mca_status::ItemClass;
 use ras_facts::{BankReport, Name};
+use ras_panic::{PanicRefused, fact_of_stored, panic_of, panic_record};
 use std::test::Fail;
 
 const ID: u64 = 0x1122_3344_5566_7788;

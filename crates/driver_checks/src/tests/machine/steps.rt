@@ -1,6 +1,6 @@
 //! Tables as rows, and their runs, made through functions that state nothing.
-use crate::{ErstTableRefused, RunRefused, Table, admits, read_erst};
 use board_core::{Access, Board, MemBoard, Reg};
+use erst_interp::{ErstTableRefused, RunRefused, Table, admits, read_erst};
 use erst_store::Store;
 use std::alloc::Global;
 use std::process::Abort;

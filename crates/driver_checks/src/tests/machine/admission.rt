@@ -1,8 +1,8 @@
 //! Which tables are admitted, and what an admitted one does.
 use super::samples::{PADDING, PLAIN, PRESERVING, SKIPPING};
 use super::steps::{ACTION, ALL, Row, VALUE, admitted, board, put, run, table};
-use crate::Table;
 use board_core::MemBoard;
+use erst_interp::Table;
 use std::alloc::Global;
 use std::process::Abort;
 use std::test::Fail;

@@ -2,8 +2,8 @@
 use super::steps::{
     ALL, Row, VALUE, board, last_access, plain, range_read, range_write, run, set, table,
 };
-use crate::RunRefused;
 use board_core::{Access, Reg};
+use erst_interp::RunRefused;
 use std::alloc::Global;
 use std::process::Abort;
 use std::test::Fail;
