@@ -21,5 +21,6 @@ pub use laws::{account_laws, kept_laws, module_laws, order_laws, reserve_laws, r
 pub use limits::{FIRST_LIMIT, FIRST_MODULE_LIMIT, MOST_ENTRIES, MOST_NAMES, MOST_TOTAL};
 pub use modules::ModuleRow;
 pub use orders::Orders;
+pub use ras_facts::Entry;
 pub use rebuilding::PushRefused;
 pub use reserve::ReserveRefused;
