@@ -148,7 +148,8 @@ fn page_state_at(bytes: &[u8]) -> Result<(PageState, &[u8]), EntryRefused>
 // The row of a page, as it is read.
 #[tactic(auto, unfolding(crate::specs::CheckpointReading::page_row_at))]
 fn read_page_row(bytes: &[u8]) -> Result<((u64, Bucket, PageState), &[u8]), EntryRefused>
-    ensures { Gives (λ x. ((x.0.0, record { bucket = x.0.1; state = x.0.2 }), x.1.now)) result (page_row_at bytes.now) }
+    ensures { Gives (λ x. ((x.0.0, record { bucket = x.0.1; state = x.0.2 }), x.1.now)) result
+        (page_row_at bytes.now) }
 {
     let (page, rest) = page_number_at(bytes)?;
     let (bucket, rest) = bucket_at(rest)?;
