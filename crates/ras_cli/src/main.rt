@@ -1,24 +1,11 @@
 //! The program: the daemon over standard input, standard output and the working folder's files.
 #![tactic(auto)]
 
-mod fault_count;
-mod file_board;
-mod file_source;
-mod folder_file;
-mod store_file;
-mod streams;
-mod system;
-#[cfg(test)]
-mod tests;
-
-use file_board::FileBoard;
-use file_source::FileSource;
 use ras_base::NoMemory;
-use ras_daemon::{Exit, RasWord, rasd};
+use ras_daemon::{Exit, RasWord, Task, rasd, task_of};
+use ras_host::{FileBoard, FileSource, Host, Output};
 use std::env::{Env, FillError};
 use std::process::ExitCode;
-use streams::Output;
-use system::Host;
 
 // No word of a form of a call is longer.
 const LONGEST_WORD: usize = 64;
@@ -29,17 +16,14 @@ fn main(rt: HostRuntime) -> ExitCode {
     let output = Output::new(rt);
     let exit = match words_of(rt) {
         Ok(words) => {
-            let mut board = FileBoard::new(rt, output, Host::new(rt), is_run(&words));
+            // A run is to be the only one in its folder.
+            let is_run = task_of(&words) == Some(Task::Run);
+            let mut board = FileBoard::new(rt, output, Host::new(rt), is_run);
             rasd(rt.alloc(), &words, &mut source, &mut board)
         }
         Err(NoMemory) => Exit::NoMemory,
     };
     ExitCode::from(exit.status())
-}
-
-// Whether the words ask for a run, which is to be the only one in its folder.
-fn is_run(words: &[RasWord]) -> bool {
-    words.len() == 1 && words[0].bytes() == b"run".as_slice()
 }
 
 // The program's words without its name.

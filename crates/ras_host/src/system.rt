@@ -1,6 +1,8 @@
 //! What the program asks of the system's files, so that a test can answer in its place.
-ghost use Rattle.std.specs.Prelude.{◌≡◌, ◌≤◌, ◌+◌, ◌-◌, ◌^◌, ◌++◌, ◌⊎◌, [], ℕ, List, length, take, Bool, true, IfOk, OnOk, IsTrue, refl};
+ghost use Rattle.std.specs.Prelude.{◌≡◌, ◌≤◌, ◌<◌, ◌-◌, ◌^◌, ◌⊎◌, length, take, Bool, true, IfOk, IfErr, OnOk, IfSome, None, IsTrue, refl};
 ghost use Rattle.std.specs.Io.{ReadsAtMost, WritesAtMost};
+ghost use Rattle.std.specs.IoError.{error_kind};
+ghost use Rattle.ras_host.specs.Shown.{Shown, everything};
 
 use std::fs::{
     File, OpenOptions, canonicalize, metadata, read_to_string, remove_file, rename,
@@ -23,30 +25,8 @@ pub struct Opened<F> {
 pub trait System: Drop {
     type File: Drop;
 
-    /// That this program has the lock on a file. Only `lock` shows it.
-    ghost is_locked: { Self.File → Bool };
-
-    /// That the system took these bytes at this place of a file. Only `write_at` shows it, and
-    /// bytes that were taken one after the other were taken together.
-    ghost took: { Self.File → ℕ → List ℕ → Bool };
-
-    ghost took_none: { (file : Self.File) (place : ℕ) → IsTrue (took file place []) };
-
-    ghost took_more: { (file : Self.File) (place : ℕ) (front more : List ℕ) → IsTrue (took file place front)
-        → IsTrue (took file (place + length front) more) → IsTrue (took file place (front ++ more)) };
-
-    /// That the system made a file durable. Only `sync_data` shows it.
-    ghost is_synced: { Self.File → Bool };
-
-    /// That the system made the entries of a folder durable. Only `sync_folder` shows it.
-    ghost has_entries: { Self.File → Bool };
-
-    /// That the system told this length of a file. Only `len` shows it.
-    ghost told_length: { Self.File → ℕ → Bool };
-
-    /// That the system put the file of the one name in the place of the other. Only `rename` shows
-    /// it.
-    ghost is_renamed: { List ℕ → List ℕ → Bool };
+    /// What the calls below show of files. Nothing else shows it.
+    ghost shown: { Shown Self.File };
 
     /// That from the one state to the other no file was made, written or renamed. Calls that only
     /// read show it.
@@ -59,45 +39,67 @@ pub trait System: Drop {
 
     /// Opens a file for reads and writes, and makes it where it is missing. Where a link has its
     /// name, this is the file that the link leads to, with that file's folder.
-    fn open(&mut self, name: &str) -> io::Result<Opened<Self::File>>;
+    fn open(&mut self, name: &str) -> io::Result<Opened<Self::File>>
+        ensures opened { IfOk result (λ it. IsTrue (shown.is_opened name.now it.file)) }
+        ensures folder { IfOk result (λ it. IsTrue (shown.lies_in it.file it.folder)) }
+        ensures failed { IfErr result (λ error. IsTrue (shown.failed error)) };
 
     /// Opens a file for reads, where it is there.
     fn open_if_there(&mut self, name: &str) -> io::Result<Option<Self::File>>
-        ensures { IsTrue (keeps_files self.old self.new) };
+        ensures opened { IfOk result (λ it. IfSome it (λ file. IsTrue (shown.is_opened name.now file))) }
+        ensures missing { IfOk result (λ it. it ≡ None → IsTrue (shown.is_missing name.now)) }
+        ensures failed { IfErr result (λ error. IsTrue (shown.failed error)) }
+        ensures kept { IsTrue (keeps_files self.old self.new) };
 
     /// Makes an empty file for writes in the place of what has its name.
-    fn make(&mut self, name: &str) -> io::Result<Opened<Self::File>>;
+    fn make(&mut self, name: &str) -> io::Result<Opened<Self::File>>
+        ensures made { IfOk result (λ it. IsTrue (shown.is_made name.now it.file)) }
+        ensures folder { IfOk result (λ it. IsTrue (shown.lies_in it.file it.folder)) }
+        ensures failed { IfErr result (λ error. IsTrue (shown.failed error)) };
 
     /// The length in bytes.
     fn len(&mut self, file: &Self::File) -> io::Result<u64>
-        ensures told { IfOk result (λ length. IsTrue (told_length file.now length)) }
+        ensures told { IfOk result (λ length. IsTrue (shown.has_length file.now length)) }
+        ensures failed { IfErr result (λ error. IsTrue (shown.failed error)) }
         ensures kept { IsTrue (keeps_files self.old self.new) };
 
-    /// Reads at a place, maybe fewer bytes than the buffer has room for.
+    /// Reads at a place, maybe fewer bytes than the buffer has room for. It reads none only where
+    /// the buffer has no room or the file ends.
     fn read_at(&mut self, file: &Self::File, place: u64, buf: &mut [u8]) -> io::Result<usize>
         ensures within { ReadsAtMost result buf.new }
+        ensures gave { IfOk result (λ count. IsTrue (shown.gave file.now place (take count buf.new))) }
+        ensures ended { IfOk result (λ count. count ≡ 0 → 0 < length buf.new
+            → IsTrue (shown.ends_by file.now place)) }
+        ensures failed { IfErr result (λ error. IsTrue (shown.failed error)) }
         ensures kept { IsTrue (keeps_files self.old self.new) };
 
     /// Writes at a place, maybe fewer bytes than were given.
     fn write_at(&mut self, file: &Self::File, place: u64, bytes: &[u8]) -> io::Result<usize>
         ensures within { WritesAtMost result bytes.now }
-        ensures took { IfOk result (λ count. IsTrue (took file.now place (take count bytes.now))) };
+        ensures took { IfOk result (λ count. IsTrue (shown.took file.now place (take count bytes.now))) }
+        ensures none { IfOk result (λ count. count ≡ 0 → 0 < length bytes.now
+            → IsTrue shown.took_nothing) }
+        ensures failed { IfErr result (λ error. IsTrue (shown.failed error)) };
 
     /// Makes a file's bytes and its length durable.
     fn sync_data(&mut self, file: &Self::File) -> io::Result<()>
-        ensures { OnOk result (IsTrue (is_synced file.now)) };
+        ensures ok { OnOk result (IsTrue (shown.is_synced file.now)) }
+        ensures failed { IfErr result (λ error. IsTrue (shown.failed error)) };
 
     /// Makes a folder's entries durable.
     fn sync_folder(&mut self, folder: &Self::File) -> io::Result<()>
-        ensures { OnOk result (IsTrue (has_entries folder.now)) };
+        ensures ok { OnOk result (IsTrue (shown.has_entries folder.now)) }
+        ensures failed { IfErr result (λ error. IsTrue (shown.failed error)) };
 
     /// Takes an exclusive lock on a file, and fails where another program has one.
     fn lock(&mut self, file: &Self::File) -> io::Result<()>
-        ensures { OnOk result (IsTrue (is_locked file.now)) };
+        ensures ok { OnOk result (IsTrue (shown.is_locked file.now)) }
+        ensures failed { IfErr result (λ error. IsTrue (shown.failed error)) };
 
     /// Puts a file in the place of another.
     fn rename(&mut self, from: &str, to: &str) -> io::Result<()>
-        ensures { OnOk result (IsTrue (is_renamed from.now to.now)) };
+        ensures ok { OnOk result (IsTrue (shown.is_renamed from.now to.now)) }
+        ensures failed { IfErr result (λ error. IsTrue (shown.failed error)) };
 }
 
 /// The system that the program runs on.
@@ -144,21 +146,7 @@ impl Host {
 impl System for Host {
     type File = File;
 
-    ghost is_locked = { λ _. true };
-
-    ghost took = { λ _ _ _. true };
-
-    ghost took_none = { λ _ _. refl };
-
-    ghost took_more = { λ _ _ _ _ _ _. refl };
-
-    ghost is_synced = { λ _. true };
-
-    ghost has_entries = { λ _. true };
-
-    ghost told_length = { λ _ _. true };
-
-    ghost is_renamed = { λ _ _. true };
+    ghost shown = { everything };
 
     ghost keeps_files = { λ _ _. true };
 
@@ -237,7 +225,9 @@ impl System for Host {
 // The bytes of a write that the limit on the size of files lets through. A write that begins at the
 // limit or past it would end the program by a signal, and is an error here.
 fn within_limit(limit: u64, place: u64, bytes: &[u8]) -> io::Result<&[u8]>
-    ensures { IfOk result (λ part. length part.now ≤ length bytes.now) }
+    ensures part { IfOk result (λ part. part.now ≡ take (limit - place) bytes.now) }
+    ensures room { OnOk result (0 < length bytes.now → place < limit) }
+    ensures past { IfErr result (λ error. limit ≤ place × error_kind error ≡ ErrorKind.FileTooLarge) }
 {
     let room = limit.saturating_sub(place);
     if room >= bytes.len() as u64 {

@@ -1,5 +1,6 @@
 //! A system that answers from a script, and lists what it was asked.
 ghost use Rattle.std.specs.Prelude.{true, refl};
+ghost use Rattle.ras_host.specs.Shown.{everything};
 
 use crate::system::{Opened, System};
 use std::alloc::Global;
@@ -78,21 +79,7 @@ fn file_of_name(name: &str) -> Named {
 impl System for Scripted {
     type File = Named;
 
-    ghost is_locked = { λ _. true };
-
-    ghost took = { λ _ _ _. true };
-
-    ghost took_none = { λ _ _. refl };
-
-    ghost took_more = { λ _ _ _ _ _ _. refl };
-
-    ghost is_synced = { λ _. true };
-
-    ghost has_entries = { λ _. true };
-
-    ghost told_length = { λ _ _. true };
-
-    ghost is_renamed = { λ _ _. true };
+    ghost shown = { everything };
 
     ghost keeps_files = { λ _ _. true };
 

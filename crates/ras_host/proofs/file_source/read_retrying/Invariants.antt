@@ -1,6 +1,6 @@
 use Rattle.std.proofs.Common.{◌≡◌, length}
 use Rattle.std.specs.Io.KnownBytes.{Keeps}
-use Rattle.ras_cli.proofs.file_source.read_retrying.Given as goal
+use Rattle.ras_host.proofs.file_source.read_retrying.Given as goal
 
 -- The buffer keeps its length, and an interrupted read has taken nothing.
 abbrev pub invariant-loop : goal.invariant-loop

@@ -2,8 +2,8 @@ use Rattle.std.proofs.Common.{◌≡◌, ℕ, ◌+◌, ◌-◌, List, ◌++◌, 
 use Rattle.std.proofs.Math.Seq.{take-add}
 use Rattle.std.proofs.lemmas.Grind.{common_steps}
 use Rattle.std.proofs.lemmas.List.{length-take-le, take_all}
-use Rattle.ras_cli.proofs.folder_file.write_full.Goals as goal
-use Rattle.ras_cli.proofs.folder_file.write_full.Goals.{in-Ok, in-Err}
+use Rattle.ras_host.proofs.folder_file.write_full.Goals as goal
+use Rattle.ras_host.proofs.folder_file.write_full.Goals.{in-Ok, in-Err}
 
 -- What was taken first and what was taken after it are taken together.
 took_on : {File : Type 0} (took : File → ℕ → List ℕ → Bool)
@@ -21,7 +21,7 @@ loop-preserved g c = elim c.match-write_at.branch [
       let rest : take (length c.args.bytes.now - c.loop.count) (drop c.loop.count c.args.bytes.now) ≡ drop c.loop.count c.args.bytes.now = take_all _ _ (omega (arith, length-drop c.loop.count c.args.bytes.now)) in
       rw w.count-is record {
         inside = grind (arith, common_steps, c.loop.invariant.inside, w.in-Ok.ensures.within);
-        taken = took_on g.S.System.took g.S.System.took_more _ _ _ _ _ _ at c.loop.invariant.taken (rw rest at w.in-Ok.ensures.took);
+        taken = took_on g.S.System.shown.took g.S.System.shown.took_more _ _ _ _ _ _ at c.loop.invariant.taken (rw rest at w.in-Ok.ensures.took);
       }
   | in-Err w ↦ rw w.count-is c.loop.invariant
 ]

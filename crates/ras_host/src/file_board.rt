@@ -1,13 +1,18 @@
 //! The working folder's files and standard output as a board.
 ghost use Rattle.std.specs.Io.{ReadsAtMost};
-ghost use Rattle.std.specs.Prelude.{◌≡◌, None};
+ghost use Rattle.std.specs.Prelude.{◌≡◌, ◌<◌, ◌+◌, None, length, take, IfOk, IfErr, OnOk, IsSome, IsSomeAnd, IsTrue};
+ghost use Rattle.board_core.specs.declared.board.FileNo.{FileNo};
+ghost use Rattle.board_core.specs.Told.{register_in, after_reg_write};
 ghost use Rattle.board_core.specs.Clock.{untold};
 ghost use Rattle.board_core.specs.ClockLemmas.{not_told};
+ghost use Rattle.ras_host.specs.Faults.{ReadFault, WriteFault};
+ghost use Rattle.ras_host.specs.JournalFiles.{name_of, HasLength, Gave, EndsBy, Took, IsDurable, IsLocked};
+ghost use Rattle.ras_host.specs.StoredDevice.{Does, DeviceFault};
 
 use crate::fault_count::with_fault_count;
 use crate::folder_file::FolderFile;
 use crate::store_file::StoredDevice;
-use crate::streams::{Output, if_open};
+use crate::streams::Output;
 use crate::system::System;
 use board_core::{Board, BoardPut, Failed, FileNo, Reg};
 use std::io;
@@ -64,11 +69,20 @@ struct WorkingFolder<S: System> {
     one: FolderFile<S>,
     device: StoredDevice,
     is_exclusive: bool,
+    ghost zero_name: { zero.name.now ≡ name_of FileNo.Zero },
+    ghost one_name: { one.name.now ≡ name_of FileNo.One },
+    ghost lock: { zero.is_exclusive ≡ is_exclusive },
 }
 
 impl<S: System> WorkingFolder<S> {
     // Opens a file. File 0 comes first where its lock is to keep other programs away.
-    fn open(&mut self, file: FileNo) -> io::Result<()> {
+    fn open(&mut self, file: FileNo) -> io::Result<()>
+        ensures zero { file ≡ FileNo.Zero → OnOk result (IsSome self.new.zero.opened) }
+        ensures one { file ≡ FileNo.One → OnOk result (IsSome self.new.one.opened) }
+        ensures locked { OnOk result (IsTrue self.old.is_exclusive
+            → IsLocked S.shown (name_of FileNo.Zero)) }
+        ensures failed { IfErr result (λ error. IsTrue (S.shown.failed error)) }
+    {
         if self.is_exclusive || file == FileNo::Zero {
             self.zero.open(&mut self.system)?;
         }
@@ -78,7 +92,12 @@ impl<S: System> WorkingFolder<S> {
         }
     }
 
-    fn size(&mut self, file: FileNo) -> io::Result<u64> {
+    fn size(&mut self, file: FileNo) -> io::Result<u64>
+        ensures told { IfOk result (λ n. HasLength S.shown (name_of file) n) }
+        ensures locked { OnOk result (IsTrue self.old.is_exclusive
+            → IsLocked S.shown (name_of FileNo.Zero)) }
+        ensures failed { IfErr result (λ error. IsTrue (S.shown.failed error)) }
+    {
         self.open(file)?;
         match file {
             FileNo::Zero => self.zero.size(&mut self.system),
@@ -87,7 +106,15 @@ impl<S: System> WorkingFolder<S> {
     }
 
     fn read_at(&mut self, file: FileNo, place: u64, buf: &mut [u8]) -> io::Result<usize>
-        ensures { ReadsAtMost result buf.new }
+        ensures within { ReadsAtMost result buf.new }
+        ensures gave { IfOk result (λ count. Gave S.shown (name_of file) place
+            (take count buf.new)) }
+        ensures ended { IfOk result (λ count. count < length buf.new
+            → EndsBy S.shown (name_of file) (place + count)) }
+        ensures locked { OnOk result (IsTrue self.old.is_exclusive
+            → IsLocked S.shown (name_of FileNo.Zero)) }
+        ensures failed { IfErr result (λ error.
+            ReadFault S.shown place (length buf.new) error) }
     {
         self.open(file)?;
         match file {
@@ -96,7 +123,13 @@ impl<S: System> WorkingFolder<S> {
         }
     }
 
-    fn write_at(&mut self, file: FileNo, place: u64, bytes: &[u8]) -> io::Result<()> {
+    fn write_at(&mut self, file: FileNo, place: u64, bytes: &[u8]) -> io::Result<()>
+        ensures took { OnOk result (Took S.shown (name_of file) place bytes.now) }
+        ensures locked { OnOk result (IsTrue self.old.is_exclusive
+            → IsLocked S.shown (name_of FileNo.Zero)) }
+        ensures failed { IfErr result (λ error.
+            WriteFault S.shown place (length bytes.now) error) }
+    {
         self.open(file)?;
         match file {
             FileNo::Zero => self.zero.write_at(&mut self.system, place, bytes),
@@ -104,7 +137,12 @@ impl<S: System> WorkingFolder<S> {
         }
     }
 
-    fn sync(&mut self, file: FileNo) -> io::Result<()> {
+    fn sync(&mut self, file: FileNo) -> io::Result<()>
+        ensures durable { OnOk result (IsDurable S.shown (name_of file)) }
+        ensures locked { OnOk result (IsTrue self.old.is_exclusive
+            → IsLocked S.shown (name_of FileNo.Zero)) }
+        ensures failed { IfErr result (λ error. IsTrue (S.shown.failed error)) }
+    {
         self.open(file)?;
         match file {
             FileNo::Zero => self.zero.sync(&mut self.system),
@@ -112,14 +150,23 @@ impl<S: System> WorkingFolder<S> {
         }
     }
 
-    fn reg_read(&mut self, reg: Reg) -> io::Result<u64> {
+    fn reg_read(&mut self, reg: Reg) -> io::Result<u64>
+        ensures same { OnOk result (Does S.shown (λ d. d) self.old.device self.new.device) }
+        ensures value { IfOk result (λ n. IsSomeAnd self.new.device.device
+            (λ d. n ≡ register_in reg d)) }
+        ensures failed { IfErr result (λ error. DeviceFault S.shown self.old.device error) }
+    {
         match reg {
             Reg::Action => self.device.action(&mut self.system),
             Reg::Value => self.device.value(&mut self.system),
         }
     }
 
-    fn reg_write(&mut self, reg: Reg, value: u64) -> io::Result<()> {
+    fn reg_write(&mut self, reg: Reg, value: u64) -> io::Result<()>
+        ensures does { OnOk result (Does S.shown (after_reg_write reg value)
+            self.old.device self.new.device) }
+        ensures failed { IfErr result (λ error. DeviceFault S.shown self.old.device error) }
+    {
         match reg {
             Reg::Action => self.device.act(&mut self.system, value),
             Reg::Value => self.device.set_value(&mut self.system, value),

@@ -1,13 +1,15 @@
 //! The device, whose record store is a file of the working folder.
-ghost use Rattle.std.specs.Prelude.{◌≡◌, ◌+◌, ◌≤◌, length, take, drop, codes, None, true, false, IfOk, OnOk, OnErr, IsErr, IsTrue, IsFalse, IfSome, IsSomeAnd};
+ghost use Rattle.std.specs.Prelude.{◌≡◌, ◌+◌, ◌≤◌, length, take, drop, codes, None, true, false, IfOk, IfErr, OnOk, OnErr, IsErr, IsTrue, IsFalse, IfSome, IsSomeAnd};
+ghost use Rattle.std.specs.IoError.{error_kind};
 ghost use Rattle.erst_store.specs.Actions.{range_length};
-ghost use Rattle.erst_store.specs.Device.{act, range_with, new_device};
+ghost use Rattle.erst_store.specs.Device.{act, range_with};
 ghost use Rattle.erst_store.specs.StoreFile.{store_bytes};
-ghost use Rattle.ras_cli.specs.StoredDevice.{IsUsed, IsLeft, Does, MayChangeStore, Puts, IsSaved};
+ghost use Rattle.ras_host.specs.StoreFound.{HasBytes, HasStore};
+ghost use Rattle.ras_host.specs.StoredDevice.{IsFirst, IsUsed, IsLeft, Does, MayChangeStore, Puts, IsSaved, FileFault, DeviceFault};
 
 use crate::folder_file::{read_full, write_full};
 use crate::system::System;
-use erst_store::{Dev, MOST_BYTES, MOST_RECORDS, PutRefused, Store};
+use erst_store::{Dev, MOST_BYTES, MOST_RECORDS, PutRefused, Store, StoreRefused};
 use std::alloc::Global;
 use std::io;
 use std::io::ErrorKind;
@@ -34,7 +36,7 @@ pub struct StoredDevice {
 }
 
 impl Model for StoredDevice {
-    ghost use Rattle.ras_cli.specs.StoredDevice.{Kept};
+    ghost use Rattle.ras_host.specs.StoredDevice.{Kept};
 
     ghost Value = { Kept };
 
@@ -55,10 +57,11 @@ impl StoredDevice {
 
     /// Reads the register Action.
     pub fn action<S: System>(&mut self, system: &mut S) -> io::Result<u64>
-        ensures ok { IfOk result (λ n. Does (λ d. d) self.old self.new
+        ensures ok { IfOk result (λ n. Does S.shown (λ d. d) self.old self.new
             × IsSomeAnd self.new.device (λ d. n ≡ d.action)) }
         ensures err { OnErr result (self.new ≡ self.old) }
         ensures lost { IsTrue self.old.is_lost → IsErr result }
+        ensures failed { IfErr result (λ error. DeviceFault S.shown self.old error) }
         ensures files { IsTrue (S.keeps_files system.old system.new) }
     {
         let device = self.take_device(system)?;
@@ -69,10 +72,11 @@ impl StoredDevice {
 
     /// Reads the register Value.
     pub fn value<S: System>(&mut self, system: &mut S) -> io::Result<u64>
-        ensures ok { IfOk result (λ n. Does (λ d. d) self.old self.new
+        ensures ok { IfOk result (λ n. Does S.shown (λ d. d) self.old self.new
             × IsSomeAnd self.new.device (λ d. n ≡ d.value)) }
         ensures err { OnErr result (self.new ≡ self.old) }
         ensures lost { IsTrue self.old.is_lost → IsErr result }
+        ensures failed { IfErr result (λ error. DeviceFault S.shown self.old error) }
         ensures files { IsTrue (S.keeps_files system.old system.new) }
     {
         let device = self.take_device(system)?;
@@ -83,13 +87,13 @@ impl StoredDevice {
 
     /// Does an action. Where it may change the store, the store is written to its file.
     pub fn act<S: System>(&mut self, system: &mut S, action: u64) -> io::Result<()>
-        ensures ok { OnOk result (Does (act action) self.old self.new) }
+        ensures ok { OnOk result (Does S.shown (act action) self.old self.new) }
         ensures err { OnErr result (IsFalse self.new.is_lost
-            → IsLeft self.old.device self.new.device) }
+            → IsLeft S.shown self.old.device self.new.device) }
         ensures lost { IsTrue self.old.is_lost → IsErr result }
+        ensures failed { IfErr result (λ error. DeviceFault S.shown self.old error) }
         ensures saved { OnOk result (MayChangeStore action self.old.device
-            → IsSomeAnd self.new.device (λ d. IsSaved S.took S.is_synced S.has_entries
-            (S.is_renamed (codes "rasd.new") (codes "rasd.store")) (store_bytes d.store))) }
+            → IsSomeAnd self.new.device (λ d. IsSaved S.shown (store_bytes d.store))) }
         ensures files { ¬ MayChangeStore action self.old.device
             → IsTrue (S.keeps_files system.old system.new) }
         ensures usable { ¬ MayChangeStore action self.old.device
@@ -111,9 +115,11 @@ impl StoredDevice {
 
     /// Writes a number to the register Value.
     pub fn set_value<S: System>(&mut self, system: &mut S, value: u64) -> io::Result<()>
-        ensures ok { OnOk result (Does (λ d. record d { value = value }) self.old self.new) }
+        ensures ok { OnOk result (Does S.shown (λ d. record d { value = value })
+            self.old self.new) }
         ensures err { OnErr result (self.new ≡ self.old) }
         ensures lost { IsTrue self.old.is_lost → IsErr result }
+        ensures failed { IfErr result (λ error. DeviceFault S.shown self.old error) }
         ensures files { IsTrue (S.keeps_files system.old system.new) }
     {
         let mut device = self.take_device(system)?;
@@ -130,11 +136,12 @@ impl StoredDevice {
         buf: &mut [u8],
     ) -> io::Result<()>
         requires { place + length buf.old ≤ range_length }
-        ensures ok { OnOk result (Does (λ d. d) self.old self.new
+        ensures ok { OnOk result (Does S.shown (λ d. d) self.old self.new
             × IsSomeAnd self.new.device
             (λ d. buf.new ≡ take (length buf.old) (drop place d.range))) }
         ensures err { OnErr result (self.new ≡ self.old) }
         ensures lost { IsTrue self.old.is_lost → IsErr result }
+        ensures failed { IfErr result (λ error. DeviceFault S.shown self.old error) }
         ensures files { IsTrue (S.keeps_files system.old system.new) }
     {
         let device = self.take_device(system)?;
@@ -151,10 +158,11 @@ impl StoredDevice {
         bytes: &[u8],
     ) -> io::Result<()>
         requires { place + length bytes.now ≤ range_length }
-        ensures ok { OnOk result (Does
+        ensures ok { OnOk result (Does S.shown
             (λ d. record d { range = range_with place bytes.now d.range }) self.old self.new) }
         ensures err { OnErr result (self.new ≡ self.old) }
         ensures lost { IsTrue self.old.is_lost → IsErr result }
+        ensures failed { IfErr result (λ error. DeviceFault S.shown self.old error) }
         ensures files { IsTrue (S.keeps_files system.old system.new) }
     {
         let mut device = self.take_device(system)?;
@@ -171,12 +179,12 @@ impl StoredDevice {
         id: u64,
         bytes: &[u8],
     ) -> io::Result<Result<(), PutRefused>>
-        ensures ok { IfOk result (λ answer. Puts id bytes.now answer self.old self.new) }
+        ensures ok { IfOk result (λ answer. Puts S.shown id bytes.now answer self.old self.new) }
         ensures err { OnErr result (IsFalse self.new.is_lost → self.new ≡ self.old) }
         ensures lost { IsTrue self.old.is_lost → IsErr result }
+        ensures failed { IfErr result (λ error. DeviceFault S.shown self.old error) }
         ensures saved { IfOk result (λ answer. OnOk answer
-            (IsSomeAnd self.new.device (λ d. IsSaved S.took S.is_synced S.has_entries
-            (S.is_renamed (codes "rasd.new") (codes "rasd.store")) (store_bytes d.store)))) }
+            (IsSomeAnd self.new.device (λ d. IsSaved S.shown (store_bytes d.store)))) }
         ensures files { IfOk result (λ answer. OnErr answer
             (IsTrue (S.keeps_files system.old system.new))) }
     {
@@ -191,10 +199,11 @@ impl StoredDevice {
 
     // Takes the device out, unless it was lost.
     fn take_device<S: System>(&mut self, system: &mut S) -> io::Result<Dev>
-        ensures ok { IfOk result (λ d. IsUsed self.old.device d) }
+        ensures ok { IfOk result (λ d. IsUsed S.shown self.old.device d) }
         ensures usable { OnOk result (IsFalse self.old.is_lost) }
         ensures kept { self.new.is_lost ≡ self.old.is_lost }
         ensures err { OnErr result (self.new ≡ self.old) }
+        ensures failed { IfErr result (λ error. DeviceFault S.shown self.old error) }
         ensures files { IsTrue (S.keeps_files system.old system.new) }
     {
         if self.is_lost {
@@ -211,9 +220,8 @@ impl StoredDevice {
         ensures kept { self.new.device ≡ self.old.device }
         ensures usable { OnOk result (IsFalse self.new.is_lost) }
         ensures lost { OnErr result (IsTrue self.new.is_lost) }
-        ensures saved { OnOk result (IfSome self.old.device (λ d. IsSaved S.took S.is_synced
-            S.has_entries (S.is_renamed (codes "rasd.new") (codes "rasd.store"))
-            (store_bytes d.store))) }
+        ensures failed { IfErr result (λ error. DeviceFault S.shown self.old error) }
+        ensures saved { OnOk result (IfSome self.old.device (λ d. IsSaved S.shown (store_bytes d.store))) }
     {
         self.is_lost = true;
         if let Some(device) = &self.device {
@@ -224,21 +232,49 @@ impl StoredDevice {
     }
 }
 
-// A new device over the store of the folder, which is empty where there is no file.
+// A new device over the store of the folder.
 fn read_device<S: System>(alloc: Global, system: &mut S) -> io::Result<Dev>
-    ensures new { IfOk result (λ d. d ≡ new_device d.store 0) }
+    ensures new { IfOk result (λ d. IsFirst S.shown d) }
+    ensures failed { IfErr result (λ error. FileFault S.shown error) }
     ensures files { IsTrue (S.keeps_files system.old system.new) }
 {
-    let store = match system.open_if_there(STORE)? {
-        Some(file) => read_store(alloc, system, &file)?,
-        None => Store::new(alloc),
-    };
+    let store = find_store(alloc, system)?;
     Dev::new(alloc, store, 0).map_err(|_| out_of_memory())
 }
 
-// The store of a file, all of it. Its length is compared before memory is taken for it.
+// The store of the folder, which is empty where there is no file.
+fn find_store<S: System>(alloc: Global, system: &mut S) -> io::Result<Store>
+    ensures found { IfOk result (λ store. HasStore S.shown store) }
+    ensures failed { IfErr result (λ error. FileFault S.shown error) }
+    ensures files { IsTrue (S.keeps_files system.old system.new) }
+{
+    match system.open_if_there(STORE)? {
+        None => Ok(Store::new(alloc)),
+        Some(file) => read_store(alloc, system, &file),
+    }
+}
+
+// The store of its file.
 fn read_store<S: System>(alloc: Global, system: &mut S, file: &S::File) -> io::Result<Store>
-    ensures { IsTrue (S.keeps_files system.old system.new) }
+    requires { IsTrue (S.shown.is_opened (codes "rasd.store") file.now) }
+    ensures read { IfOk result (λ store. HasBytes S.shown (codes "rasd.store") (store_bytes store)) }
+    ensures failed { IfErr result (λ error. FileFault S.shown error) }
+    ensures files { IsTrue (S.keeps_files system.old system.new) }
+{
+    let bytes = read_bytes(alloc, system, file)?;
+    match Store::from_bytes(alloc, &bytes) {
+        Ok(store) => Ok(store),
+        Err(StoreRefused::Malformed) => Err(malformed()),
+        Err(StoreRefused::NoMemory) => Err(out_of_memory()),
+    }
+}
+
+// The bytes of the store's file. Its length is compared before memory is taken for it.
+fn read_bytes<S: System>(alloc: Global, system: &mut S, file: &S::File) -> io::Result<Vec<u8>>
+    requires { IsTrue (S.shown.is_opened (codes "rasd.store") file.now) }
+    ensures read { IfOk result (λ v. HasBytes S.shown (codes "rasd.store") v.items) }
+    ensures failed { IfErr result (λ error. FileFault S.shown error) }
+    ensures files { IsTrue (S.keeps_files system.old system.new) }
 {
     let len = system.len(file)?;
     if len > LONGEST_STORE {
@@ -252,13 +288,13 @@ fn read_store<S: System>(alloc: Global, system: &mut S, file: &S::File) -> io::R
     if count < bytes.len() {
         return Err(malformed());
     }
-    Store::from_bytes(alloc, &bytes).map_err(|_| malformed())
+    Ok(bytes)
 }
 
 // Puts a new file with this store in the place of the old one, durably.
 fn write_store<S: System>(alloc: Global, system: &mut S, store: &Store) -> io::Result<()>
-    ensures { OnOk result (IsSaved S.took S.is_synced S.has_entries
-        (S.is_renamed (codes "rasd.new") (codes "rasd.store")) (store_bytes store.now)) }
+    ensures saved { OnOk result (IsSaved S.shown (store_bytes store.now)) }
+    ensures failed { IfErr result (λ error. FileFault S.shown error) }
 {
     let Ok(bytes) = store.to_bytes(alloc) else {
         return Err(out_of_memory());
@@ -270,10 +306,14 @@ fn write_store<S: System>(alloc: Global, system: &mut S, store: &Store) -> io::R
     system.sync_folder(&opened.folder)
 }
 
-fn malformed() -> io::Error {
+fn malformed() -> io::Error
+    ensures { error_kind result ≡ ErrorKind.InvalidData }
+{
     io::Error::from(ErrorKind::InvalidData)
 }
 
-fn out_of_memory() -> io::Error {
+fn out_of_memory() -> io::Error
+    ensures { error_kind result ≡ ErrorKind.OutOfMemory }
+{
     io::Error::from(ErrorKind::OutOfMemory)
 }

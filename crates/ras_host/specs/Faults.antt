@@ -1,0 +1,21 @@
+-- Why reading or writing a stretch of a file fails.
+use Rattle.std.specs.Prelude.{◌≡◌, ◌⊎◌, ◌≤◌, ◌+◌, ◌^◌, ℕ, IsTrue}
+use Rattle.std.specs.IoError.{error_kind}
+use Rattle.std.specs.declared.io.Error.{Error}
+use Rattle.std.specs.declared.io.ErrorKind.TheVariants.{FileTooLarge, TimedOut, WriteZero}
+use Rattle.ras_host.specs.Shown.{Shown}
+
+-- A byte of a stretch has no place below 2^64.
+abbrev pub IsTooFar : ℕ → ℕ → Type 0
+IsTooFar place length = 2 ^ 64 ≤ place + length
+
+-- A read fails as the system did, where the stretch is too far, or where interruptions have no end.
+abbrev pub ReadFault : {File : Type 0} → Shown File → ℕ → ℕ → Error → Type 0
+ReadFault shown place length error = IsTrue (shown.failed error)
+    ⊎ ((error_kind error ≡ FileTooLarge) × IsTooFar place length)
+    ⊎ (error_kind error ≡ TimedOut)
+
+-- A write does so too, and where the system took none of its bytes.
+abbrev pub WriteFault : {File : Type 0} → Shown File → ℕ → ℕ → Error → Type 0
+WriteFault shown place length error = ReadFault shown place length error
+    ⊎ ((error_kind error ≡ WriteZero) × IsTrue shown.took_nothing)

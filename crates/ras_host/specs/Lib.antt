@@ -1,0 +1,5 @@
+pub mod Faults
+pub mod JournalFiles
+pub mod Shown
+pub mod StoreFound
+pub mod StoredDevice

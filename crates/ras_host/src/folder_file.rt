@@ -1,0 +1,189 @@
+//! A journal file of the working folder.
+ghost use Rattle.std.specs.Prelude.{◌≡◌, ◌<◌, ◌+◌, Some, None, length, take, IfOk, IfErr, OnOk, OnErr, IfSome, IsSome, IsTrue, is_some};
+ghost use Rattle.std.specs.Option.{ForSome};
+ghost use Rattle.std.specs.Io.{ReadsAtMost};
+ghost use Rattle.ras_host.specs.Faults.{ReadFault, WriteFault};
+ghost use Rattle.ras_host.specs.JournalFiles.{HasLength, Gave, EndsBy, Took, IsDurable, IsLocked};
+
+use crate::system::{Opened, System};
+use std::io;
+use std::io::ErrorKind;
+
+/// A journal file, opened at its first use, and made then where it is missing. An exclusive one is
+/// used under a lock.
+#[derive(Drop)]
+pub struct FolderFile<S: System> {
+    name: &'static str,
+    is_exclusive: bool,
+    opened: Option<Opened<S::File>>,
+    is_folder_synced: bool,
+    ghost named: { ForSome opened (λ it. IsTrue (S.shown.is_opened name.now it.file)) },
+    ghost inside: { ForSome opened (λ it. IsTrue (S.shown.lies_in it.file it.folder)) },
+    ghost locked: { IsTrue is_exclusive → ForSome opened (λ it. IsTrue (S.shown.is_locked it.file)) },
+    ghost entered: { IsTrue is_folder_synced → ForSome opened (λ it. IsTrue (S.shown.has_entries it.folder)) },
+    ghost synced_when_open: { IsTrue is_folder_synced → IsTrue (is_some opened) },
+}
+
+impl<S: System> FolderFile<S> {
+    /// The file of this name. Nothing is opened yet.
+    pub fn new(name: &'static str, is_exclusive: bool) -> FolderFile<S>
+        ensures name { result.name ≡ name.entry }
+        ensures exclusive { result.is_exclusive ≡ is_exclusive }
+        ensures closed { result.opened ≡ None }
+    {
+        FolderFile {
+            name,
+            is_exclusive,
+            opened: None,
+            is_folder_synced: false,
+        }
+    }
+
+    /// Opens the file, if it isn't open yet, with a lock where it is to be this program's alone. An
+    /// error is the system's.
+    pub fn open(&mut self, system: &mut S) -> io::Result<()>
+        ensures opened { OnOk result (IsSome self.new.opened) }
+        ensures locked { OnOk result (IsTrue self.new.is_exclusive
+            → IsLocked S.shown self.new.name.now) }
+        ensures once { IfSome self.old.opened (λ it. self.new.opened ≡ Some it) }
+        ensures same { self.new.name ≡ self.old.name }
+        ensures exclusive { self.new.is_exclusive ≡ self.old.is_exclusive }
+        ensures failed { IfErr result (λ error. IsTrue (S.shown.failed error)) }
+    {
+        if self.opened.is_none() {
+            let opened = system.open(self.name)?;
+            if self.is_exclusive {
+                system.lock(&opened.file)?;
+            }
+            self.opened = Some(opened);
+        }
+        Ok(())
+    }
+
+    /// The length in bytes, as the system told it. Where the file is open, an error is one of the
+    /// system.
+    pub fn size(&self, system: &mut S) -> io::Result<u64>
+        ensures told { IfOk result (λ length. HasLength S.shown self.now.name.now length) }
+        ensures failed { IfErr result (λ error. IsSome self.now.opened
+            → IsTrue (S.shown.failed error)) }
+    {
+        system.len(&self.opened()?.file)
+    }
+
+    /// Reads from `place` on until the buffer is full or the file ends, and answers the number of
+    /// bytes. Where the file is open, an error is one of `read_full`.
+    pub fn read_at(&self, system: &mut S, place: u64, buf: &mut [u8]) -> io::Result<usize>
+        ensures within { ReadsAtMost result buf.new }
+        ensures gave { IfOk result (λ count. Gave S.shown self.now.name.now place
+            (take count buf.new)) }
+        ensures ended { IfOk result (λ count. count < length buf.new
+            → EndsBy S.shown self.now.name.now (place + count)) }
+        ensures failed { IfErr result (λ error. IsSome self.now.opened
+            → ReadFault S.shown place (length buf.new) error) }
+    {
+        read_full(system, &self.opened()?.file, place, buf)
+    }
+
+    /// Writes all the bytes at `place`. Where the file is open, an error is one of `write_full`.
+    pub fn write_at(&self, system: &mut S, place: u64, bytes: &[u8]) -> io::Result<()>
+        ensures took { OnOk result (Took S.shown self.now.name.now place bytes.now) }
+        ensures failed { IfErr result (λ error. IsSome self.now.opened
+            → WriteFault S.shown place (length bytes.now) error) }
+    {
+        write_full(system, &self.opened()?.file, place, bytes)
+    }
+    /// Makes the file durable, and at the first time in a run also its entry in the folder: this
+    /// run may have made the file, or an earlier one that ended before it could make the entry
+    /// durable. A sync that failed isn't tried again, since the system may then say that all is
+    /// well though the bytes are not on the disk.
+    pub fn sync(&mut self, system: &mut S) -> io::Result<()>
+        ensures durable { OnOk result (IsDurable S.shown self.new.name.now) }
+        ensures same { self.new.name ≡ self.old.name }
+        ensures exclusive { self.new.is_exclusive ≡ self.old.is_exclusive }
+        ensures opened { self.new.opened ≡ self.old.opened }
+        ensures failed { IfErr result (λ error. IsSome self.old.opened
+            → IsTrue (S.shown.failed error)) }
+    {
+        let opened = self.opened()?;
+        system.sync_data(&opened.file)?;
+        if !self.is_folder_synced {
+            system.sync_folder(&opened.folder)?;
+            self.is_folder_synced = true;
+        }
+        Ok(())
+    }
+
+    fn opened(&self) -> io::Result<&Opened<S::File>>
+        ensures ok { IfOk result (λ it. self.now.opened ≡ Some it.now) }
+        ensures err { OnErr result (self.now.opened ≡ None) }
+    {
+        match &self.opened {
+            Some(opened) => Ok(opened),
+            None => Err(io::Error::from(ErrorKind::NotFound)),
+        }
+    }
+}
+
+/// Reads until the buffer is full or the file ends. A read gives fewer bytes than asked for at any
+/// place, so the next one goes on after them. An error is the system's, or `FileTooLarge` where a
+/// byte has no place below 2^64, or `TimedOut` where interruptions have no end.
+pub fn read_full<S: System>(
+    system: &mut S,
+    file: &S::File,
+    place: u64,
+    buf: &mut [u8],
+) -> io::Result<usize>
+    ensures within { ReadsAtMost result buf.new }
+    ensures same { length buf.new ≡ length buf.old }
+    ensures gave { IfOk result (λ count. IsTrue (S.shown.gave file.now place (take count buf.new))) }
+    ensures ended { IfOk result (λ count. count < length buf.new
+        → IsTrue (S.shown.ends_by file.now (place + count))) }
+    ensures failed { IfErr result (λ error. ReadFault S.shown place (length buf.new) error) }
+    ensures kept { IsTrue (S.keeps_files system.old system.new) }
+{
+    let mut count = 0;
+    for _ in 0..u64::MAX {
+        if count >= buf.len() {
+            return Ok(count);
+        }
+        let Some(next) = place.checked_add(count as u64) else {
+            return Err(io::Error::from(ErrorKind::FileTooLarge));
+        };
+        match system.read_at(file, next, &mut buf[count..]) {
+            Ok(0) => return Ok(count),
+            Ok(n) => count += n,
+            Err(e) if e.kind() == ErrorKind::Interrupted => {}
+            Err(e) => return Err(e),
+        }
+    }
+    Err(io::Error::from(ErrorKind::TimedOut))
+}
+
+/// Writes all the bytes. A write takes fewer bytes than given at any place, so the next one goes on
+/// after them. An error is one of `read_full`'s, or `WriteZero` where the system took nothing.
+pub fn write_full<S: System>(
+    system: &mut S,
+    file: &S::File,
+    place: u64,
+    bytes: &[u8],
+) -> io::Result<()>
+    ensures took { OnOk result (IsTrue (S.shown.took file.now place bytes.now)) }
+    ensures failed { IfErr result (λ error. WriteFault S.shown place (length bytes.now) error) }
+{
+    let mut count = 0;
+    for _ in 0..u64::MAX {
+        if count >= bytes.len() {
+            return Ok(());
+        }
+        let Some(next) = place.checked_add(count as u64) else {
+            return Err(io::Error::from(ErrorKind::FileTooLarge));
+        };
+        match system.write_at(file, next, &bytes[count..]) {
+            Ok(0) => return Err(io::Error::from(ErrorKind::WriteZero)),
+            Ok(n) => count += n,
+            Err(e) if e.kind() == ErrorKind::Interrupted => {}
+            Err(e) => return Err(e),
+        }
+    }
+    Err(io::Error::from(ErrorKind::TimedOut))
+}
