@@ -211,10 +211,20 @@ def code_items(file):
         match = CODE_HEAD.match(line)
         if match and match["indent"] == "":
             add_item(items, file, lines, place, match, match["name"], scope)
-        elif match and match["indent"] == "    " and owner and not owner["trait"]:
+        elif match and match["indent"] == "    " and owner:
             name = f"{owner['type']}::{match['name']}"
-            add_item(items, file, lines, place, match, name, inner)
+            if not owner["trait"]:
+                add_item(items, file, lines, place, match, name, inner)
+            elif match["kind"] == "fn":
+                add_trait_method(items, file, lines, place, name, inner)
     return items
+
+
+def add_trait_method(items, file, lines, place, name, scope):
+    """Adds a trait's method of a type that has clauses of its own; else the trait's stand for it."""
+    text = tuple(lines[with_comments(lines, place) : end_of(lines, place, "fn", "    ") + 1])
+    if any(CLAUSE.match(line) for line in text):
+        items[name] = Item(file, name, "method of a trait", place + 1, text, scope)
 
 
 def without_tests(lines):

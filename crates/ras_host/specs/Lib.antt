@@ -1,3 +1,4 @@
+pub mod BoardState
 pub mod Faults
 pub mod JournalFiles
 pub mod Shown
