@@ -1,6 +1,6 @@
--- What calls of the system show of files. Functions are proved over every system, so also over one
--- whose words hold only of what its calls have shown. There a clause that has such a word says that
--- the call was made, and went so.
+-- What calls of the system show of files and of standard output. Functions are proved over every
+-- system, so also over one whose words hold only of what its calls have shown. There a clause that
+-- has such a word says that the call was made, and went so.
 use Rattle.std.specs.Prelude.{◌+◌, ℕ, Bool, true, List, [], ◌++◌, length, IsTrue, refl}
 use Rattle.std.specs.declared.io.Error.{Error}
 
@@ -41,6 +41,8 @@ pub record Shown (File : Type 0) : Type 0 where
   pub has_entries : File → Bool
   -- The file of the one name was put in the place of the other.
   pub is_renamed : List ℕ → List ℕ → Bool
+  -- Standard output took these bytes.
+  pub printed : List ℕ → Bool
 
 -- The words of a system of which nothing is known: the program's own, and that of tests.
 abbrev pub everything : {File : Type 0} → Shown File
@@ -63,4 +65,5 @@ everything = record {
   is_synced = λ _. true;
   has_entries = λ _. true;
   is_renamed = λ _ _. true;
+  printed = λ _. true;
 }

@@ -10,14 +10,13 @@ mod fault_count;
 mod file_board;
 mod file_source;
 mod folder_file;
+mod journal_files;
 mod store_file;
 mod streams;
 mod system;
-#[cfg(test)]
-mod tests;
 
 pub use file_board::FileBoard;
-pub use file_source::FileSource;
+pub use file_source::{FileSource, read_retrying};
 pub use folder_file::FolderFile;
 pub use store_file::StoredDevice;
 pub use streams::Output;

@@ -1,10 +1,11 @@
 //! The standard streams.
-ghost use Rattle.std.specs.Prelude.{◌≡◌, IfSome, IsErr, IsFalse, IsNone};
+ghost use Rattle.std.specs.Prelude.{◌≡◌, IfSome, IfErr, OnOk, IsErr, IsFalse, IsNone, IsTrue, is_some};
 ghost use Rattle.std.specs.IoError.{error_kind};
+ghost use Rattle.ras_host.specs.Printing.{OutputFault, StreamFault};
 
-use crate::system::{room_of_output, size_limit};
+use crate::system::{System, room_of_output, size_limit};
 use std::io;
-use std::io::{ErrorKind, Print, Stdout};
+use std::io::{ErrorKind, Stdout};
 use std::marker::Model;
 use std::os::fd::AsFd;
 
@@ -37,13 +38,14 @@ pub struct Output {
     stream: Option<Stdout>,
 }
 
-// Contracts see of standard output whether it is open.
+// Contracts see of standard output whether it is open, and the limit on the size of its file.
 impl Model for Output {
-    ghost use Rattle.std.specs.Prelude.{Bool, is_some};
+    ghost use Rattle.std.specs.Prelude.{is_some};
+    ghost use Rattle.ras_host.specs.Printing.{OutputState};
 
-    ghost Value = { Bool };
+    ghost Value = { OutputState };
 
-    ghost view = { λ o. is_some o.stream };
+    ghost view = { λ o. record { is_open = is_some o.stream; limit = o.size_limit } };
 }
 
 impl Output {
@@ -58,27 +60,30 @@ impl Output {
         }
     }
 
-    /// Writes the whole piece in one write. What a short write left goes on in another, and so does
-    /// an interrupted one. A write to a file past the limit on the size of files would end the
-    /// program by a signal, and is an error here. Where the stream is closed, every write fails. No
-    /// clause says what the system took of the bytes, as it isn't in a model.
-    pub fn write(&self, bytes: &[u8]) -> io::Result<()>
-        ensures closed { IsFalse self.now → IsErr result }
+    /// Writes the whole piece in one write. A write to a file past the limit on the size of files
+    /// would end the program by a signal, and is an error here. Where the stream is closed, every
+    /// write fails.
+    pub fn write<S: System>(&self, system: &mut S, bytes: &[u8]) -> io::Result<()>
+        ensures printed { OnOk result (IsTrue (S.shown.printed bytes.now)) }
+        ensures closed { IsFalse self.now.is_open → IsErr result }
+        ensures failed { IfErr result (λ error. OutputFault S.shown self.now error) }
     {
         let room = room_of_output(&self.rt, self.size_limit);
         if room >= bytes.len() as u64 {
-            return write_to(self.stream, bytes);
+            return write_to(self.stream, system, bytes);
         }
-        write_to(self.stream, &bytes[..room as usize])?;
+        write_to(self.stream, system, &bytes[..room as usize])?;
         Err(io::Error::from(ErrorKind::FileTooLarge))
     }
 }
 
-fn write_to(stream: Option<Stdout>, bytes: &[u8]) -> io::Result<()>
-    ensures { IsNone stream → IsErr result }
+fn write_to<S: System>(stream: Option<Stdout>, system: &mut S, bytes: &[u8]) -> io::Result<()>
+    ensures printed { OnOk result (IsTrue (S.shown.printed bytes.now)) }
+    ensures closed { IsNone stream → IsErr result }
+    ensures failed { IfErr result (λ error. StreamFault S.shown (is_some stream) error) }
 {
     match stream {
-        Some(stream) => stream.write_all(bytes),
+        Some(stream) => system.write_output(&stream, bytes),
         None => Err(closed_stream_error()),
     }
 }

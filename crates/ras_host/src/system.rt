@@ -1,4 +1,5 @@
-//! What the program asks of the system's files, so that a test can answer in its place.
+//! What the program asks of the system's files and of standard output, so that a test can answer in
+//! its place.
 ghost use Rattle.std.specs.Prelude.{◌≡◌, ◌≤◌, ◌<◌, ◌-◌, ◌^◌, ◌⊎◌, length, take, Bool, true, IfOk, IfErr, OnOk, IfSome, None, IsTrue, refl};
 ghost use Rattle.std.specs.Io.{ReadsAtMost, WritesAtMost};
 ghost use Rattle.std.specs.IoError.{error_kind};
@@ -9,7 +10,7 @@ use std::fs::{
     symlink_metadata,
 };
 use std::io;
-use std::io::ErrorKind;
+use std::io::{ErrorKind, Print, Stdout};
 use std::os::fd::AsRawFd;
 use std::os::unix::fs::FileExt;
 
@@ -20,12 +21,12 @@ pub struct Opened<F> {
     pub folder: F,
 }
 
-/// Calls on files of the working folder. Each is one call of the system, or a few that have no part
-/// in between.
+/// Calls on files of the working folder and on standard output. Each is one call of the system, or
+/// a few that have no part in between.
 pub trait System: Drop {
     type File: Drop;
 
-    /// What the calls below show of files. Nothing else shows it.
+    /// What the calls below show of files and of standard output. Nothing else shows it.
     ghost shown: { Shown Self.File };
 
     /// That from the one state to the other no file was made, written or renamed. Calls that only
@@ -99,6 +100,12 @@ pub trait System: Drop {
     /// Puts a file in the place of another.
     fn rename(&mut self, from: &str, to: &str) -> io::Result<()>
         ensures ok { OnOk result (IsTrue (shown.is_renamed from.now to.now)) }
+        ensures failed { IfErr result (λ error. IsTrue (shown.failed error)) };
+
+    /// Writes all the bytes to standard output. What a short write left goes on in another, and so
+    /// does an interrupted one.
+    fn write_output(&mut self, output: &Stdout, bytes: &[u8]) -> io::Result<()>
+        ensures printed { OnOk result (IsTrue (shown.printed bytes.now)) }
         ensures failed { IfErr result (λ error. IsTrue (shown.failed error)) };
 }
 
@@ -219,6 +226,10 @@ impl System for Host {
 
     fn rename(&mut self, from: &str, to: &str) -> io::Result<()> {
         rename(&self.rt, from, to)
+    }
+
+    fn write_output(&mut self, output: &Stdout, bytes: &[u8]) -> io::Result<()> {
+        output.write_all(bytes)
     }
 }
 

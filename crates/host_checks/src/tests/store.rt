@@ -1,8 +1,7 @@
 //! The record store's file, over a scripted system and in a real folder. The device is used through
 //! functions of one call each that state nothing.
 use super::scripted::{Call, Named, Scripted};
-use crate::store_file::StoredDevice;
-use crate::system::{Host, System};
+use ras_host::{Host, StoredDevice, System};
 use std::alloc::Global;
 use std::test::Fail;
 use std::{fs, io};

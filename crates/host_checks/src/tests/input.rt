@@ -1,6 +1,6 @@
 //! Short and interrupted reads of standard input, which no test over a real pipe makes come when it
 //! wants.
-use crate::file_source::read_retrying;
+use ras_host::read_retrying;
 use std::io;
 use std::io::{ErrorKind, Read};
 

@@ -2,10 +2,10 @@
 ghost use Rattle.std.specs.Prelude.{true, refl};
 ghost use Rattle.ras_host.specs.Shown.{everything};
 
-use crate::system::{Opened, System};
+use ras_host::{Opened, System};
 use std::alloc::Global;
 use std::io;
-use std::io::ErrorKind;
+use std::io::{ErrorKind, Stdout};
 
 /// A file of the working folder, or the folder.
 #[derive(Clone, Copy, Debug, PartialEq, Eq)]
@@ -30,6 +30,7 @@ pub enum Call {
     SyncFolder,
     Lock(Named),
     Rename(Named, Named),
+    WriteOutput(usize),
 }
 
 /// A system on which one call fails, by its number from 1, and whose reads and writes take a few
@@ -150,5 +151,9 @@ impl System for Scripted {
 
     fn rename(&mut self, from: &str, to: &str) -> io::Result<()> {
         self.ask(Call::Rename(file_of_name(from), file_of_name(to)))
+    }
+
+    fn write_output(&mut self, _output: &Stdout, bytes: &[u8]) -> io::Result<()> {
+        self.ask(Call::WriteOutput(bytes.len()))
     }
 }

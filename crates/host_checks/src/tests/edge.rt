@@ -1,7 +1,7 @@
 //! The journal's files over a scripted system. Each kind of call goes through one function that
 //! states nothing and gives what was answered and what the system was asked.
 use super::scripted::{Call, Named, Scripted};
-use crate::folder_file::{FolderFile, read_full, write_full};
+use ras_host::FolderFile;
 use std::alloc::Global;
 use std::io::ErrorKind;
 use std::test::Fail;
@@ -16,10 +16,18 @@ fn system_of(alloc: Global, script: Script) -> Scripted {
     system
 }
 
+// A file that was opened before the script begins.
+fn opened(alloc: Global) -> FolderFile<Scripted> {
+    let mut file = FolderFile::new("rasd.0", false);
+    let _ = file.open(&mut system_of(alloc, (0, FULL, 9)));
+    file
+}
+
 // Whether five bytes are written at 7, and the calls.
 fn write(alloc: Global, script: Script) -> (bool, Vec<Call>) {
+    let file = opened(alloc);
     let mut system = system_of(alloc, script);
-    let is_ok = write_full(&mut system, &Named::Zero, 7, b"abcde").is_ok();
+    let is_ok = file.write_at(&mut system, 7, b"abcde").is_ok();
     (is_ok, system.calls)
 }
 
@@ -57,10 +65,11 @@ fn writes_all_of_it(rt: HostRuntime) {
 
 // How many of four bytes are read at a place of seven, and the buffer.
 fn read(alloc: Global, script: Script, place: u64) -> Result<(Option<usize>, [u8; 4]), Fail> {
+    let file = opened(alloc);
     let mut system = system_of(alloc, script);
     system.store = Some(b"abcdefg".to_vec(alloc)?);
     let mut buf = [0; 4];
-    let count = read_full(&mut system, &Named::Zero, place, &mut buf).ok();
+    let count = file.read_at(&mut system, place, &mut buf).ok();
     Ok((count, buf))
 }
 

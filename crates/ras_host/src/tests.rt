@@ -1,6 +1,0 @@
-//! What no clause says: which calls of the system are made, and what is made of its answers.
-
-mod edge;
-mod input;
-mod scripted;
-mod store;
