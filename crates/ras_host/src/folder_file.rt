@@ -51,13 +51,24 @@ impl<S: System> FolderFile<S> {
         ensures failed { IfErr result (λ error. IsTrue (S.shown.failed error)) }
     {
         if self.opened.is_none() {
-            let opened = system.open(self.name)?;
-            if self.is_exclusive {
-                system.lock(&opened.file)?;
-            }
-            self.opened = Some(opened);
+            self.opened = Some(self.open_anew(system)?);
         }
         Ok(())
+    }
+
+    // The file, opened, under its lock where it is to be this program's alone.
+    fn open_anew(&self, system: &mut S) -> io::Result<Opened<S::File>>
+        ensures named { IfOk result (λ it. IsTrue (S.shown.is_opened self.now.name.now it.file)) }
+        ensures inside { IfOk result (λ it. IsTrue (S.shown.lies_in it.file it.folder)) }
+        ensures locked { IfOk result (λ it. IsTrue self.now.is_exclusive
+            → IsTrue (S.shown.is_locked it.file)) }
+        ensures failed { IfErr result (λ error. IsTrue (S.shown.failed error)) }
+    {
+        let opened = system.open(self.name)?;
+        if self.is_exclusive {
+            system.lock(&opened.file)?;
+        }
+        Ok(opened)
     }
 
     /// The length in bytes, as the system told it. Where the file is open, an error is one of the
@@ -92,6 +103,7 @@ impl<S: System> FolderFile<S> {
     {
         write_full(system, &self.opened()?.file, place, bytes)
     }
+
     /// Makes the file durable, and at the first time in a run also its entry in the folder: this
     /// run may have made the file, or an earlier one that ended before it could make the entry
     /// durable. A sync that failed isn't tried again, since the system may then say that all is

@@ -1,14 +1,15 @@
 //! The device, whose record store is a file of the working folder.
-ghost use Rattle.std.specs.Prelude.{◌≡◌, ◌+◌, ◌≤◌, length, take, drop, codes, None, true, false, IfOk, IfErr, OnOk, OnErr, IsErr, IsTrue, IsFalse, IfSome, IsSomeAnd};
+ghost use Rattle.std.specs.Prelude.{◌≡◌, ◌+◌, ◌≤◌, length, take, drop, codes, None, true, false, IfOk, IfErr, OnOk, OnErr, IsOk, IsErr, IsSome, IsTrue, IsFalse, IfSome, IsSomeAnd};
 ghost use Rattle.std.specs.IoError.{error_kind};
 ghost use Rattle.erst_store.specs.Actions.{range_length};
 ghost use Rattle.erst_store.specs.Device.{act, range_with};
 ghost use Rattle.erst_store.specs.StoreFile.{store_bytes};
-ghost use Rattle.ras_host.specs.StoreFound.{HasBytes, HasStore};
+ghost use Rattle.ras_host.specs.Faults.{WriteFault};
+ghost use Rattle.ras_host.specs.StoreFound.{HasBytes, HasStore, longest_store};
 ghost use Rattle.ras_host.specs.StoredDevice.{IsFirst, IsUsed, IsLeft, Does, MayChangeStore, Puts, IsSaved, FileFault, DeviceFault};
 
 use crate::folder_file::{read_full, write_full};
-use crate::system::System;
+use crate::system::{Opened, System};
 use erst_store::{Dev, MOST_BYTES, MOST_RECORDS, PutRefused, Store, StoreRefused};
 use std::alloc::Global;
 use std::io;
@@ -61,6 +62,7 @@ impl StoredDevice {
             × IsSomeAnd self.new.device (λ d. n ≡ d.action)) }
         ensures err { OnErr result (self.new ≡ self.old) }
         ensures lost { IsTrue self.old.is_lost → IsErr result }
+        ensures answers { IsSome self.old.device → IsFalse self.old.is_lost → IsOk result }
         ensures failed { IfErr result (λ error. DeviceFault S.shown self.old error) }
         ensures files { IsTrue (S.keeps_files system.old system.new) }
     {
@@ -76,6 +78,7 @@ impl StoredDevice {
             × IsSomeAnd self.new.device (λ d. n ≡ d.value)) }
         ensures err { OnErr result (self.new ≡ self.old) }
         ensures lost { IsTrue self.old.is_lost → IsErr result }
+        ensures answers { IsSome self.old.device → IsFalse self.old.is_lost → IsOk result }
         ensures failed { IfErr result (λ error. DeviceFault S.shown self.old error) }
         ensures files { IsTrue (S.keeps_files system.old system.new) }
     {
@@ -119,6 +122,7 @@ impl StoredDevice {
             self.old self.new) }
         ensures err { OnErr result (self.new ≡ self.old) }
         ensures lost { IsTrue self.old.is_lost → IsErr result }
+        ensures answers { IsSome self.old.device → IsFalse self.old.is_lost → IsOk result }
         ensures failed { IfErr result (λ error. DeviceFault S.shown self.old error) }
         ensures files { IsTrue (S.keeps_files system.old system.new) }
     {
@@ -141,6 +145,7 @@ impl StoredDevice {
             (λ d. buf.new ≡ take (length buf.old) (drop place d.range))) }
         ensures err { OnErr result (self.new ≡ self.old) }
         ensures lost { IsTrue self.old.is_lost → IsErr result }
+        ensures answers { IsSome self.old.device → IsFalse self.old.is_lost → IsOk result }
         ensures failed { IfErr result (λ error. DeviceFault S.shown self.old error) }
         ensures files { IsTrue (S.keeps_files system.old system.new) }
     {
@@ -162,6 +167,7 @@ impl StoredDevice {
             (λ d. record d { range = range_with place bytes.now d.range }) self.old self.new) }
         ensures err { OnErr result (self.new ≡ self.old) }
         ensures lost { IsTrue self.old.is_lost → IsErr result }
+        ensures answers { IsSome self.old.device → IsFalse self.old.is_lost → IsOk result }
         ensures failed { IfErr result (λ error. DeviceFault S.shown self.old error) }
         ensures files { IsTrue (S.keeps_files system.old system.new) }
     {
@@ -201,6 +207,7 @@ impl StoredDevice {
     fn take_device<S: System>(&mut self, system: &mut S) -> io::Result<Dev>
         ensures ok { IfOk result (λ d. IsUsed S.shown self.old.device d) }
         ensures usable { OnOk result (IsFalse self.old.is_lost) }
+        ensures answers { IsSome self.old.device → IsFalse self.old.is_lost → IsOk result }
         ensures kept { self.new.is_lost ≡ self.old.is_lost }
         ensures err { OnErr result (self.new ≡ self.old) }
         ensures failed { IfErr result (λ error. DeviceFault S.shown self.old error) }
@@ -299,11 +306,23 @@ fn write_store<S: System>(alloc: Global, system: &mut S, store: &Store) -> io::R
     let Ok(bytes) = store.to_bytes(alloc) else {
         return Err(out_of_memory());
     };
-    let opened = system.make(NEW_STORE)?;
-    write_full(system, &opened.file, 0, &bytes)?;
-    system.sync_data(&opened.file)?;
+    let opened = write_new(system, &bytes)?;
     system.rename(NEW_STORE, STORE)?;
     system.sync_folder(&opened.folder)
+}
+
+// Makes a new file of these bytes, durably.
+fn write_new<S: System>(system: &mut S, bytes: &[u8]) -> io::Result<Opened<S::File>>
+    ensures made { IfOk result (λ it. IsTrue (S.shown.is_made (codes "rasd.new") it.file)) }
+    ensures inside { IfOk result (λ it. IsTrue (S.shown.lies_in it.file it.folder)) }
+    ensures whole { IfOk result (λ it. IsTrue (S.shown.took it.file 0 bytes.now)) }
+    ensures synced { IfOk result (λ it. IsTrue (S.shown.is_synced it.file)) }
+    ensures failed { IfErr result (λ error. WriteFault S.shown 0 longest_store error) }
+{
+    let opened = system.make(NEW_STORE)?;
+    write_full(system, &opened.file, 0, bytes)?;
+    system.sync_data(&opened.file)?;
+    Ok(opened)
 }
 
 fn malformed() -> io::Error
