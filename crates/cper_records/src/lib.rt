@@ -10,6 +10,3 @@ mod walk;
 pub use laws::{only_own_bytes, records_are_laid_out};
 pub use records::{Record, read_record};
 pub use refusals::RecordRefused;
-
-#[cfg(test)]
-mod tests;

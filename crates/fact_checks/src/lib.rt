@@ -1,5 +1,6 @@
-//! What no clause says of mca_status, mca_codes, cper_sections, apei_sources, dimm_topology,
-//! ras_facts and ras_panic: rows that were worked out by hand from the manuals' tables, as tests.
+//! What no clause says of mca_status, mca_codes, page_policy, cper_sections, cper_records,
+//! apei_sources, dimm_topology, ras_facts, ras_panic and ras_reports: rows that were worked out by
+//! hand, most of them from the manuals' tables, as tests.
 //!
 //! They stand in a crate of their own, so that none of those crates is proved once more with its
 //! tests.

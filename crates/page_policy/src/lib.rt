@@ -16,6 +16,3 @@ pub use laws::page_laws;
 pub use pages::Pages;
 pub use row_tables::RowRefused;
 pub use rows::{Order, PageRow, PageState, is_corrected};
-
-#[cfg(test)]
-mod tests;

@@ -18,6 +18,3 @@ pub use details::{Detail, Details, Report};
 pub use laws::{items_have_their_own_labels, reports_tell_of_each_item};
 pub use record::report_of_record;
 pub use stored::report_of_stored;
-
-#[cfg(test)]
-mod tests;

@@ -97,12 +97,12 @@ fn mark(number: u16) -> Mark {
 
 #[test]
 fn texts_and_marks(rt: HostRuntime) {
-    for (number, text, marked) in CODES {
+    for (number, text, marked) in &CODES {
         assert!(rt;
-            has_text(rt.alloc(), number, text),
+            has_text(rt.alloc(), *number, text),
             "the text of {number:x}"
         );
-        assert!(rt; mark(number) == marked, "the mark of {number:x}");
+        assert!(rt; mark(*number) == *marked, "the mark of {number:x}");
     }
 }
 

@@ -1,4 +1,5 @@
 //! The facts that reports give.
+use super::bytes::lay;
 use apei_sources::read_block;
 use cper_records::read_record;
 use dimm_topology::{Label, Topology};
@@ -145,22 +146,10 @@ const MEMORY: [u8; 16] = [
     0x14, 0x11, 0xbc, 0xa5, 0x64, 0x6f, 0xde, 0x4e, 0xb8, 0x63, 0x3e, 0x83, 0xed, 0x7c, 0x83, 0xb1,
 ];
 
-// Bytes that are all 0 but for these runs at their places.
-fn bytes_of(alloc: Global, length: usize, runs: &[(usize, &[u8])]) -> Result<Vec<u8>, Fail> {
-    let mut bytes = vec![in alloc; 0; length]?;
-    for (place, run) in runs {
-        for (at, byte) in (*place..length).zip(run.iter()) {
-            if let Some(there) = bytes.get_mut(at) {
-                *there = *byte;
-            }
-        }
-    }
-    Ok(bytes)
-}
-
 // A record of severity 2 with so many sections of the first of these types: a memory section of
 // this severity, and a section of no known type.
-fn record(alloc: Global, sections: u8, severity: u32) -> Result<Vec<u8>, Fail> {
+fn record(sections: u8, severity: u32) -> [u8; 353] {
+    let mut bytes = [0u8; 353];
     let runs: [(usize, &[u8]); 12] = [
         (0, b"CPER\x00\x01\xff\xff\xff\xff"),
         (10, &[sections]),
@@ -175,7 +164,8 @@ fn record(alloc: Global, sections: u8, severity: u32) -> Result<Vec<u8>, Fail> {
         (288, &[0x00, 0x50, 0x00, 0x40]),
         (344, &[2]),
     ];
-    bytes_of(alloc, 353, &runs)
+    lay(&mut bytes, &runs);
+    bytes
 }
 
 // How many sections a record has, the severity of the first, and the classes of the items.
@@ -206,7 +196,7 @@ fn class_at(seen: &Seen, place: usize) -> Option<ItemClass> {
 #[test]
 fn facts_of_records(rt: HostRuntime) -> Result<(), Fail> {
     for (sections, severity, classes) in RECORDS {
-        let bytes = record(rt.alloc(), sections, severity)?;
+        let bytes = record(sections, severity);
         let seen = see(rt.alloc(), of_record(rt.alloc(), &bytes)?)?;
         assert!(rt; seen.name == Name::Record { id: 5 } && seen.seconds == 60);
         assert!(rt; class_at(&seen, 0) == classes[0], "{severity}");
@@ -221,10 +211,8 @@ fn facts_of_records(rt: HostRuntime) -> Result<(), Fail> {
 // The page of the first item of a record whose memory section has so many bytes, where it is a
 // record.
 fn page_of_length(alloc: Global, length: u8) -> Result<Option<Option<u64>>, Fail> {
-    let mut bytes = record(alloc, 1, 2)?;
-    if let Some(there) = bytes.get_mut(132) {
-        *there = length;
-    }
+    let mut bytes = record(1, 2);
+    lay(&mut bytes, &[(132, &[length])]);
     let Ok(rec) = read_record(&bytes) else {
         return Ok(None);
     };
@@ -252,13 +240,8 @@ const BLOCK: Name = Name::Block {
     number: 1,
 };
 
-// A module that both a bank's errors and firmware's tell of.
-fn topology_of_a_module(alloc: Global) -> Result<Topology, Fail> {
-    let mut topology = Topology::new(alloc);
-    if !adds_module(alloc, &mut topology) || !adds_place(alloc, &mut topology) {
-        return Err("two rows".into());
-    }
-    Ok(topology)
+fn no_rows(alloc: Global) -> Topology {
+    Topology::new(alloc)
 }
 
 fn label(alloc: Global) -> Label {
@@ -279,7 +262,8 @@ fn of_block(alloc: Global, bytes: &[u8], topology: &Topology) -> Result<Option<F
 }
 
 // A block of this status with one memory section.
-fn block(alloc: Global, status: u8) -> Result<Vec<u8>, Fail> {
+fn block(status: u8) -> [u8; 172] {
+    let mut bytes = [0u8; 172];
     let runs: [(usize, &[u8]); 10] = [
         (0, &[status]),
         (12, &[0x98, 0, 0, 0, 2]),
@@ -292,15 +276,19 @@ fn block(alloc: Global, status: u8) -> Result<Vec<u8>, Fail> {
         (124, &[1, 0, 0, 0, 2, 0]),
         (164, &[2]),
     ];
-    bytes_of(alloc, 172, &runs)
+    lay(&mut bytes, &runs);
+    bytes
 }
 
 #[test]
 fn fact_of_a_firmware_first_block(rt: HostRuntime) -> Result<(), Fail> {
     let alloc = rt.alloc();
-    let topology = topology_of_a_module(alloc)?;
-    let bytes = block(alloc, 0x12)?;
-    let seen = see(alloc, of_block(alloc, &bytes, &topology)?.ok_or("a fact")?)?;
+    // A module that both a bank's errors and firmware's tell of.
+    let mut topology = no_rows(alloc);
+    assert!(rt; adds_module(alloc, &mut topology));
+    assert!(rt; adds_place(alloc, &mut topology));
+    let fact = of_block(alloc, &block(0x12), &topology)?.ok_or("a fact")?;
+    let seen = see(alloc, fact)?;
     match seen.items.as_slice() {
         [(class, label, page, _)] => {
             assert!(rt; *class == ItemClass::Corrected);
@@ -310,7 +298,6 @@ fn fact_of_a_firmware_first_block(rt: HostRuntime) -> Result<(), Fail> {
         _ => return Err("one item".into()),
     }
     // A silent block gives none.
-    let silent = block(alloc, 0)?;
-    assert!(rt; of_block(alloc, &silent, &topology)?.is_none());
+    assert!(rt; of_block(alloc, &block(0), &topology)?.is_none());
     Ok(())
 }

@@ -1,12 +1,12 @@
 //! The bytes of a panic record as they were written down by hand, its refusals, and records that
 //! fail one condition.
-ghost use Rattle.std.specs.Prelude.{◌≤◌, ◌+◌, length};
-
+use super::bytes::lay;
 use cper_records::read_record;
 use dimm_topology::Topology;
 use mca_status::ItemClass;
-use ras_facts::{BankReport, Name};
+use ras_facts::{BankReport, Fact, Name};
 use ras_panic::{PanicRefused, fact_of_stored, panic_of, panic_record};
+use std::alloc::Global;
 use std::test::Fail;
 
 const ID: u64 = 0x1122_3344_5566_7788;
@@ -57,17 +57,18 @@ const RUNS: [(usize, &[u8]); 25] = [
 // Those bytes, with 0 between them.
 fn wanted() -> [u8; 456] {
     let mut bytes = [0u8; 456];
-    for (place, run) in RUNS {
-        if place + run.len() <= 456 {
-            bytes[place..place + run.len()].copy_from_slice(run);
-        }
-    }
+    lay(&mut bytes, &RUNS);
     bytes
 }
 
 // The panic record of a report, if there is one.
 fn record(id: u64, report: &BankReport) -> Option<[u8; 456]> {
     panic_record(id, report).ok()
+}
+
+// Why a report has no panic record, if it has none.
+fn refusal(id: u64, report: &BankReport) -> Option<PanicRefused> {
+    panic_record(id, report).err()
 }
 
 #[test]
@@ -89,18 +90,15 @@ fn refusals(rt: HostRuntime) {
         (0, silent, Some(PanicRefused::ReservedId)),
         (1, silent, Some(PanicRefused::NotValid)),
     ] {
-        assert!(rt; panic_record(id, &report).err() == why, "{id}");
+        assert!(rt; refusal(id, &report) == why, "{id}");
     }
 }
 
 // The report in a record with another byte at each of two places, where it is a record.
 fn report_with(changes: [(usize, u8); 2]) -> Option<Option<BankReport>> {
+    let [(first, byte), (second, other)] = changes;
     let mut bytes = wanted();
-    for (place, byte) in changes {
-        if place < 456 {
-            bytes[place] = byte;
-        }
-    }
+    lay(&mut bytes, &[(first, &[byte]), (second, &[other])]);
     match read_record(&bytes) {
         Ok(rec) => Some(panic_of(&rec)),
         Err(_) => None,
@@ -169,29 +167,39 @@ fn records_that_fail_none(rt: HostRuntime) {
     }
 }
 
+// The fact of bytes of the store that are a record, read at second 60.
+fn fact(alloc: Global, bytes: &[u8]) -> Result<Fact, Fail> {
+    match read_record(bytes) {
+        Ok(rec) => Ok(fact_of_stored(alloc, 60, &rec, &Topology::new(alloc))?),
+        Err(_) => Err("a record".into()),
+    }
+}
+
+// How many items a fact has, and the class of the first.
+fn items(fact: &Fact) -> (usize, Option<ItemClass>) {
+    match fact.items.as_slice() {
+        [first, rest @ ..] => (rest.len().saturating_add(1), Some(first.class)),
+        [] => (0, None),
+    }
+}
+
 #[test]
 fn facts_of_stored_records(rt: HostRuntime) -> Result<(), Fail> {
-    let alloc = rt.alloc();
-    let topology = Topology::new(alloc);
     let mut bytes = wanted();
-    let rec = read_record(&bytes).ok().ok_or("a record")?;
-    let fact = fact_of_stored(alloc, 60, &rec, &topology)?;
+    let told = fact(rt.alloc(), &bytes)?;
     let name = Name::Bank {
         boot: 0x102,
         cpu: 0x203,
         bank: 7,
         tsc: 0x1001,
     };
-    assert!(rt; fact.name == name);
-    assert!(rt; fact.seconds == REPORT.seconds);
-    let items = fact.items.as_slice();
-    assert!(rt; items.len() == 1 && items[0].class == ItemClass::Srar);
-    bytes[416] = 1;
-    let rec = read_record(&bytes).ok().ok_or("a record")?;
-    let fact = fact_of_stored(alloc, 60, &rec, &topology)?;
-    assert!(rt; fact.name == Name::Record { id: ID });
-    assert!(rt; fact.seconds == 60);
-    let items = fact.items.as_slice();
-    assert!(rt; items.len() == 2 && items[0].class == ItemClass::Fatal);
+    assert!(rt; told.name == name);
+    assert!(rt; told.seconds == REPORT.seconds);
+    assert!(rt; items(&told) == (1, Some(ItemClass::Srar)));
+    lay(&mut bytes, &[(416, &[1])]);
+    let told = fact(rt.alloc(), &bytes)?;
+    assert!(rt; told.name == Name::Record { id: ID });
+    assert!(rt; told.seconds == 60);
+    assert!(rt; items(&told) == (2, Some(ItemClass::Fatal)));
     Ok(())
 }

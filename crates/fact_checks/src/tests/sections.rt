@@ -1,10 +1,10 @@
 //! Sections at the lengths where they begin to read, and contexts that fit and don't fit.
-ghost use Rattle.std.specs.Prelude.{◌≤◌, length};
-
+use super::bytes::front;
 use cper_sections::{
     Context, MemSection, ProcSection, Section, SectionRefused, X64Section, context_at, guid_at,
     read_section,
 };
+use uuid::Uuid;
 
 // Section types as they stand in descriptors.
 const MEMORY: [u8; 16] = [
@@ -19,17 +19,28 @@ const X64: [u8; 16] = [
     0xb0, 0xa0, 0x3e, 0xdc, 0x44, 0xa1, 0x97, 0x47, 0xb9, 0x5b, 0x53, 0xfa, 0x24, 0x2b, 0x6e, 0x1d,
 ];
 
-// So many bytes from the front, or all.
-fn front(bytes: &[u8], length: usize) -> &[u8] {
-    &bytes[..length.min(bytes.len())]
+// The section of a type, as it stands in a descriptor, and its bytes.
+fn section(guid: &[u8; 16], bytes: &[u8]) -> Result<Section, SectionRefused> {
+    read_section(guid_at(guid), bytes)
+}
+
+fn context(bytes: &[u8], place: u8) -> Option<Context<'_>> {
+    context_at(bytes, place)
+}
+
+// So many bytes, each of which is its place.
+fn places(bytes: &mut [u8]) {
+    let mut place = 0u8;
+    for byte in bytes.iter_mut() {
+        *byte = place;
+        place = place.wrapping_add(1);
+    }
 }
 
 #[test]
 fn memory_sections(rt: HostRuntime) {
     let mut bytes = [0u8; 81];
-    for place in 0..81u8 {
-        bytes[place as usize] = place;
-    }
+    places(&mut bytes);
     bytes[0] = 0x7e;
     bytes[1] = 0xc1;
     let memory = MemSection {
@@ -55,8 +66,10 @@ fn memory_sections(rt: HostRuntime) {
         (80, Ok(Section::Memory(ranked))),
         (81, Ok(Section::Memory(ranked))),
     ] {
-        let section = read_section(guid_at(&MEMORY), front(&bytes, length));
-        assert!(rt; section == wanted, "memory of {length}");
+        assert!(rt;
+            section(&MEMORY, front(&bytes, length)) == wanted,
+            "memory of {length}"
+        );
     }
     bytes[0] = 0x81;
     bytes[1] = 0x3e;
@@ -71,15 +84,13 @@ fn memory_sections(rt: HostRuntime) {
         rank: None,
         kind: None,
     };
-    assert!(rt; read_section(guid_at(&MEMORY), &bytes) == Ok(Section::Memory(nothing)));
+    assert!(rt; section(&MEMORY, &bytes) == Ok(Section::Memory(nothing)));
 }
 
 #[test]
 fn processor_sections(rt: HostRuntime) {
     let mut bytes = [0u8; 192];
-    for place in 0..192u8 {
-        bytes[place as usize] = place;
-    }
+    places(&mut bytes);
     let processor = ProcSection {
         kind: 8,
         isa: 9,
@@ -94,9 +105,18 @@ fn processor_sections(rt: HostRuntime) {
         responder: 0xb7b6b5b4b3b2b1b0,
         ip: 0xbfbebdbcbbbab9b8,
     };
-    let guid = guid_at(&PROCESSOR);
-    assert!(rt; read_section(guid, &bytes) == Ok(Section::Processor(processor)));
-    assert!(rt; read_section(guid, front(&bytes, 191)) == Err(SectionRefused::Short));
+    assert!(rt; section(&PROCESSOR, &bytes) == Ok(Section::Processor(processor)));
+    assert!(rt; section(&PROCESSOR, front(&bytes, 191)) == Err(SectionRefused::Short));
+}
+
+// An IA32/X64 section with this APIC ID, so many structures and no contexts, or a refusal.
+fn x64(wanted: Result<(Option<u64>, u8), SectionRefused>) -> Result<Section, SectionRefused> {
+    let (apic, structures) = wanted?;
+    Ok(Section::X64(X64Section {
+        apic,
+        structures,
+        contexts: 0,
+    }))
 }
 
 #[test]
@@ -116,28 +136,23 @@ fn x64_structures(rt: HostRuntime) {
         (0xfc, 4097, Ok((None, 63))),
     ] {
         bytes[0] = validation;
-        let section = read_section(guid_at(&X64), front(&bytes, length));
-        let wanted = match wanted {
-            Ok((apic, structures)) => Ok(Section::X64(X64Section {
-                apic,
-                structures,
-                contexts: 0,
-            })),
-            Err(refused) => Err(refused),
-        };
-        assert!(rt; section == wanted, "validation {validation:x} of {length}");
+        let section = section(&X64, front(&bytes, length));
+        assert!(rt;
+            section == x64(wanted),
+            "validation {validation:x} of {length}"
+        );
     }
 }
 
 // How many contexts a section is read to have, and how many of them are given.
 fn context_counts(bytes: &[u8]) -> (u8, u8) {
-    let read = match read_section(guid_at(&X64), bytes) {
+    let read = match section(&X64, bytes) {
         Ok(Section::X64(section)) => section.contexts,
         _ => 0,
     };
     let mut given = 0;
     for i in 0..=255 {
-        if context_at(bytes, i).is_some() && given < 255 {
+        if context(bytes, i).is_some() && given < 255 {
             given += 1;
         }
     }
@@ -180,23 +195,32 @@ fn x64_contexts(rt: HostRuntime) {
     bytes[1] = 0x3f;
     bytes[66] = 8;
     bytes[67] = 0;
-    let context = Context {
+    let wanted = Context {
         kind: 1,
         msr: 2,
         mapped: 3,
         array: &[4, 0, 0, 0, 0, 0, 0, 0],
     };
-    assert!(rt; context_at(&bytes, 0) == Some(context));
+    assert!(rt; context(&bytes, 0) == Some(wanted));
+}
+
+// A type of no known section.
+const OTHER: [u8; 16] = [
+    0x33, 0x22, 0x11, 0x00, 0x55, 0x44, 0x77, 0x66, 0x88, 0x99, 0xaa, 0xbb, 0xcc, 0xdd, 0xee, 0xff,
+];
+
+fn guid(bytes: &[u8; 16]) -> Uuid {
+    guid_at(bytes)
+}
+
+// Whether a GUID is printed so.
+fn is_printed(guid: Uuid, text: &str) -> bool {
+    let mut buffer = Uuid::encode_buffer();
+    *guid.hyphenated().encode_lower(&mut buffer) == *text
 }
 
 #[test]
 fn unknown_sections(rt: HostRuntime) {
-    let guid = guid_at(&[
-        0x33, 0x22, 0x11, 0x00, 0x55, 0x44, 0x77, 0x66, 0x88, 0x99, 0xaa, 0xbb, 0xcc, 0xdd, 0xee,
-        0xff,
-    ]);
-    assert!(rt; read_section(guid, &[]) == Ok(Section::Unknown(guid)));
-    let mut buffer = uuid::Uuid::encode_buffer();
-    let text = guid.hyphenated().encode_lower(&mut buffer);
-    assert_eq!(rt; text, "00112233-4455-6677-8899-aabbccddeeff");
+    assert!(rt; section(&OTHER, &[]) == Ok(Section::Unknown(guid(&OTHER))));
+    assert!(rt; is_printed(guid(&OTHER), "00112233-4455-6677-8899-aabbccddeeff"));
 }

@@ -1,9 +1,10 @@
 //! The sample tables and block, each shorter length of them, sources of each type at their sizes,
 //! and blocks of two entries.
-ghost use Rattle.std.specs.Prelude.{◌≤◌, ◌+◌, length};
-
+use super::bytes::{front, lay};
 use apei_sources::{Bert, BlockRefused, TableRefused, read_bert, read_block, read_hest};
 use cper_sections::{MemSection, Section, guid_at};
+use std::alloc::Global;
+use uuid::Uuid;
 
 // The bytes of the greatest table that is tried, and of the greatest block.
 const TABLE_LENGTH: usize = 7_300;
@@ -20,22 +21,30 @@ const OTHER: [u8; 16] = [
     0x33, 0x22, 0x11, 0x00, 0x55, 0x44, 0x77, 0x66, 0x88, 0x99, 0xaa, 0xbb, 0xcc, 0xdd, 0xee, 0xff,
 ];
 
-// Puts bytes at a place.
-fn put(bytes: &mut [u8], place: usize, run: &[u8])
-    requires { place + length run.now ≤ length bytes.old }
-{
-    bytes[place..place + run.len()].copy_from_slice(run);
+// The type of the source with an identifier, if the table has one.
+fn source(alloc: Global, bytes: &[u8], id: u16) -> Result<Option<u16>, TableRefused> {
+    match read_hest(alloc, bytes) {
+        Ok(hest) => Ok(hest.source(id)),
+        Err(refused) => Err(refused),
+    }
 }
 
-// So many bytes from the front, or all.
-fn front(bytes: &[u8], length: usize) -> &[u8] {
-    &bytes[..length.min(bytes.len())]
+// Why bytes are no table of sources, if they aren't.
+fn refusal(alloc: Global, bytes: &[u8]) -> Option<TableRefused> {
+    read_hest(alloc, bytes).err()
+}
+
+fn number(refused: TableRefused) -> Option<u8> {
+    refused.number()
+}
+
+fn bert(bytes: &[u8]) -> Result<Bert, TableRefused> {
+    read_bert(bytes)
 }
 
 // Gives a table its signature, its length and its sum.
 fn make(table: &mut [u8; TABLE_LENGTH], signature: &[u8; 4], length: u16) {
-    put(table, 0, signature);
-    put(table, 4, &length.to_le_bytes());
+    lay(table, &[(0, signature), (4, &length.to_le_bytes())]);
     mend(table, length);
 }
 
@@ -51,22 +60,17 @@ fn mend(table: &mut [u8; TABLE_LENGTH], length: u16) {
 // A table of one source, of 64 bytes, of the generic type under the identifier 1.
 fn one_source() -> [u8; 104] {
     let mut bytes = [0u8; 104];
-    put(&mut bytes, 0, b"HEST\x68");
-    put(&mut bytes, 9, &[0x59]);
-    put(&mut bytes, 36, &[1]);
-    put(&mut bytes, 40, &[9, 0, 1]);
+    let runs: [(usize, &[u8]); 4] = [(0, b"HEST\x68"), (9, &[0x59]), (36, &[1]), (40, &[9, 0, 1])];
+    lay(&mut bytes, &runs);
     bytes
 }
 
 #[test]
 fn one_source_reads(rt: HostRuntime) {
     let bytes = one_source();
-    let Ok(hest) = read_hest(rt.alloc(), &bytes) else {
-        panic!(rt; "the table reads");
-    };
-    assert!(rt; hest.source(1) == Some(9));
+    assert!(rt; source(rt.alloc(), &bytes, 1) == Ok(Some(9)));
     for id in [0, 2, 9, 256, 65_535] {
-        assert!(rt; hest.source(id).is_none(), "{id}");
+        assert!(rt; source(rt.alloc(), &bytes, id) == Ok(None), "{id}");
     }
     for length in 0..104usize {
         let wanted = if length < 40 {
@@ -74,31 +78,35 @@ fn one_source_reads(rt: HostRuntime) {
         } else {
             TableRefused::Length
         };
-        let refused = read_hest(rt.alloc(), front(&bytes, length)).err();
+        let refused = refusal(rt.alloc(), front(&bytes, length));
         assert!(rt; refused == Some(wanted), "{length} bytes");
     }
 }
 
+// Two sources of 64 bytes, of the generic type under the identifier 1.
+fn two_sources() -> [u8; 168] {
+    let mut bytes = [0u8; 168];
+    let runs: [(usize, &[u8]); 5] = [
+        (0, b"HEST\xa8"),
+        (9, &[0x0e]),
+        (36, &[2]),
+        (40, &[9, 0, 1]),
+        (104, &[9, 0, 1]),
+    ];
+    lay(&mut bytes, &runs);
+    bytes
+}
+
 #[test]
 fn repeated_source(rt: HostRuntime) {
-    let mut bytes = [0u8; 168];
-    put(&mut bytes, 0, b"HEST\xa8");
-    put(&mut bytes, 9, &[0x0e]);
-    put(&mut bytes, 36, &[2]);
-    put(&mut bytes, 40, &[9, 0, 1]);
-    put(&mut bytes, 104, &[9, 0, 1]);
-    let refused = read_hest(rt.alloc(), &bytes).err();
-    assert!(rt; refused == Some(TableRefused::RepeatedId));
-    assert!(rt; TableRefused::RepeatedId.number() == Some(7));
+    let mut bytes = two_sources();
+    assert!(rt; refusal(rt.alloc(), &bytes) == Some(TableRefused::RepeatedId));
+    assert!(rt; number(TableRefused::RepeatedId) == Some(7));
     // The second under an identifier of its own, whose low byte is the first's.
-    put(&mut bytes, 107, &[1]);
-    put(&mut bytes, 9, &[0x0d]);
-    let Ok(hest) = read_hest(rt.alloc(), &bytes) else {
-        panic!(rt; "the table reads");
-    };
-    assert!(rt;
-        hest.source(1) == Some(9) && hest.source(257) == Some(9) && hest.source(256).is_none()
-    );
+    lay(&mut bytes, &[(107, &[1]), (9, &[0x0d])]);
+    for (id, kind) in [(1, Some(9)), (257, Some(9)), (256, None)] {
+        assert!(rt; source(rt.alloc(), &bytes, id) == Ok(kind), "{id}");
+    }
 }
 
 #[test]
@@ -114,21 +122,39 @@ fn table_refusals(rt: HostRuntime) {
         (36, 2, TableRefused::Sum),
     ] {
         let mut bytes = one_source();
-        if place < 104 {
-            bytes[place] = byte;
-        }
-        let refused = read_hest(rt.alloc(), &bytes).err();
-        assert!(rt; refused == Some(wanted), "{byte} at {place}");
+        lay(&mut bytes, &[(place, &[byte])]);
+        assert!(rt;
+            refusal(rt.alloc(), &bytes) == Some(wanted),
+            "{byte} at {place}"
+        );
     }
     // A source of an unknown type, and a count that no table holds.
     let mut bytes = one_source();
-    put(&mut bytes, 40, &[3]);
-    put(&mut bytes, 9, &[0x5f]);
-    assert!(rt; read_hest(rt.alloc(), &bytes).err() == Some(TableRefused::SourceType));
+    lay(&mut bytes, &[(40, &[3]), (9, &[0x5f])]);
+    assert!(rt; refusal(rt.alloc(), &bytes) == Some(TableRefused::SourceType));
     let mut bytes = one_source();
-    put(&mut bytes, 36, &[0xff; 4]);
-    put(&mut bytes, 9, &[0x5e]);
-    assert!(rt; read_hest(rt.alloc(), &bytes).err() == Some(TableRefused::SourceOut));
+    lay(&mut bytes, &[(36, &[0xff; 4]), (9, &[0x5e])]);
+    assert!(rt; refusal(rt.alloc(), &bytes) == Some(TableRefused::SourceOut));
+}
+
+// A table of one source of this type under the identifier 0107h, but for its header.
+fn table_of(kind: u8, banks: Option<(usize, u8)>) -> [u8; TABLE_LENGTH] {
+    let mut table = [0u8; TABLE_LENGTH];
+    lay(&mut table, &[(36, &[1]), (40, &[kind, 0, 7, 1])]);
+    if let Some((place, count)) = banks {
+        lay(&mut table, &[(place, &[count])]);
+    }
+    table
+}
+
+// What such a table with so many bytes of its source tells of it.
+fn told(
+    alloc: Global,
+    table: &mut [u8; TABLE_LENGTH],
+    bytes: u16,
+) -> Result<Option<u16>, TableRefused> {
+    make(table, b"HEST", bytes.saturating_add(40));
+    source(alloc, table, 0x107)
 }
 
 #[test]
@@ -150,39 +176,16 @@ fn source_sizes(rt: HostRuntime) {
         (11, Some((84, 1)), 76),
         (11, Some((84, 255)), 7_188),
     ] {
-        let mut table = [0u8; TABLE_LENGTH];
-        put(&mut table, 36, &[1]);
-        put(&mut table, 40, &[kind, 0, 7, 1]);
-        if let Some((place, count)) = banks
-            && place < TABLE_LENGTH
-        {
-            table[place] = count;
+        let mut table = table_of(kind, banks);
+        let whole = Ok(Some(kind as u16));
+        for bytes in [size, size.saturating_add(1)] {
+            let told = told(rt.alloc(), &mut table, bytes);
+            assert!(rt; told == whole, "type {kind}, {size} bytes, {bytes} there");
         }
-        for (bytes, wanted) in [
-            (size, None),
-            (size.saturating_add(1), None),
-            (size.saturating_sub(1), Some(TableRefused::SourceOut)),
-            (4, Some(TableRefused::SourceOut)),
-            (3, Some(TableRefused::SourceOut)),
-            (0, Some(TableRefused::SourceOut)),
-        ] {
-            make(&mut table, b"HEST", bytes.saturating_add(40));
-            let hest = read_hest(rt.alloc(), &table);
-            match hest {
-                Ok(hest) => {
-                    assert!(rt;
-                        wanted.is_none(),
-                        "type {kind}, {size} bytes, {bytes} there"
-                    );
-                    assert!(rt; hest.source(0x107) == Some(kind as u16));
-                }
-                Err(refused) => {
-                    assert!(rt;
-                        wanted == Some(refused),
-                        "type {kind}, {size} bytes, {bytes} there"
-                    );
-                }
-            }
+        let out = Err(TableRefused::SourceOut);
+        for bytes in [size.saturating_sub(1), 4, 3, 0] {
+            let told = told(rt.alloc(), &mut table, bytes);
+            assert!(rt; told == out, "type {kind}, {size} bytes, {bytes} there");
         }
     }
 }
@@ -200,16 +203,15 @@ fn unknown_types(rt: HostRuntime) {
         (255, 255),
     ] {
         let mut table = [0u8; TABLE_LENGTH];
-        put(&mut table, 36, &[1]);
-        put(&mut table, 40, &[low, high]);
+        lay(&mut table, &[(36, &[1]), (40, &[low, high])]);
         make(&mut table, b"HEST", 44);
-        let refused = read_hest(rt.alloc(), &table).err();
+        let refused = refusal(rt.alloc(), &table);
         assert!(rt;
             refused == Some(TableRefused::SourceType),
             "type {high} {low}"
         );
         make(&mut table, b"HEST", 43);
-        let refused = read_hest(rt.alloc(), &table).err();
+        let refused = refusal(rt.alloc(), &table);
         assert!(rt;
             refused == Some(TableRefused::SourceOut),
             "type {high} {low}"
@@ -229,11 +231,10 @@ fn first_of_two_sources(rt: HostRuntime) {
         (2, 6, 80, None),
     ] {
         let mut table = [0u8; TABLE_LENGTH];
-        put(&mut table, 36, &[2]);
-        put(&mut table, 40, &[2, 0, 5]);
-        put(&mut table, 60, &[kind, 0, id]);
+        let runs: [(usize, &[u8]); 3] = [(36, &[2]), (40, &[2, 0, 5]), (60, &[kind, 0, id])];
+        lay(&mut table, &runs);
         make(&mut table, b"HEST", length);
-        let refused = read_hest(rt.alloc(), &table).err();
+        let refused = refusal(rt.alloc(), &table);
         assert!(rt;
             refused == wanted,
             "type {kind}, identifier {id}, {length} bytes"
@@ -241,134 +242,186 @@ fn first_of_two_sources(rt: HostRuntime) {
     }
     // A table that counts none has none, whatever follows.
     let mut table = [0u8; TABLE_LENGTH];
-    put(&mut table, 40, &[3]);
+    lay(&mut table, &[(40, &[3])]);
     make(&mut table, b"HEST", 80);
-    let Ok(hest) = read_hest(rt.alloc(), &table) else {
-        panic!(rt; "the table reads");
-    };
-    assert!(rt; hest.source(0).is_none());
+    assert!(rt; source(rt.alloc(), &table, 0) == Ok(None));
 }
 
 #[test]
 fn boot_errors(rt: HostRuntime) {
     let mut bytes = [0u8; 49];
-    put(&mut bytes, 0, b"BERT\x30");
-    put(&mut bytes, 9, &[0x8f]);
-    put(&mut bytes, 36, &[0x14]);
+    lay(&mut bytes, &[(0, b"BERT\x30"), (9, &[0x8f]), (36, &[0x14])]);
     let none = Bert {
         length: 20,
         address: 0,
     };
-    assert!(rt; read_bert(&bytes) == Ok(none));
-    assert!(rt; read_bert(front(&bytes, 48)) == Ok(none));
+    assert!(rt; bert(&bytes) == Ok(none));
+    assert!(rt; bert(front(&bytes, 48)) == Ok(none));
     for length in 0..48usize {
-        assert!(rt;
-            read_bert(front(&bytes, length)) == Err(TableRefused::Short),
-            "{length} bytes"
-        );
+        let told = bert(front(&bytes, length));
+        assert!(rt; told == Err(TableRefused::Short), "{length} bytes");
     }
-    bytes[9] = 0;
-    assert!(rt; read_bert(&bytes) == Err(TableRefused::Sum));
-    assert!(rt; TableRefused::Sum.number() == Some(4));
+    lay(&mut bytes, &[(9, &[0])]);
+    assert!(rt; bert(&bytes) == Err(TableRefused::Sum));
+    assert!(rt; number(TableRefused::Sum) == Some(4));
     // A region of 19 bytes, at an address of eight different ones.
-    put(&mut bytes, 36, &[19, 0, 0, 0, 1, 2, 3, 4, 5, 6, 7, 8]);
-    bytes[9] = 0x6c;
+    lay(
+        &mut bytes,
+        &[(36, &[19, 0, 0, 0, 1, 2, 3, 4, 5, 6, 7, 8]), (9, &[0x6c])],
+    );
     let region = Bert {
         length: 19,
         address: 0x0807_0605_0403_0201,
     };
-    assert!(rt; read_bert(&bytes) == Ok(region));
-    bytes[4] = 49;
-    bytes[48] = 0xff;
-    assert!(rt; read_bert(&bytes) == Ok(region));
-    bytes[4] = 47;
-    assert!(rt; read_bert(&bytes) == Err(TableRefused::Length));
-    bytes[4] = 50;
-    assert!(rt; read_bert(&bytes) == Err(TableRefused::Length));
-    bytes[0] = b'H';
-    assert!(rt; read_bert(&bytes) == Err(TableRefused::Signature));
+    assert!(rt; bert(&bytes) == Ok(region));
+    lay(&mut bytes, &[(4, &[49]), (48, &[0xff])]);
+    assert!(rt; bert(&bytes) == Ok(region));
+    for (place, byte, refused) in [
+        (4, 47, TableRefused::Length),
+        (4, 50, TableRefused::Length),
+        (0, b'H', TableRefused::Signature),
+    ] {
+        lay(&mut bytes, &[(place, &[byte])]);
+        assert!(rt; bert(&bytes) == Err(refused), "{byte} at {place}");
+    }
 }
+
+// Why bytes are no block, if they aren't.
+fn block_refusal(bytes: &[u8]) -> Option<BlockRefused> {
+    read_block(bytes).err()
+}
+
+fn block_number(refused: BlockRefused) -> u8 {
+    refused.number()
+}
+
+// The status of a block and how many entries it has.
+fn block(bytes: &[u8]) -> Result<(u32, usize), BlockRefused> {
+    match read_block(bytes) {
+        Ok(block) => Ok((block.status(), block.count())),
+        Err(refused) => Err(refused),
+    }
+}
+
+// What an entry of a block says: its section, its severity and its type.
+fn entry(bytes: &[u8], place: usize) -> Option<(Section, u32, Uuid)> {
+    match read_block(bytes) {
+        Ok(block) if place < block.count() => {
+            let entry = block.entry(place);
+            Some((entry.section, entry.severity, entry.guid))
+        }
+        _ => None,
+    }
+}
+
+// The data of an entry of a block, or no bytes.
+fn data(bytes: &[u8], place: usize) -> &[u8] {
+    match read_block(bytes) {
+        Ok(block) if place < block.count() => block.entry(place).bytes,
+        _ => &[],
+    }
+}
+
+fn guid(bytes: &[u8; 16]) -> Uuid {
+    guid_at(bytes)
+}
+
+// A memory section that says nothing.
+const NOTHING: MemSection = MemSection {
+    physical: None,
+    mask: None,
+    node: None,
+    card: None,
+    module: None,
+    bank: None,
+    row: None,
+    rank: None,
+    kind: None,
+};
+
+// The bytes that aren't 0 of a block of one memory section.
+const FIRMWARE_FIRST: [(usize, &[u8]); 10] = [
+    (0, &[0x12]),
+    (12, &[0x98, 0, 0, 0, 2]),
+    (20, &MEMORY),
+    (36, &[2]),
+    (40, &[0, 3]),
+    (44, &[0x50]),
+    (92, &[0x3a, 0x40]),
+    (108, &[0, 0x10, 0, 0x80]),
+    (124, &[1, 0, 0, 0, 2]),
+    (164, &[2]),
+];
 
 #[test]
 fn firmware_first_block(rt: HostRuntime) {
     let mut bytes = [0u8; 172];
-    put(&mut bytes, 0, &[0x12]);
-    put(&mut bytes, 12, &[0x98, 0, 0, 0, 2]);
-    put(&mut bytes, 20, &MEMORY);
-    put(&mut bytes, 36, &[2]);
-    put(&mut bytes, 40, &[0, 3]);
-    put(&mut bytes, 44, &[0x50]);
-    put(&mut bytes, 92, &[0x3a, 0x40]);
-    put(&mut bytes, 108, &[0, 0x10, 0, 0x80]);
-    put(&mut bytes, 124, &[1, 0, 0, 0, 2]);
-    put(&mut bytes, 164, &[2]);
-    let Ok(block) = read_block(&bytes) else {
-        panic!(rt; "the block reads");
-    };
-    assert_eq!(rt; block.status(), 0x12);
-    assert_eq!(rt; block.count(), 1);
-    let entry = block.entry(0);
+    lay(&mut bytes, &FIRMWARE_FIRST);
+    assert!(rt; block(&bytes) == Ok((0x12, 1)));
     let memory = MemSection {
         physical: Some(0x80001000),
-        mask: None,
         node: Some(1),
         card: Some(0),
         module: Some(2),
-        bank: None,
-        row: None,
-        rank: None,
         kind: Some(2),
+        ..NOTHING
     };
-    assert!(rt; entry.section == Section::Memory(memory));
-    assert_eq!(rt; entry.severity, 2);
-    assert_eq!(rt; entry.bytes.len(), 80);
-    assert!(rt; entry.guid == guid_at(&MEMORY));
+    let wanted = Some((Section::Memory(memory), 2, guid(&MEMORY)));
+    assert!(rt; entry(&bytes, 0) == wanted);
+    assert!(rt; data(&bytes, 0).len() == 80);
     for length in 0..172usize {
-        let refused = read_block(front(&bytes, length)).err();
+        let refused = block_refusal(front(&bytes, length));
         assert!(rt; refused == Some(BlockRefused::Short), "{length} bytes");
     }
 }
 
 // Puts the header of an entry: its type, severity, revision, and the length of its data.
-fn put_entry(bytes: &mut [u8; BLOCK_LENGTH], place: usize, guid: &[u8; 16], about: [u8; 4])
-    requires { place + 64 ≤ 300 }
-{
+fn put_entry(bytes: &mut [u8; BLOCK_LENGTH], place: usize, guid: &[u8; 16], about: [u8; 4]) {
     let [severity, minor, major, data] = about;
-    put(bytes, place, guid);
-    put(bytes, place + 16, &[severity]);
-    put(bytes, place + 20, &[minor, major]);
-    put(bytes, place + 24, &[data]);
+    let runs: [(usize, &[u8]); 4] = [
+        (0, guid),
+        (16, &[severity]),
+        (20, &[minor, major]),
+        (24, &[data]),
+    ];
+    for (at, run) in &runs {
+        lay(bytes, &[(place.saturating_add(*at), run)]);
+    }
+}
+
+// An entry with the short header and 8 bytes, and one with the long header and 80.
+fn short_and_long() -> [u8; BLOCK_LENGTH] {
+    let mut bytes = [0u8; BLOCK_LENGTH];
+    let runs: [(usize, &[u8]); 5] = [
+        (0, &[1]),
+        (12, &[224]),
+        (84, &[0xaa]),
+        (164, &[2]),
+        (180, &[0, 0x10]),
+    ];
+    lay(&mut bytes, &runs);
+    put_entry(&mut bytes, 20, &OTHER, [3, 3, 2, 8]);
+    put_entry(&mut bytes, 92, &MEMORY, [1, 0, 3, 80]);
+    bytes
 }
 
 #[test]
 fn two_entries(rt: HostRuntime) {
-    // An entry with the short header and 8 bytes, and one with the long header and 80.
-    let mut bytes = [0u8; BLOCK_LENGTH];
-    put(&mut bytes, 0, &[1]);
-    put(&mut bytes, 12, &[224]);
-    put_entry(&mut bytes, 20, &OTHER, [3, 3, 2, 8]);
-    put(&mut bytes, 84, &[0xaa]);
-    put_entry(&mut bytes, 92, &MEMORY, [1, 0, 3, 80]);
-    put(&mut bytes, 164, &[2]);
-    put(&mut bytes, 180, &[0, 0x10]);
-    let Ok(block) = read_block(&bytes) else {
-        panic!(rt; "the block reads");
-    };
-    assert_eq!(rt; block.count(), 2);
-    if block.count() == 2 {
-        let first = block.entry(0);
-        assert!(rt; first.section == Section::Unknown(guid_at(&OTHER)));
-        assert_eq!(rt; first.severity, 3);
-        assert_eq!(rt; first.bytes, [0xaa, 0, 0, 0, 0, 0, 0, 0].as_slice());
-        let second = block.entry(1);
-        assert_eq!(rt; second.severity, 1);
-        assert_eq!(rt; second.bytes.len(), 80);
-        let physical = match second.section {
-            Section::Memory(memory) => memory.physical,
-            _ => None,
-        };
-        assert!(rt; physical == Some(0x1000));
-    }
+    let bytes = short_and_long();
+    assert!(rt; block(&bytes) == Ok((1, 2)));
+    let other = Section::Unknown(guid(&OTHER));
+    assert!(rt; entry(&bytes, 0) == Some((other, 3, guid(&OTHER))));
+    assert!(rt; data(&bytes, 0) == [0xaa, 0, 0, 0, 0, 0, 0, 0].as_slice());
+    let memory = Section::Memory(MemSection {
+        physical: Some(0x1000),
+        ..NOTHING
+    });
+    assert!(rt; entry(&bytes, 1) == Some((memory, 1, guid(&MEMORY))));
+    assert!(rt; data(&bytes, 1).len() == 80);
+}
+
+#[test]
+fn lengths_of_two_entries(rt: HostRuntime) {
     // The data one byte shorter or longer, and fewer bytes than that.
     for (data, length, wanted) in [
         (224, 244, None),
@@ -384,24 +437,23 @@ fn two_entries(rt: HostRuntime) {
         (0, 19, Some(BlockRefused::Short)),
         (143, 300, Some(BlockRefused::EntryOut)),
     ] {
-        bytes[12] = data;
-        let refused = read_block(front(&bytes, length)).err();
+        let mut bytes = short_and_long();
+        lay(&mut bytes, &[(12, &[data])]);
+        let refused = block_refusal(front(&bytes, length));
         assert!(rt; refused == wanted, "data of {data} in {length} bytes");
     }
-    // The other way round.
+}
+
+#[test]
+fn long_before_short(rt: HostRuntime) {
     let mut bytes = [0u8; BLOCK_LENGTH];
-    put(&mut bytes, 0, &[1]);
-    put(&mut bytes, 12, &[224]);
+    lay(&mut bytes, &[(0, &[1]), (12, &[224])]);
     put_entry(&mut bytes, 20, &MEMORY, [0, 0, 4, 80]);
     put_entry(&mut bytes, 172, &OTHER, [2, 0xff, 0, 8]);
-    let Ok(block) = read_block(&bytes) else {
-        panic!(rt; "the block reads");
-    };
-    assert_eq!(rt; block.count(), 2);
-    if block.count() == 2 {
-        assert_eq!(rt; block.entry(0).bytes.len(), 80);
-        assert!(rt; block.entry(1).section == Section::Unknown(guid_at(&OTHER)));
-    }
+    assert!(rt; block(&bytes) == Ok((1, 2)));
+    assert!(rt; data(&bytes, 0).len() == 80);
+    let other = Section::Unknown(guid(&OTHER));
+    assert!(rt; entry(&bytes, 1) == Some((other, 2, guid(&OTHER))));
 }
 
 #[test]
@@ -409,7 +461,7 @@ fn block_refusals(rt: HostRuntime) {
     // A memory section of 72 bytes can't be read, and an entry that passes the end is told before
     // it.
     let mut bytes = [0u8; BLOCK_LENGTH];
-    put(&mut bytes, 0, &[1]);
+    lay(&mut bytes, &[(0, &[1])]);
     put_entry(&mut bytes, 20, &MEMORY, [0, 0, 0, 72]);
     put_entry(&mut bytes, 156, &OTHER, [0, 0, 3, 0]);
     for (data, wanted) in [
@@ -421,20 +473,19 @@ fn block_refusals(rt: HostRuntime) {
         (137, BlockRefused::EntryOut),
         (135, BlockRefused::EntryOut),
     ] {
-        bytes[12] = data;
-        assert!(rt; read_block(&bytes).err() == Some(wanted), "data of {data}");
+        lay(&mut bytes, &[(12, &[data])]);
+        assert!(rt; block_refusal(&bytes) == Some(wanted), "data of {data}");
     }
-    assert_eq!(rt; BlockRefused::Short.number(), 1);
-    assert_eq!(rt; BlockRefused::EntryOut.number(), 2);
-    assert_eq!(rt; BlockRefused::Section.number(), 3);
+    for (refused, number) in [
+        (BlockRefused::Short, 1),
+        (BlockRefused::EntryOut, 2),
+        (BlockRefused::Section, 3),
+    ] {
+        assert!(rt; block_number(refused) == number, "{number}");
+    }
     // Of a block of status 0 nothing else is read.
-    bytes[0] = 0;
-    put(&mut bytes, 12, &[0xff; 4]);
-    let Ok(block) = read_block(front(&bytes, 20)) else {
-        panic!(rt; "the block reads");
-    };
-    assert_eq!(rt; block.status(), 0);
-    assert_eq!(rt; block.count(), 0);
-    bytes[3] = 1;
-    assert!(rt; read_block(&bytes).err() == Some(BlockRefused::Short));
+    lay(&mut bytes, &[(0, &[0]), (12, &[0xff; 4])]);
+    assert!(rt; block(front(&bytes, 20)) == Ok((0, 0)));
+    lay(&mut bytes, &[(3, &[1])]);
+    assert!(rt; block_refusal(&bytes) == Some(BlockRefused::Short));
 }

@@ -155,11 +155,10 @@ fn section_owner(
 // A memory read error of channel 0.
 const READ: u16 = 0x0090;
 
-// A module, the same again, and another one of its channel.
-const FIRST_ROWS: [(Step, Answer); 2] = [
-    (Step::Cpu(0, 0), Ok(())),
-    (Step::Module(b"A", 0, 7, 0), Ok(())),
-];
+// A module, and the rows of a machine that has it alone.
+const FIRST: Step = Step::Module(b"A", 0, 7, 0);
+
+const FIRST_ROWS: [(Step, Answer); 2] = [(Step::Cpu(0, 0), Ok(())), (FIRST, Ok(()))];
 
 const RANGES: [(Step, Answer); 10] = [
     (Step::Range(b"A", 0x1234_ffff, 0x1235_0000), OVERLAP),
@@ -180,33 +179,41 @@ fn owns(topology: &Topology, address: u64, bytes: &[u8]) -> bool {
         && owner(topology, 9, 1, 0, Some(address)) == bytes
 }
 
+// A second module of the first one's channel, and a range of it.
+const SECOND: Step = Step::Module(b"B", 0, 7, 0);
+
+const RANGE: Step = Step::Range(b"B", 0x1234_0000, 0x1234_ffff);
+
+// Addresses round that range, and their owners.
+const OWNED: [(u64, &[u8; 1]); 5] = [
+    (0x1233_ffff, b"-"),
+    (0x1234_0000, b"B"),
+    (0x1234_5040, b"B"),
+    (0x1234_ffff, b"B"),
+    (0x1235_0000, b"-"),
+];
+
+// Whether an error of the channel, at an address or at none, is owned so.
+fn owns_once(topology: &Topology, address: Option<u64>, bytes: &[u8]) -> bool {
+    owner(topology, 0, 7, READ, address) == bytes
+}
+
 #[test]
 fn two_modules_of_one_channel(rt: HostRuntime) {
     let alloc = rt.alloc();
-    let address = Some(0x1234_5040);
     let mut rows = topology(alloc);
     assert!(rt; add_all(alloc, &mut rows, &FIRST_ROWS) == 2);
-    assert!(rt; owner(&rows, 0, 7, READ, address) == b"A".as_slice());
-    let again = Step::Module(b"A", 0, 7, 0);
-    assert!(rt; add(alloc, &mut rows, again) == Ok(()));
-    assert!(rt; owner(&rows, 0, 7, READ, None) == b"A".as_slice());
-    let other = Step::Module(b"B", 0, 7, 0);
-    assert!(rt; add(alloc, &mut rows, other) == Ok(()));
-    assert!(rt; owner(&rows, 0, 7, READ, address) == b"-".as_slice());
-
-    let range = Step::Range(b"B", 0x1234_0000, 0x1234_ffff);
-    assert!(rt; add(alloc, &mut rows, range) == Ok(()));
-    for (address, bytes) in [
-        (0x1233_ffff, b"-"),
-        (0x1234_0000, b"B"),
-        (0x1234_5040, b"B"),
-        (0x1234_ffff, b"B"),
-        (0x1235_0000, b"-"),
-    ] {
-        assert!(rt; owns(&rows, address, bytes.as_slice()), "{address:x}");
+    assert!(rt; owns_once(&rows, Some(0x1234_5040), b"A"));
+    assert!(rt; add(alloc, &mut rows, FIRST) == Ok(()));
+    assert!(rt; owns_once(&rows, None, b"A"));
+    assert!(rt; add(alloc, &mut rows, SECOND) == Ok(()));
+    assert!(rt; owns_once(&rows, Some(0x1234_5040), b"-"));
+    assert!(rt; add(alloc, &mut rows, RANGE) == Ok(()));
+    for (address, bytes) in &OWNED {
+        assert!(rt; owns(&rows, *address, *bytes), "{address:x}");
     }
     assert!(rt; add_all(alloc, &mut rows, &RANGES) == RANGES.len());
-    assert!(rt; owner(&rows, 0, 7, READ, Some(0x1235_0000)) == b"A".as_slice());
+    assert!(rt; owns_once(&rows, Some(0x1235_0000), b"A"));
 }
 
 const MACHINE: [(Step, Answer); 8] = [
@@ -240,11 +247,9 @@ const OWNERS: [(u16, u8, u16, &[u8; 1]); 12] = [
 fn sockets_banks_and_channels(rt: HostRuntime) {
     let mut rows = topology(rt.alloc());
     assert!(rt; add_all(rt.alloc(), &mut rows, &MACHINE) == MACHINE.len());
-    for (cpu, bank, code, bytes) in OWNERS {
-        assert!(rt;
-            owner(&rows, cpu, bank, code, None) == bytes.as_slice(),
-            "{code:x}"
-        );
+    for (cpu, bank, code, bytes) in &OWNERS {
+        let owner = owner(&rows, *cpu, *bank, *code, None);
+        assert!(rt; owner == bytes.as_slice(), "{code:x}");
     }
 }
 
@@ -259,17 +264,28 @@ const PAST_THE_LIMIT: [(Step, Answer); 8] = [
     (Step::Cpu(0, 0), FULL),
 ];
 
+// A module, a range of it, and rows of one CPU up to the limit.
+fn fills(alloc: Global, topology: &mut Topology) -> bool {
+    if add(alloc, topology, FIRST) != Ok(())
+        || add(alloc, topology, Step::Range(b"A", 1, 2)) != Ok(())
+    {
+        return false;
+    }
+    for _ in 2..MOST_ROWS {
+        if cpu(topology, 0, 0) != Ok(()) {
+            return false;
+        }
+    }
+    true
+}
+
 #[test]
 fn rows_are_bounded(rt: HostRuntime) {
     let alloc = rt.alloc();
     let mut rows = topology(alloc);
-    assert!(rt; add(alloc, &mut rows, Step::Module(b"A", 0, 7, 0)) == Ok(()));
-    assert!(rt; add(alloc, &mut rows, Step::Range(b"A", 1, 2)) == Ok(()));
-    for _ in 2..MOST_ROWS {
-        assert!(rt; add(alloc, &mut rows, Step::Cpu(0, 0)) == Ok(()));
-    }
+    assert!(rt; fills(alloc, &mut rows));
     assert!(rt; add_all(alloc, &mut rows, &PAST_THE_LIMIT) == PAST_THE_LIMIT.len());
-    assert!(rt; owner(&rows, 0, 7, READ, None) == b"A".as_slice());
+    assert!(rt; owns_once(&rows, None, b"A"));
     assert!(rt; owner(&rows, 0, 8, READ, None) == b"-".as_slice());
 }
 
