@@ -3,13 +3,14 @@ use super::steps::Named::{Bank, Boot, Record};
 use super::steps::Parts::{One, Two};
 use super::steps::Step::{self, Fact};
 use super::steps::{Named, name_of};
-use super::told::{Line, play};
+use super::told::{Line, new_account, play};
 use dimm_topology::Label;
 use mca_status::ItemClass::{Ce, Ucna};
 use page_policy::{Bucket, MOST_CAPACITY, Order, PageState};
 use ras_account::{Account, MOST_TOTAL, ModuleRow, PushRefused};
 use ras_facts::{Name, PAGES};
 use std::alloc::Global;
+use std::process::Abort;
 use std::test::Fail;
 
 // Puts a name behind the others; nothing waits after nothing is reserved.
@@ -68,25 +69,57 @@ fn row_of(alloc: Global, letter: u8, weight: u64) -> ModuleRow {
     }
 }
 
+// Puts a name behind the others that is new.
+fn push_new_name(account: &mut Account, name: Name) -> Result<(), Fail> {
+    if push_name(account, name)?.is_err() {
+        Err("the name is held")?;
+    }
+    Ok(())
+}
+
+// Puts the row of a module behind the others that is new.
+fn push_new_module(account: &mut Account, row: ModuleRow) -> Result<(), Fail> {
+    if push_module(account, row)?.is_err() {
+        Err("the module has a row")?;
+    }
+    Ok(())
+}
+
+fn push_names(account: &mut Account, names: &[Named]) -> Result<(), Fail> {
+    for named in names {
+        push_new_name(account, name_of(*named))?;
+    }
+    Ok(())
+}
+
 // A new account with these names, each of which it lacks.
 fn account_of(alloc: Global, names: &[Named]) -> Result<Account, Fail> {
-    let mut account = Account::new(alloc);
-    for named in names {
-        push_name(&mut account, name_of(*named))?
-            .ok()
-            .ok_or("the name is held")?;
-    }
+    let mut account = new_account(alloc);
+    push_names(&mut account, names)?;
     Ok(account)
+}
+
+const THREE: [Named; 3] = [Bank(2, 1), Record(5), Boot(4)];
+
+// A floor, whether it is set, and the floor that then stands.
+const FLOORS: [(u64, bool, u64); 4] = [(2, true, 2), (3, false, 2), (4, false, 2), (1, true, 1)];
+
+fn floor_of(account: &Account) -> u64 {
+    account.floor()
+}
+
+fn set_floors(rt: &impl Abort, account: &mut Account) -> Result<(), Fail> {
+    for (floor, is_set, stands) in FLOORS {
+        assert!(rt; set_floor(account, floor)? == is_set, "{floor} is set");
+        assert!(rt; floor_of(account) == stands, "{floor} stands");
+    }
+    Ok(())
 }
 
 #[test]
 fn sets_no_floor_above_a_name_that_is_held(rt: HostRuntime) -> Result<(), Fail> {
-    let mut account = account_of(rt.alloc(), &[Bank(2, 1), Record(5), Boot(4)])?;
-    for (floor, is_set, stands) in [(2, true, 2), (3, false, 2), (4, false, 2), (1, true, 1)] {
-        assert_eq!(rt; set_floor(&mut account, floor)?, is_set, "{floor}");
-        assert_eq!(rt; account.floor(), stands);
-    }
-    Ok(())
+    let mut account = account_of(rt.alloc(), &THREE)?;
+    set_floors(&rt, &mut account)
 }
 
 const TWO_NAMES: [Line; 4] = [
@@ -96,12 +129,18 @@ const TWO_NAMES: [Line; 4] = [
     Line::End,
 ];
 
+const TWO: [Named; 2] = [Bank(1, 1), Bank(1, 2)];
+
+fn refuses_as_repeated(account: &mut Account, named: Named) -> Result<bool, Fail> {
+    Ok(push_name(account, name_of(named))? == Err(PushRefused::Repeated))
+}
+
 #[test]
 fn refuses_a_name_that_is_held(rt: HostRuntime) -> Result<(), Fail> {
-    let mut account = account_of(rt.alloc(), &[Bank(1, 1), Bank(1, 2)])?;
-    let repeated = push_name(&mut account, name_of(Bank(1, 1)))?;
-    assert_eq!(rt; repeated, Err(PushRefused::Repeated));
+    let mut account = account_of(rt.alloc(), &TWO)?;
+    let is_refused = refuses_as_repeated(&mut account, Bank(1, 1))?;
     play(&rt, rt.alloc(), account, &TWO_NAMES)?;
+    assert!(rt; is_refused);
     Ok(())
 }
 
@@ -112,48 +151,67 @@ const TWO_PAGES: [Line; 4] = [
     Line::End,
 ];
 
-#[test]
-fn refuses_a_page_that_has_a_row(rt: HostRuntime) -> Result<(), Fail> {
-    let mut account = Account::new(rt.alloc());
+// A page, and whether it has no row yet.
+const PAGES_PUT: [(u64, bool); 3] = [(7, true), (8, true), (7, false)];
+
+fn puts_page(account: &mut Account, page: u64) -> Result<bool, Fail> {
     let bucket = Bucket {
         count: 3,
         stamp: 100,
     };
-    for (page, is_new) in [(7, true), (8, true), (7, false)] {
-        assert_eq!(rt;
-            push_page(&mut account, page, bucket, PageState::Kept)?,
-            is_new
-        );
+    push_page(account, page, bucket, PageState::Kept)
+}
+
+fn put_pages(rt: &impl Abort, account: &mut Account) -> Result<(), Fail> {
+    for (page, is_new) in PAGES_PUT {
+        assert!(rt; puts_page(account, page)? == is_new, "page {page}");
     }
+    Ok(())
+}
+
+#[test]
+fn refuses_a_page_that_has_a_row(rt: HostRuntime) -> Result<(), Fail> {
+    let mut account = new_account(rt.alloc());
+    put_pages(&rt, &mut account)?;
     play(&rt, rt.alloc(), account, &TWO_PAGES)?;
+    Ok(())
+}
+
+// The letter of a module, the weight of its row, and what putting it answers.
+const WEIGHTS: [(u8, u64, Result<(), PushRefused>); 6] = [
+    (b'A', 1, Ok(())),
+    (b'B', MOST_TOTAL, Err(PushRefused::Full)),
+    (b'A', MOST_TOTAL, Err(PushRefused::Repeated)),
+    (b'B', MOST_TOTAL - 1, Ok(())),
+    (b'C', 1, Err(PushRefused::Full)),
+    (b'C', 0, Ok(())),
+];
+
+fn total_and_modules(account: &Account) -> (u64, usize) {
+    (account.total(), account.modules_len())
+}
+
+fn push_weights(rt: &impl Abort, alloc: Global, account: &mut Account) -> Result<(), Fail> {
+    for (letter, weight, pushed) in WEIGHTS {
+        let row = row_of(alloc, letter, weight);
+        assert!(rt; push_module(account, row)? == pushed, "{weight}");
+    }
     Ok(())
 }
 
 // A row brings its weight, up to 2 ^ 62 in all.
 #[test]
 fn holds_so_much_weight_and_no_more(rt: HostRuntime) -> Result<(), Fail> {
-    let mut account = Account::new(rt.alloc());
-    for (letter, weight, pushed) in [
-        (b'A', 1, Ok(())),
-        (b'B', MOST_TOTAL, Err(PushRefused::Full)),
-        (b'A', MOST_TOTAL, Err(PushRefused::Repeated)),
-        (b'B', MOST_TOTAL - 1, Ok(())),
-        (b'C', 1, Err(PushRefused::Full)),
-        (b'C', 0, Ok(())),
-    ] {
-        let row = row_of(rt.alloc(), letter, weight);
-        assert_eq!(rt; push_module(&mut account, row)?, pushed);
-    }
-    assert_eq!(rt; (account.total(), account.modules_len()), (MOST_TOTAL, 3));
+    let mut account = new_account(rt.alloc());
+    push_weights(&rt, rt.alloc(), &mut account)?;
+    assert!(rt; total_and_modules(&account) == (MOST_TOTAL, 3));
     Ok(())
 }
 
 // Puts each name of an account into another.
 fn copy_names(account: &Account, copy: &mut Account) -> Result<(), Fail> {
     for i in 0..account.names_len() {
-        push_name(copy, *account.name(i))?
-            .ok()
-            .ok_or("the name is new")?;
+        push_new_name(copy, *account.name(i))?;
     }
     Ok(())
 }
@@ -161,9 +219,7 @@ fn copy_names(account: &Account, copy: &mut Account) -> Result<(), Fail> {
 // Puts the row of each module of an account into another.
 fn copy_modules(account: &Account, copy: &mut Account) -> Result<(), Fail> {
     for i in 0..account.modules_len() {
-        push_module(copy, *account.module(i))?
-            .ok()
-            .ok_or("the module is new")?;
+        push_new_module(copy, *account.module(i))?;
     }
     Ok(())
 }
@@ -187,13 +243,19 @@ fn with_base(alloc: Global, account: &Account) -> Account {
     copy
 }
 
+// Puts each row of an account into another, and then sets its floor.
+fn copy_rows(account: &Account, copy: &mut Account) -> Result<(), Fail> {
+    copy_names(account, copy)?;
+    copy_modules(account, copy)?;
+    copy_pages(account, copy)?;
+    set_floor(copy, floor_of(account))?;
+    Ok(())
+}
+
 // Puts the numbers of an account and each of its rows into a new one.
 fn copy_of(alloc: Global, account: &Account) -> Result<Account, Fail> {
     let mut copy = with_base(alloc, account);
-    copy_names(account, &mut copy)?;
-    copy_modules(account, &mut copy)?;
-    copy_pages(account, &mut copy)?;
-    set_floor(&mut copy, account.floor())?;
+    copy_rows(account, &mut copy)?;
     Ok(copy)
 }
 
@@ -223,12 +285,22 @@ const ROWS: [Line; 10] = [
     Line::End,
 ];
 
+// Plays the lines over a copy of an account.
+fn play_copy(
+    rt: &impl Abort,
+    alloc: Global,
+    account: &Account,
+    lines: &[Line],
+) -> Result<(), Fail> {
+    let copy = copy_of(alloc, account)?;
+    play(rt, alloc, copy, lines)?;
+    Ok(())
+}
+
 #[test]
 fn gives_an_account_again(rt: HostRuntime) -> Result<(), Fail> {
-    let account = play(&rt, rt.alloc(), Account::new(rt.alloc()), &HISTORY)?;
-    let copy = copy_of(rt.alloc(), &account)?;
-    for again in [account, copy] {
-        play(&rt, rt.alloc(), again, &ROWS)?;
-    }
+    let account = play(&rt, rt.alloc(), new_account(rt.alloc()), &HISTORY)?;
+    play_copy(&rt, rt.alloc(), &account, &ROWS)?;
+    play(&rt, rt.alloc(), account, &ROWS)?;
     Ok(())
 }

@@ -2,11 +2,14 @@
 use super::steps::Named::{Bank, Record};
 use super::steps::Parts::One;
 use super::steps::Step::{self, Fact};
-use super::steps::{Part, reports};
-use super::told::{Line, play, play_new};
+use super::steps::{Named, Part, reports};
+use super::told::{Line, new_account, play, play_new};
 use mca_status::ItemClass::{Ce, Odd, Srao, Ucna};
 use page_policy::{Order, PageState};
-use ras_account::{Account, MOST_NAMES, ReserveRefused};
+use ras_account::{MOST_NAMES, ReserveRefused};
+use ras_facts::Entry;
+use std::alloc::Global;
+use std::process::Abort;
 use std::test::Fail;
 
 const PAGE: u64 = 0x12345;
@@ -189,13 +192,17 @@ fn counts_each_name_once(rt: HostRuntime) -> Result<(), Fail> {
     play_new(&rt, rt.alloc(), &REPEATED)
 }
 
+// Plays the lines over an account with nine errors of a page.
+fn play_after_nine(rt: &impl Abort, alloc: Global, lines: &[Line]) -> Result<(), Fail> {
+    let nine = play(rt, alloc, new_account(alloc), &NINE)?;
+    play(rt, alloc, nine, lines)?;
+    Ok(())
+}
+
 #[test]
 fn the_tenth_error_of_a_day_orders_its_page(rt: HostRuntime) -> Result<(), Fail> {
-    let nine = play(&rt, rt.alloc(), Account::new(rt.alloc()), &NINE)?;
-    play(&rt, rt.alloc(), nine, &TENTH_WITHIN)?;
-    let nine = play(&rt, rt.alloc(), Account::new(rt.alloc()), &NINE)?;
-    play(&rt, rt.alloc(), nine, &TENTH_AFTER)?;
-    Ok(())
+    play_after_nine(&rt, rt.alloc(), &TENTH_WITHIN)?;
+    play_after_nine(&rt, rt.alloc(), &TENTH_AFTER)
 }
 
 #[test]
@@ -221,16 +228,26 @@ fn a_module_is_asked_for_once(rt: HostRuntime) -> Result<(), Fail> {
     play_new(&rt, rt.alloc(), &ASKED_ONCE)
 }
 
+// What a new account answers where as many names as it holds at most and one more are reserved, and
+// how many names it then has.
+fn reserve_many(alloc: Global, last: Named) -> Result<(Result<(), ReserveRefused>, usize), Fail> {
+    let entries = reports(alloc, MOST_NAMES as u64, last)?;
+    Ok(reserve(alloc, &entries))
+}
+
+fn reserve(alloc: Global, entries: &[Entry]) -> (Result<(), ReserveRefused>, usize) {
+    let mut account = new_account(alloc);
+    (account.reserve(entries), account.names_len())
+}
+
 #[test]
 fn holds_so_many_names_and_no_more(rt: HostRuntime) -> Result<(), Fail> {
     for (last, reserved) in [
         (Bank(1, 0), Ok(())),
         (Bank(2, 0), Err(ReserveRefused::Full)),
     ] {
-        let mut account = Account::new(rt.alloc());
-        let entries = reports(rt.alloc(), MOST_NAMES as u64, last)?;
-        assert_eq!(rt; account.reserve(&entries), reserved);
-        assert_eq!(rt; account.names_len(), 0);
+        let (answer, names) = reserve_many(rt.alloc(), last)?;
+        assert!(rt; answer == reserved && names == 0);
     }
     Ok(())
 }

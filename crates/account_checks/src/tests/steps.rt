@@ -170,9 +170,20 @@ pub fn go(
 /// So many reports of boot 1 without items, with time stamps from 0 on, and then one more.
 pub fn reports(alloc: Global, count: u64, last: Named) -> Result<Vec<Entry>, Fail> {
     let mut entries = Vec::new(alloc);
-    for tsc in 0..count {
-        entries.push(fact(alloc, name_of(Named::Bank(1, tsc)), 100, Parts::None)?)?;
-    }
-    entries.push(fact(alloc, name_of(last), 100, Parts::None)?)?;
+    push_reports(alloc, count, &mut entries)?;
+    push_report(alloc, last, &mut entries)?;
     Ok(entries)
+}
+
+fn push_reports(alloc: Global, count: u64, entries: &mut Vec<Entry>) -> Result<(), Fail> {
+    for tsc in 0..count {
+        push_report(alloc, Named::Bank(1, tsc), entries)?;
+    }
+    Ok(())
+}
+
+fn push_report(alloc: Global, named: Named, entries: &mut Vec<Entry>) -> Result<(), Fail> {
+    let report = fact(alloc, name_of(named), 100, Parts::None)?;
+    entries.push(report)?;
+    Ok(())
 }

@@ -57,16 +57,31 @@ pub fn play(
         modules: 0,
         pages: 0,
     };
-    for line in lines {
-        play_line(rt, alloc, &mut progress, *line)?;
-    }
+    play_lines(rt, alloc, &mut progress, lines)?;
     Ok(progress.account)
+}
+
+fn play_lines(
+    rt: &impl Abort,
+    alloc: Global,
+    progress: &mut Progress,
+    lines: &[Line],
+) -> Result<(), Fail> {
+    for line in lines {
+        play_line(rt, alloc, progress, *line)?;
+    }
+    Ok(())
 }
 
 /// Plays the lines in turn over a new account.
 pub fn play_new(rt: &impl Abort, alloc: Global, lines: &[Line]) -> Result<(), Fail> {
-    play(rt, alloc, Account::new(alloc), lines)?;
+    play(rt, alloc, new_account(alloc), lines)?;
     Ok(())
+}
+
+/// An account that counts nothing.
+pub fn new_account(alloc: Global) -> Account {
+    Account::new(alloc)
 }
 
 // Takes a step, or holds what is told against the line.
@@ -80,10 +95,7 @@ fn play_line(
         Line::Step(step) => go(alloc, &mut progress.account, step, &mut progress.orders)?,
         Line::Order(order) => tell_order(rt, progress, order),
         Line::Numbers(entries, total, floor) => {
-            let account = &progress.account;
-            assert_eq!(rt; account.entries(), entries);
-            assert_eq!(rt; account.total(), total);
-            assert_eq!(rt; account.floor(), floor);
+            tell_numbers(rt, &progress.account, entries, total, floor);
         }
         Line::Name(named) => tell_name(rt, progress, named),
         Line::Module(row) => tell_module(rt, progress, row),
@@ -93,43 +105,85 @@ fn play_line(
     Ok(())
 }
 
+fn tell_numbers(rt: &impl Abort, account: &Account, entries: u64, total: u64, floor: u64) {
+    assert!(rt; entries_of(account) == entries, "{entries} entries");
+    assert!(rt; total_of(account) == total, "a total of {total}");
+    assert!(rt; floor_of(account) == floor, "a floor of {floor}");
+}
+
 fn tell_order(rt: &impl Abort, progress: &mut Progress, order: Order) {
-    assert!(rt; progress.told_orders < progress.orders.len());
-    assert_eq!(rt; progress.orders[progress.told_orders], order);
-    progress.told_orders += 1;
+    let place = progress.told_orders;
+    assert!(rt; has_order(&progress.orders, place, order), "order {place}");
+    progress.told_orders = place.saturating_add(1);
 }
 
 fn tell_name(rt: &impl Abort, progress: &mut Progress, named: Named) {
-    assert!(rt; progress.names < progress.account.names_len());
-    assert_eq!(rt; *progress.account.name(progress.names), name_of(named));
-    progress.names += 1;
+    let place = progress.names;
+    assert!(rt; has_name(&progress.account, place, named), "name {place}");
+    progress.names = place.saturating_add(1);
 }
 
 fn tell_module(rt: &impl Abort, progress: &mut Progress, row: Module) {
-    assert!(rt; progress.modules < progress.account.modules_len());
-    assert!(rt; is_module(progress.account.module(progress.modules), row));
-    progress.modules += 1;
+    let place = progress.modules;
+    assert!(rt; has_module(&progress.account, place, row), "module {place}");
+    progress.modules = place.saturating_add(1);
 }
 
 fn tell_page(rt: &impl Abort, progress: &mut Progress, row: Page) {
-    let (page, count, stamp, state) = row;
-    let pages = progress.account.pages();
-    assert!(rt; progress.pages < pages.len());
-    assert_eq!(rt;
-        pages.row(progress.pages),
-        (page, Bucket { count, stamp }, state)
-    );
-    progress.pages += 1;
+    let place = progress.pages;
+    assert!(rt; has_page(&progress.account, place, row), "page {place}");
+    progress.pages = place.saturating_add(1);
 }
 
 fn tell_end(rt: &impl Abort, progress: &mut Progress) {
-    assert_eq!(rt; progress.told_orders, progress.orders.len());
-    assert_eq!(rt; progress.names, progress.account.names_len());
-    assert_eq!(rt; progress.modules, progress.account.modules_len());
-    assert_eq!(rt; progress.pages, progress.account.pages().len());
+    assert!(rt;
+        has_told_all(progress),
+        "no further order, name, module or page"
+    );
     progress.names = 0;
     progress.modules = 0;
     progress.pages = 0;
+}
+
+// What an account tells goes through these functions, which state nothing, so that no function
+// above is proved over its clauses.
+
+fn entries_of(account: &Account) -> u64 {
+    account.entries()
+}
+
+fn total_of(account: &Account) -> u64 {
+    account.total()
+}
+
+fn floor_of(account: &Account) -> u64 {
+    account.floor()
+}
+
+fn has_order(orders: &[Order], place: usize, order: Order) -> bool {
+    place < orders.len() && orders[place] == order
+}
+
+fn has_name(account: &Account, place: usize, named: Named) -> bool {
+    place < account.names_len() && *account.name(place) == name_of(named)
+}
+
+fn has_module(account: &Account, place: usize, row: Module) -> bool {
+    place < account.modules_len() && is_module(account.module(place), row)
+}
+
+fn has_page(account: &Account, place: usize, row: Page) -> bool {
+    let (page, count, stamp, state) = row;
+    let pages = account.pages();
+    place < pages.len() && pages.row(place) == (page, Bucket { count, stamp }, state)
+}
+
+fn has_told_all(progress: &Progress) -> bool {
+    let account = &progress.account;
+    progress.told_orders == progress.orders.len()
+        && progress.names == account.names_len()
+        && progress.modules == account.modules_len()
+        && progress.pages == account.pages().len()
 }
 
 // Whether a row is this one.
