@@ -85,18 +85,12 @@ fn push_new_module(account: &mut Account, row: ModuleRow) -> Result<(), Fail> {
     Ok(())
 }
 
+// Puts names behind the others that are new.
 fn push_names(account: &mut Account, names: &[Named]) -> Result<(), Fail> {
     for named in names {
         push_new_name(account, name_of(*named))?;
     }
     Ok(())
-}
-
-// A new account with these names, each of which it lacks.
-fn account_of(alloc: Global, names: &[Named]) -> Result<Account, Fail> {
-    let mut account = new_account(alloc);
-    push_names(&mut account, names)?;
-    Ok(account)
 }
 
 const THREE: [Named; 3] = [Bank(2, 1), Record(5), Boot(4)];
@@ -109,6 +103,7 @@ fn floor_of(account: &Account) -> u64 {
 }
 
 fn set_floors(rt: &impl Abort, account: &mut Account) -> Result<(), Fail> {
+    push_names(account, &THREE)?;
     for (floor, is_set, stands) in FLOORS {
         assert!(rt; set_floor(account, floor)? == is_set, "{floor} is set");
         assert!(rt; floor_of(account) == stands, "{floor} stands");
@@ -118,7 +113,7 @@ fn set_floors(rt: &impl Abort, account: &mut Account) -> Result<(), Fail> {
 
 #[test]
 fn sets_no_floor_above_a_name_that_is_held(rt: HostRuntime) -> Result<(), Fail> {
-    let mut account = account_of(rt.alloc(), &THREE)?;
+    let mut account = new_account(rt.alloc());
     set_floors(&rt, &mut account)
 }
 
@@ -135,13 +130,16 @@ fn refuses_as_repeated(account: &mut Account, named: Named) -> Result<bool, Fail
     Ok(push_name(account, name_of(named))? == Err(PushRefused::Repeated))
 }
 
+fn refuse_a_name(rt: &impl Abort, alloc: Global, account: &mut Account) -> Result<(), Fail> {
+    push_names(account, &TWO)?;
+    assert!(rt; refuses_as_repeated(account, Bank(1, 1))?);
+    play(rt, alloc, account, &TWO_NAMES)
+}
+
 #[test]
 fn refuses_a_name_that_is_held(rt: HostRuntime) -> Result<(), Fail> {
-    let mut account = account_of(rt.alloc(), &TWO)?;
-    let is_refused = refuses_as_repeated(&mut account, Bank(1, 1))?;
-    play(&rt, rt.alloc(), account, &TWO_NAMES)?;
-    assert!(rt; is_refused);
-    Ok(())
+    let mut account = new_account(rt.alloc());
+    refuse_a_name(&rt, rt.alloc(), &mut account)
 }
 
 const TWO_PAGES: [Line; 4] = [
@@ -162,19 +160,17 @@ fn puts_page(account: &mut Account, page: u64) -> Result<bool, Fail> {
     push_page(account, page, bucket, PageState::Kept)
 }
 
-fn put_pages(rt: &impl Abort, account: &mut Account) -> Result<(), Fail> {
+fn put_pages(rt: &impl Abort, alloc: Global, account: &mut Account) -> Result<(), Fail> {
     for (page, is_new) in PAGES_PUT {
         assert!(rt; puts_page(account, page)? == is_new, "page {page}");
     }
-    Ok(())
+    play(rt, alloc, account, &TWO_PAGES)
 }
 
 #[test]
 fn refuses_a_page_that_has_a_row(rt: HostRuntime) -> Result<(), Fail> {
     let mut account = new_account(rt.alloc());
-    put_pages(&rt, &mut account)?;
-    play(&rt, rt.alloc(), account, &TWO_PAGES)?;
-    Ok(())
+    put_pages(&rt, rt.alloc(), &mut account)
 }
 
 // The letter of a module, the weight of its row, and what putting it answers.
@@ -196,6 +192,7 @@ fn push_weights(rt: &impl Abort, alloc: Global, account: &mut Account) -> Result
         let row = row_of(alloc, letter, weight);
         assert!(rt; push_module(account, row)? == pushed, "{weight}");
     }
+    assert!(rt; total_and_modules(account) == (MOST_TOTAL, 3));
     Ok(())
 }
 
@@ -203,9 +200,7 @@ fn push_weights(rt: &impl Abort, alloc: Global, account: &mut Account) -> Result
 #[test]
 fn holds_so_much_weight_and_no_more(rt: HostRuntime) -> Result<(), Fail> {
     let mut account = new_account(rt.alloc());
-    push_weights(&rt, rt.alloc(), &mut account)?;
-    assert!(rt; total_and_modules(&account) == (MOST_TOTAL, 3));
-    Ok(())
+    push_weights(&rt, rt.alloc(), &mut account)
 }
 
 // Puts each name of an account into another.
@@ -235,28 +230,22 @@ fn copy_pages(account: &Account, copy: &mut Account) -> Result<(), Fail> {
     Ok(())
 }
 
-// Puts the numbers of an account into a new one.
-fn with_base(alloc: Global, account: &Account) -> Account {
-    let mut copy = Account::new(alloc);
+// Puts the numbers of an account into another.
+fn copy_base(account: &Account, copy: &mut Account) -> Result<(), Fail> {
+    copy.reserve(&[])?;
     copy.set_base(account.limit(), account.entries());
     copy.set_module_limit(account.module_limit());
-    copy
+    Ok(())
 }
 
-// Puts each row of an account into another, and then sets its floor.
-fn copy_rows(account: &Account, copy: &mut Account) -> Result<(), Fail> {
+// Puts the numbers of an account and each of its rows into another.
+fn copy_all(account: &Account, copy: &mut Account) -> Result<(), Fail> {
+    copy_base(account, copy)?;
     copy_names(account, copy)?;
     copy_modules(account, copy)?;
     copy_pages(account, copy)?;
     set_floor(copy, floor_of(account))?;
     Ok(())
-}
-
-// Puts the numbers of an account and each of its rows into a new one.
-fn copy_of(alloc: Global, account: &Account) -> Result<Account, Fail> {
-    let mut copy = with_base(alloc, account);
-    copy_rows(account, &mut copy)?;
-    Ok(copy)
 }
 
 const HISTORY: [Line; 6] = [
@@ -292,15 +281,30 @@ fn play_copy(
     account: &Account,
     lines: &[Line],
 ) -> Result<(), Fail> {
-    let copy = copy_of(alloc, account)?;
-    play(rt, alloc, copy, lines)?;
-    Ok(())
+    let mut copy = new_account(alloc);
+    play_filled(rt, alloc, account, &mut copy, lines)
+}
+
+// Copies an account into another, and plays the lines over that.
+fn play_filled(
+    rt: &impl Abort,
+    alloc: Global,
+    account: &Account,
+    copy: &mut Account,
+    lines: &[Line],
+) -> Result<(), Fail> {
+    copy_all(account, copy)?;
+    play(rt, alloc, copy, lines)
+}
+
+fn give_again(rt: &impl Abort, alloc: Global, account: &mut Account) -> Result<(), Fail> {
+    play(rt, alloc, account, &HISTORY)?;
+    play_copy(rt, alloc, account, &ROWS)?;
+    play(rt, alloc, account, &ROWS)
 }
 
 #[test]
 fn gives_an_account_again(rt: HostRuntime) -> Result<(), Fail> {
-    let account = play(&rt, rt.alloc(), new_account(rt.alloc()), &HISTORY)?;
-    play_copy(&rt, rt.alloc(), &account, &ROWS)?;
-    play(&rt, rt.alloc(), account, &ROWS)?;
-    Ok(())
+    let mut account = new_account(rt.alloc());
+    give_again(&rt, rt.alloc(), &mut account)
 }

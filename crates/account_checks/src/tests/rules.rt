@@ -6,7 +6,7 @@ use super::steps::{Named, Part, reports};
 use super::told::{Line, new_account, play, play_new};
 use mca_status::ItemClass::{Ce, Odd, Srao, Ucna};
 use page_policy::{Order, PageState};
-use ras_account::{MOST_NAMES, ReserveRefused};
+use ras_account::{Account, MOST_NAMES, ReserveRefused};
 use ras_facts::Entry;
 use std::alloc::Global;
 use std::process::Abort;
@@ -192,11 +192,20 @@ fn counts_each_name_once(rt: HostRuntime) -> Result<(), Fail> {
     play_new(&rt, rt.alloc(), &REPEATED)
 }
 
+fn play_nine(
+    rt: &impl Abort,
+    alloc: Global,
+    account: &mut Account,
+    lines: &[Line],
+) -> Result<(), Fail> {
+    play(rt, alloc, account, &NINE)?;
+    play(rt, alloc, account, lines)
+}
+
 // Plays the lines over an account with nine errors of a page.
 fn play_after_nine(rt: &impl Abort, alloc: Global, lines: &[Line]) -> Result<(), Fail> {
-    let nine = play(rt, alloc, new_account(alloc), &NINE)?;
-    play(rt, alloc, nine, lines)?;
-    Ok(())
+    let mut account = new_account(alloc);
+    play_nine(rt, alloc, &mut account, lines)
 }
 
 #[test]

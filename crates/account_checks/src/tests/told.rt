@@ -31,10 +31,9 @@ pub enum Line {
     End,
 }
 
-// An account, the orders that its entries gave, and how many of each were told.
+// The orders that entries of an account gave, and how many of each were told.
 #[derive(Drop)]
 struct Progress {
-    account: Account,
     orders: Vec<Order>,
     told_orders: usize,
     names: usize,
@@ -46,37 +45,36 @@ struct Progress {
 pub fn play(
     rt: &impl Abort,
     alloc: Global,
-    account: Account,
+    account: &mut Account,
     lines: &[Line],
-) -> Result<Account, Fail> {
+) -> Result<(), Fail> {
     let mut progress = Progress {
-        account,
         orders: Vec::new(alloc),
         told_orders: 0,
         names: 0,
         modules: 0,
         pages: 0,
     };
-    play_lines(rt, alloc, &mut progress, lines)?;
-    Ok(progress.account)
+    play_lines(rt, alloc, account, &mut progress, lines)
 }
 
 fn play_lines(
     rt: &impl Abort,
     alloc: Global,
+    account: &mut Account,
     progress: &mut Progress,
     lines: &[Line],
 ) -> Result<(), Fail> {
     for line in lines {
-        play_line(rt, alloc, progress, *line)?;
+        play_line(rt, alloc, account, progress, *line)?;
     }
     Ok(())
 }
 
 /// Plays the lines in turn over a new account.
 pub fn play_new(rt: &impl Abort, alloc: Global, lines: &[Line]) -> Result<(), Fail> {
-    play(rt, alloc, new_account(alloc), lines)?;
-    Ok(())
+    let mut account = new_account(alloc);
+    play(rt, alloc, &mut account, lines)
 }
 
 /// An account that counts nothing.
@@ -88,19 +86,20 @@ pub fn new_account(alloc: Global) -> Account {
 fn play_line(
     rt: &impl Abort,
     alloc: Global,
+    account: &mut Account,
     progress: &mut Progress,
     line: Line,
 ) -> Result<(), Fail> {
     match line {
-        Line::Step(step) => go(alloc, &mut progress.account, step, &mut progress.orders)?,
+        Line::Step(step) => return go(alloc, account, step, &mut progress.orders),
         Line::Order(order) => tell_order(rt, progress, order),
         Line::Numbers(entries, total, floor) => {
-            tell_numbers(rt, &progress.account, entries, total, floor);
+            tell_numbers(rt, account, entries, total, floor);
         }
-        Line::Name(named) => tell_name(rt, progress, named),
-        Line::Module(row) => tell_module(rt, progress, row),
-        Line::Page(row) => tell_page(rt, progress, row),
-        Line::End => tell_end(rt, progress),
+        Line::Name(named) => tell_name(rt, account, progress, named),
+        Line::Module(row) => tell_module(rt, account, progress, row),
+        Line::Page(row) => tell_page(rt, account, progress, row),
+        Line::End => tell_end(rt, account, progress),
     }
     Ok(())
 }
@@ -117,27 +116,27 @@ fn tell_order(rt: &impl Abort, progress: &mut Progress, order: Order) {
     progress.told_orders = place.saturating_add(1);
 }
 
-fn tell_name(rt: &impl Abort, progress: &mut Progress, named: Named) {
+fn tell_name(rt: &impl Abort, account: &Account, progress: &mut Progress, named: Named) {
     let place = progress.names;
-    assert!(rt; has_name(&progress.account, place, named), "name {place}");
+    assert!(rt; has_name(account, place, named), "name {place}");
     progress.names = place.saturating_add(1);
 }
 
-fn tell_module(rt: &impl Abort, progress: &mut Progress, row: Module) {
+fn tell_module(rt: &impl Abort, account: &Account, progress: &mut Progress, row: Module) {
     let place = progress.modules;
-    assert!(rt; has_module(&progress.account, place, row), "module {place}");
+    assert!(rt; has_module(account, place, row), "module {place}");
     progress.modules = place.saturating_add(1);
 }
 
-fn tell_page(rt: &impl Abort, progress: &mut Progress, row: Page) {
+fn tell_page(rt: &impl Abort, account: &Account, progress: &mut Progress, row: Page) {
     let place = progress.pages;
-    assert!(rt; has_page(&progress.account, place, row), "page {place}");
+    assert!(rt; has_page(account, place, row), "page {place}");
     progress.pages = place.saturating_add(1);
 }
 
-fn tell_end(rt: &impl Abort, progress: &mut Progress) {
+fn tell_end(rt: &impl Abort, account: &Account, progress: &mut Progress) {
     assert!(rt;
-        has_told_all(progress),
+        has_told_all(account, progress),
         "no further order, name, module or page"
     );
     progress.names = 0;
@@ -178,8 +177,7 @@ fn has_page(account: &Account, place: usize, row: Page) -> bool {
     place < pages.len() && pages.row(place) == (page, Bucket { count, stamp }, state)
 }
 
-fn has_told_all(progress: &Progress) -> bool {
-    let account = &progress.account;
+fn has_told_all(account: &Account, progress: &Progress) -> bool {
     progress.told_orders == progress.orders.len()
         && progress.names == account.names_len()
         && progress.modules == account.modules_len()
