@@ -81,29 +81,46 @@ fn small_first(alloc: Global) -> Result<Vec<u8>, Fail> {
     )
 }
 
+// Whether bytes are a checkpoint of a version, whose account has this one in version 2.
+fn is_rewritten_as(alloc: Global, version: Version, bytes: &[u8], wanted: &[u8]) -> bool {
+    match rewritten(alloc, version, bytes) {
+        Some(told) => told.as_slice() == wanted,
+        None => false,
+    }
+}
+
 // Whether bytes are no checkpoint of version 2.
 fn is_bad(alloc: Global, bytes: &[u8]) -> bool {
     refusal_of(alloc, Version::Two, bytes) == Some(CheckpointRefused::Bad)
 }
 
+// Whether so many bytes from the front are no checkpoint of version 2.
+fn is_bad_cut(alloc: Global, bytes: &[u8], end: usize) -> bool {
+    is_bad(alloc, &bytes[..end.min(bytes.len())])
+}
+
+// The checkpoint of the empty account in versions 1 and 2.
+const EMPTY_FIRST: [&[u8]; 5] = [&LIMIT, &ZERO, &ZERO, &ZERO, &ZERO];
+
+const EMPTY_SECOND: [&[u8]; 7] = [&LIMIT, &MODULE_LIMIT, &ZERO, &ZERO, &ZERO, &ZERO, &ZERO];
+
+// Whether the checkpoint of the empty account is these bytes, and is told to be so long.
+fn is_empty_checkpoint(alloc: Global, wanted: &[u8]) -> bool {
+    match empty_checkpoint(alloc) {
+        Some((bytes, length)) => bytes.as_slice() == wanted && length == 72,
+        None => false,
+    }
+}
+
 #[test]
 fn writes_the_empty_checkpoint(rt: HostRuntime) -> Result<(), Fail> {
     let alloc = rt.alloc();
-    let second = joined(
-        alloc,
-        &[&LIMIT, &MODULE_LIMIT, &ZERO, &ZERO, &ZERO, &ZERO, &ZERO],
-    )?;
-    let first = joined(alloc, &[&LIMIT, &ZERO, &ZERO, &ZERO, &ZERO])?;
-    let (empty, length) = empty_checkpoint(alloc).ok_or("memory is left")?;
-    assert_eq!(rt; (empty.len(), length, first.len()), (72, 72, 48));
-    assert_eq!(rt; empty, second);
-    for (version, bytes) in [(Version::One, &first), (Version::Two, &second)] {
-        assert_eq!(rt;
-            rewritten(alloc, version, bytes).as_ref(),
-            Some(&second),
-            "{version:?}"
-        );
-    }
+    let second = joined(alloc, &EMPTY_SECOND)?;
+    let first = joined(alloc, &EMPTY_FIRST)?;
+    assert!(rt; second.len() == 72 && first.len() == 48);
+    assert!(rt; is_empty_checkpoint(alloc, &second));
+    assert!(rt; is_rewritten_as(alloc, Version::One, &first, &second));
+    assert!(rt; is_rewritten_as(alloc, Version::Two, &second, &second));
     Ok(())
 }
 
@@ -111,154 +128,183 @@ fn writes_the_empty_checkpoint(rt: HostRuntime) -> Result<(), Fail> {
 fn reads_no_part_of_a_checkpoint(rt: HostRuntime) -> Result<(), Fail> {
     let alloc = rt.alloc();
     let mut bytes = small_checkpoint(alloc)?;
-    assert_eq!(rt;
-        rewritten(alloc, Version::Two, &bytes).as_ref(),
-        Some(&bytes)
-    );
+    assert!(rt; is_rewritten_as(alloc, Version::Two, &bytes, &bytes));
     for end in 0..bytes.len() {
-        assert!(rt; is_bad(alloc, &bytes[..end]), "cut at {end}");
+        assert!(rt; is_bad_cut(alloc, &bytes, end), "cut at {end}");
     }
     bytes.push(0)?;
     assert!(rt; is_bad(alloc, &bytes));
     Ok(())
 }
 
+// The small checkpoint of version 1 as it is in version 2, which has a flag for the bucket.
+const SMALL_AGAIN: [&[u8]; 11] = [
+    &LIMIT,
+    &MODULE_LIMIT,
+    &TWO,
+    &ONE,
+    &ONE,
+    &NAME,
+    &ONE,
+    &MODULE,
+    &[0],
+    &ONE,
+    &PAGE,
+];
+
+// The small checkpoint of version 1 with the floor 0.
+const SMALL_FLOOR_0: [&[u8]; 9] = [&LIMIT, &TWO, &ONE, &NAME, &ONE, &MODULE, &ONE, &PAGE, &ZERO];
+
+// Whether bytes are no checkpoint of version 1.
+fn is_bad_first(alloc: Global, bytes: &[u8]) -> bool {
+    refusal_of(alloc, Version::One, bytes) == Some(CheckpointRefused::Bad)
+}
+
 #[test]
 fn reads_version_1_without_buckets(rt: HostRuntime) -> Result<(), Fail> {
     let alloc = rt.alloc();
     let first = small_first(alloc)?;
-    let second = joined(
-        alloc,
-        &[
-            &LIMIT,
-            &MODULE_LIMIT,
-            &TWO,
-            &ONE,
-            &ONE,
-            &NAME,
-            &ONE,
-            &MODULE,
-            &[0],
-            &ONE,
-            &PAGE,
-        ],
-    )?;
-    let floor_0 = joined(
-        alloc,
-        &[&LIMIT, &TWO, &ONE, &NAME, &ONE, &MODULE, &ONE, &PAGE, &ZERO],
-    )?;
-    assert_eq!(rt; rewritten(alloc, Version::One, &first), Some(second));
-    let bad = Some(CheckpointRefused::Bad);
-    assert_eq!(rt; refusal_of(alloc, Version::One, &floor_0), bad);
-    assert_eq!(rt; refusal_of(alloc, Version::Two, &first), bad);
-    assert_eq!(rt;
-        refusal_of(alloc, Version::One, &small_checkpoint(alloc)?),
-        bad
-    );
+    let second = joined(alloc, &SMALL_AGAIN)?;
+    assert!(rt; is_rewritten_as(alloc, Version::One, &first, &second));
+    assert!(rt; is_bad_first(alloc, &joined(alloc, &SMALL_FLOOR_0)?));
+    assert!(rt; is_bad(alloc, &first));
+    assert!(rt; is_bad_first(alloc, &small_checkpoint(alloc)?));
     Ok(())
 }
 
+// Whether the small checkpoint with another byte at a place is none; None where it has no such
+// place.
+fn is_bad_with(alloc: Global, place: usize, byte: u8) -> Result<Option<bool>, Fail> {
+    let mut bytes = small_checkpoint(alloc)?;
+    match bytes.get_mut(place) {
+        Some(there) => *there = byte,
+        None => return Ok(None),
+    }
+    Ok(Some(is_bad(alloc, &bytes)))
+}
+
+// The capacity 0, entries past 2^62, a floor above a name's boot, a name's kind, a sum past 2^62,
+// the flag of a bucket, its count past 999,999 and its state, and a page past 2^52 and its state;
+// and the greatest that can be.
+const CHANGES: [(usize, u8, bool); 16] = [
+    (0, 0, true),
+    (39, 0x40, true),
+    (40, 2, true),
+    (56, 5, true),
+    (93, 0x40, true),
+    (166, 2, true),
+    (169, 0x10, true),
+    (183, 2, true),
+    (198, 0x10, true),
+    (216, 3, true),
+    (40, 0, false),
+    (93, 0x3f, false),
+    (169, 0x0e, false),
+    (183, 1, false),
+    (198, 0x0f, false),
+    (216, 2, false),
+];
+
 #[test]
 fn refuses_what_is_no_checkpoint(rt: HostRuntime) -> Result<(), Fail> {
-    // The capacity 0, entries past 2^62, a floor above a name's boot, a name's kind, a sum past
-    // 2^62, the flag of a bucket, its count past 999,999 and its state, and a page past 2^52 and
-    // its state; and the greatest that can be.
-    for (place, byte, bad) in [
-        (0, 0, true),
-        (39, 0x40, true),
-        (40, 2, true),
-        (56, 5, true),
-        (93, 0x40, true),
-        (166, 2, true),
-        (169, 0x10, true),
-        (183, 2, true),
-        (198, 0x10, true),
-        (216, 3, true),
-        (40, 0, false),
-        (93, 0x3f, false),
-        (169, 0x0e, false),
-        (183, 1, false),
-        (198, 0x0f, false),
-        (216, 2, false),
-    ] {
-        let mut bytes = small_checkpoint(rt.alloc())?;
-        assert!(rt; place < bytes.len());
-        bytes[place] = byte;
-        assert_eq!(rt; is_bad(rt.alloc(), &bytes), bad, "{byte} at {place}");
+    for (place, byte, bad) in CHANGES {
+        let told = is_bad_with(rt.alloc(), place, byte)?;
+        assert!(rt; told == Some(bad), "{byte} at {place}");
     }
     Ok(())
+}
+
+// The same module without a label.
+const UNLABELED: [u8; 81] = [
+    0, 1, 0, 0, 0, 0, 0, 0, 0, 0, 0, 0, 0, 0, 0, 0, 0, 0, 0, 0, 0, 0, 0, 0, 0, 0, 0, 0, 0, 0, 0, 0,
+    0, 0, 0, 0, 0, 0, 0, 0, 0, 0, 0, 0, 0, 0, 0, 0, 0, 0, 0, 0, 0, 0, 0, 0, 0, 0, 0, 0, 0, 0, 0, 0,
+    0, 0, 0, 0, 0, 0, 0, 0, 0, 0, 0, 0, 0, 0, 0, 0, 0,
+];
+
+// What comes before the names of a checkpoint, and what comes behind that, with whether the whole
+// is none. A module without a bucket has the flag 0.
+const FRONT: [&[u8]; 4] = [&LIMIT, &MODULE_LIMIT, &TWO, &ZERO];
+
+const BEHIND: [(&[&[u8]], bool); 7] = [
+    (&[&ONE, &NAME, &ZERO, &ZERO], false),
+    (&[&TWO, &NAME, &NAME, &ZERO, &ZERO], true),
+    (
+        &[&ZERO, &TWO, &MODULE, &[0], &UNLABELED, &[0], &ZERO],
+        false,
+    ),
+    (&[&ZERO, &TWO, &MODULE, &[0], &MODULE, &[0], &ZERO], true),
+    (&[&ZERO, &ONE, &UNLABELED, &BUCKET, &ZERO], true),
+    (&[&ZERO, &ZERO, &ONE, &PAGE], false),
+    (&[&ZERO, &ZERO, &TWO, &PAGE, &PAGE], true),
+];
+
+// Whether such pieces are no checkpoint.
+fn is_bad_behind(alloc: Global, behind: &[&[u8]]) -> Result<bool, Fail> {
+    let front = joined(alloc, &FRONT)?;
+    let rest = joined(alloc, behind)?;
+    Ok(is_bad(alloc, &joined(alloc, &[&front, &rest])?))
 }
 
 #[test]
 fn refuses_rows_that_come_twice(rt: HostRuntime) -> Result<(), Fail> {
-    let alloc = rt.alloc();
-    let front = joined(alloc, &[&LIMIT, &MODULE_LIMIT, &TWO, &ZERO])?;
-    let module = joined(alloc, &[&MODULE, &[0]])?;
-    let unlabeled = joined(alloc, &[&[0], &MODULE[2..], &[0]])?;
-    let bucket_of_none = joined(alloc, &[&[0], &MODULE[2..], &BUCKET])?;
-    for (pieces, bad) in [
-        (joined(alloc, &[&front, &ONE, &NAME, &ZERO, &ZERO])?, false),
-        (
-            joined(alloc, &[&front, &TWO, &NAME, &NAME, &ZERO, &ZERO])?,
-            true,
-        ),
-        (
-            joined(alloc, &[&front, &ZERO, &TWO, &module, &unlabeled, &ZERO])?,
-            false,
-        ),
-        (
-            joined(alloc, &[&front, &ZERO, &TWO, &module, &module, &ZERO])?,
-            true,
-        ),
-        (
-            joined(alloc, &[&front, &ZERO, &ONE, &bucket_of_none, &ZERO])?,
-            true,
-        ),
-        (joined(alloc, &[&front, &ZERO, &ZERO, &ONE, &PAGE])?, false),
-        (
-            joined(alloc, &[&front, &ZERO, &ZERO, &TWO, &PAGE, &PAGE])?,
-            true,
-        ),
-    ] {
-        assert_eq!(rt; is_bad(alloc, &pieces), bad, "{pieces:?}");
+    for (row, (behind, bad)) in BEHIND.iter().enumerate() {
+        let told = is_bad_behind(rt.alloc(), behind)?;
+        assert!(rt; told == *bad, "row {row}");
     }
     Ok(())
+}
+
+// Whether so many bytes of the link are cut.
+fn is_cut(alloc: Global, end: usize) -> bool {
+    link_in(alloc, Version::Two, &LINK[..end.min(59)]) == Err(LinkRefused::Cut)
+}
+
+fn is_written_again(alloc: Global, wanted: &[u8]) -> bool {
+    match link_again(alloc, &LINK) {
+        Some(bytes) => bytes.as_slice() == wanted,
+        None => false,
+    }
+}
+
+fn link(alloc: Global, bytes: &[u8]) -> Result<(usize, usize), LinkRefused> {
+    link_in(alloc, Version::Two, bytes)
 }
 
 #[test]
 fn reads_no_part_of_a_link(rt: HostRuntime) -> Result<(), Fail> {
     let alloc = rt.alloc();
-    for end in 0..LINK.len() {
-        let cut = Err(LinkRefused::Cut);
-        assert_eq!(rt;
-            link_in(alloc, Version::Two, &LINK[..end]),
-            cut,
-            "cut at {end}"
-        );
+    for end in 0..59usize {
+        assert!(rt; is_cut(alloc, end), "cut at {end}");
     }
     let gated = joined(alloc, &[&LINK, &[0]])?;
-    assert_eq!(rt; link_in(alloc, Version::Two, &gated), Ok((1, 59)));
-    assert_eq!(rt; link_again(alloc, &LINK), Some(gated));
+    assert!(rt; link(alloc, &gated) == Ok((1, 59)));
+    assert!(rt; is_written_again(alloc, &gated));
     Ok(())
+}
+
+// A link of so many entries that retire the boots below 2.
+fn retiring(alloc: Global, count: u16) -> Result<Vec<u8>, Fail> {
+    let mut bytes = Vec::new(alloc);
+    let count = u32::from(count);
+    bytes.extend_from_slice(&(4 + 9 * count).to_le_bytes())?;
+    bytes.extend_from_slice(&count.to_le_bytes())?;
+    for _ in 0..count {
+        bytes.push(3)?;
+        bytes.extend_from_slice(&TWO)?;
+    }
+    Ok(bytes)
 }
 
 #[test]
 fn reads_up_to_2000_entries(rt: HostRuntime) -> Result<(), Fail> {
-    let alloc = rt.alloc();
     for (count, found) in [
-        (0u32, Err(LinkRefused::Bad)),
+        (0, Err(LinkRefused::Bad)),
         (1, Ok((1, 17))),
         (2000, Ok((2000, 18_008))),
         (2001, Err(LinkRefused::Bad)),
     ] {
-        let mut bytes = Vec::new(alloc);
-        bytes.extend_from_slice(&(4 + 9 * count).to_le_bytes())?;
-        bytes.extend_from_slice(&count.to_le_bytes())?;
-        for _ in 0..count {
-            bytes.push(3)?;
-            bytes.extend_from_slice(&TWO)?;
-        }
-        assert_eq!(rt; link_in(alloc, Version::Two, &bytes), found, "{count}");
+        let bytes = retiring(rt.alloc(), count)?;
+        assert!(rt; link(rt.alloc(), &bytes) == found, "{count}");
     }
     Ok(())
 }

@@ -2,12 +2,11 @@
 //!
 //! The calls go through functions of one call each that state nothing, so that the clauses of the
 //! crate that reads and writes come into their proofs alone, and not into those of the tests.
-use super::*;
 use dimm_topology::Label;
-use entry_format::{EntriesRefused, Version};
+use entry_format::{EntriesRefused, Version, entry_bytes, read_entries, read_list};
 use mca_status::ItemClass;
 use page_policy::Limit;
-use ras_facts::{Entry, Fact, Item, Items, Name};
+use ras_facts::{Entry, Fact, Item, Items, MOST_ITEMS, Name};
 use std::alloc::Global;
 use std::test::*;
 
@@ -56,10 +55,26 @@ const ENTRIES: [&[u8]; 8] = [
     &MODULE_LIMIT,
 ];
 
+// Whether the bytes are a list of so many entries.
+fn is_list(alloc: Global, version: Version, count: u32, bytes: &[u8]) -> bool {
+    read_list(alloc, version, count, bytes).is_ok()
+}
+
+// Whether an entry is written as these bytes.
+fn is_written_as(alloc: Global, entry: &Entry, bytes: &[u8]) -> bool {
+    if entry.item_count() > MOST_ITEMS {
+        return false;
+    }
+    match entry_bytes(alloc, entry) {
+        Ok(written) => written.as_slice() == bytes,
+        Err(_) => false,
+    }
+}
+
 // How many entries the bytes of a file of version 2 are, or the place where they break off.
 fn read(alloc: Global, bytes: &[u8]) -> Option<Result<usize, u64>> {
-    match count_of_entries(alloc, Version::Two, bytes) {
-        Ok(count) => Some(Ok(count)),
+    match read_entries(alloc, Version::Two, bytes) {
+        Ok(entries) => Some(Ok(entries.len())),
         Err(EntriesRefused::Bad { place }) => Some(Err(place)),
         Err(EntriesRefused::NoMemory) => None,
     }
@@ -228,11 +243,17 @@ const BREAKS: [(usize, u8, u64); 5] = [
     (103, 1, 87),
 ];
 
-#[test]
-fn tells_the_place_of_the_first_that_is_none(rt: HostRuntime) -> Result<(), Fail> {
-    let mut file = EVERYDAY.to_vec(rt.alloc())?;
+// A file of three entries.
+fn three(alloc: Global) -> Result<Vec<u8>, Fail> {
+    let mut file = EVERYDAY.to_vec(alloc)?;
     file.extend_from_slice(&LABELLED)?;
     file.extend_from_slice(&LIMIT)?;
+    Ok(file)
+}
+
+#[test]
+fn tells_the_place_of_the_first_that_is_none(rt: HostRuntime) -> Result<(), Fail> {
+    let mut file = three(rt.alloc())?;
     assert!(rt; read(rt.alloc(), &file) == Some(Ok(3)));
     for (count, is_whole) in [(0, false), (2, false), (3, true), (4, false)] {
         assert!(rt;
