@@ -7,8 +7,12 @@ ghost use Rattle.std.specs.List.{AllByRecursion, join_with_byte};
 ghost use Rattle.ras_script.specs.Splitting.{lines_of, words_of};
 ghost use Rattle.ras_script.specs.SplittingLaws.{Lacks, IsWord, script_of, with_last_line_feed};
 
+use crate::fields::BANK_WORDS;
 use ras_base::NoMemory;
 use std::alloc::Global;
+
+// The words of a line `bank`, for which room is taken at once.
+const COMMON_WORDS: usize = 1 + BANK_WORDS;
 
 /// The first line of a script that isn't empty, without its line feed, and what follows that line.
 pub fn first_line(script: &[u8]) -> (&[u8], &[u8])
@@ -31,10 +35,11 @@ pub fn first_line(script: &[u8]) -> (&[u8], &[u8])
 pub fn words(alloc: Global, line: &[u8]) -> Result<Vec<&[u8]>, NoMemory>
     ensures { IfOk result (λ words. map (λ word. word.now) words.items ≡ words_of line.now) }
 {
-    let words = line
-        .split(|byte| *byte == b' ')
-        .filter(|word| !word.is_empty())
-        .collect(alloc)?;
+    let mut words = Vec::with_capacity(alloc, COMMON_WORDS)?;
+    words.extend(
+        line.split(|byte| *byte == b' ')
+            .filter(|word| !word.is_empty()),
+    )?;
     Ok(words)
 }
 

@@ -8,6 +8,9 @@ use ras_account::Account;
 use ras_base::NoMemory;
 use std::alloc::Global;
 
+// The most bytes of a done line, for which room is taken at once.
+const DONE_LENGTH: usize = 26;
+
 /// The line that an event ends with, by the number of its line.
 ///
 /// # Errors
@@ -16,7 +19,8 @@ use std::alloc::Global;
 pub fn done_line(alloc: Global, number: u64) -> Result<Vec<u8>, NoMemory>
     ensures { IfOk result (λ text. text.items ≡ done_line number) }
 {
-    let mut text = Vec::from_slice(alloc, b"done ")?;
+    let mut text = Vec::with_capacity(alloc, DONE_LENGTH)?;
+    text.extend_from_slice(b"done ")?;
     push_number(&mut text, number)?;
     text.extend_from_slice(b"\n")?;
     Ok(text)

@@ -12,6 +12,10 @@ use ras_base::NoMemory;
 use ras_facts::{Entry, Fact, Item, Name};
 use std::alloc::Global;
 
+// The most bytes of the line of a repeat: of a bank's name with the greatest numbers. Room for them
+// is taken at once, since most lines of a failing module are repeats.
+const REPEAT_LENGTH: usize = 65;
+
 /// Adds the lines of an entry that is fresh in an account, with the detail that is told of each of
 /// its items.
 ///
@@ -50,7 +54,7 @@ pub fn push_fresh(
 pub fn repeat_line(alloc: Global, account: &Account, entry: &Entry) -> Result<Vec<u8>, NoMemory>
     ensures { IfOk result (λ text. text.items ≡ repeat_line account.now.state entry.now) }
 {
-    let mut text = Vec::new(alloc);
+    let mut text = Vec::with_capacity(alloc, REPEAT_LENGTH)?;
     if let Entry::Fact(fact) = entry {
         let is_stale = is_retired(account.floor(), &fact.name);
         text.extend_from_slice(if is_stale { b"stale " } else { b"repeat " })?;
