@@ -21,7 +21,7 @@ use Rattle.ras_script.specs.LineLaws.{IsEntryInRange}
 use Rattle.entry_format.specs.Spelling.{entry_bytes}
 use Rattle.entry_format.proofs.SizeLemmas.{entry_most}
 use Rattle.journal_format.specs.Links.{payload_bytes}
-use Rattle.ras_events.specs.Making.{Pieces, made_by_report, made_of_entry, nothing_made}
+use Rattle.ras_events.specs.Making.{made_by_report, made_of_entry, nothing_made}
 use Rattle.ras_events.specs.Sizes.{IsFit}
 
 payload_most : (e : Entry) → IsValidEntry e → length (payload_bytes (e ∷ [])) ≤ 67108864

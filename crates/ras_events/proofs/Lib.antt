@@ -6,3 +6,4 @@ pub mod HistoryLemmas
 pub mod ReadyLemmas
 pub mod FitLemmas
 pub mod ReportLemmas
+pub mod RepeatLemmas

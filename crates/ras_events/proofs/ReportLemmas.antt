@@ -1,5 +1,5 @@
 -- What lines tell and report, a line at a time.
-use Rattle.std.proofs.Common.{◌≡◌, ℕ, List, [], ◌∷◌, ◌++◌, Option, None, Some, Result, Ok, Err, ap, refl, ◌∙◌, append-nil}
+use Rattle.std.proofs.Common.{◌≡◌, ℕ, List, [], ◌∷◌, ◌++◌, Some, Result, Ok, Err, ap, refl, ◌∙◌, append-nil}
 use Rattle.std.proofs.lemmas.List.Elements.{filter_map-append}
 use Rattle.std.proofs.lemmas.List.Concat.{flat_map-append}
 use Rattle.std.specs.List.{filter_map, flat_map}
@@ -7,13 +7,12 @@ use Rattle.ras_base.specs.Places.{places, places_behind}
 use Rattle.ras_base.specs.PlacesLemmas.{places_behind-append}
 use Rattle.apei_sources.specs.Hest.{Sources, hest_of}
 use Rattle.apei_sources.specs.declared.refusals.TableRefused.{TableRefused}
-use Rattle.dimm_topology.specs.declared.row.Row.{Row}
 use Rattle.ras_script.specs.declared.line.Line.{Line}
 use Rattle.ras_script.specs.declared.line.Line.TheVariants as asks
 use Rattle.ras_script.specs.declared.line.Table.TheVariants.{Hest, Erst}
 use Rattle.ras_events.specs.declared.settings.Settings.{Settings}
 use Rattle.ras_events.specs.Events.{settings_after, with_sources}
-use Rattle.ras_events.specs.Reports.{NumberedLine, Place, entries_at, last_of, reports, row_by, rows_told, settings_told, sources_by, sources_in_table}
+use Rattle.ras_events.specs.Reports.{NumberedLine, entries_at, last_of, reports, row_by, rows_told, settings_told, sources_by, sources_in_table}
 
 -- the last of a list with one more
 last-snoc : {X : Type 0} (xs : List X) (x : X) → last_of (xs ++ x ∷ []) ≡ Some x

@@ -8,7 +8,6 @@ use Rattle.apei_sources.specs.Blocks.{block_of}
 use Rattle.apei_sources.specs.Hest.{Sources, hest_of, type_with_id}
 use Rattle.dimm_topology.specs.declared.row.Row.{Row}
 use Rattle.dimm_topology.specs.Refusals.{row_refusal}
-use Rattle.ras_facts.specs.declared.entry.Entry.{Entry}
 use Rattle.ras_facts.specs.declared.name.Name.{Name}
 use Rattle.ras_facts.specs.declared.name.Name.TheVariants as names
 use Rattle.ras_reports.specs.declared.details.Report.{Report}
@@ -25,7 +24,7 @@ use Rattle.ras_events.specs.declared.event.EventRefused.TheVariants.{Refused, No
 use Rattle.ras_events.specs.declared.reason.Reason.{Reason}
 use Rattle.ras_events.specs.declared.reason.Reason.TheVariants as reason
 use Rattle.ras_events.specs.declared.settings.Settings.{Settings}
-use Rattle.ras_events.specs.Making.{Pieces, made_by_report, made_of_entry, nothing_made}
+use Rattle.ras_events.specs.Making.{made_by_report, made_of_entry, nothing_made}
 
 -- before the first line nothing is told of the machine
 abbrev pub no_settings : Settings

@@ -5,3 +5,4 @@ pub mod Texts
 pub mod Reports
 pub mod Preparing
 pub mod Beside
+pub mod Repeats

@@ -1,19 +1,14 @@
 -- What the lines of a script report, each under what the lines before it tell of the machine.
-use Rattle.std.specs.Prelude.{ℕ, Bool, List, [], ◌∷◌, map, Option, None, Some, Result, Ok, Err, if◌then◌else◌, slice_get}
-use Rattle.std.specs.List.{enumerate_from, filter_map, flat_map, list_any}
-use Rattle.std.specs.Option.{option_map_or}
-use Rattle.std.specs.Prelude.{codes, false}
-use Rattle.std.specs.Str.{bytes_eq}
+use Rattle.std.specs.Prelude.{ℕ, List, [], ◌∷◌, map, Option, None, Some, Result, Ok, Err}
+use Rattle.std.specs.List.{enumerate_from, filter_map, flat_map}
 use Rattle.ras_base.specs.Places.{places}
 use Rattle.apei_sources.specs.Hest.{Sources, hest_of}
 use Rattle.dimm_topology.specs.declared.row.Row.{Row}
 use Rattle.ras_facts.specs.declared.entry.Entry.{Entry}
 use Rattle.ras_script.specs.Line.{line_of}
-use Rattle.ras_script.specs.Splitting.{words_of}
 use Rattle.ras_script.specs.declared.line.Line.{Line}
 use Rattle.ras_script.specs.declared.line.Line.TheVariants as asks
 use Rattle.ras_script.specs.declared.line.LineRefused.{LineRefused}
-use Rattle.ras_script.specs.declared.line.LineRefused.TheVariants.{Kind}
 use Rattle.ras_script.specs.declared.line.Table.TheVariants.{Hest}
 use Rattle.ras_events.specs.declared.event.Event.{Event}
 use Rattle.ras_events.specs.declared.event.Event.TheVariants.{Counted}

@@ -8,6 +8,7 @@ mod laws;
 mod made;
 mod preparing;
 mod reason;
+mod repeat;
 mod settings;
 
 pub use event::{Event, EventRefused};

@@ -10,3 +10,4 @@ pub mod LineLemmas
 pub mod LaterKindLemmas
 pub mod TakingCallsLemmas
 pub mod LineCallsLemmas
+pub mod RepeatLemmas

@@ -1,22 +1,18 @@
 -- Which disk calls a part of a run makes.
-use Rattle.std.proofs.Common.{◌≡◌, ◌∙◌, ◌⊎◌, ℕ, ◌≤◌, Bool, true, false, List, [], ◌∷◌, ◌++◌, length, Option, None, Some, IfSome, Result, Ok, Err, OnOk, OnErr, IsTrue, inl, inr, refl, sym, ap, subst, arith}
+use Rattle.std.proofs.Common.{◌≡◌, ◌∙◌, ℕ, ◌≤◌, false, List, [], ◌∷◌, ◌++◌, length, Option, None, Some, IfSome, Result, Ok, Err, OnOk, OnErr, IsTrue, inl, inr, refl, sym, ap, subst, arith}
 use Rattle.std.proofs.lemmas.List.{append-nil}
-use Rattle.ras_base.specs.Prefix.{IsPrefixOf}
 use Rattle.board_core.specs.Clock.{Clock}
-use Rattle.board_core.specs.declared.board.FileNo.TheVariants.{Zero, One}
 use Rattle.board_core.specs.declared.board.DiskCall.{DiskCall}
-use Rattle.board_core.specs.declared.board.DiskCall.TheVariants.{Sync}
 use Rattle.board_core.specs.Stop.{Left}
 use Rattle.board_core.specs.Told.{FailsPrint, Relates, Steps, Told, after_print}
 use Rattle.ras_account.specs.Account.{State, account_of}
-use Rattle.ras_account.specs.History.{History, empty}
+use Rattle.ras_account.specs.History.{History}
 use Rattle.ras_account.specs.Numbers.{HasRoomFor, fresh_entries_in}
 use Rattle.ras_facts.specs.declared.entry.Entry.{Entry}
 use Rattle.journal_format.specs.Links.{link_bytes}
 use Rattle.ras_journal.specs.declared.standing.Standing.{Standing}
 use Rattle.ras_journal.specs.Recovered.{position_of}
-use Rattle.ras_recover.specs.DiskCalls.{IsBeginning, IsReading, Makes}
-use Rattle.ras_recover.specs.Opening.{HoldsNone}
+use Rattle.ras_recover.specs.DiskCalls.{IsBeginning, Makes}
 use Rattle.ras_recover.specs.OpeningCalls.{AfterOpening, IsOpening, IsRecovery}
 use Rattle.ras_recover.proofs.CallsLemmas.{makes_weaker, relates_if, relates_same, relates_steps, relates_then, relates_weaker}
 use Rattle.ras_ledger.specs.declared.ledger.Ledger.{Ledger}

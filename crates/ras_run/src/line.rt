@@ -1,6 +1,6 @@
 //! A line of a script, taken whole.
 
-ghost use Rattle.std.specs.Prelude.{◌≡◌, ◌≤◌, ℕ, List, false, length, Err, IfErr, OnOk, Some};
+ghost use Rattle.std.specs.Prelude.{◌≡◌, ◌≤◌, ◌++◌, ℕ, List, false, length, Err, IfErr, OnOk, Some};
 ghost use Rattle.board_core.specs.Clock.{Adds, Rests};
 ghost use Rattle.board_core.specs.Stop.{Begins, InOut};
 ghost use Rattle.board_core.specs.Told.{Relates, Steps, Told, after_print};
@@ -20,7 +20,7 @@ ghost use Rattle.ras_texts.specs.Text.{done_line};
 use crate::counting::take_made;
 use crate::later_kinds::read_taken_line;
 use crate::opening::open;
-use crate::printing::{print, print_event};
+use crate::printing::print_event;
 use crate::{Exit, Run};
 use board_core::Board;
 use ras_events::{Event, EventRefused, Reason};
@@ -82,6 +82,9 @@ pub fn take_line<B: Board>(
         Ok(line) => line,
         Err(refused) => return Err(unread_exit(number, refused)),
     };
+    if let Some(text) = run.settings.repeat_of(alloc, &line, &run.ledger.account)? {
+        return end_event(alloc, number, &text, board);
+    }
     let event = match run.settings.take(alloc, line) {
         Ok(event) => event,
         Err(EventRefused::Refused(reason)) => return Err(bad_line(number, reason)),
@@ -89,7 +92,7 @@ pub fn take_line<B: Board>(
     };
     match event {
         Event::Nothing => Ok(()),
-        Event::Settled => settle(alloc, number, board),
+        Event::Settled => end_event(alloc, number, &[], board),
         Event::Counted(made) => take_made(alloc, number, made, &mut run.ledger, board),
         Event::Reopened => reopen(alloc, number, &mut run.ledger, board),
     }
@@ -119,15 +122,17 @@ fn bad_line(number: u64, reason: Reason) -> Exit
     }
 }
 
-// Ends the event of the line of this number, which told of the machine alone.
-fn settle<B: Board>(alloc: Global, number: u64, board: &mut B) -> Result<(), Exit>
-    ensures told { OnOk result (Steps (after_print (done_line number))
+// Ends the event of the line of this number, which keeps nothing: with its text, which is empty
+// where the line told of the machine alone, and its done line.
+fn end_event<B: Board>(alloc: Global, number: u64, text: &[u8], board: &mut B) -> Result<(), Exit>
+    ensures told { OnOk result (Steps (after_print (text.now ++ done_line number))
         (B.told board.old) (B.told board.new)) }
     ensures stops { (t : Told) → Rests t (B.told board.old) (B.clock board.old)
-        → Adds (InOut (Begins (done_line number)) t.here)
+        → Adds (InOut (Begins (text.now ++ done_line number)) t.here)
         (B.clock board.old) (B.clock board.new) }
     ensures rests { OnOk result ((t : Told) → Rests t (B.told board.old) (B.clock board.old)
-        → Rests (after_print (done_line number) t) (B.told board.new) (B.clock board.new)) }
+        → Rests (after_print (text.now ++ done_line number) t)
+        (B.told board.new) (B.clock board.new)) }
     ensures same { result ≡ Err Exit.NoMemory → board.new ≡ board.old }
     ensures exit { IfErr result IsPrintExit }
     ensures calls { Relates KeepsCalls (B.told board.old) (B.told board.new) }
@@ -136,7 +141,7 @@ fn settle<B: Board>(alloc: Global, number: u64, board: &mut B) -> Result<(), Exi
         (B.clock board.old) (B.clock board.new) }
 {
     match done_line(alloc, number) {
-        Ok(done) => print(&done, board),
+        Ok(done) => print_event(text, &done, board),
         Err(_) => Err(Exit::NoMemory),
     }
 }

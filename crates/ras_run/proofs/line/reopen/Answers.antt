@@ -4,7 +4,7 @@ use Rattle.ras_run.proofs.DeviceLemmas.{device_goes_on}
 use Rattle.ras_run.proofs.FaultLemmas.{causes_after}
 use Rattle.ras_run.proofs.OpenLemmas.{account_same, adds_opening, adds_reopening, reopen_printed, reopen_refused, standing_same}
 use Rattle.ras_run.proofs.StandsLemmas.{any_refusal, no_refusal, on_any, on_both, print_stop, stands_printed}
-use Rattle.ras_run.proofs.TakingCallsLemmas.{recovered_still, recovered_whole, recovery_all, recovery_begun, recovery_made}
+use Rattle.ras_run.proofs.TakingCallsLemmas.{recovered_still, recovered_whole, recovery_begun, recovery_made}
 use Rattle.ras_run.proofs.line.reopen.Goals as goal
 
 pub returns-in_err-ledger-clause-takes : goal.returns-in_err-ledger-clause-takes
