@@ -1,5 +1,6 @@
 //! Each journal is played on a board in memory, by functions that state nothing.
 
+mod appends;
 mod bytes;
 mod chains;
 mod checkpoints;

@@ -15,6 +15,3 @@ pub use laws::{file_laws, journal_laws};
 pub use limits::{CLOSED_GATE, LAST_GENERATION, LONGEST_FILE, MOST_LINKS, OPEN_GATE};
 pub use refused::AppendRefused;
 pub use standing::Standing;
-
-#[cfg(test)]
-mod tests;

@@ -2,7 +2,8 @@
 use super::bytes::*;
 use super::opening::{AT_FIRST, NO_ENTRY};
 use super::steps::{
-    Answer, Counted, Opened, Reading, append, board_with, is_due, joined, keep, open_files, read_on,
+    Answer, Counted, Opened, Reading, append, board_with, has_file, is_due, is_same, joined, keep,
+    open_files, read_on, stands_at,
 };
 use board_core::FileNo;
 use ras_journal::Standing;
@@ -14,13 +15,25 @@ use std::test::Fail;
 fn retirements(alloc: Global, first: u32, last: u32) -> Result<Vec<u8>, Fail> {
     let count = last.saturating_sub(first).saturating_add(1);
     let mut bytes = Vec::new(alloc);
-    bytes.extend_from_slice(&count.saturating_mul(9).saturating_add(4).to_le_bytes())?;
-    bytes.extend_from_slice(&count.to_le_bytes())?;
+    push_number(&mut bytes, count.saturating_mul(9).saturating_add(4))?;
+    push_number(&mut bytes, count)?;
     for boot in first..=last {
-        bytes.push(3)?;
-        bytes.extend_from_slice(&u64::from(boot).to_le_bytes())?;
+        push_retirement(&mut bytes, boot)?;
     }
     Ok(bytes)
+}
+
+// A number of 4 bytes.
+fn push_number(bytes: &mut Vec<u8>, number: u32) -> Result<(), Fail> {
+    bytes.extend_from_slice(&number.to_le_bytes())?;
+    Ok(())
+}
+
+// The retirement of the boots below this number.
+fn push_retirement(bytes: &mut Vec<u8>, boot: u32) -> Result<(), Fail> {
+    bytes.push(3)?;
+    bytes.extend_from_slice(&u64::from(boot).to_le_bytes())?;
+    Ok(())
 }
 
 // What counts once the boots below this number were retired one after the other.
@@ -56,13 +69,11 @@ fn link_has_1_to_2000_entries(rt: HostRuntime) -> Result<(), Fail> {
             ..AT_FIRST
         };
         let read = reading_with(rt.alloc(), count)?;
-        assert!(rt;
-            read == Reading::Journal(retired(count), standing),
-            "{count}"
-        );
+        let wanted = Reading::Journal(retired(count), standing);
+        assert!(rt; is_same(read, wanted), "{count}");
     }
     for count in [0, 2001] {
-        assert!(rt; reading_with(rt.alloc(), count)? == bad, "{count}");
+        assert!(rt; is_same(reading_with(rt.alloc(), count)?, bad), "{count}");
     }
     Ok(())
 }
@@ -73,19 +84,19 @@ fn link_of_2000_entries_is_appended(rt: HostRuntime) -> Result<(), Fail> {
     let mut opened = open_files(alloc, &[], &[])?;
     let answer = append(alloc, &mut opened, &retirements(alloc, 1, 2000)?)?;
     assert!(rt; answer == Answer::Done);
-    assert!(rt; opened.board.file(FileNo::Zero) == file_with(alloc, 2000)?.as_slice());
+    assert!(rt; has_file(&opened.board, FileNo::Zero, &file_with(alloc, 2000)?));
     let standing = Standing {
         length: 18_106,
         links: 1,
         ..AT_FIRST
     };
-    assert!(rt; read_on(alloc, &mut opened.board) == Reading::Journal(retired(2000), standing));
+    let wanted = Reading::Journal(retired(2000), standing);
+    assert!(rt; is_same(read_on(alloc, &mut opened.board), wanted));
     Ok(())
 }
 
-// Where a journal stands that kept so many links of one retirement each, one after the other, and
-// what is read of its files.
-fn chain(alloc: Global, count: u32) -> Result<(Standing, Reading), Fail> {
+// A journal that kept so many links of one retirement each, one after the other.
+fn chain(alloc: Global, count: u32) -> Result<Opened, Fail> {
     let mut opened = open_files(alloc, &[], &[])?;
     for boot in 1..=count {
         let link = retirements(alloc, boot, boot)?;
@@ -93,8 +104,7 @@ fn chain(alloc: Global, count: u32) -> Result<(Standing, Reading), Fail> {
             return Err("a link is kept".into());
         }
     }
-    let Opened { journal, mut board } = opened;
-    Ok((journal.standing(), read_on(alloc, &mut board)))
+    Ok(opened)
 }
 
 // The file, its generation, its links and the place of its closed gate, after so many links.
@@ -108,8 +118,9 @@ const CHAINS: [(u32, FileNo, u64, u64, u64); 6] = [
 ];
 
 fn stands_so(alloc: Global, count: u32, wanted: Standing) -> Result<bool, Fail> {
-    let (standing, read) = chain(alloc, count)?;
-    Ok(standing == wanted && read == Reading::Journal(retired(count), wanted))
+    let Opened { journal, mut board } = chain(alloc, count)?;
+    let read = read_on(alloc, &mut board);
+    Ok(stands_at(&journal, wanted) && is_same(read, Reading::Journal(retired(count), wanted)))
 }
 
 #[test]
@@ -155,10 +166,8 @@ fn longer_chain_is_read(rt: HostRuntime) -> Result<(), Fail> {
             "{count} links"
         );
         let read = read_on(alloc, &mut opened.board);
-        assert!(rt;
-            read == Reading::Journal(retired(count), standing),
-            "{count} links"
-        );
+        let wanted = Reading::Journal(retired(count), standing);
+        assert!(rt; is_same(read, wanted), "{count} links");
     }
     Ok(())
 }

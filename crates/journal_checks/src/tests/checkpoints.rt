@@ -1,6 +1,6 @@
 //! Checkpoints in a file: those that are none are damaged at 25.
 use super::bytes::*;
-use super::steps::{Pieces, Reading, board_with, joined, read_on};
+use super::steps::{Pieces, Reading, board_with, is_same, joined, read_on};
 use ras_recover::OpenRefused;
 use std::alloc::Global;
 use std::test::Fail;
@@ -71,10 +71,8 @@ fn is_good(alloc: Global, behind_limits: Pieces) -> Result<bool, Fail> {
 }
 
 fn is_bad(alloc: Global, behind_limits: Pieces) -> Result<bool, Fail> {
-    Ok(
-        reading_of(alloc, behind_limits)?
-            == Reading::Refused(OpenRefused::Damaged { file: 0, place: 25 }),
-    )
+    let bad = Reading::Refused(OpenRefused::Damaged { file: 0, place: 25 });
+    Ok(is_same(reading_of(alloc, behind_limits)?, bad))
 }
 
 #[test]

@@ -1,7 +1,7 @@
 //! Files that are cut, and files with a wrong field: each is damaged at the first byte of the first
 //! field that fails.
 use super::bytes::*;
-use super::steps::{Pieces, Reading, board_with, joined, read_on};
+use super::steps::{Pieces, Reading, board_with, is_same, joined, read_on};
 use board_core::FileNo;
 use ras_recover::OpenRefused;
 use std::alloc::Global;
@@ -78,15 +78,26 @@ fn damaged(file: FileNo, place: u64) -> Reading {
     Reading::Refused(OpenRefused::Damaged { file, place })
 }
 
+// Whether a file that is cut at an end is damaged at a place.
+fn is_told(
+    alloc: Global,
+    file: FileNo,
+    whole: &[u8],
+    end: usize,
+    place: u64,
+) -> Result<bool, Fail> {
+    match whole.get(..end) {
+        Some(bytes) => Ok(is_same(reading_of(alloc, file, bytes)?, damaged(file, place))),
+        None => Ok(false),
+    }
+}
+
 // How many cuts of a file, as file 0 or as file 1, are told as they are to be.
 fn told_cuts(alloc: Global, file: FileNo, whole: &[u8], cuts: &[Cut]) -> Result<usize, Fail> {
     let mut told = 0usize;
     for (first, last, place) in cuts {
         for end in *first..=*last {
-            let Some(bytes) = whole.get(..end) else {
-                return Ok(told);
-            };
-            if reading_of(alloc, file, bytes)? != damaged(file, *place) {
+            if !is_told(alloc, file, whole, end, *place)? {
                 return Ok(told);
             }
             told = told.saturating_add(1);
@@ -200,7 +211,7 @@ fn are_damaged(alloc: Global, front: Pieces, rest: Pieces, place: u64) -> Result
     let mut bytes = joined(alloc, front)?;
     bytes.extend_from_slice(&joined(alloc, rest)?)?;
     for file in [FileNo::Zero, FileNo::One] {
-        if reading_of(alloc, file, &bytes)? != damaged(file, place) {
+        if !is_same(reading_of(alloc, file, &bytes)?, damaged(file, place)) {
             return Ok(false);
         }
     }

@@ -1,8 +1,11 @@
 //! Opening a journal where no file stands, and where files do.
 use super::bytes::*;
-use super::steps::{Counted, Opened, Pieces, Reading, checkpoint, joined, open_files, read};
+use super::steps::{
+    Counted, Opened, Pieces, Reading, checkpoint, ends_with, has_file, is_same, joined, open_files,
+    read, stands_at,
+};
 use board_core::DiskCall::{self, Sync, WriteAt};
-use board_core::FileNo;
+use board_core::{FileNo, MemBoard};
 use entry_format::Version;
 use ras_journal::Standing;
 use std::alloc::Global;
@@ -58,21 +61,30 @@ fn is_formatted(
     shut: bool,
 ) -> Result<bool, Fail> {
     let Opened { journal, board } = open_files(alloc, zero, one)?;
-    let before = joined(alloc, zero)?;
-    let mut wanted = joined(alloc, EMPTY)?;
-    if let Some(tail) = before.get(98..) {
-        wanted.extend_from_slice(tail)?;
-    }
-    let Some(formatting) = FORMATTING.get(6 - calls.min(6)..) else {
-        return Ok(false);
-    };
+    let formatted = formatted(alloc, zero)?;
+    let one = joined(alloc, one)?;
     Ok(
-        journal.standing() == Standing { shut, ..AT_FIRST }
-            && board.file(FileNo::Zero) == wanted.as_slice()
-            && board.file(FileNo::One) == joined(alloc, one)?.as_slice()
-            && board.disk_calls().ends_with(formatting)
-            && writes_in(board.disk_calls()) == calls / 2,
+        stands_at(&journal, Standing { shut, ..AT_FIRST })
+            && has_file(&board, FileNo::Zero, &formatted)
+            && has_file(&board, FileNo::One, &one)
+            && ends_with(&board, FORMATTING.get(6 - calls.min(6)..).unwrap_or(&[]))
+            && writes_on(&board) == calls / 2,
     )
+}
+
+// The empty generation 1 over a file.
+fn formatted(alloc: Global, file: Pieces) -> Result<Vec<u8>, Fail> {
+    let before = joined(alloc, file)?;
+    let mut bytes = joined(alloc, EMPTY)?;
+    if let Some(tail) = before.get(98..) {
+        bytes.extend_from_slice(tail)?;
+    }
+    Ok(bytes)
+}
+
+// How many writes a board has taken.
+fn writes_on(board: &MemBoard) -> usize {
+    writes_in(board.disk_calls())
 }
 
 // How many of these calls are writes.
@@ -90,9 +102,9 @@ fn empty_journal_is_formatted(rt: HostRuntime) -> Result<(), Fail> {
         \0\0\0\0\0\0\0\0\0\0\0\0\0\0\0\0\0\0\0\0\0\0\0\0\0\0\0\0\0\0\0\0\0\0\0\0\0\0\0\0\0";
     let Opened { board, .. } = open_files(rt.alloc(), &[], &[])?;
     assert!(rt; bytes.len() == 98);
-    assert!(rt; board.file(FileNo::Zero) == bytes);
-    assert!(rt; board.file(FileNo::One).is_empty());
-    assert!(rt; board.disk_calls().ends_with(&FORMATTING));
+    assert!(rt; has_file(&board, FileNo::Zero, bytes));
+    assert!(rt; has_file(&board, FileNo::One, &[]));
+    assert!(rt; ends_with(&board, &FORMATTING));
     Ok(())
 }
 
@@ -220,7 +232,8 @@ fn is_read(
     counted: Counted,
     standing: Standing,
 ) -> Result<bool, Fail> {
-    Ok(read(alloc, zero, one)? == Reading::Journal(counted, standing))
+    let read = read(alloc, zero, one)?;
+    Ok(is_same(read, Reading::Journal(counted, standing)))
 }
 
 #[test]

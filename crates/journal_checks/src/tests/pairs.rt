@@ -1,7 +1,10 @@
 //! Two files that stand: the greater generation counts, and damage in either is told.
 use super::bytes::*;
 use super::opening::{AT_FIRST, NO_ENTRY, ONE_NAME, ONE_RETIREMENT};
-use super::steps::{Answer, Counted, Pieces, Reading, Step, joined, open_files, read, take_step};
+use super::steps::{
+    Answer, Counted, Pieces, Reading, Step, calls_on, has_file, is_same, joined, open_files, read,
+    take_step,
+};
 use board_core::FileNo;
 use entry_format::Version;
 use ras_journal::Standing;
@@ -95,7 +98,8 @@ fn is_read(
     counted: Counted,
     standing: Standing,
 ) -> Result<bool, Fail> {
-    Ok(read(alloc, zero, one)? == Reading::Journal(counted, standing))
+    let read = read(alloc, zero, one)?;
+    Ok(is_same(read, Reading::Journal(counted, standing)))
 }
 
 #[test]
@@ -139,7 +143,8 @@ fn is_damaged(
     place: u64,
 ) -> Result<bool, Fail> {
     let wanted = Reading::Refused(OpenRefused::Damaged { file, place });
-    Ok(read(alloc, zero, one)? == wanted)
+    let read = read(alloc, zero, one)?;
+    Ok(is_same(read, wanted))
 }
 
 #[test]
@@ -156,9 +161,9 @@ fn damage_in_either_file_is_told(rt: HostRuntime) -> Result<(), Fail> {
 // What a switch and an append answer on these files, and how many calls the switch makes.
 fn answers(alloc: Global, zero: Pieces, one: Pieces) -> Result<(Answer, usize, Answer), Fail> {
     let mut opened = open_files(alloc, zero, one)?;
-    let before = opened.board.disk_calls().len();
+    let before = calls_on(&opened.board);
     let switched = take_step(alloc, &mut opened, Step::Switch)?;
-    let calls = opened.board.disk_calls().len().saturating_sub(before);
+    let calls = calls_on(&opened.board).saturating_sub(before);
     let appended = take_step(alloc, &mut opened, Step::Append(RETIRE_LINK))?;
     Ok((switched, calls, appended))
 }
@@ -225,8 +230,8 @@ fn is_switched(alloc: Global, zero: Pieces, one: Pieces, wanted: Pieces) -> Resu
     let (zero, wanted) = (joined(alloc, zero)?, joined(alloc, wanted)?);
     Ok(
         answer == Answer::Done
-            && opened.board.file(FileNo::Zero) == zero.as_slice()
-            && opened.board.file(FileNo::One) == wanted.as_slice(),
+            && has_file(&opened.board, FileNo::Zero, &zero)
+            && has_file(&opened.board, FileNo::One, &wanted),
     )
 }
 

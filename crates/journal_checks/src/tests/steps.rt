@@ -5,7 +5,7 @@ ghost use Rattle.std.specs.Prelude.{◌≡◌};
 ghost use Rattle.ras_journal.specs.Recovered.{is_shut, other};
 
 use super::bytes::RETIRE_LINK;
-use board_core::{FileNo, MemBoard, Pick};
+use board_core::{DiskCall, FileNo, MemBoard, Pick};
 use entry_format::Version;
 use erst_store::Store;
 use journal_format::{Link, MOST_PAYLOAD, encode_checkpoint, encode_link, read_link};
@@ -98,6 +98,31 @@ pub fn read_on(alloc: Global, board: &mut MemBoard) -> Reading {
         None => Reading::Nothing(counts_of(&account)),
         Some(standing) => Reading::Journal(counts_of(&account), standing),
     }
+}
+
+/// Whether that was read.
+pub fn is_same(read: Reading, wanted: Reading) -> bool {
+    read == wanted
+}
+
+/// Whether a journal stands there.
+pub fn stands_at(journal: &Journal, standing: Standing) -> bool {
+    journal.standing() == standing
+}
+
+/// Whether a file of a board has these bytes.
+pub fn has_file(board: &MemBoard, file: FileNo, bytes: &[u8]) -> bool {
+    board.file(file) == bytes
+}
+
+/// How many disk calls a board has taken.
+pub fn calls_on(board: &MemBoard) -> usize {
+    board.disk_calls().len()
+}
+
+/// Whether the last disk calls of a board are these.
+pub fn ends_with(board: &MemBoard, calls: &[DiskCall]) -> bool {
+    board.disk_calls().ends_with(calls)
 }
 
 /// What is read of files that are made of pieces.

@@ -1,8 +1,8 @@
 //! A journal that is stopped after each of its calls, reopened, and gone on with.
 use super::bytes::*;
 use super::steps::{
-    Answer, Opened, Pieces, Reading, Step, board_of, joined, keep, left, open_on, read_on,
-    take_step,
+    Answer, Opened, Pieces, Reading, Step, board_of, calls_on, ends_with, has_file, joined, keep,
+    left, open_on, read_on, take_step,
 };
 use board_core::DiskCall::{self, Sync, WriteAt};
 use board_core::{FileNo, MemBoard, Pick};
@@ -78,7 +78,7 @@ fn goes_on(alloc: Global, mut board: MemBoard, entries: u64) -> Result<bool, Fai
 
 // The number of calls after which a scene was stopped, where what was left wasn't what it is to be.
 fn first_wrong(alloc: Global, scene: Scene) -> Result<Option<u64>, Fail> {
-    let all = play(alloc, scene, u64::MAX)?.disk_calls().len() as u64;
+    let all = calls_on(&play(alloc, scene, u64::MAX)?) as u64;
     for calls in 0..=all {
         for pick in [Pick::Old, Pick::New, Pick::Fill(0xa5)] {
             let board = left(alloc, play(alloc, scene, calls)?, pick)?;
@@ -236,8 +236,8 @@ fn version_1_is_taken_over(rt: HostRuntime) -> Result<(), Fail> {
     let alloc = rt.alloc();
     let board = taken_over(alloc)?;
     let (zero, one) = (joined(alloc, OLD_WITH_LINK)?, joined(alloc, TAKEN_OVER)?);
-    assert!(rt; board.file(FileNo::Zero) == zero.as_slice());
-    assert!(rt; board.file(FileNo::One) == one.as_slice());
-    assert!(rt; board.disk_calls().ends_with(&MIGRATION));
+    assert!(rt; has_file(&board, FileNo::Zero, &zero));
+    assert!(rt; has_file(&board, FileNo::One, &one));
+    assert!(rt; ends_with(&board, &MIGRATION));
     Ok(())
 }
