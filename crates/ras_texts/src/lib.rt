@@ -16,6 +16,3 @@ pub use log::{push_fresh, repeat_line};
 pub use order::{ORDER_LENGTH, push_orders, standing_lines};
 pub use pieces::push_number;
 pub use report::{push_detail, push_entry};
-
-#[cfg(test)]
-mod tests;

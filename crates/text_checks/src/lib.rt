@@ -1,0 +1,5 @@
+//! Lines that were written down by hand: what is printed of details and of reports.
+#![tactic(auto)]
+
+#[cfg(test)]
+mod tests;
