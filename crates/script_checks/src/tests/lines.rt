@@ -119,65 +119,72 @@ fn expect_line(rt: &impl Abort, alloc: Global, bytes: &[u8], want: Said<'_>) {
     }
 }
 
+// Each line says what stands beside it.
+fn expect_said(rt: &impl Abort, alloc: Global, cases: &[(&[u8], Said<'_>)]) {
+    for (bytes, want) in cases {
+        expect_line(rt, alloc, bytes, *want);
+    }
+}
+
+// Lines, and what each says.
+const SAID: [(&[u8], Said<'static>); 19] = [
+    (b"", (b"", [0; 4], [b"", b""])),
+    (b"   ", (b"", [0; 4], [b"", b""])),
+    (b" #bank 1", (b"", [0; 4], [b"", b""])),
+    (
+        b"bank 1 100 65535 255 1000 1000c14 4 8c00004000010090 12345040 86",
+        (b"bank", [1, 0, 0, 0], [b"", b""]),
+    ),
+    (b"cpu 65535 255", (b"cpu", [65_535, 255, 0, 0], [b"", b""])),
+    (
+        b" module  DIMM_A1 0 7 14 ",
+        (b"module", [0, 7, 14, 0], [b"DIMM_A1", b""]),
+    ),
+    (
+        b"range B 12340000 1234FFFF",
+        (b"range", [0x1234_0000, 0x1234_ffff, 0, 0], [b"B", b""]),
+    ),
+    (
+        b"place DIMM_B3 1 0 65535",
+        (b"place", [1, 0, 65_535, 0], [b"DIMM_B3", b""]),
+    ),
+    (
+        b"limit 1000000 10000000",
+        (b"limit", [1_000_000, 10_000_000, 0, 0], [b"", b""]),
+    ),
+    (
+        b"module-limit 2 60",
+        (b"module-limit", [2, 60, 0, 0], [b"", b""]),
+    ),
+    (b"hest 0aFf", (b"hest", [0; 4], [b"\x0a\xff", b""])),
+    (b"erst 00", (b"erst", [0; 4], [b"\x00", b""])),
+    (
+        b"bert 1 50 0102 03",
+        (b"bert", [1, 50, 0, 0], [b"\x01\x02", b"\x03"]),
+    ),
+    (
+        b"ghes 1 60 65535 9 41",
+        (b"ghes", [1, 60, 65_535, 9], [b"A", b""]),
+    ),
+    (
+        b"put ffffffffffffffff 4142",
+        (b"put", [u64::MAX, 0, 0, 0], [b"AB", b""]),
+    ),
+    (b"poll 300", (b"poll", [300, 0, 0, 0], [b"", b""])),
+    (
+        b"retire 18446744073709551615",
+        (b"retire", [u64::MAX, 0, 0, 0], [b"", b""]),
+    ),
+    (
+        b"panic 9 1 100 65535 255 1000 1000c14 4 8c00004000010090 12345040 86",
+        (b"panic", [9, 1, 0, 0], [b"", b""]),
+    ),
+    (b" restart  ", (b"restart", [0; 4], [b"", b""])),
+];
+
 #[test]
 fn reads_lines(rt: HostRuntime) {
-    let cases: [(&[u8], Said<'_>); 19] = [
-        (b"", (b"", [0; 4], [b"", b""])),
-        (b"   ", (b"", [0; 4], [b"", b""])),
-        (b" #bank 1", (b"", [0; 4], [b"", b""])),
-        (
-            b"bank 1 100 65535 255 1000 1000c14 4 8c00004000010090 12345040 86",
-            (b"bank", [1, 0, 0, 0], [b"", b""]),
-        ),
-        (b"cpu 65535 255", (b"cpu", [65_535, 255, 0, 0], [b"", b""])),
-        (
-            b" module  DIMM_A1 0 7 14 ",
-            (b"module", [0, 7, 14, 0], [b"DIMM_A1", b""]),
-        ),
-        (
-            b"range B 12340000 1234FFFF",
-            (b"range", [0x1234_0000, 0x1234_ffff, 0, 0], [b"B", b""]),
-        ),
-        (
-            b"place DIMM_B3 1 0 65535",
-            (b"place", [1, 0, 65_535, 0], [b"DIMM_B3", b""]),
-        ),
-        (
-            b"limit 1000000 10000000",
-            (b"limit", [1_000_000, 10_000_000, 0, 0], [b"", b""]),
-        ),
-        (
-            b"module-limit 2 60",
-            (b"module-limit", [2, 60, 0, 0], [b"", b""]),
-        ),
-        (b"hest 0aFf", (b"hest", [0; 4], [b"\x0a\xff", b""])),
-        (b"erst 00", (b"erst", [0; 4], [b"\x00", b""])),
-        (
-            b"bert 1 50 0102 03",
-            (b"bert", [1, 50, 0, 0], [b"\x01\x02", b"\x03"]),
-        ),
-        (
-            b"ghes 1 60 65535 9 41",
-            (b"ghes", [1, 60, 65_535, 9], [b"A", b""]),
-        ),
-        (
-            b"put ffffffffffffffff 4142",
-            (b"put", [u64::MAX, 0, 0, 0], [b"AB", b""]),
-        ),
-        (b"poll 300", (b"poll", [300, 0, 0, 0], [b"", b""])),
-        (
-            b"retire 18446744073709551615",
-            (b"retire", [u64::MAX, 0, 0, 0], [b"", b""]),
-        ),
-        (
-            b"panic 9 1 100 65535 255 1000 1000c14 4 8c00004000010090 12345040 86",
-            (b"panic", [9, 1, 0, 0], [b"", b""]),
-        ),
-        (b" restart  ", (b"restart", [0; 4], [b"", b""])),
-    ];
-    for (bytes, want) in cases {
-        expect_line(&rt, rt.alloc(), bytes, want);
-    }
+    expect_said(&rt, rt.alloc(), &SAID);
 }
 
 // A line is refused for this.
@@ -185,46 +192,53 @@ fn expect_refusal(rt: &impl Abort, alloc: Global, bytes: &[u8], refused: LineRef
     assert_eq!(rt; read_line(alloc, bytes).err(), Some(refused));
 }
 
+// Each line is refused for what stands beside it.
+fn expect_refused(rt: &impl Abort, alloc: Global, cases: &[(&[u8], LineRefused)]) {
+    for (bytes, refused) in cases {
+        expect_refusal(rt, alloc, bytes, *refused);
+    }
+}
+
+// Lines, and why each is refused.
+const REFUSED: [(&[u8], LineRefused); 27] = [
+    (b"frob", LineRefused::Kind),
+    (b"Bank 1", LineRefused::Kind),
+    (
+        b"banks 1 100 0 7 1000 1000c14 0 8c00004000010090 12345040 86",
+        LineRefused::Kind,
+    ),
+    (b"poll\t1", LineRefused::Kind),
+    (b"bank 1", LineRefused::Words),
+    (b"restart 1", LineRefused::Words),
+    (b"cpu x 0", LineRefused::Number),
+    (b"put 1 0g", LineRefused::Hex),
+    (b"module - 0 7 0", LineRefused::Label),
+    (b"cpu 65536 0", LineRefused::Number),
+    (b"cpu 0 256", LineRefused::Number),
+    (b"cpu +1 0", LineRefused::Number),
+    (b"module A 0 7 15", LineRefused::Number),
+    (b"module - 256 7 0", LineRefused::Label),
+    (
+        b"module 123456789012345678901234567890123 0 7 0",
+        LineRefused::Label,
+    ),
+    (b"range A 2 1", LineRefused::Number),
+    (b"range A 0x1 2", LineRefused::Number),
+    (b"range A 00000000000000001 2", LineRefused::Number),
+    (b"place A 65536 0 0", LineRefused::Number),
+    (b"limit 0 60", LineRefused::Number),
+    (b"limit 1000001 60", LineRefused::Number),
+    (b"module-limit 2 10000001", LineRefused::Number),
+    (b"hest 0", LineRefused::Hex),
+    (b"erst 012", LineRefused::Hex),
+    (b"bert 1 50 0 0g", LineRefused::Hex),
+    (b"ghes 1 60 65536 1 0", LineRefused::Number),
+    (b"retire 18446744073709551616", LineRefused::Number),
+];
+
 #[test]
 fn refuses_lines(rt: HostRuntime) {
-    let cases: [(&[u8], LineRefused); 27] = [
-        (b"frob", LineRefused::Kind),
-        (b"Bank 1", LineRefused::Kind),
-        (
-            b"banks 1 100 0 7 1000 1000c14 0 8c00004000010090 12345040 86",
-            LineRefused::Kind,
-        ),
-        (b"poll\t1", LineRefused::Kind),
-        (b"bank 1", LineRefused::Words),
-        (b"restart 1", LineRefused::Words),
-        (b"cpu x 0", LineRefused::Number),
-        (b"put 1 0g", LineRefused::Hex),
-        (b"module - 0 7 0", LineRefused::Label),
-        (b"cpu 65536 0", LineRefused::Number),
-        (b"cpu 0 256", LineRefused::Number),
-        (b"cpu +1 0", LineRefused::Number),
-        (b"module A 0 7 15", LineRefused::Number),
-        (b"module - 256 7 0", LineRefused::Label),
-        (
-            b"module 123456789012345678901234567890123 0 7 0",
-            LineRefused::Label,
-        ),
-        (b"range A 2 1", LineRefused::Number),
-        (b"range A 0x1 2", LineRefused::Number),
-        (b"range A 00000000000000001 2", LineRefused::Number),
-        (b"place A 65536 0 0", LineRefused::Number),
-        (b"limit 0 60", LineRefused::Number),
-        (b"limit 1000001 60", LineRefused::Number),
-        (b"module-limit 2 10000001", LineRefused::Number),
-        (b"hest 0", LineRefused::Hex),
-        (b"erst 012", LineRefused::Hex),
-        (b"bert 1 50 0 0g", LineRefused::Hex),
-        (b"ghes 1 60 65536 1 0", LineRefused::Number),
-        (b"retire 18446744073709551616", LineRefused::Number),
-    ];
-    for (bytes, refused) in cases {
-        expect_refusal(&rt, rt.alloc(), bytes, refused);
-    }
+    expect_refused(&rt, rt.alloc(), &REFUSED);
 }
 
 // A line whose word at this place, from 0, is the one byte `-`, which is neither a number nor bytes
@@ -261,34 +275,36 @@ const LABEL: LineRefused = LineRefused::Label;
 
 const HEX: LineRefused = LineRefused::Hex;
 
+// Lines that are read, and why each is refused at each of its words.
+const REFUSED_AT: [Refusals<'static>; 16] = [
+    (
+        b"bank 1 100 0 7 1000 1000c14 0 8c00004000010090 12345040 86",
+        &[NUMBER; 10],
+    ),
+    (b"cpu 0 0", &[NUMBER, NUMBER]),
+    (b"module A 0 7 0", &[LABEL, NUMBER, NUMBER, NUMBER]),
+    (b"range A 1 2", &[LABEL, NUMBER, NUMBER]),
+    (b"place A 0 0 0", &[LABEL, NUMBER, NUMBER, NUMBER]),
+    (b"limit 2 60", &[NUMBER, NUMBER]),
+    (b"module-limit 2 60", &[NUMBER, NUMBER]),
+    (b"hest 00", &[HEX]),
+    (b"erst 00", &[HEX]),
+    (b"bert 1 50 00 00", &[NUMBER, NUMBER, HEX, HEX]),
+    (b"ghes 1 60 1 1 00", &[NUMBER, NUMBER, NUMBER, NUMBER, HEX]),
+    (b"put 1 00", &[NUMBER, HEX]),
+    (b"poll 1", &[NUMBER]),
+    (b"retire 1", &[NUMBER]),
+    (
+        b"panic 9 1 100 0 7 1000 1000c14 0 8c00004000010090 12345040 86",
+        &[NUMBER; 11],
+    ),
+    (b"restart", &[]),
+];
+
 #[test]
 fn refuses_each_word(rt: HostRuntime) -> Result<(), Fail> {
-    let cases: [Refusals<'_>; 16] = [
-        (
-            b"bank 1 100 0 7 1000 1000c14 0 8c00004000010090 12345040 86",
-            &[NUMBER; 10],
-        ),
-        (b"cpu 0 0", &[NUMBER, NUMBER]),
-        (b"module A 0 7 0", &[LABEL, NUMBER, NUMBER, NUMBER]),
-        (b"range A 1 2", &[LABEL, NUMBER, NUMBER]),
-        (b"place A 0 0 0", &[LABEL, NUMBER, NUMBER, NUMBER]),
-        (b"limit 2 60", &[NUMBER, NUMBER]),
-        (b"module-limit 2 60", &[NUMBER, NUMBER]),
-        (b"hest 00", &[HEX]),
-        (b"erst 00", &[HEX]),
-        (b"bert 1 50 00 00", &[NUMBER, NUMBER, HEX, HEX]),
-        (b"ghes 1 60 1 1 00", &[NUMBER, NUMBER, NUMBER, NUMBER, HEX]),
-        (b"put 1 00", &[NUMBER, HEX]),
-        (b"poll 1", &[NUMBER]),
-        (b"retire 1", &[NUMBER]),
-        (
-            b"panic 9 1 100 0 7 1000 1000c14 0 8c00004000010090 12345040 86",
-            &[NUMBER; 11],
-        ),
-        (b"restart", &[]),
-    ];
-    for case in cases {
-        expect_refusals(&rt, rt.alloc(), case)?;
+    for case in &REFUSED_AT {
+        expect_refusals(&rt, rt.alloc(), *case)?;
     }
     Ok(())
 }
