@@ -1,5 +1,5 @@
 //! Calls of every kind, numbered together: the chosen one fails, and so do all past a stop.
-use super::steps::{PLAIN, Start, Step, play};
+use super::steps::{PLAIN, Seen, Start, Step, play};
 use board_core::{Access, DiskCall, FileNo, Pick, Reg};
 use std::alloc::Global;
 use std::test::Fail;
@@ -51,18 +51,20 @@ fn fails_as_chosen(alloc: Global, chosen: u64) -> Result<bool, Fail> {
         fails: chosen,
         ..PLAIN
     };
+    let wanted = answers(alloc, chosen, chosen)?;
     let seen = play(alloc, start, &STEPS)?;
+    Ok(seen.answers == wanted && fails_at(&seen, chosen))
+}
+
+fn fails_at(seen: &Seen, chosen: u64) -> bool {
     let one: &[u8] = if chosen == 3 { b"abc" } else { b"abcd" };
     let out: &[u8] = if chosen == 10 { b"" } else { b"e" };
-    Ok(
-        seen.answers == answers(alloc, chosen, chosen)?
-            && seen.one.as_slice() == one
-            && seen.out.as_slice() == out
-            && seen.records == if chosen == 9 { 0 } else { 1 }
-            && seen.disk_calls.as_slice() == DISK_CALLS.as_slice()
-            && seen.accesses.as_slice() == ACCESSES.as_slice()
-            && seen.starved == 0,
-    )
+    seen.one() == one
+        && seen.out() == out
+        && seen.records() == if chosen == 9 { 0 } else { 1 }
+        && seen.disk_calls() == DISK_CALLS.as_slice()
+        && seen.accesses() == ACCESSES.as_slice()
+        && seen.starved() == 0
 }
 
 #[test]
@@ -79,11 +81,9 @@ fn stops_as_allowed(alloc: Global, calls: u64) -> Result<bool, Fail> {
         allowed: calls,
         ..PLAIN
     };
+    let wanted = answers(alloc, calls.saturating_add(1), 10)?;
     let seen = play(alloc, start, &STEPS)?;
-    Ok(
-        seen.answers == answers(alloc, calls.saturating_add(1), 10)?
-            && seen.records == if calls < 9 { 0 } else { 1 },
-    )
+    Ok(seen.answers == wanted && seen.records() == if calls < 9 { 0 } else { 1 })
 }
 
 #[test]
@@ -109,7 +109,7 @@ fn failed_read_is_listed_with_0(rt: HostRuntime) -> Result<(), Fail> {
         Access::Read(Reg::Value, 7),
     ];
     assert!(rt; seen.answers.as_slice() == [Some(0), None, Some(7)].as_slice());
-    assert!(rt; seen.accesses.as_slice() == accesses.as_slice());
+    assert!(rt; seen.accesses() == accesses.as_slice());
     Ok(())
 }
 
@@ -119,14 +119,15 @@ fn leaves_the_entry(alloc: Global, calls: u64, pick: Pick) -> Result<bool, Fail>
         allowed: calls,
         ..PLAIN
     };
-    let printed = play(alloc, start, &[Step::Entry])?;
     let left = play(alloc, start, &[Step::Entry, Step::Stop(pick)])?;
-    let has_line = !printed.out.is_empty();
-    Ok(
-        printed.answers.as_slice() == [if calls < 3 { None } else { Some(0) }].as_slice()
-            && has_line == (calls >= 3)
-            && (!has_line || left.zero.as_slice() == b"entry".as_slice()),
-    )
+    Ok(prints_the_line(alloc, start, calls)? && (calls < 3 || left.zero() == b"entry".as_slice()))
+}
+
+// The line is printed where the write and the sync went well.
+fn prints_the_line(alloc: Global, start: Start, calls: u64) -> Result<bool, Fail> {
+    let printed = play(alloc, start, &[Step::Entry])?;
+    let answer = if calls < 3 { None } else { Some(0) };
+    Ok(printed.answers.as_slice() == [answer].as_slice() && printed.out().is_empty() == (calls < 3))
 }
 
 #[test]
@@ -154,6 +155,6 @@ fn failed_sync_settles_nothing(rt: HostRuntime) -> Result<(), Fail> {
     ];
     let seen = play(rt.alloc(), Start { fails: 2, ..PLAIN }, &steps)?;
     assert!(rt; seen.answers.as_slice() == [Some(0), None, Some(0), Some(2)].as_slice());
-    assert!(rt; seen.one.is_empty());
+    assert!(rt; seen.one().is_empty());
     Ok(())
 }

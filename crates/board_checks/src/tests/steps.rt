@@ -52,41 +52,92 @@ pub const PLAIN: Start = Start {
     allowed: u64::MAX,
 };
 
-/// What was answered, and how the board is after the last step.
+/// What was answered, and the board after the last step. Its functions state nothing either.
 #[derive(Drop)]
 pub struct Seen {
     /// Of each step that is no stop: None where it failed, and else the number that it gives. That
     /// is 1 for bytes read as they are to be, and 0 where nothing else is to be told.
     pub answers: Vec<Option<u64>>,
-    pub zero: Vec<u8>,
-    pub one: Vec<u8>,
-    pub out: Vec<u8>,
-    pub records: usize,
+    board: MemBoard,
+}
+
+impl Seen {
+    pub fn zero(&self) -> &[u8] {
+        self.board.file(FileNo::Zero)
+    }
+
+    pub fn one(&self) -> &[u8] {
+        self.board.file(FileNo::One)
+    }
+
+    pub fn out(&self) -> &[u8] {
+        self.board.out()
+    }
+
+    pub fn records(&self) -> usize {
+        self.board.store().len()
+    }
+
     /// The identifier of the first record and its bytes, where there is one.
-    pub first_id: u64,
-    pub first_bytes: Vec<u8>,
-    pub disk_calls: Vec<DiskCall>,
-    pub accesses: Vec<Access>,
-    pub starved: u64,
+    pub fn first(&self) -> Option<(u64, &[u8])> {
+        first_record(self.board.store())
+    }
+
+    pub fn disk_calls(&self) -> &[DiskCall] {
+        self.board.disk_calls()
+    }
+
+    pub fn accesses(&self) -> &[Access] {
+        self.board.accesses()
+    }
+
+    pub fn starved(&self) -> u64 {
+        self.board.starved()
+    }
 }
 
 /// Takes the steps one after the other on a new board.
 pub fn play(alloc: Global, start: Start, steps: &[Step]) -> Result<Seen, Fail> {
-    let mut board = board_at(alloc, start)?;
     let mut answers = Vec::new(alloc);
+    let board = played(alloc, start, steps, &mut answers)?;
+    Ok(Seen { answers, board })
+}
+
+fn played(
+    alloc: Global,
+    start: Start,
+    steps: &[Step],
+    answers: &mut Vec<Option<u64>>,
+) -> Result<MemBoard, Fail> {
+    let mut board = board_at(alloc, start)?;
     for step in steps {
-        board = take_step(alloc, board, *step, &mut answers)?;
+        board = take_step(alloc, board, *step, answers)?;
     }
-    see(alloc, &board, answers)
+    Ok(board)
 }
 
 fn board_at(alloc: Global, start: Start) -> Result<MemBoard, Fail> {
-    let mut board = MemBoard::new(alloc, Store::new(alloc), start.slow)?;
-    board.set_file(FileNo::Zero, start.zero.to_vec(alloc)?);
-    board.set_file(FileNo::One, start.one.to_vec(alloc)?);
-    board.fail_at(start.fails)?;
-    board.stop_after(start.allowed);
+    let mut board = new_board(alloc, start)?;
+    fail_at(&mut board, start.fails)?;
+    stop_after(&mut board, start.allowed);
     Ok(board)
+}
+
+fn new_board(alloc: Global, start: Start) -> Result<MemBoard, Fail> {
+    let zero = start.zero.to_vec(alloc)?;
+    let one = start.one.to_vec(alloc)?;
+    let mut board = MemBoard::new(alloc, Store::new(alloc), start.slow)?;
+    board.set_file(FileNo::Zero, zero);
+    board.set_file(FileNo::One, one);
+    Ok(board)
+}
+
+fn fail_at(board: &mut MemBoard, call: u64) -> Result<(), Fail> {
+    Ok(board.fail_at(call)?)
+}
+
+fn stop_after(board: &mut MemBoard, calls: u64) {
+    board.stop_after(calls);
 }
 
 fn take_step(
@@ -96,41 +147,21 @@ fn take_step(
     answers: &mut Vec<Option<u64>>,
 ) -> Result<MemBoard, Fail> {
     if let Step::Stop(pick) = step {
-        return Ok(board.left(alloc, pick)?);
+        return left(alloc, board, pick);
     }
     answers.push(answer(&mut board, step))?;
     Ok(board)
 }
 
-fn see(alloc: Global, board: &MemBoard, answers: Vec<Option<u64>>) -> Result<Seen, Fail> {
-    let (records, first_id) = records_of(board.store());
-    Ok(Seen {
-        answers,
-        zero: board.file(FileNo::Zero).to_vec(alloc)?,
-        one: board.file(FileNo::One).to_vec(alloc)?,
-        out: board.out().to_vec(alloc)?,
-        records,
-        first_id,
-        first_bytes: first_bytes(board.store()).to_vec(alloc)?,
-        disk_calls: board.disk_calls().to_vec(alloc)?,
-        accesses: board.accesses().to_vec(alloc)?,
-        starved: board.starved(),
-    })
+fn left(alloc: Global, board: MemBoard, pick: Pick) -> Result<MemBoard, Fail> {
+    Ok(board.left(alloc, pick)?)
 }
 
-fn records_of(store: &Store) -> (usize, u64) {
-    let count = store.len();
-    if count == 0 {
-        return (0, 0);
-    }
-    (count, store.id(0))
-}
-
-fn first_bytes(store: &Store) -> &[u8] {
+fn first_record(store: &Store) -> Option<(u64, &[u8])> {
     if store.len() == 0 {
-        return b"";
+        return None;
     }
-    store.bytes(0)
+    Some((store.id(0), store.bytes(0)))
 }
 
 fn answer(board: &mut MemBoard, step: Step) -> Option<u64> {

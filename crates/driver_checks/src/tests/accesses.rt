@@ -1,7 +1,8 @@
 //! The accesses of a poll and of a write, word for word.
-use super::steps::{Answer, Operation, PLAIN, Start, play};
+use super::steps::{Answer, Operation, PLAIN, Seen, Start, play};
 use board_core::Access::{self, RangeRead, RangeWrite, Read, Write};
 use board_core::Reg::{Action, Value};
+use std::alloc::Global;
 use std::test::Fail;
 
 const NONE: u64 = u64::MAX;
@@ -64,19 +65,27 @@ pub const WRITING: [Access; 11] = [
 
 /// A poll of a store with one record lists it, reads it and clears it. Before each read the padded
 /// table reads Value once, which holds what the listing told last.
-pub fn polling(alloc: std::alloc::Global, is_padded: bool) -> Result<Vec<Access>, Fail> {
+pub fn polling(alloc: Global, is_padded: bool) -> Result<Vec<Access>, Fail> {
     let padding: &[Access] = if is_padded { &[Read(Value, NONE)] } else { &[] };
-    let mut accesses = Vec::new(alloc);
-    for part in [&LISTING[..], padding, &READING[..], &CLEARING[..]] {
-        accesses.extend_from_slice(part)?;
-    }
+    let mut accesses = LISTING.to_vec(alloc)?;
+    add(&mut accesses, padding)?;
+    add(&mut accesses, &READING)?;
+    add(&mut accesses, &CLEARING)?;
     Ok(accesses)
+}
+
+fn add(accesses: &mut Vec<Access>, part: &[Access]) -> Result<(), Fail> {
+    Ok(accesses.extend_from_slice(part)?)
 }
 
 const POLL: [Operation; 3] = [Operation::Ids, Operation::Read(1), Operation::Clear(1)];
 
-fn polls(alloc: std::alloc::Global, is_padded: bool) -> Result<bool, Fail> {
+fn polls(alloc: Global, is_padded: bool) -> Result<bool, Fail> {
     let seen = play(alloc, Start { is_padded, ..PLAIN }, &POLL)?;
+    has_polled(alloc, &seen, is_padded)
+}
+
+fn has_polled(alloc: Global, seen: &Seen, is_padded: bool) -> Result<bool, Fail> {
     let wanted = polling(alloc, is_padded)?;
     Ok(
         seen.answers.as_slice() == [Answer::Listed(1), Answer::Done, Answer::Done].as_slice()
@@ -92,7 +101,7 @@ fn poll_makes_these_accesses(rt: HostRuntime) -> Result<(), Fail> {
     Ok(())
 }
 
-fn writes(alloc: std::alloc::Global, is_padded: bool) -> Result<bool, Fail> {
+fn writes(alloc: Global, is_padded: bool) -> Result<bool, Fail> {
     let seen = play(alloc, Start { is_padded, ..PLAIN }, &[Operation::Write(7)])?;
     Ok(
         seen.answers.as_slice() == [Answer::Done].as_slice()

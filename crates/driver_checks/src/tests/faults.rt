@@ -17,20 +17,29 @@ fn as_failed(access: Access) -> Access {
 // Where a write's call of this number fails, it is the last one.
 fn ends_at(alloc: Global, fails: u64) -> Result<bool, Fail> {
     let seen = play(alloc, Start { fails, ..PLAIN }, &[Operation::Write(7)])?;
-    let mut wanted = Vec::new(alloc);
-    for (call, access) in (1..).zip(WRITING) {
-        if call <= fails {
-            wanted.push(if call == fails {
-                as_failed(access)
-            } else {
-                access
-            })?;
-        }
-    }
     Ok(
         seen.answers.as_slice() == [Answer::Refused(DriverRefused::Register)].as_slice()
-            && seen.accesses.as_slice() == wanted.as_slice(),
+            && are_writing_up_to(&seen.accesses, fails),
     )
+}
+
+// Whether these are the accesses of a write up to the one of this number, which failed.
+fn are_writing_up_to(accesses: &[Access], fails: u64) -> bool {
+    for (place, access) in accesses.iter().enumerate() {
+        let call = place.saturating_add(1);
+        if !is_writing(*access, call, call as u64 == fails) {
+            return false;
+        }
+    }
+    accesses.len() as u64 == fails
+}
+
+fn is_writing(access: Access, call: usize, failed: bool) -> bool {
+    if call == 0 || call > WRITING.len() {
+        return false;
+    }
+    let wanted = WRITING[call - 1];
+    access == if failed { as_failed(wanted) } else { wanted }
 }
 
 #[test]

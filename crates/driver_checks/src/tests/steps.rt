@@ -91,11 +91,16 @@ pub struct Seen {
 
 /// Does operations one after the other on a new board.
 pub fn play(alloc: Global, start: Start, operations: &[Operation]) -> Result<Seen, Fail> {
-    let (board, answers) = played(alloc, start, operations)?;
+    let mut answers = Vec::new(alloc);
+    let board = played(alloc, start, operations, &mut answers)?;
+    see(alloc, &board, answers)
+}
+
+fn see(alloc: Global, board: &MemBoard, answers: Vec<Answer>) -> Result<Seen, Fail> {
     Ok(Seen {
         answers,
-        accesses: accesses_of(alloc, &board)?,
-        records: records_of(&board),
+        accesses: accesses_of(alloc, board)?,
+        records: records_of(board),
     })
 }
 
@@ -106,7 +111,12 @@ pub fn left(
     operations: &[Operation],
     pick: Pick,
 ) -> Result<usize, Fail> {
-    let (board, _) = played(alloc, start, operations)?;
+    let mut answers = Vec::new(alloc);
+    let board = played(alloc, start, operations, &mut answers)?;
+    records_after_stop(alloc, board, pick)
+}
+
+fn records_after_stop(alloc: Global, board: MemBoard, pick: Pick) -> Result<usize, Fail> {
     let board = stopped(alloc, board, pick)?;
     Ok(records_of(&board))
 }
@@ -117,20 +127,42 @@ pub fn answer_on(alloc: Global, start: Start, operation: Operation) -> Result<An
     Ok(seen.answers.first().copied().unwrap_or(Answer::Wrong))
 }
 
+// Puts the answers behind the others.
 fn played(
     alloc: Global,
     start: Start,
     operations: &[Operation],
-) -> Result<(MemBoard, Vec<Answer>), Fail> {
+    answers: &mut Vec<Answer>,
+) -> Result<MemBoard, Fail> {
     let mut board = board_at(alloc, start)?;
-    let mut answers = Vec::new(alloc);
-    let Some(driver) = driver_at(alloc, start.is_padded)? else {
-        return Ok((board, answers));
-    };
-    for operation in operations {
-        answers.push(outcome_of(alloc, &driver, *operation, &mut board)?)?;
+    play_on(alloc, start.is_padded, operations, &mut board, answers)?;
+    Ok(board)
+}
+
+fn play_on(
+    alloc: Global,
+    is_padded: bool,
+    operations: &[Operation],
+    board: &mut MemBoard,
+    answers: &mut Vec<Answer>,
+) -> Result<(), Fail> {
+    if let Some(driver) = driver_at(alloc, is_padded)? {
+        play_with(alloc, &driver, operations, board, answers)?;
     }
-    Ok((board, answers))
+    Ok(())
+}
+
+fn play_with(
+    alloc: Global,
+    driver: &Driver,
+    operations: &[Operation],
+    board: &mut MemBoard,
+    answers: &mut Vec<Answer>,
+) -> Result<(), Fail> {
+    for operation in operations {
+        answers.push(outcome_of(alloc, driver, *operation, board)?)?;
+    }
+    Ok(())
 }
 
 fn outcome_of(
@@ -167,13 +199,16 @@ fn are_counted(ids: &[u64]) -> bool {
 }
 
 fn fetched(alloc: Global, driver: &Driver, id: u64, board: &mut MemBoard) -> Result<Answer, Fail> {
-    let mut buffer = Vec::new(alloc);
-    buffer.resize(RANGE_LENGTH, 0xa5)?;
-    let result = fetch(driver, id, &mut buffer, board);
-    if result.is_ok() && !holds(&buffer, &record(id)) {
-        return Ok(Answer::Wrong);
+    let mut buffer = vec![in alloc; 0xa5; RANGE_LENGTH]?;
+    Ok(fetched_into(driver, id, &mut buffer, board))
+}
+
+fn fetched_into(driver: &Driver, id: u64, buffer: &mut [u8], board: &mut MemBoard) -> Answer {
+    let result = fetch(driver, id, buffer, board);
+    if result.is_ok() && !holds(buffer, &record(id)) {
+        return Answer::Wrong;
     }
-    Ok(ended(result))
+    ended(result)
 }
 
 // Whether a buffer begins with these bytes, and has zeros after them.
@@ -240,24 +275,43 @@ fn driver_of(table: Table) -> Option<Driver> {
 }
 
 fn table_at(alloc: Global, is_padded: bool) -> Result<Table, Fail> {
-    let padding: &[Row] = if is_padded { &PADDING } else { &[] };
-    let mut bytes = Vec::from_slice(alloc, b"ERST")?;
-    bytes.resize(48, 0)?;
-    bytes[36] = 48;
-    for row in padding {
-        add_row(&mut bytes, *row)?;
-    }
-    for row in &ROWS {
-        add_row(&mut bytes, *row)?;
-    }
-    let count = padding.len().saturating_add(ROWS.len());
-    set_number(&mut bytes, 4, count.saturating_mul(32).saturating_add(48));
-    set_number(&mut bytes, 44, count);
-    let sum = bytes.iter().fold(0u8, |sum, byte| sum.wrapping_add(*byte));
-    if bytes.len() > 9 {
-        bytes[9] = 0u8.wrapping_sub(sum);
-    }
+    let bytes = bytes_of(alloc, is_padded)?;
     Ok(read(alloc, &bytes)?)
+}
+
+// The bytes of the plain table or of the padded one.
+fn bytes_of(alloc: Global, is_padded: bool) -> Result<Vec<u8>, Fail> {
+    let padding: &[Row] = if is_padded { &PADDING } else { &[] };
+    let mut bytes = vec![in alloc; 0; 48]?;
+    add_rows(&mut bytes, padding)?;
+    add_rows(&mut bytes, &ROWS)?;
+    set_head(&mut bytes, padding.len().saturating_add(ROWS.len()));
+    Ok(bytes)
+}
+
+fn add_rows(bytes: &mut Vec<u8>, rows: &[Row]) -> Result<(), Fail> {
+    for row in rows {
+        add_row(bytes, *row)?;
+    }
+    Ok(())
+}
+
+// Sets the head of a table of so many entries, and the checksum last.
+fn set_head(bytes: &mut [u8], count: usize) {
+    if bytes.len() < 48 {
+        return;
+    }
+    bytes[..4].copy_from_slice(b"ERST");
+    bytes[36] = 48;
+    set_number(bytes, 4, count.saturating_mul(32).saturating_add(48));
+    set_number(bytes, 44, count);
+    if bytes.len() > 9 {
+        bytes[9] = 0u8.wrapping_sub(sum_of(bytes));
+    }
+}
+
+fn sum_of(bytes: &[u8]) -> u8 {
+    bytes.iter().fold(0u8, |sum, byte| sum.wrapping_add(*byte))
 }
 
 fn read(alloc: Global, bytes: &[u8]) -> Result<Table, erst_interp::ErstTableRefused> {
@@ -281,14 +335,35 @@ fn set_number(bytes: &mut [u8], place: usize, number: usize) {
 }
 
 fn board_at(alloc: Global, start: Start) -> Result<MemBoard, Fail> {
-    let mut store = Store::new(alloc);
-    for id in 0..start.records {
-        put(&mut store, id.saturating_add(1));
-    }
-    let mut board = MemBoard::new(alloc, store, start.slow)?;
-    board.fail_at(start.fails)?;
-    board.stop_after(start.allowed);
+    let mut board = new_board(alloc, store_of(alloc, start.records), start.slow)?;
+    fail_at(&mut board, start.fails)?;
+    stop_after(&mut board, start.allowed);
     Ok(board)
+}
+
+fn new_board(alloc: Global, store: Store, slow: u64) -> Result<MemBoard, Fail> {
+    Ok(MemBoard::new(alloc, store, slow)?)
+}
+
+fn fail_at(board: &mut MemBoard, call: u64) -> Result<(), Fail> {
+    Ok(board.fail_at(call)?)
+}
+
+fn stop_after(board: &mut MemBoard, calls: u64) {
+    board.stop_after(calls);
+}
+
+// A store of so many records.
+fn store_of(alloc: Global, records: u64) -> Store {
+    let mut store = Store::new(alloc);
+    put_all(&mut store, records);
+    store
+}
+
+fn put_all(store: &mut Store, records: u64) {
+    for id in 0..records {
+        put(store, id.saturating_add(1));
+    }
 }
 
 fn put(store: &mut Store, id: u64) -> bool {

@@ -4,33 +4,43 @@ use super::steps::{ACTION, ALL, Row, VALUE, admitted, board, put, run, table};
 use board_core::MemBoard;
 use erst_interp::Table;
 use std::alloc::Global;
-use std::process::Abort;
 use std::test::Fail;
 
-// The plain table with entries before it, with its entry at a place changed, and with entries after
-// it.
-fn changed(
-    alloc: Global,
-    before: &[Row],
-    change: Option<(usize, Row)>,
-    after: &[Row],
-) -> Result<Vec<Row>, Fail> {
-    let mut rows = Vec::new(alloc);
-    rows.extend_from_slice(before)?;
-    for (i, row) in PLAIN.iter().enumerate() {
-        match change {
-            Some((place, new)) if place == i => rows.push(new)?,
-            _ => rows.push(*row)?,
-        }
+// The plain table with its entry at a place changed.
+fn changed(alloc: Global, place: usize, row: Row) -> Result<Vec<Row>, Fail> {
+    let mut rows = PLAIN.to_vec(alloc)?;
+    if place < rows.len() {
+        rows[place] = row;
     }
-    rows.extend_from_slice(after)?;
     Ok(rows)
+}
+
+// Whether the plain table is admitted with its entry at a place changed.
+fn admits_changed(alloc: Global, place: usize, row: Row) -> Result<bool, Fail> {
+    admitted(alloc, &changed(alloc, place, row)?)
+}
+
+// Two lists of entries, one after the other.
+fn joined(alloc: Global, one: &[Row], other: &[Row]) -> Result<Vec<Row>, Fail> {
+    let mut rows = one.to_vec(alloc)?;
+    rows.extend_from_slice(other)?;
+    Ok(rows)
+}
+
+// Whether the plain table is admitted with these entries before it.
+fn admits_behind(alloc: Global, before: &[Row]) -> Result<bool, Fail> {
+    admitted(alloc, &joined(alloc, before, &PLAIN)?)
+}
+
+// Whether the plain table is admitted with an entry after it.
+fn admits_with(alloc: Global, after: Row) -> Result<bool, Fail> {
+    admitted(alloc, &joined(alloc, &PLAIN, &[after])?)
 }
 
 #[test]
 fn admits_the_plain_and_the_padded_table(rt: HostRuntime) -> Result<(), Fail> {
     assert!(rt; admitted(rt.alloc(), &PLAIN)?);
-    assert!(rt; admitted(rt.alloc(), &changed(rt.alloc(), &PADDING, None, &[])?)?);
+    assert!(rt; admits_behind(rt.alloc(), &PADDING)?);
     assert!(rt; !admitted(rt.alloc(), &[])?);
     Ok(())
 }
@@ -48,9 +58,8 @@ const OTHER_FORMS: [(usize, Row); 7] = [
 
 #[test]
 fn admits_other_forms(rt: HostRuntime) -> Result<(), Fail> {
-    for change in OTHER_FORMS {
-        let rows = changed(rt.alloc(), &[], Some(change), &[])?;
-        assert!(rt; admitted(rt.alloc(), &rows)?, "{change:?}");
+    for (place, row) in OTHER_FORMS {
+        assert!(rt; admits_changed(rt.alloc(), place, row)?, "entry {place}");
     }
     Ok(())
 }
@@ -89,9 +98,12 @@ const BREAKS: [(usize, Row); 21] = [
 
 #[test]
 fn refuses_each_broken_rule(rt: HostRuntime) -> Result<(), Fail> {
-    for change in BREAKS {
-        let rows = changed(rt.alloc(), &[], Some(change), &[])?;
-        assert!(rt; !admitted(rt.alloc(), &rows)?, "{change:?}");
+    for (place, row) in BREAKS {
+        let (instruction, mask) = (row.1, row.7);
+        assert!(rt;
+            !admits_changed(rt.alloc(), place, row)?,
+            "entry {place}: instruction {instruction}, mask {mask}"
+        );
     }
     Ok(())
 }
@@ -113,111 +125,129 @@ const MORE: [Row; 10] = [
     Row(1, 0x13, 0, 0, 0, VALUE, 0, ALL),
 ];
 
+// After the action's write EXECUTE takes no write to Value, and no entry follows an answer.
+const MORE_AFTER: [Row; 2] = [
+    Row(5, 3, 0, 0, 0, VALUE, 0, ALL),
+    Row(8, 4, 0, 0, 0, VALUE, 0, ALL),
+];
+
 #[test]
 fn refuses_one_entry_more(rt: HostRuntime) -> Result<(), Fail> {
     for row in MORE {
-        let after = changed(rt.alloc(), &[], None, &[row])?;
-        assert!(rt; !admitted(rt.alloc(), &after)?, "{row:?} after all");
-        let before = changed(rt.alloc(), &[row], None, &[])?;
-        assert!(rt; !admitted(rt.alloc(), &before)?, "{row:?} before all");
+        let (action, instruction) = (row.0, row.1);
+        assert!(rt;
+            !admits_with(rt.alloc(), row)? && !admits_behind(rt.alloc(), &[row])?,
+            "action {action}, instruction {instruction}"
+        );
     }
-    // after the action's write EXECUTE takes no write to Value, and no entry follows an answer
-    for row in [
-        Row(5, 3, 0, 0, 0, VALUE, 0, ALL),
-        Row(8, 4, 0, 0, 0, VALUE, 0, ALL),
-    ] {
-        let after = changed(rt.alloc(), &[], None, &[row])?;
-        assert!(rt; !admitted(rt.alloc(), &after)?, "{row:?}");
+    for row in MORE_AFTER {
+        let action = row.0;
+        assert!(rt; !admits_with(rt.alloc(), row)?, "action {action}");
     }
     Ok(())
+}
+
+// Whether the plain table is admitted behind so many entries NOOP.
+fn admits_behind_many(alloc: Global, count: usize) -> Result<bool, Fail> {
+    let before = vec![in alloc; Row(3, 4, 0, 0, 0, 0, 0, ALL); count]?;
+    admits_behind(alloc, &before)
 }
 
 // An admitted list has at most 4,096 entries.
 #[test]
 fn admits_a_list_within_the_turns(rt: HostRuntime) -> Result<(), Fail> {
-    for (count, want) in [(4_095, true), (4_096, false)] {
-        let mut rows = Vec::new(rt.alloc());
-        for _ in 0..count {
-            rows.push(Row(3, 4, 0, 0, 0, 0, 0, ALL))?;
-        }
-        rows.extend_from_slice(&PLAIN)?;
-        assert_eq!(rt; admitted(rt.alloc(), &rows)?, want, "{count} entries more");
-    }
+    assert!(rt; admits_behind_many(rt.alloc(), 4_095)?);
+    assert!(rt; !admits_behind_many(rt.alloc(), 4_096)?);
     Ok(())
 }
+
+// The place of an entry of the plain table in whose stead one of `PRESERVING` stands, and whether
+// the table is admitted then: the compared busy bit is.
+const FIRMWARE: [(usize, bool); 4] = [(0, false), (8, false), (9, true), (14, false)];
 
 // Tables as firmware has them: see where they are for the rule that refuses them.
 #[test]
 fn judges_tables_of_firmware(rt: HostRuntime) -> Result<(), Fail> {
-    assert!(rt;
-        !admitted(
-            rt.alloc(),
-            &changed(rt.alloc(), &[], Some((0, PRESERVING[0])), &[])?
-        )?
-    );
-    assert!(rt;
-        !admitted(
-            rt.alloc(),
-            &changed(rt.alloc(), &[], Some((8, PRESERVING[1])), &[])?
-        )?
-    );
-    // the compared busy bit is admitted
-    assert!(rt;
-        admitted(
-            rt.alloc(),
-            &changed(rt.alloc(), &[], Some((9, PRESERVING[2])), &[])?
-        )?
-    );
-    assert!(rt;
-        !admitted(
-            rt.alloc(),
-            &changed(rt.alloc(), &[], Some((14, PRESERVING[3])), &[])?
-        )?
-    );
-    assert!(rt; !admitted(rt.alloc(), &changed(rt.alloc(), &SKIPPING[..1], None, &[])?)?);
+    for i in 0..4 {
+        let (place, wanted) = FIRMWARE[i];
+        assert!(rt;
+            admits_changed(rt.alloc(), place, PRESERVING[i])? == wanted,
+            "entry {place}"
+        );
+    }
+    assert!(rt; !admits_behind(rt.alloc(), &SKIPPING[..1])?);
     Ok(())
 }
 
+// Whether an action of the plain table with an input gives this answer.
+fn answers(table: &Table, board: &mut MemBoard, step: (u8, u64, u64)) -> bool {
+    let (action, input, wanted) = step;
+    run(table, action, input, board) == Ok(wanted)
+}
+
 // Runs actions of the plain table, each with an input and the answer that is wanted.
-fn run_all(rt: &impl Abort, table: &Table, board: &mut MemBoard, steps: &[(u8, u64, u64)]) {
-    for (action, input, want) in steps {
-        assert_eq!(rt;
-            run(table, *action, *input, board),
-            Ok(*want),
-            "action {action}"
-        );
+fn answers_all(table: &Table, board: &mut MemBoard, steps: &[(u8, u64, u64)]) -> bool {
+    for step in steps {
+        if !answers(table, board, *step) {
+            return false;
+        }
     }
+    true
+}
+
+// Puts records from the identifier 1 on. The answer is whether each was put.
+fn puts(board: &mut MemBoard, count: u64) -> bool {
+    for id in 1..=count {
+        if !put(board, id, b"record") {
+            return false;
+        }
+    }
+    true
+}
+
+// Whether so many records are counted, and then listed from the identifier 1 on.
+fn lists(table: &Table, board: &mut MemBoard, count: u64) -> bool {
+    if !answers(table, board, (10, 3, count)) {
+        return false;
+    }
+    for id in 1..=count {
+        if !answers(table, board, (8, 3, id)) {
+            return false;
+        }
+    }
+    answers(table, board, (8, 3, ALL))
+}
+
+// Whether the record 1 is read and cleared, with the status that is wanted.
+fn clears(table: &Table, board: &mut MemBoard, count: u64) -> bool {
+    let status = if count == 0 { 4 } else { 0 };
+    let steps = [
+        (2, 3, 3),
+        (9, 1, 1),
+        (5, 3, 3),
+        (6, 3, 0),
+        (7, 3, status),
+        (3, 3, 3),
+        (10, 3, count.saturating_sub(1)),
+    ];
+    answers_all(table, board, &steps)
+}
+
+fn does_all(alloc: Global, count: u64) -> Result<bool, Fail> {
+    let table = table(alloc, &PLAIN)?;
+    let mut board = board(alloc, 0)?;
+    Ok(
+        puts(&mut board, count)
+            && lists(&table, &mut board, count)
+            && clears(&table, &mut board, count),
+    )
 }
 
 // The records of a store are listed, and one is read and cleared.
 #[test]
 fn does_the_actions(rt: HostRuntime) -> Result<(), Fail> {
-    let table = table(rt.alloc(), &PLAIN)?;
     for count in [0, 1, 1_024] {
-        let mut board = board(rt.alloc(), 0)?;
-        for id in 1..=count {
-            assert!(rt; put(&mut board, id, b"record"));
-        }
-        run_all(&rt, &table, &mut board, &[(10, 3, count)]);
-        for id in 1..=count {
-            run_all(&rt, &table, &mut board, &[(8, 3, id)]);
-        }
-        let status = if count == 0 { 4 } else { 0 };
-        run_all(
-            &rt,
-            &table,
-            &mut board,
-            &[
-                (8, 3, ALL),
-                (2, 3, 3),
-                (9, 1, 1),
-                (5, 3, 3),
-                (6, 3, 0),
-                (7, 3, status),
-                (3, 3, 3),
-                (10, 3, count.saturating_sub(1)),
-            ],
-        );
+        assert!(rt; does_all(rt.alloc(), count)?, "{count} records");
     }
     Ok(())
 }

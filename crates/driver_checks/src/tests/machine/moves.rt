@@ -1,11 +1,10 @@
 //! The moving of bytes in the range.
 use super::steps::{
-    ALL, Row, VALUE, board, last_access, plain, range_read, range_write, run, set, table,
+    ALL, Row, VALUE, board, last_access, plain, range_read, range_write, run, run_rows, table,
 };
-use board_core::{Access, Reg};
-use erst_interp::RunRefused;
+use board_core::{Access, MemBoard, Reg};
+use erst_interp::{RunRefused, Table};
 use std::alloc::Global;
-use std::process::Abort;
 use std::test::Fail;
 
 // Where the range stands.
@@ -19,29 +18,46 @@ fn taken(number: u64, instruction: u8) -> [Row; 2] {
     ]
 }
 
-// Moves so many bytes from a source base to a destination base, both moved on by an offset, in a
-// range that begins with the numbers from 1 on. It gives the answer, the first 8 bytes of the range
-// after it, and the last access.
-fn move_bytes(
-    rt: &impl Abort,
-    alloc: Global,
-    bases: (u64, u64),
-    offset: u64,
-    count: u64,
-) -> Result<(Result<u64, RunRefused>, [u8; 8], Option<Access>), Fail> {
+// The bases of source and destination, the offset that both are moved on by, and a count.
+type Move = (u64, u64, u64, u64);
+
+// What a move answers, the first 8 bytes of the range after it, and the last access.
+type Moved = (Result<u64, RunRefused>, [u8; 8], Option<Access>);
+
+// The entries that do a move.
+fn rows_of(alloc: Global, wanted: Move) -> Result<Vec<Row>, Fail> {
+    let (from, to, offset, count) = wanted;
     let mut rows = Vec::new(alloc);
-    rows.extend_from_slice(&taken(bases.0, 16))?;
-    rows.extend_from_slice(&taken(bases.1, 17))?;
+    rows.extend_from_slice(&taken(from, 16))?;
+    rows.extend_from_slice(&taken(to, 17))?;
     rows.extend_from_slice(&taken(count, 6))?;
     rows.extend_from_slice(&taken(offset, 18))?;
-    let table = table(alloc, &rows)?;
-    let mut board = board(alloc, 0)?;
-    assert!(rt; range_write(rt, &mut board, 0, &[1, 2, 3, 4, 5, 6, 7, 8]));
-    let answer = run(&table, 16, 7, &mut board);
-    let last = last_access(&board).1;
+    Ok(rows)
+}
+
+fn table_of(alloc: Global, wanted: Move) -> Result<Table, Fail> {
+    table(alloc, &rows_of(alloc, wanted)?)
+}
+
+// Runs a table over a board whose range begins with the numbers from 1 on; None where the range
+// can't be written or read.
+fn run_over(table: &Table, board: &mut MemBoard) -> Option<Moved> {
+    if !range_write(board, &[1, 2, 3, 4, 5, 6, 7, 8]) {
+        return None;
+    }
+    let answer = run(table, 16, 7, board);
+    let last = last_access(board).1;
     let mut front = [0; 8];
-    assert!(rt; range_read(rt, &mut board, 0, &mut front));
-    Ok((answer, front, last))
+    if !range_read(board, &mut front) {
+        return None;
+    }
+    Some((answer, front, last))
+}
+
+fn move_bytes(alloc: Global, wanted: Move) -> Result<Option<Moved>, Fail> {
+    let table = table_of(alloc, wanted)?;
+    let mut board = board(alloc, 0)?;
+    Ok(run_over(&table, &mut board))
 }
 
 // Source and destination, offset and count, and the first bytes after the move.
@@ -58,26 +74,32 @@ const MOVES: [(u64, u64, u64, u64, [u8; 8], u32); 6] = [
     (0, 0, 0, 16_384, [1, 2, 3, 4, 5, 6, 7, 8], 0),
 ];
 
+fn moves_so(alloc: Global, wanted: Move, front: [u8; 8], place: u32) -> Result<bool, Fail> {
+    let (from, to, offset, count) = wanted;
+    let placed = (
+        RANGE.saturating_add(from),
+        RANGE.saturating_add(to),
+        offset,
+        count,
+    );
+    let last = Access::RangeWrite(place, count.min(16_384) as u32);
+    Ok(move_bytes(alloc, placed)? == Some((Ok(7), front, Some(last))))
+}
+
 #[test]
 fn moves_as_if_read_whole_first(rt: HostRuntime) -> Result<(), Fail> {
-    for (from, to, offset, count, want, place) in MOVES {
-        let (answer, front, last) = move_bytes(
-            &rt,
-            rt.alloc(),
-            (RANGE + from, RANGE + to),
-            offset,
-            count,
-        )?;
-        assert_eq!(rt; answer, Ok(7), "{count} from {from} to {to}");
-        assert_eq!(rt; front, want, "{count} from {from} to {to}");
-        assert_eq!(rt; last, Some(Access::RangeWrite(place, count as u32)));
+    for (from, to, offset, count, front, place) in MOVES {
+        assert!(rt;
+            moves_so(rt.alloc(), (from, to, offset, count), front, place)?,
+            "{count} from {from} to {to}"
+        );
     }
     Ok(())
 }
 
 // Bases, offset and count of stretches that aren't inside: one byte past the end, before the range,
 // none past the end, and sums that pass 2^64.
-const OUTSIDE: [(u64, u64, u64, u64); 8] = [
+const OUTSIDE: [Move; 8] = [
     (RANGE + 1, RANGE, 0, 16_384),
     (RANGE, RANGE + 1, 0, 16_384),
     (RANGE - 1, RANGE, 0, 1),
@@ -89,17 +111,19 @@ const OUTSIDE: [(u64, u64, u64, u64); 8] = [
 ];
 
 // The register that gives the offset is read in every case, and nothing more.
+fn is_refused(alloc: Global, wanted: Move) -> Result<bool, Fail> {
+    let last = Access::Read(Reg::Value, wanted.2);
+    let front = [1, 2, 3, 4, 5, 6, 7, 8];
+    Ok(move_bytes(alloc, wanted)? == Some((Err(RunRefused::BadRange), front, Some(last))))
+}
+
 #[test]
 fn refuses_what_is_not_inside(rt: HostRuntime) -> Result<(), Fail> {
     for (from, to, offset, count) in OUTSIDE {
-        let (answer, front, last) = move_bytes(&rt, rt.alloc(), (from, to), offset, count)?;
-        assert_eq!(rt;
-            answer,
-            Err(RunRefused::BadRange),
+        assert!(rt;
+            is_refused(rt.alloc(), (from, to, offset, count))?,
             "{count} from {from} to {to}"
         );
-        assert_eq!(rt; front, [1, 2, 3, 4, 5, 6, 7, 8]);
-        assert_eq!(rt; last, Some(Access::Read(Reg::Value, offset)));
     }
     Ok(())
 }
@@ -107,12 +131,8 @@ fn refuses_what_is_not_inside(rt: HostRuntime) -> Result<(), Fail> {
 // The bases are 0 at first, which is outside.
 #[test]
 fn moves_nothing_from_a_base_of_zero(rt: HostRuntime) -> Result<(), Fail> {
-    let table = table(
-        rt.alloc(),
-        &[plain(16, 17, VALUE, 0), plain(16, 18, VALUE, 0)],
-    )?;
-    let mut board = board(rt.alloc(), 0)?;
-    assert!(rt; set(&mut board, Reg::Value, 0));
-    assert_eq!(rt; run(&table, 16, 7, &mut board), Err(RunRefused::BadRange));
+    let rows = [plain(16, 17, VALUE, 0), plain(16, 18, VALUE, 0)];
+    let (answer, _) = run_rows(rt.alloc(), &rows, 0, 7)?;
+    assert!(rt; answer == Err(RunRefused::BadRange));
     Ok(())
 }

@@ -2,6 +2,7 @@
 use super::steps::{ACTION, ALL, Row, VALUE, board, last_access, plain, run, run_rows, table};
 use board_core::{Access, Reg};
 use erst_interp::RunRefused;
+use std::alloc::Global;
 use std::test::Fail;
 
 // An entry of action 16 that uses Value.
@@ -162,11 +163,15 @@ const CASES: [Case; 26] = [
     ),
 ];
 
+fn runs_so(alloc: Global, case: Case) -> Result<bool, Fail> {
+    let (rows, before, answer, after) = case;
+    Ok(run_rows(alloc, rows, before, 7)? == (answer, Some(after)))
+}
+
 #[test]
 fn does_each_instruction(rt: HostRuntime) -> Result<(), Fail> {
-    for (rows, before, answer, after) in CASES {
-        let ran = run_rows(rt.alloc(), rows, before, 7)?;
-        assert_eq!(rt; ran, (answer, Some(after)), "{rows:?}");
+    for (number, case) in CASES.iter().enumerate() {
+        assert!(rt; runs_so(rt.alloc(), *case)?, "case {number}");
     }
     Ok(())
 }
@@ -180,45 +185,68 @@ const BAD: [Row; 5] = [
     Row(16, 0, 0, 0, 0, 0, 0, ALL),
 ];
 
+fn is_bad_register(alloc: Global, row: Row) -> Result<bool, Fail> {
+    let (answer, _) = run_rows(alloc, &[row], 9, 7)?;
+    Ok(answer == Err(RunRefused::BadRegister))
+}
+
 #[test]
 fn refuses_a_register_that_is_not_good(rt: HostRuntime) -> Result<(), Fail> {
-    for row in BAD {
-        let (answer, _) = run_rows(rt.alloc(), &[row], 9, 7)?;
-        assert_eq!(rt; answer, Err(RunRefused::BadRegister), "{row:?}");
+    for (number, row) in BAD.iter().enumerate() {
+        assert!(rt; is_bad_register(rt.alloc(), *row)?, "case {number}");
     }
     Ok(())
 }
 
-// So many NOOP entries, and entries of another action between them, which GOTO doesn't count.
+// So many NOOP entries, and entries of another action between them.
+fn many_rows(alloc: Global, count: usize) -> Result<Vec<Row>, Fail> {
+    let mut rows = Vec::new(alloc);
+    for _ in 0..count {
+        rows.extend_from_slice(&[row(4, 0), plain(17, 3, VALUE, 1)])?;
+    }
+    Ok(rows)
+}
+
+fn answer_of_many(alloc: Global, count: usize) -> Result<Result<u64, RunRefused>, Fail> {
+    let rows = many_rows(alloc, count)?;
+    let (answer, _) = run_rows(alloc, &rows, 9, 7)?;
+    Ok(answer)
+}
+
+// GOTO doesn't count entries of another action.
 #[test]
 fn ends_within_its_turns(rt: HostRuntime) -> Result<(), Fail> {
-    for (count, want) in [
+    for (count, wanted) in [
         (4_095, Ok(7)),
         (4_096, Ok(7)),
         (4_097, Err(RunRefused::Fuel)),
     ] {
-        let mut rows = Vec::new(rt.alloc());
-        for _ in 0..count {
-            rows.push(row(4, 0))?;
-            rows.push(plain(17, 3, VALUE, 1))?;
-        }
-        let (answer, _) = run_rows(rt.alloc(), &rows, 9, 7)?;
-        assert_eq!(rt; answer, want, "{count} entries");
+        assert!(rt;
+            answer_of_many(rt.alloc(), count)? == wanted,
+            "{count} entries"
+        );
     }
     Ok(())
+}
+
+// What runs answer, and how many accesses were made after each, with the last of them.
+type Waited = (Result<u64, RunRefused>, (usize, Option<Access>));
+
+fn waits(alloc: Global) -> Result<(Waited, Waited), Fail> {
+    let table = table(alloc, &[row(13, 9)])?;
+    let mut board = board(alloc, 9)?;
+    let answer = run(&table, 16, 7, &mut board);
+    let first = (answer, last_access(&board));
+    let answer = run(&table, 3, 7, &mut board);
+    Ok((first, (answer, last_access(&board))))
 }
 
 // A wait that doesn't end makes an access a turn. What was done before a refusal stays done.
 #[test]
 fn makes_an_access_a_turn(rt: HostRuntime) -> Result<(), Fail> {
-    let table = table(rt.alloc(), &[row(13, 9)])?;
-    let mut board = board(rt.alloc(), 9)?;
-    assert_eq!(rt; run(&table, 16, 7, &mut board), Err(RunRefused::Fuel));
-    assert_eq!(rt;
-        last_access(&board),
-        (4_097, Some(Access::Read(Reg::Value, 9)))
-    );
-    assert_eq!(rt; run(&table, 3, 7, &mut board), Ok(7));
-    assert_eq!(rt; last_access(&board).0, 4_097);
+    let (first, second) = waits(rt.alloc())?;
+    let last = Some(Access::Read(Reg::Value, 9));
+    assert!(rt; first.0 == Err(RunRefused::Fuel) && first.1 == (4_097, last));
+    assert!(rt; second.0 == Ok(7) && second.1.0 == 4_097);
     Ok(())
 }

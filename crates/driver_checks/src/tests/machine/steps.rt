@@ -3,7 +3,6 @@ use board_core::{Access, Board, MemBoard, Reg};
 use erst_interp::{ErstTableRefused, RunRefused, Table, admits, read_erst};
 use erst_store::Store;
 use std::alloc::Global;
-use std::process::Abort;
 use std::test::Fail;
 
 /// The addresses of the registers Action and Value.
@@ -15,7 +14,7 @@ pub const ALL: u64 = u64::MAX;
 
 /// An entry of a table: its action, its instruction, its flags, the address space, the bit offset
 /// and the address of its register, its value and its mask.
-#[derive(Clone, Copy, Debug)]
+#[derive(Clone, Copy)]
 pub struct Row(
     pub u8,
     pub u8,
@@ -37,17 +36,27 @@ pub fn bytes_of(alloc: Global, header: u8, rows: &[Row]) -> Result<Vec<u8>, Fail
     let mut bytes = Vec::from_slice(alloc, b"ERST")?;
     bytes.resize(48, 0)?;
     bytes[36] = header;
-    for row in rows {
-        bytes.extend_from_slice(&[row.0, row.1, row.2, 0, row.3, 64, row.4, 4])?;
-        bytes.extend_from_slice(&row.5.to_le_bytes())?;
-        bytes.extend_from_slice(&row.6.to_le_bytes())?;
-        bytes.extend_from_slice(&row.7.to_le_bytes())?;
-    }
+    add_rows(&mut bytes, rows)?;
     let length = bytes.len();
     set_number(&mut bytes, 4, length);
     set_number(&mut bytes, 44, rows.len());
     mend(&mut bytes);
     Ok(bytes)
+}
+
+fn add_rows(bytes: &mut Vec<u8>, rows: &[Row]) -> Result<(), Fail> {
+    for row in rows {
+        add_row(bytes, *row)?;
+    }
+    Ok(())
+}
+
+fn add_row(bytes: &mut Vec<u8>, row: Row) -> Result<(), Fail> {
+    bytes.extend_from_slice(&[row.0, row.1, row.2, 0, row.3, 64, row.4, 4])?;
+    bytes.extend_from_slice(&row.5.to_le_bytes())?;
+    bytes.extend_from_slice(&row.6.to_le_bytes())?;
+    bytes.extend_from_slice(&row.7.to_le_bytes())?;
+    Ok(())
 }
 
 /// Sets a number of four bytes, where the bytes reach so far and it fits.
@@ -79,20 +88,32 @@ pub fn refusal(alloc: Global, bytes: &[u8]) -> Option<ErstTableRefused> {
 /// A table of these entries.
 pub fn table(alloc: Global, rows: &[Row]) -> Result<Table, Fail> {
     let bytes = bytes_of(alloc, 48, rows)?;
-    Ok(read_erst(alloc, &bytes)?)
+    Ok(read(alloc, &bytes)?)
+}
+
+fn read(alloc: Global, bytes: &[u8]) -> Result<Table, ErstTableRefused> {
+    read_erst(alloc, bytes)
 }
 
 /// Whether a table of these entries is admitted.
 pub fn admitted(alloc: Global, rows: &[Row]) -> Result<bool, Fail> {
     let table = table(alloc, rows)?;
-    Ok(admits(&table))
+    Ok(is_admitted(&table))
+}
+
+fn is_admitted(table: &Table) -> bool {
+    admits(table)
 }
 
 /// A new board over an empty store, whose register Value holds this.
 pub fn board(alloc: Global, value: u64) -> Result<MemBoard, Fail> {
-    let mut board = MemBoard::new(alloc, Store::new(alloc), 0)?;
+    let mut board = new_board(alloc)?;
     set(&mut board, Reg::Value, value);
     Ok(board)
+}
+
+fn new_board(alloc: Global) -> Result<MemBoard, Fail> {
+    Ok(MemBoard::new(alloc, Store::new(alloc), 0)?)
 }
 
 pub fn run(table: &Table, action: u8, input: u64, board: &mut MemBoard) -> Result<u64, RunRefused> {
@@ -132,12 +153,12 @@ pub fn put(board: &mut MemBoard, id: u64, bytes: &[u8]) -> bool {
     board.put(id, bytes).is_ok()
 }
 
-pub fn range_read(rt: &impl Abort, board: &mut MemBoard, place: u32, buf: &mut [u8]) -> bool {
-    assert!(rt; place <= 16_384 && buf.len() <= 16_384 - place as usize);
-    board.range_read(place, buf).is_ok()
+/// Reads from the front of the range, where it is long enough.
+pub fn range_read(board: &mut MemBoard, buf: &mut [u8]) -> bool {
+    buf.len() <= 16_384 && board.range_read(0, buf).is_ok()
 }
 
-pub fn range_write(rt: &impl Abort, board: &mut MemBoard, place: u32, bytes: &[u8]) -> bool {
-    assert!(rt; place <= 16_384 && bytes.len() <= 16_384 - place as usize);
-    board.range_write(place, bytes).is_ok()
+/// Writes to the front of the range, where it is long enough.
+pub fn range_write(board: &mut MemBoard, bytes: &[u8]) -> bool {
+    bytes.len() <= 16_384 && board.range_write(0, bytes).is_ok()
 }
