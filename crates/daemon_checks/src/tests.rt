@@ -115,19 +115,22 @@ fn play(alloc: Global, script: &[&str], start: Start) -> Result<Seen, Fail> {
     see(alloc, exit, &board)
 }
 
-// Whether bytes are these parts, one after the other.
-fn is_joined(bytes: &[u8], parts: &[&[u8]]) -> bool {
-    let mut rest = bytes;
-    for part in parts {
-        match rest.strip_prefix(*part) {
-            Some(after) => rest = after,
-            None => return false,
-        }
-    }
-    rest.is_empty()
+// Whether a run ended so.
+fn ended(seen: &Seen, exit: Exit) -> bool {
+    seen.exit == exit
 }
 
-// The same of texts.
+// Whether a run left these bytes in file 0, and none in file 1.
+fn left_zero(seen: &Seen, file0: &[u8]) -> bool {
+    seen.file0.as_slice() == file0 && seen.file1.is_empty()
+}
+
+// Whether the last calls on the first disk are these.
+fn called(seen: &Seen, calls: &[DiskCall]) -> bool {
+    seen.disk_calls.ends_with(calls)
+}
+
+// Whether bytes are these texts, one after the other.
 fn is_text(bytes: &[u8], parts: &[&str]) -> bool {
     let mut rest = bytes;
     for part in parts {
@@ -142,11 +145,22 @@ fn is_text(bytes: &[u8], parts: &[&str]) -> bool {
 // Whether a run over empty files prints this and ends with this status, however the source cuts the
 // script into pieces.
 fn does(alloc: Global, script: &[&str], output: &[&str], status: u8) -> Result<bool, Fail> {
-    for piece in [1, 7, usize::MAX] {
-        let seen = play(alloc, script, Start { piece, ..PLAIN })?;
-        if seen.exit.status() != status || !is_text(&seen.out, output) {
+    for piece in &[1, 7, usize::MAX] {
+        if !does_in(alloc, script, *piece, output, status)? {
             return Ok(false);
         }
     }
     Ok(true)
+}
+
+// The same of a source that gives so many bytes a call.
+fn does_in(
+    alloc: Global,
+    script: &[&str],
+    piece: usize,
+    output: &[&str],
+    status: u8,
+) -> Result<bool, Fail> {
+    let seen = play(alloc, script, Start { piece, ..PLAIN })?;
+    Ok(seen.exit.status() == status && is_text(&seen.out, output))
 }

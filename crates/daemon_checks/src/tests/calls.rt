@@ -1,9 +1,10 @@
 //! The disk calls of a run, and what it leaves in both files.
 use super::journals::{EMPTY, FIRST_VERSION, LABELLED};
-use super::{EVERYDAY, PLAIN, Start, play};
+use super::{EVERYDAY, PLAIN, Seen, Start, called, ended, is_text, left_zero, play};
 use board_core::DiskCall::{Size, Sync, WriteAt};
 use board_core::{DiskCall, FileNo};
 use ras_daemon::Exit;
+use std::alloc::Global;
 use std::test::Fail;
 
 const ZERO: FileNo = FileNo::Zero;
@@ -53,20 +54,17 @@ const TAKING_OVER: [DiskCall; 10] = [
 #[test]
 fn an_empty_script_formats_file_0(rt: HostRuntime) -> Result<(), Fail> {
     let seen = play(rt.alloc(), &[], PLAIN)?;
-    assert!(rt;
-        seen.exit == Exit::Done && seen.out.as_slice() == b"end entries=0 names=0\n".as_slice()
-    );
-    assert!(rt; seen.file0.as_slice() == EMPTY.as_slice() && seen.file1.is_empty());
-    assert!(rt; seen.disk_calls.as_slice() == OPENING.as_slice());
+    assert!(rt; ended(&seen, Exit::Done) && is_text(&seen.out, &["end entries=0 names=0\n"]));
+    assert!(rt; left_zero(&seen, &EMPTY));
+    assert!(rt; seen.disk_calls.len() == OPENING.len() && called(&seen, &OPENING));
     Ok(())
 }
 
 #[test]
 fn a_new_error_is_one_link(rt: HostRuntime) -> Result<(), Fail> {
     let seen = play(rt.alloc(), &[MODULE, EVERYDAY, EVERYDAY], PLAIN)?;
-    assert!(rt; seen.exit == Exit::Done);
-    assert!(rt; seen.file0.as_slice() == LABELLED.as_slice() && seen.file1.is_empty());
-    assert!(rt; seen.disk_calls.ends_with(&APPENDING));
+    assert!(rt; ended(&seen, Exit::Done) && left_zero(&seen, &LABELLED));
+    assert!(rt; called(&seen, &APPENDING));
     Ok(())
 }
 
@@ -77,15 +75,19 @@ fn the_first_version_is_taken_over(rt: HostRuntime) -> Result<(), Fail> {
         ..PLAIN
     };
     let seen = play(rt.alloc(), &[MODULE, ANOTHER], start)?;
-    assert!(rt; seen.exit == Exit::Done);
+    assert!(rt; ended(&seen, Exit::Done));
     assert!(rt; seen.out.ends_with(b"done 3\nend entries=2 names=2\n"));
-    assert!(rt; seen.file0.as_slice() == FIRST_VERSION.as_slice() && seen.file1.len() == 292);
-    assert!(rt; seen.disk_calls.ends_with(&TAKING_OVER));
+    assert!(rt; left_both(&seen, &FIRST_VERSION, 292));
+    assert!(rt; called(&seen, &TAKING_OVER));
     // Without a new error nothing is written.
     let seen = play(rt.alloc(), &[MODULE, EVERYDAY], start)?;
-    assert!(rt; seen.exit == Exit::Done && seen.file1.is_empty());
-    assert!(rt; seen.file0.as_slice() == FIRST_VERSION.as_slice());
+    assert!(rt; ended(&seen, Exit::Done) && left_zero(&seen, &FIRST_VERSION));
     Ok(())
+}
+
+// Whether a run left these bytes in file 0, and so many in file 1.
+fn left_both(seen: &Seen, file0: &[u8], length: usize) -> bool {
+    seen.file0.as_slice() == file0 && seen.file1.len() == length
 }
 
 // File 0 cut at each place from behind its front on, where that is told, and garbage that doesn't
@@ -101,26 +103,21 @@ const DAMAGED: [(usize, &str); 6] = [
 
 #[test]
 fn a_damaged_file_is_left(rt: HostRuntime) -> Result<(), Fail> {
-    for (length, output) in DAMAGED {
-        let start = Start {
-            file0: &LABELLED[..length],
-            ..PLAIN
-        };
-        let seen = play(rt.alloc(), &[EVERYDAY], start)?;
-        assert!(rt;
-            seen.exit.status() == 7 && seen.out.as_slice() == output.as_bytes(),
-            "{length}"
-        );
-        assert!(rt;
-            seen.file0.as_slice() == start.file0 && seen.file1.is_empty(),
-            "{length}"
-        );
+    for (length, output) in &DAMAGED {
+        let file0 = LABELLED.get(..*length).unwrap_or(&[]);
+        assert!(rt; is_left(rt.alloc(), file0, output)?, "{length}");
     }
     let start = Start {
         file0: &[0xa5],
         ..PLAIN
     };
     let seen = play(rt.alloc(), &[], start)?;
-    assert!(rt; seen.exit == Exit::Done && seen.file0.as_slice() == EMPTY.as_slice());
+    assert!(rt; ended(&seen, Exit::Done) && left_zero(&seen, &EMPTY));
     Ok(())
+}
+
+// Whether a damaged file 0 is told so, and left as it is.
+fn is_left(alloc: Global, file0: &'static [u8], output: &str) -> Result<bool, Fail> {
+    let seen = play(alloc, &[EVERYDAY], Start { file0, ..PLAIN })?;
+    Ok(seen.exit.status() == 7 && is_text(&seen.out, &[output]) && left_zero(&seen, file0))
 }

@@ -1,6 +1,6 @@
 //! That the account is made again from what the disk gives, and from nothing else.
 use super::journals::FIRST_VERSION_EMPTY;
-use super::{EVERYDAY, LOGGED, PLAIN, REPEATED, Start, is_text, play};
+use super::{EVERYDAY, LOGGED, PLAIN, REPEATED, Start, ended, is_text, play};
 use ras_daemon::Exit;
 use std::test::Fail;
 
@@ -34,9 +34,9 @@ fn only_a_restart_asks_the_disk(rt: HostRuntime) -> Result<(), Fail> {
         second: Some(&FIRST_VERSION_EMPTY),
         ..PLAIN
     };
-    for (number, (script, output)) in ROWS.into_iter().enumerate() {
+    for (number, (script, output)) in ROWS.iter().enumerate() {
         let seen = play(rt.alloc(), script, start)?;
-        assert!(rt; seen.exit == Exit::Done, "row {number}");
+        assert!(rt; ended(&seen, Exit::Done), "row {number}");
         assert!(rt; is_text(&seen.out, output), "row {number}");
     }
     Ok(())
@@ -50,7 +50,7 @@ fn a_restart_over_a_broken_file(rt: HostRuntime) -> Result<(), Fail> {
         ..PLAIN
     };
     let seen = play(rt.alloc(), &[EVERYDAY, "restart\n", EVERYDAY], start)?;
-    assert!(rt; seen.exit == Exit::Damaged { file: 0, place: 73 });
+    assert!(rt; ended(&seen, Exit::Damaged { file: 0, place: 73 }));
     assert!(rt; is_text(&seen.out, &[LOGGED, "done 1\nstop 7 file=0 place=73\n"]));
     Ok(())
 }

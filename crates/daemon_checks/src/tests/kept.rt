@@ -65,7 +65,7 @@ const ROWS: [(&[&str], &[&str]); 4] = [
 
 #[test]
 fn what_the_account_keeps(rt: HostRuntime) -> Result<(), Fail> {
-    for (number, (script, output)) in ROWS.into_iter().enumerate() {
+    for (number, (script, output)) in ROWS.iter().enumerate() {
         assert!(rt; does(rt.alloc(), script, output, 0)?, "row {number}");
     }
     Ok(())

@@ -49,9 +49,9 @@ const REFUSED: [(&str, &str); 41] = [
 
 #[test]
 fn first_lines_are_refused(rt: HostRuntime) -> Result<(), Fail> {
-    for (line, reason) in REFUSED {
-        let output = ["stop 2 line=1 reason=", reason, "\n"];
-        assert!(rt; does(rt.alloc(), &[line], &output, 2)?, "{line}");
+    for (line, reason) in &REFUSED {
+        let output = ["stop 2 line=1 reason=", *reason, "\n"];
+        assert!(rt; does(rt.alloc(), &[*line], &output, 2)?, "{line}");
     }
     Ok(())
 }
@@ -78,9 +78,9 @@ const TAKEN: [(&str, &str, &str); 7] = [
 
 #[test]
 fn lines_at_their_limits_are_taken(rt: HostRuntime) -> Result<(), Fail> {
-    for (line, printed, entries) in TAKEN {
-        let output = [printed, "end entries=", entries, " names=0\n"];
-        assert!(rt; does(rt.alloc(), &[line], &output, 0)?, "{line}");
+    for (line, printed, entries) in &TAKEN {
+        let output = [*printed, "end entries=", *entries, " names=0\n"];
+        assert!(rt; does(rt.alloc(), &[*line], &output, 0)?, "{line}");
     }
     Ok(())
 }
@@ -99,7 +99,7 @@ const AMONG_OTHERS: [(&[&str], &[&str]); 2] = [
 
 #[test]
 fn a_line_is_refused_among_others(rt: HostRuntime) -> Result<(), Fail> {
-    for (script, output) in AMONG_OTHERS {
+    for (script, output) in &AMONG_OTHERS {
         assert!(rt; does(rt.alloc(), script, output, 2)?);
     }
     Ok(())

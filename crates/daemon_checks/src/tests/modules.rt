@@ -16,9 +16,9 @@ const ROWS: [(&str, &str); 8] = [
 
 #[test]
 fn other_rows_give_no_label(rt: HostRuntime) -> Result<(), Fail> {
-    for (first, second) in ROWS {
+    for (first, second) in &ROWS {
         let done = if first.is_empty() { "" } else { "done 1\n" };
-        let script = [first, "\n", second, "\n", EVERYDAY];
+        let script = [*first, "\n", *second, "\n", EVERYDAY];
         let output = [done, "done 2\n", LOGGED, "done 3\nend entries=1 names=1\n"];
         assert!(rt; does(rt.alloc(), &script, &output, 0)?, "{first}, {second}");
     }
