@@ -6,7 +6,7 @@ ghost use Rattle.ras_facts.specs.Entries.{IsValidEntry, most_orders};
 ghost use Rattle.ras_account.specs.History.{History, empty, with_entry, with_mark};
 ghost use Rattle.ras_account.specs.Fresh.{is_fresh_behind};
 ghost use Rattle.ras_account.specs.Account.{account_of, weight_in, IsAccountOf};
-ghost use Rattle.ras_account.specs.Continued.{is_fresh_in, account_after, account_after_fresh, account_with_count, account_after_mark};
+ghost use Rattle.ras_account.specs.Continued.{is_fresh_in, knows, account_after, account_after_fresh, account_with_count, account_after_mark};
 ghost use Rattle.ras_account.specs.Sightings.{Sighting};
 ghost use Rattle.row_tables.specs.Held.{is_ready};
 ghost use Rattle.ras_facts.specs.declared.entry.Entry.{Entry};
@@ -105,6 +105,15 @@ impl Account {
             → IsFalse result → IsAccountOf (with_entry history entry.now) self.now.state }
     {
         self.in_force.admits(entry) && !self.holds_name_of(entry)
+    }
+
+    /// Whether the account knows a name: it holds it, or the name's boot is retired. A fact is fresh
+    /// exactly where its name isn't known.
+    pub fn knows(&self, name: &Name) -> bool
+        ensures known { result ≡ knows self.now.state name.now }
+        ensures account { IsAccount self.now.state }
+    {
+        self.names.holds(name) || self.in_force.retires(name)
     }
 
     // Whether an entry is a fact whose name is held.

@@ -1,6 +1,8 @@
 //! The fact that the snapshot of a machine-check bank gives.
-ghost use Rattle.std.specs.Prelude.{◌≡◌, ◌↔◌, Ok, None, IfOk, IfSome};
+ghost use Rattle.std.specs.Prelude.{◌≡◌, ◌↔◌, List, Ok, None, IfOk, IfSome};
 ghost use Rattle.std.specs.Bool.{IsFalse};
+ghost use Rattle.std.specs.Option.{option_map};
+ghost use Rattle.dimm_topology.specs.declared.row.Row.{Row};
 ghost use Rattle.mca_status.specs.Registers.{valid};
 ghost use Rattle.ras_facts.specs.Facts.{bank_name, bank_label, bank_item, status_in, bank_fact};
 ghost use Rattle.ras_facts.specs.Valid.{IsValidItem, IsValidFact};
@@ -80,6 +82,18 @@ impl BankReport {
             page: usable_page(cap, status, self.addr, Misc(self.misc)),
             weight: weight_of(cap, status),
         })
+    }
+}
+
+/// The name of the fact that a bank's snapshot gives, whatever the topology is. It is None exactly
+/// where the bank holds no error, and takes no memory.
+pub fn name_of_bank(bank: &BankReport) -> Option<Name>
+    ensures { (rows : List Row)
+        → result ≡ option_map (λ fact. fact.name) (bank_fact bank.now rows) }
+{
+    match class_of(Cap(bank.cap), Status(bank.status)) {
+        Some(_) => Some(bank.name()),
+        None => None,
     }
 }
 

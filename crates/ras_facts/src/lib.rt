@@ -14,7 +14,7 @@ mod name;
 mod record;
 mod section;
 
-pub use bank::{BankReport, fact_of_bank};
+pub use bank::{BankReport, fact_of_bank, name_of_bank};
 pub use block::fact_of_block;
 pub use entry::Entry;
 pub use fact::Fact;
