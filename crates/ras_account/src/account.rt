@@ -107,8 +107,8 @@ impl Account {
         self.in_force.admits(entry) && !self.holds_name_of(entry)
     }
 
-    /// Whether the account knows a name: it holds it, or the name's boot is retired. A fact is fresh
-    /// exactly where its name isn't known.
+    /// Whether the account knows a name: it holds it, or the name's boot is retired. A fact is
+    /// fresh exactly where its name isn't known.
     pub fn knows(&self, name: &Name) -> bool
         ensures known { result ≡ knows self.now.state name.now }
         ensures account { IsAccount self.now.state }
