@@ -1,17 +1,8 @@
 //! The two-section record, each shorter length of it, and each refusal.
-use super::bytes::{front, lay};
+use super::bytes::{MEMORY, OTHER, front, lay};
 use cper_records::{RecordRefused, read_record};
 use cper_sections::{MemSection, Section, guid_at};
 use uuid::Uuid;
-
-// The GUID of the second section, as it stands in the descriptor.
-const OTHER: [u8; 16] = [
-    0x33, 0x22, 0x11, 0x00, 0x55, 0x44, 0x77, 0x66, 0x88, 0x99, 0xaa, 0xbb, 0xcc, 0xdd, 0xee, 0xff,
-];
-
-const MEMORY: [u8; 16] = [
-    0x14, 0x11, 0xbc, 0xa5, 0x64, 0x6f, 0xde, 0x4e, 0xb8, 0x63, 0x3e, 0x83, 0xed, 0x7c, 0x83, 0xb1,
-];
 
 // The bytes that aren't 0 of a record of 353 bytes: a memory section of the old form, and a section
 // of no known type.

@@ -1,23 +1,10 @@
 //! Sections at the lengths where they begin to read, and contexts that fit and don't fit.
-use super::bytes::front;
+use super::bytes::{MEMORY, OTHER, PROCESSOR, X64, front};
 use cper_sections::{
     Context, MemSection, ProcSection, Section, SectionRefused, X64Section, context_at, guid_at,
     read_section,
 };
 use uuid::Uuid;
-
-// Section types as they stand in descriptors.
-const MEMORY: [u8; 16] = [
-    0x14, 0x11, 0xbc, 0xa5, 0x64, 0x6f, 0xde, 0x4e, 0xb8, 0x63, 0x3e, 0x83, 0xed, 0x7c, 0x83, 0xb1,
-];
-
-const PROCESSOR: [u8; 16] = [
-    0xad, 0xcc, 0x76, 0x98, 0xb4, 0x47, 0xdb, 0x4b, 0xb6, 0x5e, 0x16, 0xf1, 0x93, 0xc4, 0xf3, 0xdb,
-];
-
-const X64: [u8; 16] = [
-    0xb0, 0xa0, 0x3e, 0xdc, 0x44, 0xa1, 0x97, 0x47, 0xb9, 0x5b, 0x53, 0xfa, 0x24, 0x2b, 0x6e, 0x1d,
-];
 
 // The section of a type, as it stands in a descriptor, and its bytes.
 fn section(guid: &[u8; 16], bytes: &[u8]) -> Result<Section, SectionRefused> {
@@ -203,11 +190,6 @@ fn x64_contexts(rt: HostRuntime) {
     };
     assert!(rt; context(&bytes, 0) == Some(wanted));
 }
-
-// A type of no known section.
-const OTHER: [u8; 16] = [
-    0x33, 0x22, 0x11, 0x00, 0x55, 0x44, 0x77, 0x66, 0x88, 0x99, 0xaa, 0xbb, 0xcc, 0xdd, 0xee, 0xff,
-];
 
 fn guid(bytes: &[u8; 16]) -> Uuid {
     guid_at(bytes)

@@ -1,6 +1,6 @@
 //! The sample tables and block, each shorter length of them, sources of each type at their sizes,
 //! and blocks of two entries.
-use super::bytes::{front, lay};
+use super::bytes::{MEMORY, OTHER, front, lay};
 use apei_sources::{Bert, BlockRefused, TableRefused, read_bert, read_block, read_hest};
 use cper_sections::{MemSection, Section, guid_at};
 use std::alloc::Global;
@@ -10,16 +10,6 @@ use uuid::Uuid;
 const TABLE_LENGTH: usize = 7_300;
 
 const BLOCK_LENGTH: usize = 300;
-
-// The type of memory sections, as it stands in an entry.
-const MEMORY: [u8; 16] = [
-    0x14, 0x11, 0xbc, 0xa5, 0x64, 0x6f, 0xde, 0x4e, 0xb8, 0x63, 0x3e, 0x83, 0xed, 0x7c, 0x83, 0xb1,
-];
-
-// A type of no known section.
-const OTHER: [u8; 16] = [
-    0x33, 0x22, 0x11, 0x00, 0x55, 0x44, 0x77, 0x66, 0x88, 0x99, 0xaa, 0xbb, 0xcc, 0xdd, 0xee, 0xff,
-];
 
 // The type of the source with an identifier, if the table has one.
 fn source(alloc: Global, bytes: &[u8], id: u16) -> Result<Option<u16>, TableRefused> {
