@@ -7,11 +7,7 @@ mod calls;
 mod disks;
 mod exchanged;
 mod faults;
-mod firmware;
 mod journals;
-mod kept;
-mod lines;
-mod modules;
 mod stops;
 
 use board_core::{DiskCall, FileNo, MemSource};
@@ -140,27 +136,4 @@ fn is_text(bytes: &[u8], parts: &[&str]) -> bool {
         }
     }
     rest.is_empty()
-}
-
-// Whether a run over empty files prints this and ends with this status, however the source cuts the
-// script into pieces.
-fn does(alloc: Global, script: &[&str], output: &[&str], status: u8) -> Result<bool, Fail> {
-    for piece in &[1, 7, usize::MAX] {
-        if !does_in(alloc, script, *piece, output, status)? {
-            return Ok(false);
-        }
-    }
-    Ok(true)
-}
-
-// The same of a source that gives so many bytes a call.
-fn does_in(
-    alloc: Global,
-    script: &[&str],
-    piece: usize,
-    output: &[&str],
-    status: u8,
-) -> Result<bool, Fail> {
-    let seen = play(alloc, script, Start { piece, ..PLAIN })?;
-    Ok(seen.exit.status() == status && is_text(&seen.out, output))
 }
