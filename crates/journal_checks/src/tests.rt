@@ -3,10 +3,8 @@
 mod appends;
 mod bytes;
 mod chains;
-mod checkpoints;
-mod cuts;
 mod large;
 mod opening;
-mod pairs;
 mod steps;
 mod stops;
+mod switches;

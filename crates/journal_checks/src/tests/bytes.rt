@@ -21,8 +21,6 @@ pub const LAST_BUT_ONE: &[u8] = b"\xfe\xff\xff\xff\xff\xff\xff\x7f";
 
 pub const LAST: &[u8] = b"\xff\xff\xff\xff\xff\xff\xff\x7f";
 
-pub const PAST_LAST: &[u8] = b"\0\0\0\0\0\0\0\x80";
-
 /// The number of the bytes of the empty account's checkpoint in version 2, and in version 1.
 pub const LENGTH: &[u8] = b"\x48\0\0\0\0\0\0\0";
 
@@ -41,11 +39,6 @@ pub const NOTHING: &[u8] = b"\x0a\0\0\0\0\0\0\0\x80\x51\x01\0\0\0\0\0\
 
 pub const OLD_NOTHING: &[u8] = b"\x0a\0\0\0\0\0\0\0\x80\x51\x01\0\0\0\0\0\
     \0\0\0\0\0\0\0\0\0\0\0\0\0\0\0\0\0\0\0\0\0\0\0\0\0\0\0\0\0\0\0\0";
-
-/// The empty generation 1 up to its first gate, in version 2 and in version 1.
-pub const HEAD: &[&[u8]] = &[FRONT, ONE, LENGTH, NOTHING];
-
-pub const OLD_HEAD: &[&[u8]] = &[OLD_FRONT, ONE, OLD_LENGTH, OLD_NOTHING];
 
 /// The empty generation 1, of 98 bytes, and of 74 in version 1.
 pub const EMPTY: &[&[u8]] = &[FRONT, ONE, LENGTH, NOTHING, CLOSED];

@@ -34,8 +34,8 @@ pub const ONE_NAME: Counted = Counted {
     floor: 0,
 };
 
-/// An entry that is no fact, and that leaves the floor 1.
-pub const ONE_RETIREMENT: Counted = Counted {
+// An entry that is no fact, and that leaves the floor 1.
+const ONE_RETIREMENT: Counted = Counted {
     entries: 1,
     names: 0,
     floor: 1,

@@ -140,8 +140,8 @@ pub fn checkpoint(alloc: Global, zero: &[&[u8]], one: &[&[u8]]) -> Result<Vec<u8
     encoded(alloc, &account)
 }
 
-/// How many entries and names an account counts, and its floor.
-pub fn counts_of(account: &Account) -> Counted {
+// How many entries and names an account counts, and its floor.
+fn counts_of(account: &Account) -> Counted {
     Counted {
         entries: account.entries(),
         names: account.names_len() as u64,
