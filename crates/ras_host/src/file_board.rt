@@ -1,7 +1,7 @@
 //! The working folder's files and standard output as a board.
-ghost use Rattle.std.specs.Prelude.{◌≡◌, ◌<◌, ◌≤◌, ◌+◌, None, Ok, false, length, take, drop, IfOk, IfErr, OnOk, OnErr, IsOk, IsSome, IsSomeAnd, IsTrue, IsFalse};
+ghost use Rattle.std.specs.Prelude.{◌≡◌, ◌<◌, ◌≤◌, ◌+◌, None, Ok, false, length, take, drop, IfOk, IfErr, OnOk, IsOk, IsSome, IsSomeAnd, IsTrue, IsFalse};
 ghost use Rattle.board_core.specs.declared.board.FileNo.{FileNo};
-ghost use Rattle.board_core.specs.Cause.{FailsAs, Rose, disk_call, device_call, print_call, put_failure};
+ghost use Rattle.board_core.specs.Cause.{FailsAs, disk_call, device_call, print_call, put_failure};
 ghost use Rattle.board_core.specs.Told.{register_in, after_reg_write, after_range_write};
 ghost use Rattle.erst_store.specs.Actions.{range_length};
 ghost use Rattle.board_core.specs.Clock.{untold};
@@ -89,7 +89,6 @@ impl<S: System> Board for FileBoard<S> {
         ensures length { IfOk result (λ n. HasLength S.shown (name_of file) n) }
         ensures locked { OnOk result (IsTrue self.old.is_exclusive
             → IsLocked S.shown (name_of FileNo.Zero)) }
-        ensures rose { OnErr result (Rose self.old.faults.disk self.new.faults.disk) }
         ensures cause { FailsAs disk_call self.old.faults self.new.faults result }
         ensures others { self.new ≡ record self.old { faults = self.new.faults } }
     {
@@ -105,7 +104,6 @@ impl<S: System> Board for FileBoard<S> {
             → EndsBy S.shown (name_of file) (place + count)) }
         ensures locked { OnOk result (IsTrue self.old.is_exclusive
             → IsLocked S.shown (name_of FileNo.Zero)) }
-        ensures rose { OnErr result (Rose self.old.faults.disk self.new.faults.disk) }
         ensures cause { FailsAs disk_call self.old.faults self.new.faults result }
         ensures others { self.new ≡ record self.old { faults = self.new.faults } }
     {
@@ -117,7 +115,6 @@ impl<S: System> Board for FileBoard<S> {
         ensures took { OnOk result (Took S.shown (name_of file) place bytes.now) }
         ensures locked { OnOk result (IsTrue self.old.is_exclusive
             → IsLocked S.shown (name_of FileNo.Zero)) }
-        ensures rose { OnErr result (Rose self.old.faults.disk self.new.faults.disk) }
         ensures cause { FailsAs disk_call self.old.faults self.new.faults result }
         ensures others { self.new ≡ record self.old { faults = self.new.faults } }
     {
@@ -129,7 +126,6 @@ impl<S: System> Board for FileBoard<S> {
         ensures durable { OnOk result (IsDurable S.shown (name_of file)) }
         ensures locked { OnOk result (IsTrue self.old.is_exclusive
             → IsLocked S.shown (name_of FileNo.Zero)) }
-        ensures rose { OnErr result (Rose self.old.faults.disk self.new.faults.disk) }
         ensures cause { FailsAs disk_call self.old.faults self.new.faults result }
         ensures others { self.new ≡ record self.old { faults = self.new.faults } }
     {
@@ -141,7 +137,6 @@ impl<S: System> Board for FileBoard<S> {
         ensures same { OnOk result (Does S.shown (λ d. d) self.old.device self.new.device) }
         ensures value { IfOk result (λ n. IsSomeAnd self.new.device.device
             (λ d. n ≡ register_in reg d)) }
-        ensures rose { OnErr result (Rose self.old.faults.registers self.new.faults.registers) }
         ensures cause { FailsAs device_call self.old.faults self.new.faults result }
         ensures exclusive { self.new.is_exclusive ≡ self.old.is_exclusive }
     {
@@ -152,7 +147,6 @@ impl<S: System> Board for FileBoard<S> {
     fn reg_write(&mut self, reg: Reg, value: u64) -> Result<(), Failed>
         ensures does { OnOk result (Does S.shown (after_reg_write reg value)
             self.old.device self.new.device) }
-        ensures rose { OnErr result (Rose self.old.faults.registers self.new.faults.registers) }
         ensures cause { FailsAs device_call self.old.faults self.new.faults result }
         ensures exclusive { self.new.is_exclusive ≡ self.old.is_exclusive }
     {
@@ -165,7 +159,6 @@ impl<S: System> Board for FileBoard<S> {
         ensures same { OnOk result (Does S.shown (λ d. d) self.old.device self.new.device) }
         ensures read { OnOk result (IsSomeAnd self.new.device.device
             (λ d. buf.new ≡ take (length buf.old) (drop place d.range))) }
-        ensures rose { OnErr result (Rose self.old.faults.registers self.new.faults.registers) }
         ensures cause { FailsAs device_call self.old.faults self.new.faults result }
         ensures exclusive { self.new.is_exclusive ≡ self.old.is_exclusive }
     {
@@ -177,7 +170,6 @@ impl<S: System> Board for FileBoard<S> {
         requires { place + length bytes.now ≤ range_length }
         ensures does { OnOk result (Does S.shown (after_range_write place bytes.now)
             self.old.device self.new.device) }
-        ensures rose { OnErr result (Rose self.old.faults.registers self.new.faults.registers) }
         ensures cause { FailsAs device_call self.old.faults self.new.faults result }
         ensures exclusive { self.new.is_exclusive ≡ self.old.is_exclusive }
     {
@@ -188,8 +180,6 @@ impl<S: System> Board for FileBoard<S> {
     fn put(&mut self, id: u64, bytes: &[u8]) -> Result<(), BoardPut>
         ensures put { OnOk result (Puts S.shown id bytes.now (Ok tt)
             self.old.device self.new.device) }
-        ensures rose { OnErr (put_failure result)
-            (Rose self.old.faults.registers self.new.faults.registers) }
         ensures cause { FailsAs device_call self.old.faults self.new.faults
             (put_failure result) }
         ensures exclusive { self.new.is_exclusive ≡ self.old.is_exclusive }
@@ -204,7 +194,6 @@ impl<S: System> Board for FileBoard<S> {
 
     fn print(&mut self, bytes: &[u8]) -> Result<(), Failed>
         ensures printed { OnOk result (IsTrue (S.shown.printed bytes.now)) }
-        ensures rose { OnErr result (Rose self.old.faults.prints self.new.faults.prints) }
         ensures cause { FailsAs print_call self.old.faults self.new.faults result }
         ensures others { self.new ≡ record self.old { faults = self.new.faults } }
     {
