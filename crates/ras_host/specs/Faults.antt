@@ -1,9 +1,14 @@
--- Why reading or writing a stretch of a file fails.
+-- Why a call fails, and why reading or writing a stretch of a file does.
 use Rattle.std.specs.Prelude.{◌≡◌, ◌⊎◌, ◌≤◌, ◌+◌, ◌^◌, ℕ, IsTrue}
 use Rattle.std.specs.IoError.{error_kind}
 use Rattle.std.specs.declared.io.Error.{Error}
 use Rattle.std.specs.declared.io.ErrorKind.TheVariants.{FileTooLarge, TimedOut, WriteZero}
 use Rattle.ras_host.specs.Shown.{Shown}
+
+-- There is an error of which this holds.
+pub record SomeError (holds : Error → Type 0) : Type 0 where
+  pub error : Error
+  pub is : holds error
 
 -- A byte of a stretch has no place below 2^64.
 abbrev pub IsTooFar : ℕ → ℕ → Type 0

@@ -1,12 +1,14 @@
 //! The working folder's files and standard output as a board.
-ghost use Rattle.std.specs.Prelude.{◌≡◌, ◌<◌, ◌≤◌, ◌+◌, None, Ok, false, length, take, drop, IfOk, IfErr, OnOk, IsOk, IsSome, IsSomeAnd, IsTrue, IsFalse};
+ghost use Rattle.std.specs.Prelude.{◌≡◌, ◌<◌, ◌≤◌, ◌+◌, None, Ok, false, length, take, drop, IfOk, IfErr, OnOk, OnErr, IsOk, IsErr, IsSome, IsSomeAnd, IsTrue, IsFalse};
 ghost use Rattle.board_core.specs.declared.board.FileNo.{FileNo};
 ghost use Rattle.board_core.specs.Cause.{FailsAs, disk_call, device_call, print_call, put_failure};
 ghost use Rattle.board_core.specs.Told.{register_in, after_reg_write, after_range_write};
 ghost use Rattle.erst_store.specs.Actions.{range_length};
 ghost use Rattle.board_core.specs.Clock.{untold};
 ghost use Rattle.board_core.specs.ClockLemmas.{not_told};
+ghost use Rattle.ras_host.specs.Faults.{SomeError, ReadFault, WriteFault};
 ghost use Rattle.ras_host.specs.JournalFiles.{name_of, HasLength, Gave, EndsBy, Took, IsDurable, IsLocked};
+ghost use Rattle.ras_host.specs.Printing.{OutputFault};
 ghost use Rattle.ras_host.specs.StoredDevice.{Does, DeviceFault, Puts};
 
 use crate::fault_count::with_fault_count;
@@ -45,6 +47,7 @@ impl<S: System> Model for FileBoard<S> {
         prints = b.print_faults;
       };
       device = b.device;
+      output = b.output;
       is_exclusive = b.files.is_exclusive;
     } };
 }
@@ -56,6 +59,7 @@ impl<S: System> FileBoard<S> {
     pub fn new(rt: HostRuntime, output: Output, system: S, is_exclusive: bool) -> FileBoard<S>
         ensures faults { result.faults ≡ record { disk = 0; registers = 0; prints = 0 } }
         ensures device { result.device ≡ record { device = None; is_lost = false } }
+        ensures output { result.output ≡ output }
         ensures exclusive { result.is_exclusive ≡ is_exclusive }
     {
         FileBoard {
@@ -89,6 +93,7 @@ impl<S: System> Board for FileBoard<S> {
         ensures length { IfOk result (λ n. HasLength S.shown (name_of file) n) }
         ensures locked { OnOk result (IsTrue self.old.is_exclusive
             → IsLocked S.shown (name_of FileNo.Zero)) }
+        ensures failed { OnErr result (SomeError (λ error. IsTrue (S.shown.failed error))) }
         ensures cause { FailsAs disk_call self.old.faults self.new.faults result }
         ensures others { self.new ≡ record self.old { faults = self.new.faults } }
     {
@@ -104,6 +109,7 @@ impl<S: System> Board for FileBoard<S> {
             → EndsBy S.shown (name_of file) (place + count)) }
         ensures locked { OnOk result (IsTrue self.old.is_exclusive
             → IsLocked S.shown (name_of FileNo.Zero)) }
+        ensures failed { OnErr result (SomeError (ReadFault S.shown place (length buf.new))) }
         ensures cause { FailsAs disk_call self.old.faults self.new.faults result }
         ensures others { self.new ≡ record self.old { faults = self.new.faults } }
     {
@@ -115,6 +121,7 @@ impl<S: System> Board for FileBoard<S> {
         ensures took { OnOk result (Took S.shown (name_of file) place bytes.now) }
         ensures locked { OnOk result (IsTrue self.old.is_exclusive
             → IsLocked S.shown (name_of FileNo.Zero)) }
+        ensures failed { OnErr result (SomeError (WriteFault S.shown place (length bytes.now))) }
         ensures cause { FailsAs disk_call self.old.faults self.new.faults result }
         ensures others { self.new ≡ record self.old { faults = self.new.faults } }
     {
@@ -126,6 +133,7 @@ impl<S: System> Board for FileBoard<S> {
         ensures durable { OnOk result (IsDurable S.shown (name_of file)) }
         ensures locked { OnOk result (IsTrue self.old.is_exclusive
             → IsLocked S.shown (name_of FileNo.Zero)) }
+        ensures failed { OnErr result (SomeError (λ error. IsTrue (S.shown.failed error))) }
         ensures cause { FailsAs disk_call self.old.faults self.new.faults result }
         ensures others { self.new ≡ record self.old { faults = self.new.faults } }
     {
@@ -137,8 +145,12 @@ impl<S: System> Board for FileBoard<S> {
         ensures same { OnOk result (Does S.shown (λ d. d) self.old.device self.new.device) }
         ensures value { IfOk result (λ n. IsSomeAnd self.new.device.device
             (λ d. n ≡ register_in reg d)) }
+        ensures failed { OnErr result (SomeError (DeviceFault S.shown self.old.device)) }
         ensures cause { FailsAs device_call self.old.faults self.new.faults result }
-        ensures exclusive { self.new.is_exclusive ≡ self.old.is_exclusive }
+        ensures others { self.new ≡ record self.old {
+          faults = self.new.faults;
+          device = self.new.device;
+        } }
     {
         let read = read_register(&mut self.device, &mut self.system, reg);
         with_fault_count(read, &mut self.register_faults)
@@ -147,8 +159,12 @@ impl<S: System> Board for FileBoard<S> {
     fn reg_write(&mut self, reg: Reg, value: u64) -> Result<(), Failed>
         ensures does { OnOk result (Does S.shown (after_reg_write reg value)
             self.old.device self.new.device) }
+        ensures failed { OnErr result (SomeError (DeviceFault S.shown self.old.device)) }
         ensures cause { FailsAs device_call self.old.faults self.new.faults result }
-        ensures exclusive { self.new.is_exclusive ≡ self.old.is_exclusive }
+        ensures others { self.new ≡ record self.old {
+          faults = self.new.faults;
+          device = self.new.device;
+        } }
     {
         let done = write_register(&mut self.device, &mut self.system, reg, value);
         with_fault_count(done, &mut self.register_faults)
@@ -159,8 +175,12 @@ impl<S: System> Board for FileBoard<S> {
         ensures same { OnOk result (Does S.shown (λ d. d) self.old.device self.new.device) }
         ensures read { OnOk result (IsSomeAnd self.new.device.device
             (λ d. buf.new ≡ take (length buf.old) (drop place d.range))) }
+        ensures failed { OnErr result (SomeError (DeviceFault S.shown self.old.device)) }
         ensures cause { FailsAs device_call self.old.faults self.new.faults result }
-        ensures exclusive { self.new.is_exclusive ≡ self.old.is_exclusive }
+        ensures others { self.new ≡ record self.old {
+          faults = self.new.faults;
+          device = self.new.device;
+        } }
     {
         let done = self.device.range_read(&mut self.system, place, buf);
         with_fault_count(done, &mut self.register_faults)
@@ -170,8 +190,12 @@ impl<S: System> Board for FileBoard<S> {
         requires { place + length bytes.now ≤ range_length }
         ensures does { OnOk result (Does S.shown (after_range_write place bytes.now)
             self.old.device self.new.device) }
+        ensures failed { OnErr result (SomeError (DeviceFault S.shown self.old.device)) }
         ensures cause { FailsAs device_call self.old.faults self.new.faults result }
-        ensures exclusive { self.new.is_exclusive ≡ self.old.is_exclusive }
+        ensures others { self.new ≡ record self.old {
+          faults = self.new.faults;
+          device = self.new.device;
+        } }
     {
         let done = self.device.range_write(&mut self.system, place, bytes);
         with_fault_count(done, &mut self.register_faults)
@@ -180,9 +204,14 @@ impl<S: System> Board for FileBoard<S> {
     fn put(&mut self, id: u64, bytes: &[u8]) -> Result<(), BoardPut>
         ensures put { OnOk result (Puts S.shown id bytes.now (Ok tt)
             self.old.device self.new.device) }
+        ensures failed { OnErr (put_failure result)
+            (SomeError (DeviceFault S.shown self.old.device)) }
         ensures cause { FailsAs device_call self.old.faults self.new.faults
             (put_failure result) }
-        ensures exclusive { self.new.is_exclusive ≡ self.old.is_exclusive }
+        ensures others { self.new ≡ record self.old {
+          faults = self.new.faults;
+          device = self.new.device;
+        } }
     {
         let put = self.device.put(&mut self.system, id, bytes);
         match with_fault_count(put, &mut self.register_faults) {
@@ -194,6 +223,8 @@ impl<S: System> Board for FileBoard<S> {
 
     fn print(&mut self, bytes: &[u8]) -> Result<(), Failed>
         ensures printed { OnOk result (IsTrue (S.shown.printed bytes.now)) }
+        ensures closed { IsFalse self.old.output.is_open → IsErr result }
+        ensures failed { OnErr result (SomeError (OutputFault S.shown self.old.output)) }
         ensures cause { FailsAs print_call self.old.faults self.new.faults result }
         ensures others { self.new ≡ record self.old { faults = self.new.faults } }
     {
