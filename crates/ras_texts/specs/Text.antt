@@ -88,11 +88,15 @@ log_lines detail account (Retire boot) =
     retire_line boot (count_by (is_retired boot) account.names)
 log_lines detail account (ModuleLimit limit) = module_limit_line limit
 
--- the line of an entry that isn't fresh in an account: a fact's name is stale where its boot is
--- retired, and else a repeat; other entries have none
+-- the line of a name that an account knows: stale where its boot is retired, and else a repeat
+abbrev pub known_line : State → Name → List ℕ
+known_line account name =
+    line_with ((if is_retired account.floor name then codes "stale " else codes "repeat ") ++ name_text name)
+
+-- the line of an entry that isn't fresh in an account: that of a fact's name; other entries have
+-- none
 abbrev pub repeat_line : State → Entry → List ℕ
-repeat_line account (FactEntry fact) =
-    line_with ((if is_retired account.floor fact.name then codes "stale " else codes "repeat ") ++ name_text fact.name)
+repeat_line account (FactEntry fact) = known_line account fact.name
 repeat_line account (PageLimit limit) = []
 repeat_line account (Retire boot) = []
 repeat_line account (ModuleLimit limit) = []

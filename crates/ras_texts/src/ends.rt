@@ -1,6 +1,6 @@
 //! The line that an event ends with, and the one that a whole run ends with.
 
-ghost use Rattle.std.specs.Prelude.{◌≡◌, IfOk};
+ghost use Rattle.std.specs.Prelude.{◌≡◌, ◌++◌, IfOk, OnOk};
 ghost use Rattle.ras_texts.specs.Text.{done_line, end_line};
 
 use crate::pieces::push_number;
@@ -20,10 +20,23 @@ pub fn done_line(alloc: Global, number: u64) -> Result<Vec<u8>, NoMemory>
     ensures { IfOk result (λ text. text.items ≡ done_line number) }
 {
     let mut text = Vec::with_capacity(alloc, DONE_LENGTH)?;
-    text.extend_from_slice(b"done ")?;
-    push_number(&mut text, number)?;
-    text.extend_from_slice(b"\n")?;
+    push_done(&mut text, number)?;
     Ok(text)
+}
+
+/// Adds the line that an event ends with, by the number of its line. It takes no memory where the
+/// text has room for the line.
+///
+/// # Errors
+///
+/// `NoMemory` comes for want of memory alone.
+pub fn push_done(text: &mut Vec<u8>, number: u64) -> Result<(), NoMemory>
+    ensures { OnOk result (text.new.items ≡ text.old.items ++ done_line number) }
+{
+    text.extend_from_slice(b"done ")?;
+    push_number(text, number)?;
+    text.extend_from_slice(b"\n")?;
+    Ok(())
 }
 
 /// The line that a whole run ends with: the numbers of entries and of names in the account.

@@ -3,7 +3,8 @@
 ghost use Rattle.std.specs.Prelude.{◌≡◌, ◌++◌, count_by, IfOk, OnOk};
 ghost use Rattle.std.specs.List.{flat_map};
 ghost use Rattle.ras_account.specs.History.{is_retired};
-ghost use Rattle.ras_texts.specs.Text.{item_head, item_line, limit_text, line_with, log_lines, repeat_line, retire_line};
+ghost use Rattle.ras_texts.specs.Text.{item_head, item_line, known_line, limit_text, line_with};
+ghost use Rattle.ras_texts.specs.Text.{log_lines, repeat_line, retire_line};
 
 use crate::pieces::{class_word, push_label, push_name, push_number, push_page};
 use page_policy::Limit;
@@ -56,12 +57,26 @@ pub fn repeat_line(alloc: Global, account: &Account, entry: &Entry) -> Result<Ve
 {
     let mut text = Vec::with_capacity(alloc, REPEAT_LENGTH)?;
     if let Entry::Fact(fact) = entry {
-        let is_stale = is_retired(account.floor(), &fact.name);
-        text.extend_from_slice(if is_stale { b"stale " } else { b"repeat " })?;
-        push_name(&mut text, &fact.name)?;
-        text.extend_from_slice(b"\n")?;
+        push_known(&mut text, account, &fact.name)?;
     }
     Ok(text)
+}
+
+/// Adds the line of a name that an account knows: stale where its boot is retired, and else a
+/// repeat. It takes no memory where the text has room for the line.
+///
+/// # Errors
+///
+/// `NoMemory` comes for want of memory alone.
+pub fn push_known(text: &mut Vec<u8>, account: &Account, name: &Name) -> Result<(), NoMemory>
+    ensures { OnOk result
+        (text.new.items ≡ text.old.items ++ known_line account.now.state name.now) }
+{
+    let is_stale = is_retired(account.floor(), name);
+    text.extend_from_slice(if is_stale { b"stale " } else { b"repeat " })?;
+    push_name(text, name)?;
+    text.extend_from_slice(b"\n")?;
+    Ok(())
 }
 
 // Whether a name's boot is below a floor.
