@@ -1,52 +1,69 @@
 //! A report that is no news: nothing is made of it but its line.
 
-ghost use Rattle.std.specs.Prelude.{◌≡◌, IfNone, IfOk, IfSome, IsSome};
+ghost use Rattle.std.specs.Prelude.{◌≡◌, IfNone, IfSome, IsSome, IsTrue};
+ghost use Rattle.dimm_topology.specs.Labels.{is_label_or_none};
+ghost use Rattle.ras_facts.specs.Facts.{bank_fact, bank_label};
+ghost use Rattle.ras_facts.specs.Valid.{IsValidFact};
 ghost use Rattle.ras_facts.specs.declared.bank.BankReport.{BankReport};
 ghost use Rattle.ras_script.specs.declared.line.ErrorReport.TheVariants as ErrorReportFor;
 ghost use Rattle.ras_script.specs.declared.line.Line.TheVariants as LineFor;
+ghost use Rattle.ras_texts.specs.Text.{known_line};
 ghost use Rattle.ras_events.specs.Repeats.{IsKnownBank, IsRepeat};
 
 use crate::Settings;
+use mca_codes::code_of;
+use mca_status::{Cap, Misc, Status, usable_address, usable_page, weight_of};
 use ras_account::Account;
-use ras_base::NoMemory;
-use ras_facts::{BankReport, Entry, fact_of_bank};
+use ras_facts::{BankReport, Name, name_of_bank};
 use ras_script::{ErrorReport, Line};
-use ras_texts::repeat_line;
-use std::alloc::Global;
 
 impl Settings {
-    /// The line that is printed of a bank's report that is no news: its name is held, or its boot
-    /// is retired. It is None of any other line, which may also report no news.
+    /// The name under which a bank's report is no news: it is held, or its boot is retired. The
+    /// line that is printed of the report is the one of this name. It is None of any other line,
+    /// which may also report no news.
     ///
     /// Most reports of a failing module are repeats, so they are told apart before an event is made
-    /// of them.
-    ///
-    /// # Errors
-    ///
-    /// `NoMemory` comes for want of memory alone.
-    pub fn repeat_of(
-        &self,
-        alloc: Global,
-        line: &Line,
-        account: &Account,
-    ) -> Result<Option<Vec<u8>>, NoMemory>
-        ensures repeats { IfOk result (λ it. IfSome it (λ text.
-            IsRepeat account.now.state self.now line.now text.items)) }
-        ensures known { IsKnownBank account.now.state self.now line.now → IfOk result IsSome }
+    /// of them. It takes no memory and has no error.
+    pub fn repeat_of(&self, line: &Line, account: &Account) -> Option<Name>
+        ensures repeats { IfSome result (λ name. IsRepeat account.now.state self.now line.now
+            (known_line account.now.state name)) }
+        ensures known { IsKnownBank account.now.state self.now line.now → IsSome result }
     {
-        let Some(bank) = bank_in(line) else {
-            return Ok(None);
-        };
-        let Some(fact) = fact_of_bank(alloc, bank, &self.topology)? else {
-            return Ok(None);
-        };
-        let entry = Entry::Fact(fact);
-        // So that the clause above can tell that there is room: an account is within its limits.
-        let _ = account.names_len();
-        if account.is_fresh(&entry) {
-            return Ok(None);
+        let bank = bank_in(line)?;
+        let name = name_of_bank(bank)?;
+        if !account.knows(&name) {
+            return None;
         }
-        Ok(Some(repeat_line(alloc, account, &entry)?))
+        // So that the clause above can tell that the report's fact is valid.
+        self.read_fact(*bank);
+        Some(name)
+    }
+
+    // Reads what the fact of a bank's report is made of, and makes nothing of it.
+    fn read_fact(&self, bank: BankReport)
+        ensures valid { IfSome (bank_fact bank self.now.topology) IsValidFact }
+    {
+        let (cap, status) = (Cap(bank.cap), Status(bank.status));
+        let _ = usable_page(cap, status, bank.addr, Misc(bank.misc));
+        let _ = weight_of(cap, status);
+        let _ = self.label_of(&bank);
+    }
+
+    // The label of the module that a bank's error belongs to, empty for none.
+    fn label_of(&self, bank: &BankReport) -> &[u8]
+        ensures label { result.now ≡ bank_label bank.now self.now.topology }
+        ensures valid { IsTrue (is_label_or_none result.now) }
+    {
+        let (cap, status) = (Cap(bank.cap), Status(bank.status));
+        let address = usable_address(cap, status, bank.addr, Misc(bank.misc));
+        let code = code_of(status.error_code());
+        let owner = self
+            .topology
+            .owner_of_bank(bank.cpu, bank.bank, code, address);
+        match owner {
+            Some(owner) => owner.bytes(),
+            None => &[],
+        }
     }
 }
 
