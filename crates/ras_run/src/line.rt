@@ -15,7 +15,7 @@ ghost use Rattle.ras_run.specs.Places.{Start};
 ghost use Rattle.ras_run.specs.Taking.{IsPrintExit, IsRunAfter, IsStop, LedgerStands, LineMoment};
 ghost use Rattle.ras_run.specs.Taking.{OnRefusal, Reopens, ReopenMoment, TakesLine, unread_exit};
 ghost use Rattle.ras_run.specs.TakingCalls.{BeginsLine, KeepsCalls, MakesLine};
-ghost use Rattle.ras_texts.specs.Text.{done_line};
+ghost use Rattle.ras_texts.specs.Text.{done_line, known_line};
 
 use crate::counting::take_made;
 use crate::later_kinds::read_taken_line;
@@ -23,10 +23,12 @@ use crate::opening::open;
 use crate::printing::print_event;
 use crate::{Exit, Run};
 use board_core::Board;
+use ras_account::Account;
 use ras_events::{Event, EventRefused, Reason};
+use ras_facts::Name;
 use ras_ledger::Ledger;
 use ras_script::LineRefused;
-use ras_texts::{done_line, standing_lines};
+use ras_texts::{done_line, push_done, push_known, standing_lines};
 use std::alloc::Global;
 
 /// Takes the line of this number: what it tells of the machine from now on, what it reports, or
@@ -82,8 +84,8 @@ pub fn take_line<B: Board>(
         Ok(line) => line,
         Err(refused) => return Err(unread_exit(number, refused)),
     };
-    if let Some(text) = run.settings.repeat_of(alloc, &line, &run.ledger.account)? {
-        return end_event(alloc, number, &text, board);
+    if let Some(name) = run.settings.repeat_of(&line, &run.ledger.account) {
+        return end_repeat(number, &name, &run.ledger.account, &mut run.text, board);
     }
     let event = match run.settings.take(alloc, line) {
         Ok(event) => event,
@@ -120,6 +122,40 @@ fn bad_line(number: u64, reason: Reason) -> Exit
         line: number,
         reason,
     }
+}
+
+// Ends the event of the line of this number, the report of a name that the account knows: with the
+// line of the name and its done line. Both are put into the buffer before either is printed; the
+// buffer has their room from the repeats before.
+fn end_repeat<B: Board>(
+    number: u64,
+    name: &Name,
+    account: &Account,
+    text: &mut Vec<u8>,
+    board: &mut B,
+) -> Result<(), Exit>
+    ensures told { OnOk result
+        (Steps (after_print (known_line account.now.state name.now ++ done_line number))
+        (B.told board.old) (B.told board.new)) }
+    ensures stops { (t : Told) → Rests t (B.told board.old) (B.clock board.old)
+        → Adds (InOut (Begins (known_line account.now.state name.now ++ done_line number)) t.here)
+        (B.clock board.old) (B.clock board.new) }
+    ensures rests { OnOk result ((t : Told) → Rests t (B.told board.old) (B.clock board.old)
+        → Rests (after_print (known_line account.now.state name.now ++ done_line number) t)
+        (B.told board.new) (B.clock board.new)) }
+    ensures same { result ≡ Err Exit.NoMemory → board.new ≡ board.old }
+    ensures exit { IfErr result IsPrintExit }
+    ensures calls { Relates KeepsCalls (B.told board.old) (B.told board.new) }
+    ensures faults { Causes BoardCause result (B.faults board.old) (B.faults board.new) }
+    ensures device { LeavesDevice (B.told board.old) (B.told board.new)
+        (B.clock board.old) (B.clock board.new) }
+{
+    text.clear();
+    push_known(text, account, name)?;
+    let length = text.len();
+    push_done(text, number)?;
+    let (line, done) = text.split_at(length);
+    print_event(line, done, board)
 }
 
 // Ends the event of the line of this number, which keeps nothing: with its text, which is empty

@@ -2,6 +2,7 @@ use Rattle.std.proofs.Common.{Ok, Err, ap, refl, sym, ◌∙◌}
 use Rattle.ras_events.specs.declared.event.Event.{Event}
 use Rattle.ras_events.specs.Repeats.{IsRepeat}
 use Rattle.ras_events.specs.Sizes.{IsFit}
+use Rattle.ras_texts.specs.Text.{known_line}
 use Rattle.ras_run.specs.Places.{history_at}
 use Rattle.ras_run.proofs.LineLemmas.{counted_moments, reopened_moments, settled_moments, takes_counted, takes_nothing, takes_reopened, takes_settled, unread, unread_cause, unread_stop}
 use Rattle.ras_run.proofs.RepeatLemmas.{repeat_calls, repeat_moments, repeat_taken}
@@ -24,31 +25,31 @@ returns-in-Err-clause-faults g c = rw c.unread_exit.ensures (unread_cause c.args
 
 pub returns-in-Some-clause-takes : goal.returns-in-Some-clause-takes
 returns-in-Some-clause-takes g c = λ start before is t at.
-    let repeat : IsRepeat c.args.run.now.ledger.account.state c.args.run.now.settings c.in-Ok.line c.deref.result.now =
-    rw c.deref.ensures.value (rw c.in-Some.is at c.in_ok-text.ensures.repeats) in
+    let text = known_line c.args.run.now.ledger.account.state c.in-Some.name in
+    let repeat : IsRepeat c.args.run.now.ledger.account.state c.args.run.now.settings c.in-Ok.line text = c.in-Some.ensures.repeats in
     rw c.in-Ok.ensures.read
-    (takes_counted start before c.args.number c.in-Ok.line repeat.made c.args.run.now c.args.run.now c.args.run.now.ledger c.end_event.result _ _ is repeat.asked repeat.fit (sym repeat.settled) refl
-    (repeat_taken (history_at start before) c.args.number c.args.run.now.settings c.in-Ok.line c.deref.result.now c.args.run.now.ledger is.account repeat c.end_event.result _ _
-    c.end_event.ensures.told (λ memory. rw (c.end_event.ensures.same memory) refl) c.end_event.ensures.exit))
+    (takes_counted start before c.args.number c.in-Ok.line repeat.made c.args.run.now (record c.args.run.now { text = c.end_repeat.new.text }) c.args.run.now.ledger c.end_repeat.result _ _ is repeat.asked repeat.fit (sym repeat.settled) refl
+    (repeat_taken (history_at start before) c.args.number c.args.run.now.settings c.in-Ok.line text c.args.run.now.ledger is.account repeat c.end_repeat.result _ _
+    c.end_repeat.ensures.told (λ memory. rw (c.end_repeat.ensures.same memory) refl) c.end_repeat.ensures.exit))
 
 pub returns-in-Some-clause-moments : goal.returns-in-Some-clause-moments
 returns-in-Some-clause-moments g c = λ start before is t at.
-    let repeat : IsRepeat c.args.run.now.ledger.account.state c.args.run.now.settings c.in-Ok.line c.deref.result.now =
-    rw c.deref.ensures.value (rw c.in-Some.is at c.in_ok-text.ensures.repeats) in
+    let text = known_line c.args.run.now.ledger.account.state c.in-Some.name in
+    let repeat : IsRepeat c.args.run.now.ledger.account.state c.args.run.now.settings c.in-Ok.line text = c.in-Some.ensures.repeats in
     rw c.in-Ok.ensures.read
     (counted_moments start before c.args.number c.in-Ok.line repeat.made c.args.run.now t.here _ _ is repeat.asked repeat.fit
-    (repeat_moments (history_at start before) c.args.number c.args.run.now.settings c.in-Ok.line c.deref.result.now c.args.run.now.ledger is.account repeat _ _ _ t at c.requires.stands c.end_event.ensures.stops))
+    (repeat_moments (history_at start before) c.args.number c.args.run.now.settings c.in-Ok.line text c.args.run.now.ledger is.account repeat _ _ _ t at c.requires.stands c.end_repeat.ensures.stops))
 
 pub returns-in-Some-clause-calls : goal.returns-in-Some-clause-calls
-returns-in-Some-clause-calls g c = λ start before is. line_without start _ _ _ c.end_event.ensures.calls
+returns-in-Some-clause-calls g c = λ start before is. line_without start _ _ _ c.end_repeat.ensures.calls
 
 pub returns-in-Some-clause-whole : goal.returns-in-Some-clause-whole
 returns-in-Some-clause-whole g c = λ start before is.
-    let repeat : IsRepeat c.args.run.now.ledger.account.state c.args.run.now.settings c.in-Ok.line c.deref.result.now =
-    rw c.deref.ensures.value (rw c.in-Some.is at c.in_ok-text.ensures.repeats) in
+    let text = known_line c.args.run.now.ledger.account.state c.in-Some.name in
+    let repeat : IsRepeat c.args.run.now.ledger.account.state c.args.run.now.settings c.in-Ok.line text = c.in-Some.ensures.repeats in
     rw c.in-Ok.ensures.read
-    (counted_whole start before c.args.number c.in-Ok.line repeat.made c.args.run.now is repeat.asked c.end_event.result _ _
-    (repeat_calls (history_at start before) c.args.number c.args.run.now.settings c.in-Ok.line c.deref.result.now c.args.run.now.ledger is.account repeat c.end_event.result _ _ c.end_event.ensures.calls))
+    (counted_whole start before c.args.number c.in-Ok.line repeat.made c.args.run.now is repeat.asked c.end_repeat.result _ _
+    (repeat_calls (history_at start before) c.args.number c.args.run.now.settings c.in-Ok.line text c.args.run.now.ledger is.account repeat c.end_repeat.result _ _ c.end_repeat.ensures.calls))
 
 pub returns-in-Nothing-clause-takes : goal.returns-in-Nothing-clause-takes
 returns-in-Nothing-clause-takes g c = λ start before is t at.
@@ -58,15 +59,15 @@ returns-in-Nothing-clause-takes g c = λ start before is t at.
 pub returns-in-Settled-clause-takes : goal.returns-in-Settled-clause-takes
 returns-in-Settled-clause-takes g c = λ start before is t at.
     rw c.in-Ok.ensures.read
-    (takes_settled start before c.args.number c.in-Ok.line c.args.run.now (record c.args.run.now { settings = c.take.new.self }) c.end_event-in-Settled.result _ _ is
+    (takes_settled start before c.args.number c.in-Ok.line c.args.run.now (record c.args.run.now { settings = c.take.new.self }) c.end_event.result _ _ is
     (c.in-Ok-take.ensures.event ∙ ap (λ (e : Event). Ok e) c.in-Settled.is) c.in-Ok-take.ensures.settings refl
-    c.end_event-in-Settled.ensures.told (λ memory. rw (c.end_event-in-Settled.ensures.same memory) refl) c.end_event-in-Settled.ensures.exit)
+    c.end_event.ensures.told (λ memory. rw (c.end_event.ensures.same memory) refl) c.end_event.ensures.exit)
 
 pub returns-in-Settled-clause-moments : goal.returns-in-Settled-clause-moments
 returns-in-Settled-clause-moments g c = λ start before is t at.
     rw c.in-Ok.ensures.read
     (settled_moments start before c.args.number c.in-Ok.line c.args.run.now _ _ _ t is (c.in-Ok-take.ensures.event ∙ ap (λ (e : Event). Ok e) c.in-Settled.is)
-    c.requires.stands at c.end_event-in-Settled.ensures.stops)
+    c.requires.stands at c.end_event.ensures.stops)
 
 pub returns-in-Counted-clause-takes : goal.returns-in-Counted-clause-takes
 returns-in-Counted-clause-takes g c = λ start before is t at.
@@ -114,12 +115,12 @@ returns-in-Nothing-clause-whole g c = λ start before is.
     (nothing_whole start before c.args.number c.in-Ok.line c.args.run.now _ is (c.in-Ok-take.ensures.event ∙ ap (λ (e : Event). Ok e) c.in-Nothing.is))
 
 pub returns-in-Settled-clause-calls : goal.returns-in-Settled-clause-calls
-returns-in-Settled-clause-calls g c = λ start before is. line_without start _ _ _ c.end_event-in-Settled.ensures.calls
+returns-in-Settled-clause-calls g c = λ start before is. line_without start _ _ _ c.end_event.ensures.calls
 
 pub returns-in-Settled-clause-whole : goal.returns-in-Settled-clause-whole
 returns-in-Settled-clause-whole g c = λ start before is.
     rw c.in-Ok.ensures.read
-    (settled_whole start before c.args.number c.in-Ok.line c.args.run.now c.end_event-in-Settled.result _ _ is (c.in-Ok-take.ensures.event ∙ ap (λ (e : Event). Ok e) c.in-Settled.is) c.end_event-in-Settled.ensures.calls)
+    (settled_whole start before c.args.number c.in-Ok.line c.args.run.now c.end_event.result _ _ is (c.in-Ok-take.ensures.event ∙ ap (λ (e : Event). Ok e) c.in-Settled.is) c.end_event.ensures.calls)
 
 pub returns-in-Counted-clause-calls : goal.returns-in-Counted-clause-calls
 returns-in-Counted-clause-calls g c = λ start before is.
