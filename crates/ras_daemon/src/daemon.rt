@@ -238,6 +238,7 @@ fn take_script<S: Source, B: Board>(
     let mut run = Run {
         settings: Settings::new(alloc),
         ledger,
+        text: Vec::new(alloc),
     };
     let exit = match take_lines(alloc, reader, &mut run, source, board) {
         Ok(()) => Exit::Done,

@@ -20,7 +20,7 @@ pub returns-clause-runs : goal.returns-clause-runs
 returns-clause-runs g c = λ start script t is_start left is.
     let u = told_begun start script t c.args.ledger is_start in
     let told = begun_told start script t c.args.ledger is_start _ _ is c.in_default.ensures.told in
-    let after : IsRunAfter start [] (record { settings = c.new.result; ledger = c.args.ledger }) = record { settings = c.new.ensures; account = is_start.account; standing = is_start.standing } in
+    let after : IsRunAfter start [] (record { settings = c.new.result; ledger = c.args.ledger; text = c.new-2.result }) = record { settings = c.new.ensures; account = is_start.account; standing = is_start.standing } in
     let orders = begun start script t c.args.ledger is_start in
     elim c.match-take_lines.branch [
       | in-Ok w ↦
@@ -39,7 +39,7 @@ pub returns-clause-moments : goal.returns-clause-moments
 returns-clause-moments g c = λ start script t is_start left is.
     let u = told_begun start script t c.args.ledger is_start in
     let told = begun_told start script t c.args.ledger is_start _ _ is c.in_default.ensures.told in
-    let after : IsRunAfter start [] (record { settings = c.new.result; ledger = c.args.ledger }) = record { settings = c.new.ensures; account = is_start.account; standing = is_start.standing } in
+    let after : IsRunAfter start [] (record { settings = c.new.result; ledger = c.args.ledger; text = c.new-2.result }) = record { settings = c.new.ensures; account = is_start.account; standing = is_start.standing } in
     let orders = begun start script t c.args.ledger is_start in
     let leaves = subst (λ o. LeavesDevice o (g.B.Board.told c.take_lines.new.board) (g.B.Board.clock c.print_standing.new.board) (g.B.Board.clock c.take_lines.new.board)) told c.take_lines.ensures.device in
     adds_both (OpenStop start script t) _ _ _
@@ -71,7 +71,7 @@ pub returns-clause-ahead : goal.returns-clause-ahead
 returns-clause-ahead g c = λ start script t is_start left is.
     let u = told_begun start script t c.args.ledger is_start in
     let told = begun_told start script t c.args.ledger is_start _ _ is c.in_default.ensures.told in
-    let after : IsRunAfter start [] (record { settings = c.new.result; ledger = c.args.ledger }) = record { settings = c.new.ensures; account = is_start.account; standing = is_start.standing } in
+    let after : IsRunAfter start [] (record { settings = c.new.result; ledger = c.args.ledger; text = c.new-2.result }) = record { settings = c.new.ensures; account = is_start.account; standing = is_start.standing } in
     let orders = begun start script t c.args.ledger is_start in
     let lines_fault : c.match-take_lines.exit ≡ SourceFault → c.take_lines.result ≡ Err SourceFault = (λ fault. elim c.match-take_lines.branch [
       | in-Ok w ↦ (let e = sym w.exit-is ∙ fault in absurd cc)
@@ -93,6 +93,6 @@ pub returns-clause-calls : goal.returns-clause-calls
 returns-clause-calls g c = λ start script t is_start left is.
     let u = told_begun start script t c.args.ledger is_start in
     let told = begun_told start script t c.args.ledger is_start _ _ is c.in_default.ensures.told in
-    let after : IsRunAfter start [] (record { settings = c.new.result; ledger = c.args.ledger }) = record { settings = c.new.ensures; account = is_start.account; standing = is_start.standing } in
+    let after : IsRunAfter start [] (record { settings = c.new.result; ledger = c.args.ledger; text = c.new-2.result }) = record { settings = c.new.ensures; account = is_start.account; standing = is_start.standing } in
     still_makes (IsBeginning (AreLineCalls start script)) t _ _ (ends_calls _ c.end_run.result _ _ _ c.end_run.ensures.ends)
     (makes_from (IsBeginning (AreLineCalls start script)) t u _ refl (c.take_lines.ensures.calls start script u after left told))
