@@ -1,6 +1,7 @@
 //! Numbers as the words of a script write them.
 
-ghost use Rattle.std.specs.Prelude.{◌≡◌, ℕ, ◌^◌, ◌<◌, ◌≤◌, Bool, IfSome};
+ghost use Rattle.std.specs.Prelude.{◌≡◌, ℕ, ◌^◌, ◌<◌, ◌≤◌, Bool, IfSome, SomeIff};
+ghost use Rattle.std.specs.Char.{digit_value};
 ghost use Rattle.std.specs.Fmt.{decimal, digits};
 ghost use Rattle.ras_script.specs.Number.{numeral_value, decimal_of, hexadecimal_of};
 
@@ -9,6 +10,14 @@ pub const DECIMAL_DIGITS: usize = 20;
 
 /// The most digits that a hexadecimal word may have.
 pub const HEXADECIMAL_DIGITS: usize = 16;
+
+// So many digits of any radix up to 16 are a value below 2^64.
+const FITTING_DIGITS: usize = 16;
+
+// The codes of the first and of the last decimal digit.
+const ZERO: u64 = b'0' as u64;
+
+const NINE: u64 = b'9' as u64;
 
 /// The value of a decimal word of 1 to 20 digits, where it is at most `most`.
 pub fn decimal(word: &[u8], most: u64) -> Option<u64>
@@ -34,25 +43,40 @@ pub fn written_numbers_are_read()
         → hexadecimal_of (digits 16 upper n) ≡ Some n }
 {}
 
-// The value of a word of 1 to `longest` digits, where it is at most `most`.
+// The value of a word of 1 to `longest` digits, where it is at most `most`. It is inlined, so that
+// the radix is known where it runs: most words of a script are numbers.
+#[inline(always)]
 fn number(word: &[u8], radix: u32, longest: usize, most: u64) -> Option<u64>
-    requires some_radix { 2 ≤ radix }
+    requires some_radix { 10 ≤ radix }
     requires small_radix { radix ≤ 16 }
-    requires short { longest ≤ 30 }
     ensures value { result ≡ numeral_value radix longest most word.now }
     ensures within { IfSome result (λ n. n ≤ most) }
 {
     if word.is_empty() || word.len() > longest {
         return None;
     }
-    let mut value = 0u128;
-    for byte in word {
-        let digit = char::from(*byte).to_digit(radix)?;
-        value = value * u128::from(radix) + u128::from(digit);
+    let mut value = 0u64;
+    for (place, byte) in word.iter().enumerate() {
+        let digit = digit_of(*byte, radix)?;
+        value = if place < FITTING_DIGITS {
+            value * u64::from(radix) + digit
+        } else {
+            value.checked_mul(u64::from(radix))?.checked_add(digit)?
+        };
     }
-    if value <= u128::from(most) {
-        Some(value as u64)
-    } else {
-        None
+    if value <= most { Some(value) } else { None }
+}
+
+// The value of a digit. The decimal digits come first, since most digits are decimal.
+#[inline(always)]
+fn digit_of(byte: u8, radix: u32) -> Option<u64>
+    requires some_radix { 10 ≤ radix }
+    requires small_radix { radix ≤ 16 }
+    ensures { SomeIff result (digit_value byte < radix) (digit_value byte) }
+{
+    let code = u64::from(byte);
+    if ZERO <= code && code <= NINE {
+        return Some(code - ZERO);
     }
+    Some(u64::from(char::from(byte).to_digit(radix)?))
 }
