@@ -1,6 +1,8 @@
 pub mod NumberLemmas
 pub mod ByteLemmas
 pub mod SplittingLemmas
+pub mod HeldWordsLemmas
+pub mod HeldLineLemmas
 pub mod LineAndWordLemmas
 pub mod FieldLemmas
 pub mod LineRangeLemmas

@@ -42,6 +42,9 @@ const RETIRE_WORDS: usize = 1;
 
 const PANIC_WORDS: usize = 1 + BANK_WORDS;
 
+/// The most words of a line of any kind: the name `panic`, and the words after it.
+pub const MOST_WORDS: usize = 1 + PANIC_WORDS;
+
 // What a line asks for whose first word is this and whose other words are these.
 pub(crate) fn event_of(alloc: Global, kind: &[u8], words: &[&[u8]]) -> Result<Line, LineRefused>
     ensures { Gives result (line_named kinds kind.now (map (λ word. word.now) words.now)) }

@@ -12,7 +12,7 @@ mod window;
 
 pub use bytes::{bytes_of, written_bytes_are_read};
 pub use fields::{BANK_WORDS, LIMIT_WORDS};
-pub use kinds::LAST_CHANNEL;
+pub use kinds::{LAST_CHANNEL, MOST_WORDS};
 pub use line::{
     ErrorReport, Line, LineRefused, Table, numbers_are_in_range, read_line,
     refused_lines_have_words, written_lines_are_read,
@@ -24,4 +24,6 @@ pub use reader::{
     LONGEST_LINE, LONGEST_SCRIPT, LineReader, NextRefused, line_feeds_cut_scripts,
     lines_within_limits_are_the_script,
 };
-pub use splitting::{first_line, first_word, lines_are_the_script, spaces_separate_words, words};
+pub use splitting::{
+    HELD_WORDS, first_line, first_word, lines_are_the_script, spaces_separate_words, words,
+};

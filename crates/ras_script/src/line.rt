@@ -106,8 +106,7 @@ pub fn read_line(alloc: Global, bytes: &[u8]) -> Result<Line, LineRefused>
     ensures read { ReadsLine result bytes.now }
     ensures range { IfOk result IsInRange }
 {
-    let words = words(alloc, bytes)?;
-    line_of_words(alloc, &words)
+    line_of_words(alloc, &words(bytes))
 }
 
 /// The numbers of a line that is read are within their ranges: a bank's registers below 2^64, its

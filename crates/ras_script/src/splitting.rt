@@ -1,18 +1,18 @@
 //! The lines of a script, and the words of a line.
 
-ghost use Rattle.std.specs.Prelude.{◌≡◌, ℕ, ◌+◌, ◌<◌, ◌≤◌, List, [], ◌∷◌, ◌++◌, length, map, IfOk};
+ghost use Rattle.std.specs.Prelude.{◌≡◌, ℕ, ◌+◌, ◌<◌, ◌≤◌, List, [], ◌∷◌, ◌++◌, length, map, take};
 ghost use Rattle.std.specs.List.{slice_get};
 ghost use Rattle.std.specs.Option.{option_map};
 ghost use Rattle.std.specs.List.{AllByRecursion, join_with_byte};
 ghost use Rattle.ras_script.specs.Splitting.{lines_of, words_of};
 ghost use Rattle.ras_script.specs.SplittingLaws.{Lacks, IsWord, script_of, with_last_line_feed};
 
-use crate::fields::BANK_WORDS;
-use ras_base::NoMemory;
-use std::alloc::Global;
+use crate::kinds::MOST_WORDS;
+use arrayvec::ArrayVec;
 
-// The words of a line `bank`, for which room is taken at once.
-const COMMON_WORDS: usize = 1 + BANK_WORDS;
+/// The words of a line that are held: one more than a line of any kind has, so that a line of too
+/// many words is known as one.
+pub const HELD_WORDS: usize = MOST_WORDS + 1;
 
 /// The first line of a script that isn't empty, without its line feed, and what follows that line.
 pub fn first_line(script: &[u8]) -> (&[u8], &[u8])
@@ -27,20 +27,32 @@ pub fn first_line(script: &[u8]) -> (&[u8], &[u8])
     }
 }
 
-/// The words of a line, which spaces separate.
-///
-/// # Errors
-///
-/// `NoMemory` comes for want of memory alone.
-pub fn words(alloc: Global, line: &[u8]) -> Result<Vec<&[u8]>, NoMemory>
-    ensures { IfOk result (λ words. map (λ word. word.now) words.items ≡ words_of line.now) }
+/// The words of a line, which spaces separate, up to the first `HELD_WORDS`. They take no memory.
+pub fn words(line: &[u8]) -> ArrayVec<&[u8], HELD_WORDS>
+    ensures { map (λ word. word.now) result.items ≡ take HELD_WORDS (words_of line.now) }
 {
-    let mut words = Vec::with_capacity(alloc, COMMON_WORDS)?;
-    words.extend(
-        line.split(|byte| *byte == b' ')
-            .filter(|word| !word.is_empty()),
-    )?;
-    Ok(words)
+    let mut words = ArrayVec::new();
+    let mut start = 0;
+    for (place, byte) in line.iter().enumerate() {
+        if *byte == b' ' {
+            hold(&mut words, &line[start..place]);
+            start = place + 1;
+        }
+    }
+    hold(&mut words, &line[start..]);
+    words
+}
+
+// Holds a text without a space as the next word, unless it is empty, or no room is left.
+#[inline(always)]
+fn hold<'a>(words: &mut ArrayVec<&'a [u8], HELD_WORDS>, text: &'a [u8])
+    requires { Lacks 32 text.now }
+    ensures { map (λ word. word.now) words.new.items
+        ≡ take HELD_WORDS (map (λ word. word.now) words.old.items ++ words_of text.now) }
+{
+    if !words.is_full() && !text.is_empty() {
+        words.push(text);
+    }
 }
 
 /// The first word of a line, where it has words. It takes no memory.

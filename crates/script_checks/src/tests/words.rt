@@ -1,6 +1,7 @@
 //! The lines of a script as a whole, the words of a line, and numbers.
+use arrayvec::ArrayVec;
 use ras_base::NoMemory;
-use ras_script::{decimal, first_line, first_word, hexadecimal, words};
+use ras_script::{HELD_WORDS, decimal, first_line, first_word, hexadecimal, words};
 use std::alloc::Global;
 use std::process::Abort;
 use std::test::Fail;
@@ -36,14 +37,14 @@ fn splits_scripts(rt: HostRuntime) {
 }
 
 // The words of a line. It states nothing, so that its callers are short to prove.
-fn words_of(alloc: Global, line: &[u8]) -> Result<Vec<&[u8]>, NoMemory> {
-    words(alloc, line)
+fn words_of(line: &[u8]) -> ArrayVec<&[u8], HELD_WORDS> {
+    words(line)
 }
 
 // The words of a line, each with a comma after it.
 fn words_with_commas(alloc: Global, line: &[u8]) -> Result<Vec<u8>, NoMemory> {
     let mut text = Vec::new(alloc);
-    for word in &words_of(alloc, line)? {
+    for word in &words_of(line) {
         text.extend_from_slice(word)?;
         text.push(b',')?;
     }
@@ -64,13 +65,17 @@ fn expect_words(
 
 #[test]
 fn splits_lines(rt: HostRuntime) -> Result<(), Fail> {
-    let cases: [(&[u8], (&[u8], Option<&[u8]>)); 6] = [
+    let cases: [(&[u8], (&[u8], Option<&[u8]>)); 7] = [
         (b"", (b"", None)),
         (b"   ", (b"", None)),
         (b"restart", (b"restart,", Some(b"restart"))),
         (b"poll 1", (b"poll,1,", Some(b"poll"))),
         (b"  cpu   0 1  ", (b"cpu,0,1,", Some(b"cpu"))),
         (b"poll\t1\r", (b"poll\t1\r,", Some(b"poll\t1\r"))),
+        (
+            b"a b c d e f g h i j k l m n",
+            (b"a,b,c,d,e,f,g,h,i,j,k,l,m,", Some(b"a")),
+        ),
     ];
     for (line, want) in cases {
         expect_words(&rt, rt.alloc(), line, want)?;

@@ -1,0 +1,57 @@
+-- The words of a line that are held: the first ones.
+use Rattle.std.proofs.Common.{◌≡◌, ℕ, ◌+◌, ◌-◌, ◌<◌, ◌≤◌, List, [], ◌∷◌, ◌++◌, zero, suc, length, map, take, drop, get_or, refl, ap, sym, ◌∙◌, arith, append_assoc, length-append, length-drop}
+use Rattle.std.proofs.lemmas.List.{append-nil, drop-drop, drop_more, get_or-drop, length-map, map-append, nil_from_length, take-append-drop, take_all, take_at, take_more}
+use Rattle.ras_script.specs.Splitting.{words_of}
+use Rattle.ras_script.specs.SplittingLaws.{Lacks, IsWord}
+use Rattle.ras_script.proofs.LineAndWordLemmas.{words_separated, words_single}
+
+take_again : {X : Type 0} (n : ℕ) (front back : List X) → take n (take n front ++ back) ≡ take n (front ++ back)
+take_again zero front back = refl
+take_again (suc n) [] back = refl
+take_again (suc n) (x ∷ front) back = ap (λ rest. x ∷ rest) (take_again n front back)
+
+-- a word for which there is room
+pub word_held : {A : Type 0} (f : A → List ℕ) (n : ℕ) (before after : List A) (text : A) → after ≡ before ++ text ∷ [] → length before < n → IsWord (f text) → map f after ≡ take n (map f before ++ words_of (f text))
+word_held f n before after text is room word =
+    let all : map f after ≡ map f before ++ f text ∷ [] = ap (map f) is ∙ map-append f before (text ∷ []) in
+    let fits : length (map f before ++ f text ∷ []) ≤ n = omega (arith, length-append (map f before) (f text ∷ []), length-map before f) in
+    all ∙ rw (words_single (f text) word) (sym (take_all n (map f before ++ f text ∷ []) fits))
+
+-- no word
+pub none_held : {A : Type 0} (f : A → List ℕ) (n : ℕ) (before : List A) (text : List ℕ) → length before ≤ n → length text ≡ 0 → map f before ≡ take n (map f before ++ words_of text)
+none_held f n before text fits none =
+    let few : length (map f before) ≤ n = omega (arith, length-map before f) in
+    rw (nil_from_length text none) (sym (rw (append-nil (map f before)) (take_all n (map f before) few)))
+
+-- a word for which there is no room
+pub no_room : {A : Type 0} (f : A → List ℕ) (n : ℕ) (before : List A) (text : List ℕ) → length before ≡ n → map f before ≡ take n (map f before ++ words_of text)
+no_room f n before text full = sym (take_at (map f before) (words_of text) n (length-map before f ∙ full))
+
+-- a text and a byte after it
+lacks_more : (byte b : ℕ) (text : List ℕ) → Lacks byte text → ¬ (b ≡ byte) → Lacks byte (text ++ b ∷ [])
+lacks_more byte b [] lacks other = (other, tt)
+lacks_more byte b (c ∷ text) lacks other = (lacks.0, lacks_more byte b text lacks.1 other)
+
+pub unbroken_more : (start place : ℕ) (line : List ℕ) → start ≤ place → place < length line → ¬ (get_or line place 0 ≡ 32) → Lacks 32 (take (place - start) (drop start line)) → Lacks 32 (take (place + 1 - start) (drop start line))
+unbroken_more start place line ahead inside other lacks =
+    let size : place - start < length (drop start line) = omega (arith, length-drop start line) in
+    let next : place + 1 - start ≡ (place - start) + 1 = omega arith in
+    let reached : start + (place - start) ≡ place = omega arith in
+    let byte : get_or (drop start line) (place - start) 0 ≡ get_or line place 0 = get_or-drop start line (place - start) 0 ∙ ap (λ i. get_or line i 0) reached in
+    let all : take (place + 1 - start) (drop start line) ≡ take (place - start) (drop start line) ++ get_or line place 0 ∷ [] = ap (λ k. take k (drop start line)) next ∙ take_more (drop start line) (place - start) 0 size ∙ ap (λ b. take (place - start) (drop start line) ++ b ∷ []) byte in
+    rw all (lacks_more 32 (get_or line place 0) (take (place - start) (drop start line)) lacks other)
+
+back_is : (start place : ℕ) (line : List ℕ) → start ≤ place → place < length line → get_or line place 0 ≡ 32 → drop (place - start) (drop start line) ≡ 32 ∷ drop (place + 1) line
+back_is start place line ahead inside space =
+    let reached : start + (place - start) ≡ place = omega arith in
+    let here : drop (place - start) (drop start line) ≡ drop place line = drop-drop (place - start) start line ∙ ap (λ k. drop k line) reached in
+    here ∙ drop_more line place 0 inside ∙ ap (λ b. b ∷ drop (place + 1) line) space
+
+-- a space ends a word
+pub space_ends : (n : ℕ) (start place : ℕ) (line : List ℕ) (before after : List (List ℕ)) → start ≤ place → place < length line → get_or line place 0 ≡ 32 → take n (before ++ words_of (drop start line)) ≡ take n (words_of line) → after ≡ take n (before ++ words_of (take (place - start) (drop start line))) → take n (after ++ words_of (drop (place + 1) line)) ≡ take n (words_of line)
+space_ends n start place line before after ahead inside space held is =
+    let text : List ℕ = take (place - start) (drop start line) in
+    let rest : List ℕ = drop (place + 1) line in
+    let parts : drop start line ≡ text ++ 32 ∷ rest = sym (take-append-drop (place - start) (drop start line)) ∙ ap (λ back. text ++ back) (back_is start place line ahead inside space) in
+    let words : words_of (drop start line) ≡ words_of text ++ words_of rest = ap words_of parts ∙ words_separated text rest in
+    ap (λ front. take n (front ++ words_of rest)) is ∙ take_again n (before ++ words_of text) (words_of rest) ∙ ap (take n) (append_assoc before (words_of text) (words_of rest)) ∙ ap (λ more. take n (before ++ more)) (sym words) ∙ held
