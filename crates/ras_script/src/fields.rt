@@ -21,6 +21,7 @@ pub const BANK_WORDS: usize = 10;
 pub const LIMIT_WORDS: usize = 2;
 
 // The word at a place as a decimal number of at most `most`.
+#[inline(always)]
 pub(crate) fn decimal_at(words: &[&[u8]], place: usize, most: u64) -> Result<u64, LineRefused>
     requires { place < length words.now }
     ensures value { result ≡ decimal_at (map (λ word. word.now) words.now) place most }
@@ -30,6 +31,7 @@ pub(crate) fn decimal_at(words: &[&[u8]], place: usize, most: u64) -> Result<u64
 }
 
 // The word at a place as a decimal number of 64 bits.
+#[inline(always)]
 pub(crate) fn u64_at(words: &[&[u8]], place: usize) -> Result<u64, LineRefused>
     requires { place < length words.now }
     ensures { result ≡ decimal_at (map (λ word. word.now) words.now) place (2 ^ 64 - 1) }
@@ -38,6 +40,7 @@ pub(crate) fn u64_at(words: &[&[u8]], place: usize) -> Result<u64, LineRefused>
 }
 
 // The word at a place as a decimal number of 16 bits.
+#[inline(always)]
 pub(crate) fn u16_at(words: &[&[u8]], place: usize) -> Result<u16, LineRefused>
     requires { place < length words.now }
     ensures { result ≡ decimal_at (map (λ word. word.now) words.now) place 65535 }
@@ -46,6 +49,7 @@ pub(crate) fn u16_at(words: &[&[u8]], place: usize) -> Result<u16, LineRefused>
 }
 
 // The word at a place as a decimal number of 8 bits.
+#[inline(always)]
 pub(crate) fn u8_at(words: &[&[u8]], place: usize) -> Result<u8, LineRefused>
     requires { place < length words.now }
     ensures { result ≡ decimal_at (map (λ word. word.now) words.now) place 255 }
@@ -67,6 +71,7 @@ fn positive_at(words: &[&[u8]], place: usize, most: u64) -> Result<u64, LineRefu
 }
 
 // The word at a place as a hexadecimal number.
+#[inline(always)]
 pub(crate) fn hexadecimal_at(words: &[&[u8]], place: usize) -> Result<u64, LineRefused>
     requires { place < length words.now }
     ensures { result ≡ hexadecimal_at (map (λ word. word.now) words.now) place }

@@ -1,4 +1,4 @@
-use Rattle.std.proofs.Common.{◌≡◌, ◌≤◌, ◌+◌, ◌*◌, ◌^◌, ◌∙◌, get_or, ap, sym, arith}
+use Rattle.std.proofs.Common.{◌≤◌, ◌+◌, ◌*◌, ◌^◌, ◌∙◌, get_or, ap, sym, arith}
 use Rattle.std.specs.Char.{digit_value}
 use Rattle.ras_script.proofs.NumberLemmas.{room, past, digits_step}
 use Rattle.ras_script.proofs.number.number.Goals as goal
