@@ -58,7 +58,8 @@ fn number(word: &[u8], radix: u32, longest: usize, most: u64) -> Option<u64>
     let mut value = 0u64;
     for (place, byte) in word.iter().enumerate() {
         let digit = digit_of(*byte, radix)?;
-        value = if place < FITTING_DIGITS {
+        // A word of no more digits than fit needs no check, nor do the first ones of a longer word.
+        value = if longest <= FITTING_DIGITS || place < FITTING_DIGITS {
             value * u64::from(radix) + digit
         } else {
             value.checked_mul(u64::from(radix))?.checked_add(digit)?

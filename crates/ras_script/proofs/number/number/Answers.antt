@@ -1,18 +1,23 @@
-use Rattle.std.proofs.Common.{◌≤◌, ◌+◌, ◌*◌, ◌^◌, ◌∙◌, get_or, ap, sym, arith}
+use Rattle.std.proofs.Common.{◌≡◌, ◌<◌, ◌≤◌, ◌+◌, ◌*◌, ◌^◌, ◌∙◌, get_or, length, ap, sym, arith}
 use Rattle.std.specs.Char.{digit_value}
-use Rattle.ras_script.proofs.NumberLemmas.{room, past, digits_step}
+use Rattle.ras_script.proofs.NumberLemmas.{fitting, room, past, digits_step}
 use Rattle.ras_script.proofs.number.number.Goals as goal
 use Rattle.ras_script.proofs.number.number.Goals.{then-place-lt-FITTING_DIGITS, else-place-lt-FITTING_DIGITS+in_ok-checked_mul+in_ok-value}
 
 pub overflow_mul-value : goal.overflow_mul-value
 overflow_mul-value c =
     let l = c.loop-place in
-    omega (arith, room c.args.radix c.args.word.now l.place l.value c.from.result (omega arith) c.requires.small_radix c.if-place-lt-FITTING_DIGITS.true c.loop-place-test.true l.invariant.0 l.invariant.1 c.from.ensures)
+    omega (arith, room c.args.radix c.args.word.now l.place l.value c.from.result (omega arith) c.requires.small_radix (fitting c.args.longest l.place (length c.args.word.now) c.if-word-longest.false c.loop-place-test.true c.if-place-lt-FITTING_DIGITS.either) c.loop-place-test.true l.invariant.0 l.invariant.1 c.from.ensures)
 
 pub overflow_add-value : goal.overflow_add-value
 overflow_add-value c =
     let l = c.loop-place in
-    omega (arith, room c.args.radix c.args.word.now l.place l.value c.from.result (omega arith) c.requires.small_radix c.if-place-lt-FITTING_DIGITS.true c.loop-place-test.true l.invariant.0 l.invariant.1 c.from.ensures, c.in_ok-digit.ensures.0)
+    let few : l.place < 16 = fitting c.args.longest l.place (length c.args.word.now) c.if-word-longest.false c.loop-place-test.true c.if-place-lt-FITTING_DIGITS.either in
+    let product : l.value * c.from.result + 16 ≤ 2 ^ 64 = room c.args.radix c.args.word.now l.place l.value c.from.result (omega arith) c.requires.small_radix few c.loop-place-test.true l.invariant.0 l.invariant.1 c.from.ensures in
+    let small : digit_value (get_or c.args.word.now l.place 0) < c.args.radix = c.in_ok-digit.ensures.0 in
+    let told : c.in_ok-digit.digit ≡ digit_value (get_or c.args.word.now l.place 0) = c.in_ok-digit.ensures.1 in
+    let below : l.value * c.from.result + c.in_ok-digit.digit < 2 ^ 64 = omega (arith, product, small, told, c.requires.small_radix) in
+    omega (arith, below)
 
 pub returns-in_err-checked_mul-clause-value : goal.returns-in_err-checked_mul-clause-value
 returns-in_err-checked_mul-clause-value c =
