@@ -1,5 +1,5 @@
 -- A numeral of few digits is small, and one more digit.
-use Rattle.std.proofs.Common.{◌≡◌, ◌⊎◌, inl, inr, ℕ, ◌+◌, ◌*◌, ◌^◌, ◌<◌, ◌≤◌, ◌&&◌, Bool, true, false, cond, nat_le, Some, None, List, [], ◌∷◌, length, refl, arith, lit<, take, get_or, ◌∙◌, sym}
+use Rattle.std.proofs.Common.{◌≡◌, ℕ, ◌+◌, ◌*◌, ◌^◌, ◌<◌, ◌≤◌, ◌&&◌, Bool, true, false, cond, nat_le, Some, None, List, [], ◌∷◌, length, refl, arith, lit<, take, get_or, ◌∙◌, sym}
 use Rattle.std.proofs.Math.Nat.{pow-le-pow_left, pow-le-pow_right, mul-le-mul_left}
 use Rattle.std.proofs.lemmas.Bool.Decides.{nat_tests}
 use Rattle.std.proofs.lemmas.List.{length-take-le}
@@ -22,11 +22,6 @@ bounded radix word some small short h =
     let left : radix ^ length word ≤ 16 ^ length word = pow-le-pow_left small (length word) in
     let right : 16 ^ length word ≤ 16 ^ 15 = pow-le-pow_right (lit< tt) short in
     omega arith
-
--- a digit of a word that has at most 16, or one of the first 16
-pub fitting : (longest i size : ℕ) → size ≤ longest → i < size → (longest ≤ 16) ⊎ ((16 < longest) × (i < 16)) → i < 16
-fitting longest i size short inside (inl few) = omega arith
-fitting longest i size short inside (inr here) = here.1
 
 -- the value of up to 15 digits, times the base, has room for another digit below 2 ^ 64
 pub room : (radix : ℕ) (word : List ℕ) (i value base : ℕ) → 1 ≤ radix → radix ≤ 16 → i < 16 → i < length word → list_all (λ c. is_digit c radix) (take i word) ≡ true → value ≡ digits_value radix (take i word) → base ≡ radix → value * base + 16 ≤ 2 ^ 64

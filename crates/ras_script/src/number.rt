@@ -55,11 +55,11 @@ fn number(word: &[u8], radix: u32, longest: usize, most: u64) -> Option<u64>
     if word.is_empty() || word.len() > longest {
         return None;
     }
+    let fits = word.len() <= FITTING_DIGITS;
     let mut value = 0u64;
-    for (place, byte) in word.iter().enumerate() {
+    for byte in word {
         let digit = digit_of(*byte, radix)?;
-        // A word of no more digits than fit needs no check, nor do the first ones of a longer word.
-        value = if longest <= FITTING_DIGITS || place < FITTING_DIGITS {
+        value = if fits {
             value * u64::from(radix) + digit
         } else {
             value.checked_mul(u64::from(radix))?.checked_add(digit)?

@@ -35,7 +35,7 @@ pub fn push_done(text: &mut Vec<u8>, number: u64) -> Result<(), NoMemory>
 {
     text.extend_from_slice(b"done ")?;
     push_number(text, number)?;
-    text.extend_from_slice(b"\n")?;
+    text.push(b'\n')?;
     Ok(())
 }
 

@@ -75,7 +75,7 @@ pub fn push_known(text: &mut Vec<u8>, account: &Account, name: &Name) -> Result<
     let is_stale = is_retired(account.floor(), name);
     text.extend_from_slice(if is_stale { b"stale " } else { b"repeat " })?;
     push_name(text, name)?;
-    text.extend_from_slice(b"\n")?;
+    text.push(b'\n')?;
     Ok(())
 }
 

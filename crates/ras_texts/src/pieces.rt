@@ -43,11 +43,11 @@ pub fn push_name(text: &mut Vec<u8>, name: &Name) -> Result<(), NoMemory>
         } => {
             text.extend_from_slice(b"bank=")?;
             push_number(text, *boot)?;
-            text.extend_from_slice(b"/")?;
+            text.push(b'/')?;
             push_number(text, u64::from(*cpu))?;
-            text.extend_from_slice(b"/")?;
+            text.push(b'/')?;
             push_number(text, u64::from(*bank))?;
-            text.extend_from_slice(b"/")?;
+            text.push(b'/')?;
             push_number(text, *tsc)
         }
         Name::Record { id } => {
@@ -62,9 +62,9 @@ pub fn push_name(text: &mut Vec<u8>, name: &Name) -> Result<(), NoMemory>
         } => {
             text.extend_from_slice(b"block=")?;
             push_number(text, *boot)?;
-            text.extend_from_slice(b"/")?;
+            text.push(b'/')?;
             push_number(text, u64::from(*source))?;
-            text.extend_from_slice(b"/")?;
+            text.push(b'/')?;
             push_number(text, *number)
         }
         Name::Boot { boot } => {

@@ -5,6 +5,6 @@ use Rattle.std.specs.Str.Parse.{digits_value}
 use Rattle.ras_script.proofs.number.number.Given as goal
 
 -- the bytes so far are digits, and the value is theirs
-abbrev pub invariant-loop-place : goal.invariant-loop-place
-invariant-loop-place l =
-    (list_all (λ c. is_digit c l.radix) (take l.place l.word) ≡ true) × (l.value ≡ digits_value l.radix (take l.place l.word))
+abbrev pub invariant-loop-byte : goal.invariant-loop-byte
+invariant-loop-byte l =
+    (list_all (λ c. is_digit c l.radix) (take l.byte-index l.word) ≡ true) × (l.value ≡ digits_value l.radix (take l.byte-index l.word))
