@@ -10,7 +10,6 @@ use std::io;
 pub fn with_fault_count<T>(answer: io::Result<T>, faults: &mut u64) -> Result<T, Failed>
     ensures ok { IfOk answer (λ value. result ≡ Ok value) }
     ensures err { OnErr answer (IsErr result) }
-    ensures failed { OnErr result (IsErr answer) }
     ensures cause { HasCause faults.old faults.new result }
 {
     match answer {
