@@ -1,7 +1,7 @@
 //! A journal file of the working folder.
 ghost use Rattle.std.specs.Prelude.{◌≡◌, ◌<◌, ◌+◌, Some, None, length, take, IfOk, IfErr, OnOk, OnErr, IfSome, IsSome, IsTrue, is_some};
 ghost use Rattle.std.specs.Option.{ForSome};
-ghost use Rattle.std.specs.Io.{ReadsAtMost};
+ghost use Rattle.std.specs.Io.{ReadsAtMost, WritesAtMost};
 ghost use Rattle.ras_host.specs.Faults.{ReadFault, WriteFault};
 ghost use Rattle.ras_host.specs.JournalFiles.{HasLength, Gave, EndsBy, Took, IsDurable, IsLocked};
 
@@ -138,7 +138,7 @@ impl<S: System> FolderFile<S> {
 
 /// Reads until the buffer is full or the file ends. A read gives fewer bytes than asked for at any
 /// place, so the next one goes on after them. An error is the system's, or `FileTooLarge` where a
-/// byte has no place below 2^64, or `TimedOut` where interruptions have no end.
+/// byte has no place below 2^64.
 pub fn read_full<S: System>(
     system: &mut S,
     file: &S::File,
@@ -154,21 +154,40 @@ pub fn read_full<S: System>(
     ensures kept { IsTrue (S.keeps_files system.old system.new) }
 {
     let mut count = 0;
-    for _ in 0..u64::MAX {
-        if count >= buf.len() {
-            return Ok(count);
-        }
+    while count < buf.len() {
         let Some(next) = place.checked_add(count as u64) else {
             return Err(io::Error::from(ErrorKind::FileTooLarge));
         };
-        match system.read_at(file, next, &mut buf[count..]) {
-            Ok(0) => return Ok(count),
-            Ok(n) => count += n,
-            Err(e) if e.kind() == ErrorKind::Interrupted => {}
-            Err(e) => return Err(e),
+        match read_part(system, file, next, &mut buf[count..])? {
+            0 => return Ok(count),
+            n => count += n,
         }
     }
-    Err(io::Error::from(ErrorKind::TimedOut))
+    Ok(count)
+}
+
+// One read. Where a signal interrupted it, it is made again. The last try passes on whatever the
+// system answers.
+fn read_part<S: System>(
+    system: &mut S,
+    file: &S::File,
+    place: u64,
+    buf: &mut [u8],
+) -> io::Result<usize>
+    ensures within { ReadsAtMost result buf.new }
+    ensures gave { IfOk result (λ count. IsTrue (S.shown.gave file.now place (take count buf.new))) }
+    ensures ended { IfOk result (λ count. count ≡ 0 → 0 < length buf.new
+        → IsTrue (S.shown.ends_by file.now place)) }
+    ensures failed { IfErr result (λ error. IsTrue (S.shown.failed error)) }
+    ensures kept { IsTrue (S.keeps_files system.old system.new) }
+{
+    for _ in 0..u64::MAX {
+        match system.read_at(file, place, buf) {
+            Err(error) if error.kind() == ErrorKind::Interrupted => {}
+            answer => return answer,
+        }
+    }
+    system.read_at(file, place, buf)
 }
 
 /// Writes all the bytes. A write takes fewer bytes than given at any place, so the next one goes on
@@ -183,19 +202,37 @@ pub fn write_full<S: System>(
     ensures failed { IfErr result (λ error. WriteFault S.shown place (length bytes.now) error) }
 {
     let mut count = 0;
-    for _ in 0..u64::MAX {
-        if count >= bytes.len() {
-            return Ok(());
-        }
+    while count < bytes.len() {
         let Some(next) = place.checked_add(count as u64) else {
             return Err(io::Error::from(ErrorKind::FileTooLarge));
         };
-        match system.write_at(file, next, &bytes[count..]) {
-            Ok(0) => return Err(io::Error::from(ErrorKind::WriteZero)),
-            Ok(n) => count += n,
-            Err(e) if e.kind() == ErrorKind::Interrupted => {}
-            Err(e) => return Err(e),
+        match write_part(system, file, next, &bytes[count..])? {
+            0 => return Err(io::Error::from(ErrorKind::WriteZero)),
+            n => count += n,
         }
     }
-    Err(io::Error::from(ErrorKind::TimedOut))
+    Ok(())
+}
+
+// One write. Where a signal interrupted it, it is made again. The last try passes on whatever the
+// system answers.
+fn write_part<S: System>(
+    system: &mut S,
+    file: &S::File,
+    place: u64,
+    bytes: &[u8],
+) -> io::Result<usize>
+    ensures within { WritesAtMost result bytes.now }
+    ensures took { IfOk result (λ count. IsTrue (S.shown.took file.now place (take count bytes.now))) }
+    ensures none { IfOk result (λ count. count ≡ 0 → 0 < length bytes.now
+        → IsTrue S.shown.took_nothing) }
+    ensures failed { IfErr result (λ error. IsTrue (S.shown.failed error)) }
+{
+    for _ in 0..u64::MAX {
+        match system.write_at(file, place, bytes) {
+            Err(error) if error.kind() == ErrorKind::Interrupted => {}
+            answer => return answer,
+        }
+    }
+    system.write_at(file, place, bytes)
 }

@@ -5,7 +5,6 @@ use Rattle.std.proofs.lemmas.List.{length-take-le, take-take}
 use borrow.Rule.Slice.PartMut.{put_mid}
 use Rattle.std.proofs.lemmas.Slice.{take-put_mid_below, between-put_mid}
 use Rattle.ras_host.proofs.folder_file.read_full.Goals as goal
-use Rattle.ras_host.proofs.folder_file.read_full.Goals.{in-Ok, in-Err}
 
 -- The front of a buffer whose part from n on was read anew.
 front_of_part : {X : Type 0} (n m k : ℕ) (xs ys : List X) → n ≤ length xs → m ≤ length ys
@@ -25,16 +24,9 @@ gave_on gave law file place next n m k xs ys at inside within front more =
     let front_at : next ≡ place + length (take n xs) = omega (arith, at, length-take-le n xs inside) in
     rw (front_of_part n m k xs ys inside within) (law file place (take n xs) (take m ys) front (rw (sym front_at) more))
 
-pub loop-preserved : goal.loop-preserved
-loop-preserved g c = elim c.match-read_at.branch [
-  | in-Ok w ↦ rw w.count-is record {
-    inside = grind (arith, common_steps, c.loop.invariant.inside, c.read_at.auto.buf, w.in-Ok.ensures.within);
-    given = gave_on g.S.System.shown.gave g.S.System.shown.gave_more _ _ _ _ _ _ _ _ c.in-Some.ensures.1 c.loop.invariant.inside w.in-Ok.ensures.within.0 c.loop.invariant.given w.in-Ok.ensures.gave;
-    kept = g.S.System.keeps_on _ _ _ c.loop.invariant.kept c.read_at.ensures.kept;
-  }
-  | in-Err w ↦ rw w.count-is record {
-    inside = grind (arith, common_steps, c.loop.invariant.inside, c.read_at.auto.buf);
-    given = rw (take-put_mid_below c.loop.count _ c.loop.buf c.read_at.new.buf c.loop.count (omega arith) c.loop.invariant.inside) c.loop.invariant.given;
-    kept = g.S.System.keeps_on _ _ _ c.loop.invariant.kept c.read_at.ensures.kept;
-  }
-]
+pub loop-count-preserved : goal.loop-count-preserved
+loop-count-preserved g c = record {
+  inside = grind (arith, common_steps, c.loop-count.invariant.inside, c.read_part.auto.buf, c.in_ok-n.ensures.within);
+  given = gave_on g.S.System.shown.gave g.S.System.shown.gave_more _ _ _ _ _ _ _ _ c.in-Some.ensures.1 c.loop-count.invariant.inside c.in_ok-n.ensures.within.0 c.loop-count.invariant.given c.in_ok-n.ensures.gave;
+  kept = g.S.System.keeps_on _ _ _ c.loop-count.invariant.kept c.read_part.ensures.kept;
+}
