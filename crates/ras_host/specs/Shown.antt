@@ -1,6 +1,6 @@
--- What calls of the system show of files and of standard output. Functions are proved over every
--- system, so also over one whose words hold only of what its calls have shown. There a clause that
--- has such a word says that the call was made, and went so.
+-- What calls of the system show of files and of the standard streams. Functions are proved over
+-- every system, so also over one whose words hold only of what its calls have shown. There a clause
+-- that has such a word says that the call was made, and went so.
 use Rattle.std.specs.Prelude.{◌+◌, ℕ, Bool, true, List, [], ◌++◌, length, IsTrue, refl}
 use Rattle.std.specs.declared.io.Error.{Error}
 
@@ -43,6 +43,8 @@ pub record Shown (File : Type 0) : Type 0 where
   pub is_renamed : List ℕ → List ℕ → Bool
   -- Standard output took these bytes.
   pub printed : List ℕ → Bool
+  -- A read of standard input gave these bytes.
+  pub given : List ℕ → Bool
 
 -- The words of a system of which nothing is known: the program's own, and that of tests.
 abbrev pub everything : {File : Type 0} → Shown File
@@ -66,4 +68,5 @@ everything = record {
   has_entries = λ _. true;
   is_renamed = λ _ _. true;
   printed = λ _. true;
+  given = λ _. true;
 }

@@ -1,75 +1,60 @@
 //! Standard input as a source.
-ghost use Rattle.std.specs.Prelude.{◌≡◌, ◌≢◌, None, IfErr, IsErr, IsNone};
-ghost use Rattle.std.specs.Io.{ReadsAtMost};
-ghost use Rattle.std.specs.Io.KnownBytes.{ReadConsumes};
-ghost use Rattle.std.specs.IoError.{error_kind};
+ghost use Rattle.std.specs.Prelude.{◌≡◌, ◌≤◌, None, length, take, IfOk, OnErr, IsErr, IsTrue, IsFalse};
+ghost use Rattle.board_core.specs.Cause.{HasCause};
+ghost use Rattle.ras_host.specs.Faults.{SomeError};
+ghost use Rattle.ras_host.specs.Printing.{InputFault};
 
 use crate::fault_count::with_fault_count;
-use crate::streams::{closed_stream_error, if_open};
+use crate::streams::Input;
+use crate::system::System;
 use board_core::{Failed, Source};
-use std::io;
-use std::io::{ErrorKind, Read, Stdin};
 use std::marker::Model;
 
-/// The bytes of standard input. It doesn't tell them, and a read that fails is a fault.
+/// The bytes of standard input. It doesn't tell them, as a source in memory does: its clauses say
+/// what the system has shown. A read that fails is a fault.
 #[derive(Drop)]
-pub struct FileSource {
-    input: Option<Stdin>,
+pub struct FileSource<S: System> {
+    system: S,
+    input: Input,
     faults: u64,
 }
 
-// Contracts see of a source how often a read has failed.
-impl Model for FileSource {
-    ghost use Rattle.std.specs.Prelude.{ℕ};
+// Contracts see of a source whether its input is open, and how often a read has failed.
+impl<S: System> Model for FileSource<S> {
+    ghost use Rattle.ras_host.specs.Printing.{SourceState};
 
-    ghost Value = { ℕ };
+    ghost Value = { SourceState };
 
-    ghost view = { λ s. s.faults };
+    ghost view = { λ s. record { is_open = s.input; faults = s.faults } };
 }
 
-impl FileSource {
-    /// Standard input from where it stands, with no faults. Where the program was started with it
-    /// closed, every read fails.
-    pub fn new(rt: HostRuntime) -> FileSource
-        ensures { result ≡ 0 }
+impl<S: System> FileSource<S> {
+    /// The input from where it stands, with no faults. Where it is closed, every read fails.
+    pub fn new(input: Input, system: S) -> FileSource<S>
+        ensures { result ≡ record { is_open = input; faults = 0 } }
     {
         FileSource {
-            input: if_open(rt.stdin()),
+            system,
+            input,
             faults: 0,
         }
     }
 }
 
-impl Source for FileSource {
+impl<S: System> Source for FileSource<S> {
     ghost left = { λ _. None };
 
-    ghost faults = { λ s. s };
+    ghost faults = { λ s. s.faults };
 
-    fn read(&mut self, buf: &mut [u8]) -> Result<usize, Failed> {
-        with_fault_count(read_input(self.input, buf), &mut self.faults)
+    fn read(&mut self, buf: &mut [u8]) -> Result<usize, Failed>
+        ensures within { IfOk result (λ n. n ≤ length buf.old) }
+        ensures given { IfOk result (λ n. IsTrue (S.shown.given (take n buf.new))) }
+        ensures closed { IsFalse self.old.is_open → IsErr result }
+        ensures failed { OnErr result (SomeError (InputFault S.shown self.old.is_open)) }
+        ensures cause { HasCause self.old.faults self.new.faults result }
+        ensures others { self.new ≡ record self.old { faults = self.new.faults } }
+    {
+        let read = self.input.read(&mut self.system, buf);
+        with_fault_count(read, &mut self.faults)
     }
-}
-
-fn read_input(input: Option<Stdin>, buf: &mut [u8]) -> io::Result<usize>
-    ensures within { ReadsAtMost result buf.new }
-    ensures closed { IsNone input → IsErr result }
-{
-    let mut input = input.ok_or(closed_stream_error())?;
-    read_retrying(&mut input, buf)
-}
-
-/// One read. Where a signal interrupted it, it has taken nothing and is made again.
-pub fn read_retrying<R: Read>(reader: &mut R, buf: &mut [u8]) -> io::Result<usize>
-    ensures within { ReadsAtMost result buf.new }
-    ensures taken { ReadConsumes (R.remaining reader.old) (R.remaining reader.new) result buf.new }
-    ensures goes_on { IfErr result (λ error. error_kind error ≢ ErrorKind.Interrupted) }
-{
-    for _ in 0..u64::MAX {
-        match reader.read(buf) {
-            Ok(count) => return Ok(count),
-            Err(error) if error.kind() == ErrorKind::Interrupted => {}
-            Err(error) => return Err(error),
-        }
-    }
-    Err(io::Error::from(ErrorKind::TimedOut))
 }

@@ -16,8 +16,8 @@ mod streams;
 mod system;
 
 pub use file_board::FileBoard;
-pub use file_source::{FileSource, read_retrying};
+pub use file_source::FileSource;
 pub use folder_file::FolderFile;
 pub use store_file::StoredDevice;
-pub use streams::Output;
+pub use streams::{Input, Output, read_retrying};
 pub use system::{Host, Opened, System};

@@ -1,11 +1,12 @@
 //! The standard streams.
-ghost use Rattle.std.specs.Prelude.{◌≡◌, IfSome, IfErr, OnOk, IsErr, IsFalse, IsNone, IsTrue, is_some};
+ghost use Rattle.std.specs.Prelude.{◌≡◌, ◌≢◌, take, true, IfSome, IfOk, IfErr, OnOk, IsErr, IsFalse, IsNone, IsTrue, is_some};
+ghost use Rattle.std.specs.Io.{ReadsAtMost};
 ghost use Rattle.std.specs.IoError.{error_kind};
-ghost use Rattle.ras_host.specs.Printing.{OutputFault, StreamFault};
+ghost use Rattle.ras_host.specs.Printing.{InputFault, OutputFault, StreamFault};
 
 use crate::system::{System, room_of_output, size_limit};
 use std::io;
-use std::io::{ErrorKind, Stdout};
+use std::io::{ErrorKind, Stdin, Stdout};
 use std::marker::Model;
 use std::os::fd::AsFd;
 
@@ -85,5 +86,65 @@ fn write_to<S: System>(stream: Option<Stdout>, system: &mut S, bytes: &[u8]) -> 
     match stream {
         Some(stream) => system.write_output(&stream, bytes),
         None => Err(closed_stream_error()),
+    }
+}
+
+/// Standard input.
+#[derive(Drop)]
+pub struct Input {
+    stream: Option<Stdin>,
+}
+
+// Contracts see of standard input whether it is open.
+impl Model for Input {
+    ghost use Rattle.std.specs.Prelude.{Bool, is_some};
+
+    ghost Value = { Bool };
+
+    ghost view = { λ i. is_some i.stream };
+}
+
+impl Input {
+    /// Standard input as the program was started with it. Whether it is open is told by the system,
+    /// which is in no model: so no clause says it.
+    pub fn new(rt: HostRuntime) -> Input {
+        Input {
+            stream: if_open(rt.stdin()),
+        }
+    }
+
+    /// Reads as `read_retrying` does. Where the stream is closed, every read fails.
+    pub fn read<S: System>(&self, system: &mut S, buf: &mut [u8]) -> io::Result<usize>
+        ensures within { ReadsAtMost result buf.new }
+        ensures given { IfOk result (λ count. IsTrue (S.shown.given (take count buf.new))) }
+        ensures closed { IsFalse self.now → IsErr result }
+        ensures failed { IfErr result (λ error. InputFault S.shown self.now error) }
+    {
+        match self.stream {
+            Some(stream) => read_retrying(system, &stream, buf),
+            None => Err(closed_stream_error()),
+        }
+    }
+}
+
+/// One read. Where a signal interrupted it, it has taken nothing and is made again. An error is the
+/// system's, or `TimedOut` where interruptions have no end.
+pub fn read_retrying<S: System>(system: &mut S, input: &Stdin, buf: &mut [u8]) -> io::Result<usize>
+    ensures within { ReadsAtMost result buf.new }
+    ensures given { IfOk result (λ count. IsTrue (S.shown.given (take count buf.new))) }
+    ensures goes_on { IfErr result (λ error. error_kind error ≢ ErrorKind.Interrupted) }
+    ensures failed { IfErr result (λ error. InputFault S.shown true error) }
+{
+    for _ in 0..u64::MAX {
+        match system.read_input(input, buf) {
+            Err(error) if error.kind() == ErrorKind::Interrupted => {}
+            answer => return answer,
+        }
+    }
+    match system.read_input(input, buf) {
+        Err(error) if error.kind() == ErrorKind::Interrupted => {
+            Err(io::Error::from(ErrorKind::TimedOut))
+        }
+        answer => answer,
     }
 }

@@ -1,5 +1,5 @@
-//! What the program asks of the system's files and of standard output, so that a test can answer in
-//! its place.
+//! What the program asks of the system's files and of the standard streams, so that a test can
+//! answer in its place.
 ghost use Rattle.std.specs.Prelude.{◌≡◌, ◌≤◌, ◌<◌, ◌-◌, ◌^◌, ◌⊎◌, length, take, Bool, true, IfOk, IfErr, OnOk, IfSome, None, IsTrue, refl};
 ghost use Rattle.std.specs.Io.{ReadsAtMost, WritesAtMost};
 ghost use Rattle.std.specs.IoError.{error_kind};
@@ -10,7 +10,7 @@ use std::fs::{
     symlink_metadata,
 };
 use std::io;
-use std::io::{ErrorKind, Print, Stdout};
+use std::io::{ErrorKind, Print, Read, Stdin, Stdout};
 use std::os::fd::AsRawFd;
 use std::os::unix::fs::FileExt;
 
@@ -21,12 +21,12 @@ pub struct Opened<F> {
     pub folder: F,
 }
 
-/// Calls on files of the working folder and on standard output. Each is one call of the system, or
-/// a few that have no part in between.
+/// Calls on files of the working folder and on the standard streams. Each is one call of the
+/// system, or a few that have no part in between.
 pub trait System: Drop {
     type File: Drop;
 
-    /// What the calls below show of files and of standard output. Nothing else shows it.
+    /// What the calls below show of files and of the standard streams. Nothing else shows it.
     ghost shown: { Shown Self.File };
 
     /// That from the one state to the other no file was made, written or renamed. Calls that only
@@ -106,6 +106,13 @@ pub trait System: Drop {
     /// does an interrupted one.
     fn write_output(&mut self, output: &Stdout, bytes: &[u8]) -> io::Result<()>
         ensures printed { OnOk result (IsTrue (shown.printed bytes.now)) }
+        ensures failed { IfErr result (λ error. IsTrue (shown.failed error)) };
+
+    /// One read of standard input, of at most as many bytes as the buffer has room for. It reads
+    /// none where the input ends.
+    fn read_input(&mut self, input: &Stdin, buf: &mut [u8]) -> io::Result<usize>
+        ensures within { ReadsAtMost result buf.new }
+        ensures given { IfOk result (λ count. IsTrue (shown.given (take count buf.new))) }
         ensures failed { IfErr result (λ error. IsTrue (shown.failed error)) };
 }
 
@@ -230,6 +237,11 @@ impl System for Host {
 
     fn write_output(&mut self, output: &Stdout, bytes: &[u8]) -> io::Result<()> {
         output.write_all(bytes)
+    }
+
+    fn read_input(&mut self, input: &Stdin, buf: &mut [u8]) -> io::Result<usize> {
+        let mut input = *input;
+        input.read(buf)
     }
 }
 

@@ -1,39 +1,24 @@
-//! Short and interrupted reads of standard input, which no test over a real pipe makes come when it
-//! wants.
+//! Interrupted and failed reads of standard input, which a test over a real pipe can't make at will.
+use super::scripted::{Call, Scripted};
 use ras_host::read_retrying;
-use std::io;
-use std::io::{ErrorKind, Read};
+use std::io::ErrorKind;
 
-// Gives the byte 7 so often as it has them, one a call, and is interrupted at every second call.
-#[derive(Drop)]
-struct Fitful {
-    left: u64,
-    interrupts: bool,
-}
-
-impl Read for Fitful {
-    fn read(&mut self, buf: &mut [u8]) -> io::Result<usize> {
-        self.interrupts = !self.interrupts;
-        if !self.interrupts {
-            return Err(io::Error::from(ErrorKind::Interrupted));
-        }
-        if self.left == 0 || buf.is_empty() {
-            return Ok(0);
-        }
-        self.left -= 1;
-        buf[0] = 7;
-        Ok(1)
-    }
-}
-
-#[test]
-fn interrupted_reads_go_on(rt: HostRuntime) {
+// What a read answers of whose calls the first fails, the buffer, and the calls. A call gives one
+// byte.
+fn read(rt: HostRuntime, kind: ErrorKind) -> (Option<usize>, [u8; 4], Vec<Call>) {
+    let mut system = Scripted::new(rt.alloc(), 1, 1);
+    system.kind = kind;
     let mut buf = [0; 4];
-    let mut reader = Fitful {
-        left: 1,
-        interrupts: true,
-    };
-    assert_eq!(rt; read_retrying(&mut reader, &mut buf).ok(), Some(1));
-    assert_eq!(rt; buf, [7, 0, 0, 0]);
-    assert_eq!(rt; read_retrying(&mut reader, &mut buf).ok(), Some(0));
+    let count = read_retrying(&mut system, &rt.stdin(), &mut buf).ok();
+    (count, buf, system.calls)
+}
+
+// A read that was interrupted is made again, into the same buffer, and one that failed is not.
+#[test]
+fn interrupted_read_is_made_again(rt: HostRuntime) {
+    let (count, buf, calls) = read(rt, ErrorKind::Interrupted);
+    assert!(rt; count == Some(1) && buf == [7, 0, 0, 0]);
+    assert!(rt; calls.as_slice() == [Call::ReadInput(4); 2].as_slice());
+    let (count, _, calls) = read(rt, ErrorKind::StorageFull);
+    assert!(rt; count.is_none() && calls.len() == 1);
 }

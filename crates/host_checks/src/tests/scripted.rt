@@ -5,7 +5,7 @@ ghost use Rattle.ras_host.specs.Shown.{everything};
 use ras_host::{Opened, System};
 use std::alloc::Global;
 use std::io;
-use std::io::{ErrorKind, Stdout};
+use std::io::{ErrorKind, Stdin, Stdout};
 
 /// A file of the working folder, or the folder.
 #[derive(Clone, Copy, Debug, PartialEq, Eq)]
@@ -31,6 +31,7 @@ pub enum Call {
     Lock(Named),
     Rename(Named, Named),
     WriteOutput(usize),
+    ReadInput(usize),
 }
 
 /// A system on which one call fails, by its number from 1, and whose reads and writes take a few
@@ -155,5 +156,12 @@ impl System for Scripted {
 
     fn write_output(&mut self, _output: &Stdout, bytes: &[u8]) -> io::Result<()> {
         self.ask(Call::WriteOutput(bytes.len()))
+    }
+
+    fn read_input(&mut self, _input: &Stdin, buf: &mut [u8]) -> io::Result<usize> {
+        self.ask(Call::ReadInput(buf.len()))?;
+        let count = self.most.min(buf.len());
+        buf[..count].fill(7);
+        Ok(count)
     }
 }
