@@ -1,4 +1,4 @@
-//! Interrupted and failed reads of standard input, which a test over a real pipe can't make at will.
+//! Interrupted and failed reads of standard input, which no real pipe makes come when a test wants.
 use super::scripted::{Call, Scripted};
 use ras_host::read_retrying;
 use std::io::ErrorKind;
