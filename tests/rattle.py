@@ -1,319 +1,222 @@
-"""The Rattle files of the repository, cut into what a reader reads as one."""
-import dataclasses
+"""The definitions, types and functions of the repository's Rattle files, and what their names mean.
+
+The files are read by their layout, which `rt fmt` keeps: nothing else of the language is known here
+but where an item begins and ends, and what an import brings in.
+"""
 import functools
 import pathlib
 import re
+import typing
 
 TOP = pathlib.Path(__file__).resolve().parent.parent
 CRATES = TOP / "crates"
-ONLY_FOR_PROOFS = "-- Only for proofs: "
 
+NO_TEXT = re.compile(r"^ *(--|//|#!?\[|infix).*$", re.M)
+USE = re.compile(r"^ *(?:pub )?(?:ghost )?use ((?:[^{;\n]|\{[^{}]*\})+);?$", re.M)
 SPEC_HEAD = re.compile(
-    r"^(?:(?:abbrev|unfoldable|pub)\s+)*"
-    r"(?:(?P<kind>record|data)\s+(?P<type>[^\s({:]+)|(?P<name>[^\s({:]+)\s+:(?=\s))"
+    r"(?:(?:abbrev|unfoldable|pub) )*(?:(?P<kind>record|data) (?P<type>[^\s({:]+)|(?P<name>[^\s({:]+) :(?= ))"
 )
-SPEC_MODULE = re.compile(r"^module\s+_\s.*\bwhere$")
 CODE_HEAD = re.compile(
-    r"^(?P<indent> *)(?P<pub>pub(?:\([a-z]+\))? )?(?:const )?"
+    r"(?P<indent>    |)(?P<pub>pub )?(?:pub\(\w+\) )?(?:const )?"
     r"(?P<kind>fn|struct|enum|trait|const|static|type) (?P<name>\w+)"
 )
-IMPL_HEAD = re.compile(r"^impl(?:<.*?>)? (?:(?P<trait>[\w:<>, ]+?) for )?(?P<type>\w+)")
-CLAUSE = re.compile(r"^ +(?P<kind>requires|ensures|ghost)\b *(?P<name>\w+)?")
-CONSTRUCTOR = re.compile(r"\s+(?:pub )?([^\s({:]+) :")
-USE = re.compile(r"^ *(?:pub )?(?:ghost )?use (?P<path>[^;]+);?$")
-COMMENT = re.compile(r"\s*(--|//)")
+IMPL_HEAD = re.compile(r"impl(?:<.*?>)? (?:(?P<trait>[\w:<>, ]+?) for )?(?P<type>\w+)")
+CLAUSE = re.compile(r" +(?P<kind>requires|ensures)\b *(?P<name>\w+)?")
+SPEC_WORD = re.compile(r"[^\s(){}\[\];,&]+")
+CODE_WORD = re.compile(r"[^\s(){}\[\];,&<>?!:]+")
 
 
-@dataclasses.dataclass(frozen=True)
-class Item:
-    """What a reader reads as one: a definition of specs/, or a function, type or clause of code."""
+class Item(typing.NamedTuple):
+    """What a reader reads as one: a definition of specs/, or a type, constant or function of code."""
 
     file: str
     name: str
     kind: str
-    line: int
-    lines: tuple = dataclasses.field(compare=False)
-    scope: dict = dataclasses.field(compare=False, hash=False)
-
-    @property
-    def text(self):
-        """The item without its comments."""
-        return "\n".join(line for line in self.lines if not COMMENT.match(line))
-
-    @property
-    def count(self):
-        """How many lines a reader reads: comments too, empty lines not."""
-        return sum(bool(line.strip()) for line in self.lines)
-
-    @property
-    def first_line(self):
-        """The number of the line in which the item's own comment begins."""
-        return self.line - next((n for n, it in enumerate(self.lines) if CODE_HEAD.match(it)), 0)
-
-    @property
-    def parts(self):
-        """The lines before a function's clauses, and then those of each clause with its name."""
-        found = [(None, [])]
-        for line in self.lines:
-            if match := CLAUSE.match(line):
-                found.append((match["name"] or match["kind"], []))
-            found[-1][1].append(line)
-        return found
-
-    def with_lines(self, lines):
-        """The item with these of its lines alone."""
-        return dataclasses.replace(self, lines=tuple(lines))
-
-    def with_clause(self, name):
-        """The function with this one of its clauses alone, under the name of both."""
-        kept = [line for clause, lines in self.parts for line in lines if clause in (None, name)]
-        return dataclasses.replace(self.with_lines(kept), name=f"{self.name}/{name}")
+    is_public: bool
+    lines: tuple
 
 
 def path_of(file):
     """A file's path from the top of the repository."""
-    return str(pathlib.Path(file).relative_to(TOP))
+    return str(file.relative_to(TOP))
 
 
-def lines_of(file):
-    """A file's lines, by its path from the top."""
-    return (TOP / file).read_text().split("\n")
+@functools.cache
+def text_of(file):
+    """A file's text before its tests, by its path from the top."""
+    return (TOP / file).read_text().split("\n#[cfg(test)]")[0]
 
 
 @functools.cache
 def crates():
     """The names of the crates, as crates.txt lists them."""
-    lines = (TOP / "crates.txt").read_text().splitlines()
-    return [line.split(":")[0].split()[0] for line in lines if line.strip() and line[0] != "#"]
-
-
-@functools.cache
-def libraries_of(crate):
-    """The libraries that a crate stands on, as crates.txt lists them."""
-    lines = (TOP / "crates.txt").read_text().splitlines()
-    return next(line.split(":")[1].split() for line in lines if line.split(":")[0] == crate)
+    return re.findall(r"^(\w+).*:", (TOP / "crates.txt").read_text(), re.M)
 
 
 def files_of(crate, folder, ending):
-    """The files of one folder of a crate, by their paths from the top."""
-    return sorted(path_of(file) for file in (CRATES / crate / folder).rglob(f"*{ending}"))
+    """The files of one folder of a crate, but for tests, by their paths from the top."""
+    found = sorted(path_of(file) for file in (CRATES / crate / folder).rglob(f"*{ending}"))
+    return [file for file in found if "/tests" not in file]
 
 
-def code_files(crate):
-    """The files of code of a crate, but for its tests."""
-    return [file for file in files_of(crate, "src", ".rt") if "/tests" not in file]
-
-
-# ---- imports
-
-
-def expand(path, joint):
-    """An import's path with its braces multiplied out: pairs of a name and its full path."""
-    path = path.strip()
-    if path.endswith("}"):
-        front, inside = path[:-1].split("{", 1)
-        return [pair for part in split_list(inside) for pair in expand(front + part.strip(), joint)]
-    full, _, alias = path.partition(" as ")
-    return [((alias or full.split(joint)[-1]).strip(), full.strip())]
-
-
-def split_list(text):
-    """The parts of a list at its commas that stand in no inner brace."""
-    parts, depth, part = [], 0, ""
-    for letter in text:
-        depth += (letter == "{") - (letter == "}")
-        if letter == "," and depth == 0:
-            parts.append(part)
-            part = ""
-        else:
-            part += letter
-    return [part for part in [*parts, part] if part.strip()]
-
-
-def imports_in(lines):
-    """The names that import lines bring in, each with its full path."""
-    scope, pending = {}, ""
-    for line in lines:
-        pending = f"{pending} {line.strip()}" if pending else line
-        if not re.match(r"\s*(?:pub )?(?:ghost )?use ", pending):
-            pending = ""
-        elif pending.count("{") == pending.count("}"):
-            path = USE.match(pending)["path"]
-            scope.update(expand(path, "::" if "::" in path else "."))
-            pending = ""
-    return scope
-
-
-# ---- specifications
-
-
-def spec_blocks(lines):
-    """Cuts lines into definitions: each one's head, the head's place, and its lines with those of
-    the comment above it."""
-    heads, depth = [], 0
-    for place, line in enumerate(lines):
-        bare = line.lstrip(" ")
-        indent = len(line) - len(bare)
-        if bare and indent <= depth and not bare.startswith("--"):
-            depth = indent
-            if SPEC_MODULE.match(bare):
-                depth += 2
-            elif match := SPEC_HEAD.match(bare):
-                heads.append((match, place))
-    starts = [with_comments(lines, place) for _, place in heads]
-    ends = [*starts[1:], len(lines)]
-    return [(*head, lines[start:end]) for head, start, end in zip(heads, starts, ends)]
-
-
-def with_comments(lines, head):
-    """The first line of the comment, or of the attributes, right above a head."""
-    start = head
-    while start > 0 and re.match(r"\s*(--|//|#\[|infix)", lines[start - 1]):
-        start -= 1
-    return start
+# ---- what stands in a file
 
 
 @functools.cache
-def spec_items(file):
-    """The definitions of a file of specs/, by their names."""
-    lines = lines_of(file)
-    scope = imports_in(lines)
-    items = {}
-    for match, head, block in spec_blocks(lines):
-        kept = tuple(line for line in block if not line.startswith("use "))
-        name = match["type"] or match["name"]
-        items[name] = Item(file, name, match["kind"] or "definition", head + 1, kept, scope)
-    return items
+def items_of(file):
+    """The items of a file by their names, methods as `Type::method`."""
+    # comments, attributes and imports are no text of an item
+    text = USE.sub(lambda use: "\n" * use[0].count("\n"), NO_TEXT.sub("", text_of(file)))
+    items = (spec_items if file.endswith(".antt") else code_items)(file, text.split("\n"))
+    return {item.name: item for item in reversed(list(items))}
+
+
+def spec_items(file, lines):
+    """The definitions of a file of specs/; those of a module with parameters are indented."""
+    heads, indent = [], ""
+    for place, line in enumerate(lines):
+        if re.match(r"\S", line):
+            indent = "  " if re.match(r"module _\b.*\bwhere$", line) else ""
+        match = re.match(indent + r"(?=\S)", line) and SPEC_HEAD.match(line, len(indent))
+        if match:
+            heads.append((place, match))
+    ends = [*(place for place, _ in heads[1:]), len(lines)]
+    for (place, match), end in zip(heads, ends):
+        name, kind = match["type"] or match["name"], match["kind"] or "definition"
+        yield Item(file, name, kind, True, tuple(lines[place:end]))
+
+
+def code_items(file, lines):
+    """What a file of code has: of a struct what a reader sees, and of a function all but its body."""
+    owner = None
+    for place, line in enumerate(lines):
+        if re.match(r"[a-z]", line):
+            owner = IMPL_HEAD.match(line)
+        match = CODE_HEAD.match(line)
+        if not match or match["indent"] and not owner:
+            continue
+        name = f"{owner['type']}::{match['name']}" if match["indent"] else match["name"]
+        block = lines[place : end_of(lines, place, match["kind"], match["indent"])]
+        if match["kind"] == "struct":
+            fields = [it for it in block if not re.match(r"    (pub\(|\w+:)", it)]
+            block = fields + values_of(file, name)
+        is_public = bool(match["pub"] or owner and owner["trait"])
+        yield Item(file, name, match["kind"], is_public, tuple(block))
+
+
+def end_of(lines, place, kind, indent):
+    """The place after the item that begins at a place, and of a function after its clauses."""
+    has_clauses = False
+    for place in range(place, len(lines)):
+        line, last = lines[place], lines[place][-1:]
+        has_clauses |= bool(CLAUSE.match(line))
+        if kind == "fn" and line in (f"{indent}{{", f"{indent}{{}}"):
+            return place
+        is_one_line = last == ";" and not line.startswith(f"{indent} ") or line[-2:] == "{}"
+        if is_one_line or line == f"{indent}}}" or kind == "fn" and last == "{" and not has_clauses:
+            return place + 1
+    return len(lines)
+
+
+def values_of(file, name):
+    """What the values of a struct are seen as: the line of its model that a reader believes."""
+    model = re.search(rf"^impl\b.* Model for {name}\b.*\n((?: .*\n|\n)*)", text_of(file), re.M)
+    return re.findall(r"^ +ghost Value\b.*$", model[1], re.M) if model else []
 
 
 def constructors_of(item):
     """The constructors of an item that is data."""
-    matches = [CONSTRUCTOR.match(line) for line in item.lines[1:]] if item.kind == "data" else []
-    return [match[1] for match in matches if match]
+    found = [re.match(r"\s+(?:pub )?([^\s({:]+) :", line) for line in item.lines[1:]]
+    return [match[1] for match in found if match] if item.kind == "data" else []
 
 
-# ---- code
+# ---- what a crate gives to others
 
 
 @functools.cache
-def code_items(file):
-    """What a file of code has: functions, methods as `Type::method`, types, constants, traits."""
-    lines = without_tests(lines_of(file))
-    scope = imports_in([line for line in lines if not line.startswith(" ")])
-    items, owner, inner = {}, None, scope
-    for place, line in enumerate(lines):
-        if line and not line.startswith((" ", "}")):
-            owner = IMPL_HEAD.match(line)
-            block = lines[place : end_of(lines, place, "impl", "")] if owner else []
-            inner = dict(scope, **imports_in(block))
-            if owner and owner["trait"] == "Model":
-                add_model(items, file, block, place, owner["type"], inner)
-        match = CODE_HEAD.match(line)
-        if match and match["indent"] == "":
-            add_item(items, file, lines, place, match, match["name"], scope)
-        elif match and match["indent"] == "    " and owner:
-            name = f"{owner['type']}::{match['name']}"
-            if not owner["trait"]:
-                add_item(items, file, lines, place, match, name, inner)
-            elif match["kind"] == "fn":
-                add_trait_method(items, file, lines, place, name, inner)
-    return items
+def items_in(crate):
+    """The items of a crate's code by name."""
+    files = files_of(crate, "src", ".rt")
+    return {name: item for file in reversed(files) for name, item in items_of(file).items()}
 
 
-def add_trait_method(items, file, lines, place, name, scope):
-    """Adds a trait's method of a type that has clauses of its own; else the trait's stand for it."""
-    text = tuple(lines[with_comments(lines, place) : end_of(lines, place, "fn", "    ") + 1])
-    if any(CLAUSE.match(line) for line in text):
-        items[name] = Item(file, name, "method of a trait", place + 1, text, scope)
+@functools.cache
+def names_given(crate):
+    """The names that a crate gives to others, each with its path."""
+    files = files_of(crate, "src", ".rt")
+    root = next(file for file in files if file.endswith(("/src/lib.rt", "/src/main.rt")))
+    modules = [root.replace("lib", name) for name in re.findall(r"^pub mod (\w+);", text_of(root), re.M)]
+    given = {name: name for file in [root, *modules] for name in items_of(file)}
+    for path in re.findall(r"^pub use ([^;]+);", text_of(root), re.M):
+        given.update(expand(path))
+    return given
 
 
-def without_tests(lines):
-    """The lines before a file's tests."""
-    return lines[: lines.index("#[cfg(test)]")] if "#[cfg(test)]" in lines else lines
+def public_functions(crate):
+    """The functions and methods that a crate gives to others."""
+    functions = [it for it in items_in(crate).values() if it.kind == "fn" and it.is_public]
+    return [it for it in functions if it.name.split("::")[0] in names_given(crate)]
 
 
-def add_item(items, file, lines, place, match, name, scope):
-    """Adds the item whose head stands at a place."""
-    if match["kind"] == "trait":
-        return add_trait(items, file, lines, place, name, scope)
-    end = end_of(lines, place, match["kind"], match["indent"])
-    kind = match["kind"] if match["pub"] == "pub " else f"private {match['kind']}"
-    text = tuple(lines[with_comments(lines, place) : end + 1])
-    items[name] = Item(file, name, kind, place + 1, text, scope)
+# ---- what a name means
+
+
+def expand(path):
+    """What an import brings in: pairs of a name and its path, whose parts are joined by points."""
+    front, _, inside = " ".join(path.replace("::", ".").split()).rstrip("}").partition("{")
+    parts = [front + part.strip() for part in inside.split(",") if part.strip()] or [front]
+    pairs = [part.partition(" as ") for part in parts]
+    return [(alias or full.split(".")[-1], full) for full, _, alias in pairs]
+
+
+@functools.cache
+def scope_of(file):
+    """What the names in a file mean: items of the file itself, or the paths of what it imports."""
+    paths = sorted(USE.findall(text_of(file)), key=lambda path: path.startswith("Rattle."))
+    scope = {name: full for path in paths for name, full in expand(path)}
+    for item in items_of(file).values():
+        names = [item.name, *constructors_of(item)] if item.kind != "fn" else []
+        scope.update((name, item) for name in names)
+    for name in [name for name in scope if "◌" in name]:
+        scope.update((part, scope[name]) for part in name.split("◌")[:2] if part)
+    return scope
+
+
+@functools.cache
+def item_at(path):
+    """The item that a full path means, or None if it is the library's."""
+    crate, *parts = path.removeprefix("Rattle.").split(".")
+    if crate not in crates() or not parts:
+        return None
+    if parts[:2] == ["specs", "declared"]:
+        types = [part for part in parts if part[0].isupper() and not re.match("The[A-Z]", part)]
+        return items_in(crate).get(types[0] if types else parts[-1])
+    if parts[0] == "specs":
+        return specified_at(crate, parts)
+    passed_on = names_given(crate).get(parts[-1], "")
+    return items_in(crate).get(parts[-1]) or ("." in passed_on and item_at(passed_on)) or None
+
+
+def specified_at(crate, parts):
+    """The definition of specs/ that a path means, or the one whose constructor it is."""
+    for depth in range(len(parts) - 1, 1, -1):
+        file = CRATES.joinpath(crate, *parts[:depth]).with_suffix(".antt")
+        if file.is_file():
+            items = items_of(path_of(file))
+            data = [it for it in items.values() if parts[depth] in constructors_of(it)]
+            return items.get(parts[depth]) or next(iter(data), None)
     return None
 
 
-def end_of(lines, start, kind, indent):
-    """The last line that a reader reads of an item: of a function what stands before its body."""
-    for place in range(start, len(lines)):
-        line = lines[place]
-        if kind == "fn" and line in (f"{indent}{{", f"{indent}{{}}"):
-            return place - 1
-        if kind == "fn" and is_end_of_signature(lines[start : place + 1]):
-            return place
-        is_end = line == f"{indent}}}" or (line.endswith((";", "{}")) and place == start)
-        if kind != "fn" and is_end:
-            return place
-    return len(lines) - 1
-
-
-def is_end_of_signature(lines):
-    """Whether lines are a whole signature without clauses."""
-    text = "".join(lines)
-    is_closed = text.count("(") == text.count(")")
-    return is_closed and lines[-1].endswith((" {", " {}", ";")) and not CLAUSE.match(lines[-1])
-
-
-def add_model(items, file, block, place, name, scope):
-    """Adds what a type's values are seen as: the line of its model that a reader believes."""
-    value = tuple(line for line in block if re.match(r" +ghost Value\b", line))
-    key = f"{name}'s values"
-    items[key] = Item(file, key, "model", place + 1, value, scope)
-
-
-def add_trait(items, file, lines, start, name, scope):
-    """Adds a trait, and each of its ghost members, functions and clauses by itself."""
-    head = tuple(lines[with_comments(lines, start) : start + 1])
-    items[name] = Item(file, name, "trait", start + 1, head, scope)
-    function = ""
-    for place in range(start + 1, end_of(lines, start, "trait", "")):
-        clause, head = CLAUSE.match(lines[place]), re.match(r"    fn (\w+)", lines[place])
-        if not clause and not head:
-            continue
-        first, last = with_comments(lines, place), clause_end(lines, place)
-        if head:
-            function = head[1]
-            key, last = f"{name}::{function}", before_clauses(lines, place)
-        elif clause["kind"] == "ghost":
-            key = f"{name}::{clause['name']}"
+def meanings(item):
+    """The items of the repository that the names in an item mean."""
+    scope, crate = scope_of(item.file), item.file.split("/")[1]
+    pattern = SPEC_WORD if item.file.endswith(".antt") else CODE_WORD
+    words = [word.strip(".").split(".") for word in pattern.findall("\n".join(item.lines))]
+    for first, *rest in words + [[">>="]] * (["do"] in words):
+        found = scope.get(first)
+        if isinstance(found, str):
+            path = re.sub(r"^crate\b", crate, found)
+            yield item_at(path) or (rest and item_at(f"{path}.{rest[0]}")) or None
         else:
-            key, first = f"{name}::{function}/{clause['name'] or clause['kind']}", place
-        text = tuple(lines[first : last + 1])
-        items[key] = Item(file, key, "method" if head else "clause", place + 1, text, scope)
-
-
-def before_clauses(lines, place):
-    """The last line of a function's signature in a trait, before its clauses."""
-    while not lines[place].endswith((";", "{")) and not CLAUSE.match(lines[place + 1]):
-        place += 1
-    return place
-
-
-def clause_end(lines, start):
-    """The line in which a clause's braces are closed."""
-    depth = 0
-    for place in range(start, len(lines)):
-        depth += lines[place].count("{") - lines[place].count("}")
-        if depth <= 0:
-            return place
-    return start
-
-
-def clauses_of(item):
-    """A function's clauses by name, or by `requires` and `ensures` where they have none, each with
-    its line; of a struct its ghost fields."""
-    found = {}
-    for place, line in enumerate(item.lines):
-        if (match := CLAUSE.match(line)) and (match["kind"] == "ghost") == ("struct" in item.kind):
-            found.setdefault(match["name"] or match["kind"], item.first_line + place)
-    return found
+            yield found
