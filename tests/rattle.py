@@ -142,11 +142,11 @@ def items_in(crate):
 
 @functools.cache
 def names_given(crate):
-    """The names that a crate gives to others, each with its path."""
+    """The names that a crate gives to others, each with its file or its path."""
     files = files_of(crate, "src", ".rt")
     root = next(file for file in files if file.endswith(("/src/lib.rt", "/src/main.rt")))
     modules = [root.replace("lib", name) for name in re.findall(r"^pub mod (\w+);", text_of(root), re.M)]
-    given = {name: name for file in [root, *modules] for name in items_of(file)}
+    given = {name: file for file in [root, *modules] for name in items_of(file)}
     for path in re.findall(r"^pub use ([^;]+);", text_of(root), re.M):
         given.update(expand(path))
     return given
@@ -154,8 +154,16 @@ def names_given(crate):
 
 def public_functions(crate):
     """The functions and methods that a crate gives to others."""
-    functions = [it for it in items_in(crate).values() if it.kind == "fn" and it.is_public]
-    return [it for it in functions if it.name.split("::")[0] in names_given(crate)]
+    items = [item for file in files_of(crate, "src", ".rt") for item in items_of(file).values()]
+    return [item for item in items if item.kind == "fn" and item.is_public and is_given(crate, item)]
+
+
+def is_given(crate, item):
+    """Whether a crate gives a function to others, or the type whose method it is."""
+    owner, _, method = item.name.partition("::")
+    path = names_given(crate).get(owner, "")
+    module = path.rpartition(".")[0].replace(".", "/")
+    return bool(path) and (bool(method) or item.file in (path, f"crates/{crate}/src/{module}.rt"))
 
 
 # ---- what a name means
