@@ -12,8 +12,8 @@ use Rattle.ras_script.specs.declared.line.LineRefused.{LineRefused}
 use Rattle.ras_script.specs.declared.line.Table.TheVariants.{Hest}
 use Rattle.ras_events.specs.declared.event.Event.{Event}
 use Rattle.ras_events.specs.declared.event.Event.TheVariants.{Counted}
-use Rattle.ras_events.specs.declared.reason.Reason.{Reason}
-use Rattle.ras_events.specs.declared.reason.Reason.TheVariants as reason
+use Rattle.ras_exit.specs.declared.reason.Reason.{Reason}
+use Rattle.ras_exit.specs.declared.reason.Reason.TheVariants as reason
 use Rattle.ras_events.specs.declared.settings.Settings.{Settings}
 use Rattle.ras_events.specs.Events.{event_of}
 use Rattle.ras_events.specs.Making.{Pieces, nothing_made}

@@ -12,9 +12,10 @@ ghost use Rattle.ras_events.specs.Events.{hest_event, no_settings, report_event,
 ghost use Rattle.ras_events.specs.Events.{settings_after, with_sources};
 ghost use Rattle.ras_events.specs.Sizes.{IsFitEvent, IsShortLine, IsShortReport};
 
-use crate::{Event, EventRefused, Made, Reason};
+use crate::{Event, EventRefused, Made};
 use apei_sources::{Hest, TableRefused, read_bert, read_block, read_hest};
 use dimm_topology::{Row, Topology, TopologyRefused};
+use ras_exit::Reason;
 use ras_facts::Name;
 use ras_reports::{report_of_bank, report_of_block};
 use ras_script::{ErrorReport, Line, Table};

@@ -1,6 +1,6 @@
 -- What a line asks for that is taken is of a kind that a run takes, and its bytes are no more than
 -- the line's.
-use Rattle.std.proofs.Common.{◌≡◌, ℕ, zero, suc, ◌+◌, ◌*◌, ◌≤◌, ◌==◌, ◌||◌, Bool, true, false, cond, List, [], ◌∷◌, length, refl, arith, None, Result, Ok, Err, IfOk, codes, nat_le, nat_lt}
+use Rattle.std.proofs.Common.{◌≡◌, ℕ, zero, suc, ◌+◌, ◌*◌, ◌≤◌, ◌==◌, ◌||◌, Bool, true, false, cond, List, [], ◌∷◌, length, map, take, refl, sym, ap, subst, ◌∙◌, arith, None, Result, Ok, Err, IfOk, codes, nat_le, nat_lt}
 use Rattle.std.specs.List.{AllByRecursion, filter, list_any, onto_first, slice_split}
 use Rattle.std.specs.Option.{ok_or}
 use Rattle.std.specs.Prelude.{⊤, slice_index, slice_index_or}
@@ -18,9 +18,13 @@ use Rattle.ras_script.specs.declared.line.LineRefused.{LineRefused}
 use Rattle.ras_script.specs.declared.reader.TheConstants.{LONGEST_LINE}
 use Rattle.ras_script.specs.Fields.{hex_bytes_at, decimal_at, hexadecimal_at, label_word_at, limit_from_words, report_at}
 use Rattle.ras_script.specs.Kinds.{bank_asks, cpu_asks, module_asks, range_asks, place_asks, limit_asks, module_limit_asks, hest_asks, bert_asks, ghes_asks, retire_asks, restart_asks}
-use Rattle.ras_script.specs.Line.{Gives, kinds, line_named, line_of, line_of_words}
+use Rattle.ras_script.specs.Line.{Gives, ReadsLine, kinds, line_named, line_of, line_of_words}
+use Rattle.ras_script.specs.LineLaws.{IsInRange}
 use Rattle.ras_script.specs.Splitting.{words_of}
+use Rattle.ras_script.specs.declared.splitting.TheConstants.{HELD_WORDS}
 use Rattle.ras_script.proofs.FieldLemmas.{then_within}
+use Rattle.ras_script.proofs.HeldLineLemmas.{reads_held}
+use Rattle.ras_script.proofs.LineRangeLemmas.{read_within}
 use Rattle.ras_events.specs.Sizes.{IsShortLine}
 use Rattle.ras_run.specs.LaterKinds.{IsTaken, is_later, later_kinds, taken_line}
 
@@ -220,17 +224,13 @@ module _ (most : ℕ) where
   comment-good true event h = (tt, tt)
   comment-good false event h = h
 
-  line-good : (kind : List ℕ) (words : List (List ℕ)) (later : Bool) → AreShort most words → list_any (bytes_eq kind) later_kinds ≡ later
-      → IfOk (cond later (Err LineRefused.Kind) (line_of_words (kind ∷ words))) (IsGood most)
-  line-good kind words true short is = tt
-  line-good kind words false short is = comment-good (slice_index kind 0 == 35) (line_named kinds kind words) (named-good kind words short is)
+  line-good : (words : List (List ℕ)) (later : Bool) → AreShort most words → is_later words ≡ later → IfOk (cond later (Err LineRefused.Kind) (line_of_words words)) (IsGood most)
+  line-good words true short is = tt
+  line-good [] false short is = (tt, tt)
+  line-good (kind ∷ words) false short is = comment-good (slice_index kind 0 == 35) (line_named kinds kind words) (named-good kind words short.1 is)
 
 lines-good : (bytes : List ℕ) → IfOk (taken_line bytes) (IsGood (length bytes))
-lines-good bytes = by (words_of bytes) refl (words_short bytes)
-  where
-    by : (words : List (List ℕ)) → words_of bytes ≡ words → AreShort (length bytes) words → IfOk (taken_line bytes) (IsGood (length bytes))
-    by [] is all = rw is (tt, tt)
-    by (kind ∷ words) is all = rw is (line-good (length bytes) kind words (list_any (bytes_eq kind) later_kinds) all.1 refl)
+lines-good bytes = line-good (length bytes) (words_of bytes) (is_later (words_of bytes)) (words_short bytes) refl
 
 each : (P Q : Line → Type 0) (read : Result Line LineRefused) → ((line : Line) → P line → Q line) → IfOk read P → IfOk read Q
 each P Q (Ok line) gives h = gives line h
@@ -257,12 +257,41 @@ lines-short : (bytes : List ℕ) → length bytes ≤ LONGEST_LINE → IfOk (tak
 lines-short bytes le =
     each (IsGood (length bytes)) IsShortLine (taken_line bytes) (λ line good. short_line (length bytes) line le good.1) (lines-good bytes)
 
-read_good : (P : Line → Type 0) (bytes : List ℕ) (read : Result Line LineRefused) → IfOk (taken_line bytes) P → is_later bytes ≡ false → Gives read (line_of bytes) → IfOk read P
-read_good P bytes (Ok line) all other is = rw (other, is) at all
-read_good P bytes (Err why) all other is = tt
+given : (P : Line → Type 0) (read line : Result Line LineRefused) → Gives read line → IfOk line P → IfOk read P
+given P (Ok read) line is all = rw is at all
+given P (Err why) line is all = tt
 
-pub read-taken : (bytes : List ℕ) (read : Result Line LineRefused) → is_later bytes ≡ false → Gives read (line_of bytes) → IfOk read IsTaken
-read-taken bytes read other is = read_good IsTaken bytes read (lines-taken bytes) other is
+-- ---- the words that are held
 
-pub read-short : (bytes : List ℕ) (read : Result Line LineRefused) → length bytes ≤ LONGEST_LINE → is_later bytes ≡ false → Gives read (line_of bytes) → IfOk read IsShortLine
-read-short bytes read short other is = read_good IsShortLine bytes read (lines-short bytes short) other is
+-- the first words tell the kind
+later_held : (words : List (List ℕ)) → is_later (take HELD_WORDS words) ≡ is_later words
+later_held [] = refl
+later_held (kind ∷ words) = refl
+
+-- `kind` and `asked` are the words that were held
+module _ {A : Type 0} (f : A → List ℕ) (bytes : List ℕ) (words kind : List A) (is : map f words ≡ take HELD_WORDS (words_of bytes)) (same : kind ≡ words) where
+  by_kind : (later : Bool) → is_later (map f kind) ≡ later → taken_line bytes ≡ cond later (Err LineRefused.Kind) (line_of bytes)
+  by_kind later found =
+      ap (λ b. cond b (Err LineRefused.Kind) (line_of bytes))
+      (sym (ap (λ ws. is_later (map f ws)) same ∙ (ap is_later is ∙ later_held (words_of bytes))) ∙ found)
+
+  -- a line of a later kind is refused
+  pub later_refused : is_later (map f kind) ≡ true → taken_line bytes ≡ Err LineRefused.Kind
+  later_refused found = by_kind true found
+
+  -- what is read of the words of another is what the line asks for
+  module _ (asked : List A) (also : asked ≡ words) (read : Result Line LineRefused) (other : is_later (map f kind) ≡ false) (gives : Gives read (line_of_words (map f asked))) where
+    reads : ReadsLine read bytes
+    reads = reads_held f bytes words asked read also is gives
+
+    pub asks_line : Gives read (taken_line bytes)
+    asks_line = subst (Gives read) (sym (by_kind false other)) reads
+
+    pub asks_in_range : IfOk read IsInRange
+    asks_in_range = read_within bytes read reads
+
+    pub asks_taken : IfOk read IsTaken
+    asks_taken = given IsTaken read (taken_line bytes) asks_line (lines-taken bytes)
+
+    pub asks_short : length bytes ≤ LONGEST_LINE → IfOk read IsShortLine
+    asks_short short = given IsShortLine read (taken_line bytes) asks_line (lines-short bytes short)

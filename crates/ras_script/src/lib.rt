@@ -14,7 +14,7 @@ pub use bytes::{bytes_of, written_bytes_are_read};
 pub use fields::{BANK_WORDS, LIMIT_WORDS};
 pub use kinds::{LAST_CHANNEL, MOST_WORDS};
 pub use line::{
-    ErrorReport, Line, LineRefused, Table, numbers_are_in_range, read_line,
+    ErrorReport, Line, LineRefused, Table, line_of_words, numbers_are_in_range, read_line,
     refused_lines_have_words, written_lines_are_read,
 };
 pub use number::{

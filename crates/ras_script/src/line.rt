@@ -3,6 +3,7 @@
 ghost use Rattle.std.specs.Prelude.{◌≡◌, ℕ, ◌<◌, List, length, map, IfOk, IsErr};
 ghost use Rattle.ras_script.specs.Line.{Gives, ReadsLine, line_of, line_of_words};
 ghost use Rattle.ras_script.specs.LineLaws.{IsInRange, line_text};
+ghost use Rattle.ras_script.specs.Refusals.{line_number};
 ghost use Rattle.ras_script.specs.Splitting.{words_of};
 ghost use Rattle.ras_script.specs.declared.line.LineRefused.TheVariants as RefusedFor;
 
@@ -128,6 +129,22 @@ pub fn refused_lines_have_words()
     ensures { (bytes : List ℕ) → IsErr (line_of bytes) → 0 < length (words_of bytes) }
 {}
 
+impl LineRefused {
+    /// The number by which the refusal is printed, or None if memory ran out.
+    pub fn number(self) -> Option<u8>
+        ensures { result ≡ line_number self }
+    {
+        match self {
+            LineRefused::Kind => Some(1),
+            LineRefused::Words => Some(2),
+            LineRefused::Number => Some(3),
+            LineRefused::Hex => Some(4),
+            LineRefused::Label => Some(6),
+            LineRefused::NoMemory => None,
+        }
+    }
+}
+
 impl From<NoMemory> for LineRefused {
     ghost from_gives = { λ _ e. e ≡ RefusedFor.NoMemory };
 
@@ -136,8 +153,8 @@ impl From<NoMemory> for LineRefused {
     }
 }
 
-// What a line asks for whose words these are.
-fn line_of_words(alloc: Global, words: &[&[u8]]) -> Result<Line, LineRefused>
+/// What a line asks for whose words these are, as `read_line`.
+pub fn line_of_words(alloc: Global, words: &[&[u8]]) -> Result<Line, LineRefused>
     ensures { Gives result (line_of_words (map (λ word. word.now) words.now)) }
 {
     let [kind, rest @ ..] = words else {

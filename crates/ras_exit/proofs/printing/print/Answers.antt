@@ -2,10 +2,10 @@ use Rattle.std.proofs.Common.{sym}
 use Rattle.board_core.specs.Cause.{print_call}
 use Rattle.board_core.specs.ClockLemmas.{adds_at_rest, adds_none, rests_printed}
 use Rattle.board_core.specs.Stop.{Begins, InOut}
-use Rattle.ras_run.proofs.DeviceLemmas.{device_not_printed, device_printed, device_stays}
-use Rattle.ras_run.proofs.FaultLemmas.{raised, same_faults}
-use Rattle.ras_run.proofs.PrintLemmas.{nothing_rests, nothing_told}
-use Rattle.ras_run.proofs.printing.print.Goals as goal
+use Rattle.ras_exit.proofs.DeviceLemmas.{device_not_printed, device_printed, device_stays}
+use Rattle.ras_exit.proofs.FaultLemmas.{raised, same_faults}
+use Rattle.ras_exit.proofs.PrintLemmas.{nothing_rests, nothing_told}
+use Rattle.ras_exit.proofs.printing.print.Goals as goal
 
 pub returns-then-is_empty-clause-told : goal.returns-then-is_empty-clause-told
 returns-then-is_empty-clause-told g c = nothing_told c.args.text.now _ (sym c.if-is_empty.ensures)

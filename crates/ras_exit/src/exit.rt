@@ -2,8 +2,9 @@
 
 ghost use Rattle.std.specs.Prelude.{◌≡◌};
 
+use crate::Reason;
 use ras_base::NoMemory;
-use ras_events::Reason;
+use ras_script::LineRefused;
 
 /// How a call ends.
 #[derive(Clone, Copy, Debug, PartialEq, Eq)]
@@ -31,7 +32,7 @@ pub enum Exit {
 }
 
 impl From<NoMemory> for Exit {
-    ghost use Rattle.ras_run.specs.declared.exit.Exit.TheVariants as ExitFor;
+    ghost use Rattle.ras_exit.specs.declared.exit.Exit.TheVariants as ExitFor;
 
     ghost from_gives = { λ _ exit. exit ≡ ExitFor.NoMemory };
 
@@ -41,7 +42,8 @@ impl From<NoMemory> for Exit {
 }
 
 impl Exit {
-    ghost use Rattle.ras_run.specs.ExitStatus.{exit_number};
+    ghost use Rattle.ras_exit.specs.Endings.{is_answer, unread_exit};
+    ghost use Rattle.ras_exit.specs.ExitStatus.{exit_number};
 
     /// The process's exit status.
     pub fn status(&self) -> u8
@@ -58,6 +60,30 @@ impl Exit {
             Exit::Full => 8,
             Exit::NoMemory => 12,
             Exit::TooLong => 13,
+        }
+    }
+
+    /// Whether a call that ends so came to its end or to a refusal. If it didn't, a fault cut it
+    /// short, or memory ran out.
+    pub fn is_answer(self) -> bool
+        ensures { result ≡ is_answer self }
+    {
+        !matches!(
+            self,
+            Exit::SourceFault | Exit::DiskFault | Exit::PrintFault | Exit::NoMemory
+        )
+    }
+
+    /// How a run ends if its line of this number can't be read.
+    pub fn of_unread(line: u64, refused: LineRefused) -> Exit
+        ensures { result ≡ unread_exit line refused }
+    {
+        match refused {
+            LineRefused::NoMemory => Exit::NoMemory,
+            refused => Exit::BadLine {
+                line,
+                reason: Reason::Line(refused),
+            },
         }
     }
 }

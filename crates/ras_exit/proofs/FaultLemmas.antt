@@ -1,8 +1,8 @@
 -- The counts of a board over its calls.
 use Rattle.std.proofs.Common.{◌≡◌, Result, Ok, Err, ap, ◌∙◌, refl}
 use Rattle.board_core.specs.Cause.{Faults, FailsAs, Kind, disk_call, device_call, print_call, count_of, with_count}
-use Rattle.ras_run.specs.declared.exit.Exit.{Exit}
-use Rattle.ras_run.specs.Causes.{BoardCause, Causes, Raises}
+use Rattle.ras_exit.specs.declared.exit.Exit.{Exit}
+use Rattle.ras_exit.specs.Causes.{BoardCause, Causes, Raises}
 
 -- a count set to what it was
 with_same : (kind : Kind) (faults : Faults) → with_count kind (count_of kind faults) faults ≡ faults
