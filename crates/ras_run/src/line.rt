@@ -18,11 +18,11 @@ ghost use Rattle.ras_run.specs.Taking.{OnRefusal, Reopens, ReopenMoment, TakesLi
 ghost use Rattle.ras_run.specs.TakingCalls.{BeginsLine, KeepsCalls, MakesLine};
 ghost use Rattle.ras_texts.specs.Text.{done_line, known_line};
 
+use crate::Run;
 use crate::counting::take_made;
 use crate::later_kinds::read_taken_line;
 use crate::opening::open;
 use crate::printing::print_event;
-use crate::Run;
 use board_core::Board;
 use ras_account::Account;
 use ras_events::{Event, EventRefused};
