@@ -13,7 +13,7 @@ use Rattle.ras_texts.specs.Orders.{standing_lines}
 use Rattle.ras_events.specs.Reports.{NumberedLine, Place}
 use Rattle.text_laws.specs.DoneLines.{done_count}
 use Rattle.ras_exit.specs.declared.exit.Exit.{Exit}
-use Rattle.ras_exit.specs.Endings.{Ending, IfAnswered, OnAnswer, OnWhole, UnlessFaulted, answered, ending_of, faulted, source_failed, starved}
+use Rattle.ras_exit.specs.Endings.{CallEnding, IfAnswered, OnAnswer, OnWhole, UnlessFaulted, answered, ending_of, faulted, source_failed, starved}
 use Rattle.ras_exit.specs.Telling.{PrintsPart}
 use Rattle.ras_run.specs.Output.{output_at}
 use Rattle.ras_run.specs.Places.{Start, account_at}
@@ -57,7 +57,7 @@ module _ (start : Start) (script : List ℕ) (old now : Told) where
   ends-answer : (exit : Exit) (P : Type 0) → (EndsSo start script exit old now → P) → RunEnds start script exit old now → OnAnswer exit P
   ends-answer exit P so ends = by (ending_of exit) ends
     where
-      by : (ending : Ending) → EndsIn start script exit ending old now → IfAnswered ending P
+      by : (ending : CallEnding) → EndsIn start script exit ending old now → IfAnswered ending P
       by answered ends = so ends
       by ending ends = tt
 
@@ -107,7 +107,7 @@ module _ (start : Start) (script : List ℕ) (old now : Told) where
   pub ends-whole : (exit : Exit) → RunEnds start script exit old now → OnWhole exit (IsWhole start script old now)
   ends-whole exit ends = by (ending_of exit) ends
     where
-      by : (ending : Ending) → EndsIn start script exit ending old now → UnlessFaulted ending (IsWhole start script old now)
+      by : (ending : CallEnding) → EndsIn start script exit ending old now → UnlessFaulted ending (IsWhole start script old now)
       by answered ends = whole-so exit ends
       by (faulted kind) ends = tt
       by source_failed ends = early-lines ends.before ends.first ends.recovers ends.text

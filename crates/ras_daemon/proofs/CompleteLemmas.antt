@@ -6,7 +6,7 @@ use Rattle.board_core.specs.Told.{Told}
 use Rattle.ras_exit.specs.declared.exit.Exit.{Exit}
 use Rattle.ras_exit.specs.declared.exit.Exit.TheVariants.{Done, NoMemory}
 use Rattle.ras_exit.specs.Causes.{BoardCause, BoardCauseBy, SourceCause, SourceCauseBy}
-use Rattle.ras_exit.specs.Endings.{Ending, IfAnswered, OnAnswer, answered, ending_of, faulted, source_failed, starved}
+use Rattle.ras_exit.specs.Endings.{CallEnding, IfAnswered, OnAnswer, answered, ending_of, faulted, source_failed, starved}
 use Rattle.ras_exit.proofs.EndingLemmas.{memory_ran_out}
 use Rattle.ras_daemon.specs.Ended.{IsQuiet, IsQuietBoard}
 use Rattle.ras_daemon.specs.Headline.{OverRun}
@@ -20,7 +20,7 @@ module _ (source source' : ℕ) (board board' : Faults) (quiet_source : IsQuiet 
       → (exit ≡ Done) ⊎ (exit ≡ NoMemory)
   exit-done exit status answers cause_source cause_board done = by (ending_of exit) refl answers cause_source cause_board
     where
-      by : (ending : Ending) → ending_of exit ≡ ending → IfAnswered ending (exit ≡ status) → SourceCauseBy ending source source' → BoardCauseBy ending board board'
+      by : (ending : CallEnding) → ending_of exit ≡ ending → IfAnswered ending (exit ≡ status) → SourceCauseBy ending source source' → BoardCauseBy ending board board'
           → (exit ≡ Done) ⊎ (exit ≡ NoMemory)
       by answered is answers same also = inl (answers ∙ done)
       by (faulted kind) is answers same rose = absurd (quiet_board kind rose.own)

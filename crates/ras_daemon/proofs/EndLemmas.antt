@@ -14,7 +14,7 @@ use Rattle.ras_events.specs.Reports.{NumberedLine}
 use Rattle.ras_texts.specs.Orders.{standing_lines}
 use Rattle.ras_exit.specs.declared.exit.Exit.{Exit}
 use Rattle.ras_exit.specs.declared.exit.Exit.TheVariants.{Done}
-use Rattle.ras_exit.specs.Endings.{Ending, IsAnswer, IsCut, IsLineExit, answered, ending_of, faulted, is_answered, source_failed, starved}
+use Rattle.ras_exit.specs.Endings.{CallEnding, IsAnswer, IsCut, IsLineExit, answered, ending_of, faulted, is_answered, source_failed, starved}
 use Rattle.ras_exit.proofs.EndingLemmas.{answer_or_cut, at_answer, not_both}
 use Rattle.ras_exit.specs.Device.{LeavesDevice}
 use Rattle.ras_run.specs.Places.{Start, account_at}
@@ -31,7 +31,7 @@ use Rattle.ras_daemon.proofs.MomentLemmas.{store_later}
 pub answers_so : (start : Start) (script : List ℕ) (exit : Exit) (old now : Told) → IsAnswer exit → EndsSo start script exit old now → RunEnds start script exit old now
 answers_so start script exit old now answer ends = by (ending_of exit) answer
   where
-    by : (ending : Ending) → is_answered ending ≡ true → EndsIn start script exit ending old now
+    by : (ending : CallEnding) → is_answered ending ≡ true → EndsIn start script exit ending old now
     by answered answer = ends
     by ending answer = absurd cc
 
@@ -56,7 +56,7 @@ pub answered_stop : (start : Start) (script : List ℕ) (exit : Exit) (state : S
     → Answered start script exit (closing_line state exit) old now
 answered_stop start script exit state old now answer stop takes = by (ending_of exit) answer takes
   where
-    by : (ending : Ending) → is_answered ending ≡ true → EndsAmong start script exit ending old now → Answered start script exit (closing_line state exit) old now
+    by : (ending : CallEnding) → is_answered ending ≡ true → EndsAmong start script exit ending old now → Answered start script exit (closing_line state exit) old now
     by answered answer takes = record { before = takes.0; took = takes.1; all = takes.2; same = last_same exit state (account_at start takes.0) stop }
     by ending answer takes = absurd cc
 
@@ -81,7 +81,7 @@ module _ (start : Start) (script : List ℕ) (t u : Told) (account : IsAccount (
   cut_after : (exit : Exit) (now : Told) → IsCut exit → TakesLines start script (Err exit) u now → RunEnds start script exit t now
   cut_after exit now cut takes = by (ending_of exit) cut takes
     where
-      by : (ending : Ending) → is_answered ending ≡ false → EndsAmong start script exit ending u now → EndsIn start script exit ending t now
+      by : (ending : CallEnding) → is_answered ending ≡ false → EndsAmong start script exit ending u now → EndsIn start script exit ending t now
       by answered cut takes = absurd cc
       by (faulted kind) cut takes = tt
       by source_failed cut takes = early_after now takes.0 takes.1

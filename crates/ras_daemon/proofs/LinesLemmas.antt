@@ -23,8 +23,7 @@ use Rattle.ras_daemon.specs.RunCalls.{AreCallsAlong}
 use Rattle.ras_daemon.proofs.AlongLemmas.{along-snoc}
 use Rattle.ras_exit.specs.declared.exit.Exit.{Exit}
 use Rattle.ras_exit.specs.declared.exit.Exit.TheVariants.{Done}
-use Rattle.ras_exit.specs.Endings.{AnyFault, EndsBy, UnlessFaulted, answered, ending_of, faulted, source_failed, starved}
-use Rattle.ras_exit.specs.Endings as endings
+use Rattle.ras_exit.specs.Endings.{AnyFault, CallEnding, EndsBy, UnlessFaulted, answered, ending_of, faulted, source_failed, starved}
 use Rattle.ras_run.specs.declared.run.Run.{Run}
 use Rattle.ras_exit.specs.Device.{LeavesDevice}
 use Rattle.ras_run.specs.LaterKinds.{taken_line}
@@ -358,7 +357,7 @@ module _ (start : Start) (script : List ℕ) (t : Told) (before : List NumberedL
       → TakesLine start (before, read) (Err exit) more told later → IsSomeAnd later (TakesLines start script (Err exit) t)
   stopped exit more tells stands takes = by (ending_of exit) stands takes
     where
-      by : (ending : endings.Ending) → UnlessFaulted ending (LedgerStands ledger later clock)
+      by : (ending : CallEnding) → UnlessFaulted ending (LedgerStands ledger later clock)
           → EndsBy ((refusal_at start (before, read) ≡ Some exit) × Relates (Prints []) told later) (Relates (Prints []) told later) AnyFault ending
           → IsSomeAnd later (EndsAmong start script exit ending t)
       by answered stands takes = refused_given exit takes.0 takes.1 stands

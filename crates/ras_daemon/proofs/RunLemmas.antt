@@ -17,7 +17,7 @@ use Rattle.ras_recover.specs.Recovering.{file_number}
 use Rattle.ras_texts.specs.Orders.{standing_lines}
 use Rattle.ras_exit.specs.declared.exit.Exit.{Exit}
 use Rattle.ras_exit.specs.declared.exit.Exit.TheVariants.{Damaged, NoMemory, TooLong}
-use Rattle.ras_exit.specs.Endings.{EndsBy, Ending, IsCut, OnlyFault, answered, ending_of, faulted, is_answered, source_failed, starved}
+use Rattle.ras_exit.specs.Endings.{CallEnding, EndsBy, IsCut, OnlyFault, answered, ending_of, faulted, is_answered, source_failed, starved}
 use Rattle.ras_exit.proofs.EndingLemmas.{ends_weaker, memory_ran_out, not_both, on_answer, on_cut}
 use Rattle.ras_exit.specs.Device.{LeavesDevice}
 use Rattle.ras_run.specs.Places.{Start, account_at}
@@ -107,7 +107,7 @@ runs_from start script exit t u now same ends = by (ending_of exit) ends
       text = ends.text ∙ ap (λ out. out ++ (standing_lines (account_of start.history) ++ (outputs start ends.before ++ closing_line (account_at start ends.before) exit))) same;
     }
 
-    by : (ending : Ending) → EndsIn start script exit ending u now → EndsIn start script exit ending t now
+    by : (ending : CallEnding) → EndsIn start script exit ending u now → EndsIn start script exit ending t now
     by answered ends = so exit ends
     by (faulted kind) ends = tt
     by source_failed ends = early ends
@@ -162,7 +162,7 @@ cut_opening exit account held is opens =
 pub cut_is : (exit : Exit) → IsCutOpening exit → IsCut exit
 cut_is exit cut = by (ending_of exit) cut
   where
-    by : (ending : Ending) → EndsBy ⊥ ⊤ (OnlyFault disk_call) ending → is_answered ending ≡ false
+    by : (ending : CallEnding) → EndsBy ⊥ ⊤ (OnlyFault disk_call) ending → is_answered ending ≡ false
     by answered cut = absurd cut
     by ending cut = refl
 
@@ -171,7 +171,7 @@ pub cut_runs : (history : History) (script : List ℕ) (exit : Exit) (t : Told) 
     → (u : Told) × (mid ≡ Some u) × Prints [] t u → (exit ≡ NoMemory → Relates KeepsFiles (Some t) mid) → IsSomeAnd mid (RunEnds (start_of history t.here) script exit t)
 cut_runs history script exit t mid cut recovers told kept = subst (λ o. IsSomeAnd o (RunEnds (start_of history t.here) script exit t)) (sym told.1) (by (ending_of exit) refl cut)
   where
-    by : (ending : Ending) → ending_of exit ≡ ending → EndsBy ⊥ ⊤ (OnlyFault disk_call) ending → EndsIn (start_of history t.here) script exit ending t told.0
+    by : (ending : CallEnding) → ending_of exit ≡ ending → EndsBy ⊥ ⊤ (OnlyFault disk_call) ending → EndsIn (start_of history t.here) script exit ending t told.0
     by answered is cut = absurd cut
     by source_failed is cut = absurd cut
     by (faulted kind) is cut = tt
@@ -221,7 +221,7 @@ refusal_line (Err (damaged file place)) why state is = subst (λ e. closing_line
 refused_as : (held : Result State Refusal) (why exit : Exit) → refusal_exit held ≡ Some why → Opens (Err exit) held → (exit ≡ why) ⊎ IsCut exit
 refused_as held why exit is opens = by (ending_of exit) refl opens
   where
-    by : (ending : Ending) → ending_of exit ≡ ending → EndsBy (refusal_exit held ≡ Some exit) ⊤ (OnlyFault disk_call) ending → (exit ≡ why) ⊎ IsCut exit
+    by : (ending : CallEnding) → ending_of exit ≡ ending → EndsBy (refusal_exit held ≡ Some exit) ⊤ (OnlyFault disk_call) ending → (exit ≡ why) ⊎ IsCut exit
     by answered so found = inl (some_same exit why (sym found ∙ is))
     by source_failed so found = absurd found
     by (faulted kind) so found = inr (ap is_answered so)

@@ -17,7 +17,7 @@ use Rattle.ras_script.specs.SplittingLaws.{script_of}
 use Rattle.ras_texts.specs.Orders.{standing_lines}
 use Rattle.ras_exit.specs.declared.exit.Exit.{Exit}
 use Rattle.ras_exit.specs.declared.exit.Exit.TheVariants.{Done, PrintFault, NoMemory}
-use Rattle.ras_exit.specs.Endings.{Ending, IsAnswer, IsCut, OnWhole, answered, ending_of, faulted}
+use Rattle.ras_exit.specs.Endings.{CallEnding, IsAnswer, IsCut, OnWhole, answered, ending_of, faulted}
 use Rattle.ras_run.specs.Output.{output_at}
 use Rattle.ras_run.specs.Places.{Start, account_at}
 use Rattle.ras_run.specs.Status.{places_before_refusal}
@@ -125,7 +125,7 @@ pub record TookLines (start : Start) (script : List ℕ) (before : List Numbered
   pub recovers : Recovers (account_at start before) now.here
 
 -- A run that ends among them took some: those before the refused line, or before it was cut short.
-abbrev pub EndsAmong : Start → List ℕ → Exit → Ending → Told → Told → Type 0
+abbrev pub EndsAmong : Start → List ℕ → Exit → CallEnding → Told → Told → Type 0
 EndsAmong start script exit answered old now =
     (before : List NumberedLine) × TookLines start script before old now × AreAll start script exit before
 EndsAmong start script exit (faulted kind) old now = ⊤
@@ -157,7 +157,7 @@ pub record EndsSo (start : Start) (script : List ℕ) (exit : Exit) (old now : T
   pub recovers : Recovers (account_at start before) now.here
   pub text : Prints (standing_lines (account_of start.history) ++ (outputs start before ++ closing_line (account_at start before) exit)) old now
 
-abbrev pub EndsIn : Start → List ℕ → Exit → Ending → Told → Told → Type 0
+abbrev pub EndsIn : Start → List ℕ → Exit → CallEnding → Told → Told → Type 0
 EndsIn start script exit answered old now = EndsSo start script exit old now
 EndsIn start script exit (faulted kind) old now = ⊤
 EndsIn start script exit ending old now = EndsEarly start script old now

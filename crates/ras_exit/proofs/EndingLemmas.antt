@@ -4,7 +4,7 @@ use Rattle.std.specs.Prelude.{◌⊎◌}
 use Rattle.board_core.specs.Cause.{Kind}
 use Rattle.ras_exit.specs.declared.exit.Exit.{Exit}
 use Rattle.ras_exit.specs.declared.exit.Exit.TheVariants.{NoMemory}
-use Rattle.ras_exit.specs.Endings.{EndsBy, Ending, IfAnswered, IsAnswer, IsCut, OnAnswer, OnWhole, UnlessFaulted, answered, ending_of, faulted, is_answer, is_answered, source_failed, starved}
+use Rattle.ras_exit.specs.Endings.{CallEnding, EndsBy, IfAnswered, IsAnswer, IsCut, OnAnswer, OnWhole, UnlessFaulted, answered, ending_of, faulted, is_answer, is_answered, source_failed, starved}
 
 -- ---- of an exit
 
@@ -22,21 +22,21 @@ not_both exit cut answer = cc
 pub on_answer : (exit : Exit) (P : Type 0) → P → OnAnswer exit P
 on_answer exit P holds = by (ending_of exit)
   where
-    by : (ending : Ending) → IfAnswered ending P
+    by : (ending : CallEnding) → IfAnswered ending P
     by answered = holds
     by ending = tt
 
 pub on_cut : (exit : Exit) (P : Type 0) → IsCut exit → OnAnswer exit P
 on_cut exit P cut = by (ending_of exit) cut
   where
-    by : (ending : Ending) → is_answered ending ≡ false → IfAnswered ending P
+    by : (ending : CallEnding) → is_answered ending ≡ false → IfAnswered ending P
     by answered cut = absurd cc
     by ending cut = tt
 
 pub on_whole : (exit : Exit) (P : Type 0) → P → OnWhole exit P
 on_whole exit P holds = by (ending_of exit)
   where
-    by : (ending : Ending) → UnlessFaulted ending P
+    by : (ending : CallEnding) → UnlessFaulted ending P
     by (faulted kind) = tt
     by ending = holds
 
@@ -44,7 +44,7 @@ on_whole exit P holds = by (ending_of exit)
 pub at_answer : (exit : Exit) (P : Type 0) → IsAnswer exit → OnWhole exit P → P
 at_answer exit P answer holds = by (ending_of exit) answer holds
   where
-    by : (ending : Ending) → is_answered ending ≡ true → UnlessFaulted ending P → P
+    by : (ending : CallEnding) → is_answered ending ≡ true → UnlessFaulted ending P → P
     by answered answer holds = holds
     by ending answer holds = absurd cc
 
@@ -58,7 +58,7 @@ pub ends_weaker : (A A' S S' : Type 0) (F F' : Kind → Type 0) (exit : Exit) �
     → EndsBy A S F (ending_of exit) → EndsBy A' S' F' (ending_of exit)
 ends_weaker A A' S S' F F' exit answers starves faults ends = by (ending_of exit) refl ends
   where
-    by : (ending : Ending) → ending_of exit ≡ ending → EndsBy A S F ending → EndsBy A' S' F' ending
+    by : (ending : CallEnding) → ending_of exit ≡ ending → EndsBy A S F ending → EndsBy A' S' F' ending
     by answered is ends = answers ends
     by starved is ends = starves (memory_ran_out exit is) ends
     by (faulted kind) is ends = faults kind ends

@@ -3,11 +3,11 @@
 use Rattle.std.specs.Prelude.{◌≡◌, ℕ, Result, MatchResult}
 use Rattle.board_core.specs.Cause.{Rose, Faults, Kind, count_of, with_count}
 use Rattle.ras_exit.specs.declared.exit.Exit.{Exit}
-use Rattle.ras_exit.specs.Endings.{Ending, ending_of, faulted, source_failed}
+use Rattle.ras_exit.specs.Endings.{CallEnding, ending_of, faulted, source_failed}
 
 -- if the exit is a fault of the source its count rose, and with any other exit the count is as it
 -- was
-abbrev pub SourceCauseBy : Ending → ℕ → ℕ → Type 0
+abbrev pub SourceCauseBy : CallEnding → ℕ → ℕ → Type 0
 SourceCauseBy source_failed before now = Rose before now
 SourceCauseBy ending before now = now ≡ before
 
@@ -21,7 +21,7 @@ pub record Raises (kind : Kind) (before now : Faults) : Type 0 where
 
 -- if the exit is a fault of the board the count of its kind rose, and with any other exit all
 -- counts are as they were
-abbrev pub BoardCauseBy : Ending → Faults → Faults → Type 0
+abbrev pub BoardCauseBy : CallEnding → Faults → Faults → Type 0
 BoardCauseBy (faulted kind) before now = Raises kind before now
 BoardCauseBy ending before now = now ≡ before
 

@@ -9,13 +9,13 @@ use Rattle.ras_exit.specs.declared.reason.Reason.TheVariants.{Line}
 
 -- A call answers: it came to its end, or to a refusal. Or it was cut short: a call of the board
 -- failed, of a kind; or the source did; or memory ran out.
-pub data Ending : Type 0 where
-  answered : Ending
-  faulted : Kind → Ending
-  source_failed : Ending
-  starved : Ending
+pub data CallEnding : Type 0 where
+  answered : CallEnding
+  faulted : Kind → CallEnding
+  source_failed : CallEnding
+  starved : CallEnding
 
-abbrev pub ending_of : Exit → Ending
+abbrev pub ending_of : Exit → CallEnding
 ending_of SourceFault = source_failed
 ending_of DiskFault = faulted disk_call
 ending_of PrintFault = faulted print_call
@@ -23,7 +23,7 @@ ending_of NoMemory = starved
 ending_of exit = answered
 
 -- whether a call came to its end or to a refusal
-abbrev pub is_answered : Ending → Bool
+abbrev pub is_answered : CallEnding → Bool
 is_answered answered = true
 is_answered ending = false
 
@@ -51,12 +51,12 @@ IsStop SourceFault = ⊥
 IsStop exit = ⊤
 
 -- P holds if the ending is an answer
-abbrev pub IfAnswered : Ending → Type 0 → Type 0
+abbrev pub IfAnswered : CallEnding → Type 0 → Type 0
 IfAnswered answered P = P
 IfAnswered ending P = ⊤
 
 -- P holds unless a call of the board failed
-abbrev pub UnlessFaulted : Ending → Type 0 → Type 0
+abbrev pub UnlessFaulted : CallEnding → Type 0 → Type 0
 UnlessFaulted (faulted kind) P = ⊤
 UnlessFaulted ending P = P
 
@@ -71,7 +71,7 @@ OnWhole exit P = UnlessFaulted (ending_of exit) P
 
 -- What holds if a part of a run ends before it is done: at an answer, once memory ran out, and at a
 -- fault of the board by its kind. It doesn't read the source.
-abbrev pub EndsBy : Type 0 → Type 0 → (Kind → Type 0) → Ending → Type 0
+abbrev pub EndsBy : Type 0 → Type 0 → (Kind → Type 0) → CallEnding → Type 0
 EndsBy Answered Starved Faulted answered = Answered
 EndsBy Answered Starved Faulted starved = Starved
 EndsBy Answered Starved Faulted (faulted kind) = Faulted kind
