@@ -1,4 +1,4 @@
-use Rattle.std.proofs.Common.{List, ℕ, map, arith}
+use Rattle.std.proofs.Common.{map, arith}
 use Rattle.std.proofs.lemmas.Grind.{common_steps}
 use Rattle.ras_script.specs.Line.{Gives, line_of_words}
 use Rattle.ras_script.proofs.HeldLineLemmas.{reads_held}
