@@ -1,6 +1,6 @@
 -- What a line asks for that is taken is of a kind that a run takes, and its bytes are no more than
 -- the line's.
-use Rattle.std.proofs.Common.{◌≡◌, ℕ, ◌+◌, ◌*◌, ◌≤◌, ◌==◌, ◌||◌, Bool, true, false, cond, List, [], ◌∷◌, length, refl, arith, None, Result, Ok, Err, IfOk, codes, nat_le, nat_lt}
+use Rattle.std.proofs.Common.{◌≡◌, ℕ, ◌+◌, ◌*◌, ◌≤◌, ◌==◌, ◌||◌, Bool, true, false, cond, List, [], ◌∷◌, length, map, take, refl, sym, ap, subst, ◌∙◌, arith, None, Result, Ok, Err, IfOk, codes, nat_le, nat_lt}
 use Rattle.std.specs.List.{AllByRecursion, filter, list_any, onto_first, slice_split}
 use Rattle.std.specs.Option.{ok_or}
 use Rattle.std.specs.Prelude.{⊤, slice_index}
@@ -18,8 +18,9 @@ use Rattle.ras_script.specs.declared.line.LineRefused.{LineRefused}
 use Rattle.ras_script.specs.declared.reader.TheConstants.{LONGEST_LINE}
 use Rattle.ras_script.specs.Fields.{hex_bytes_of, hex_u64_of, label_of, limit_of, number_of, report_of, u16_of, u64_of, u8_of}
 use Rattle.ras_script.specs.Kinds.{bank_asks, cpu_asks, module_asks, range_asks, place_asks, limit_asks, module_limit_asks, hest_asks, bert_asks, ghes_asks, retire_asks, restart_asks}
-use Rattle.ras_script.specs.Line.{Gives, kinds, line_named, line_of, line_of_words}
-use Rattle.ras_script.specs.Splitting.{words_of}
+use Rattle.ras_script.specs.Line.{Gives, ReadsLine, kinds, line_named, line_of, line_of_words}
+use Rattle.ras_script.specs.Splitting.{AreHeldWords, words_of}
+use Rattle.ras_script.specs.declared.splitting.TheConstants.{HELD_WORDS}
 use Rattle.ras_script.proofs.FieldLemmas.{then_within}
 use Rattle.ras_events.specs.Sizes.{IsShortLine}
 use Rattle.ras_run.specs.LaterKinds.{IsTaken, is_later, later_kinds, taken_line}
@@ -208,17 +209,13 @@ module _ (most : ℕ) where
   comment-good true event h = (tt, tt)
   comment-good false event h = h
 
-  line-good : (kind : List ℕ) (words : List (List ℕ)) (later : Bool) → AreShort most words → list_any (bytes_eq kind) later_kinds ≡ later
-      → IfOk (cond later (Err LineRefused.Kind) (line_of_words (kind ∷ words))) (IsGood most)
-  line-good kind words true short is = tt
-  line-good kind words false short is = comment-good (slice_index kind 0 == 35) (line_named kinds kind words) (named-good kind words short is)
+  line-good : (words : List (List ℕ)) (later : Bool) → AreShort most words → is_later words ≡ later → IfOk (cond later (Err LineRefused.Kind) (line_of_words words)) (IsGood most)
+  line-good words true short is = tt
+  line-good [] false short is = (tt, tt)
+  line-good (kind ∷ words) false short is = comment-good (slice_index kind 0 == 35) (line_named kinds kind words) (named-good kind words short.1 is)
 
 lines-good : (bytes : List ℕ) → IfOk (taken_line bytes) (IsGood (length bytes))
-lines-good bytes = by (words_of bytes) refl (words_short bytes)
-  where
-    by : (words : List (List ℕ)) → words_of bytes ≡ words → AreShort (length bytes) words → IfOk (taken_line bytes) (IsGood (length bytes))
-    by [] is all = rw is (tt, tt)
-    by (kind ∷ words) is all = rw is (line-good (length bytes) kind words (list_any (bytes_eq kind) later_kinds) all.1 refl)
+lines-good bytes = line-good (length bytes) (words_of bytes) (is_later (words_of bytes)) (words_short bytes) refl
 
 each : (P Q : Line → Type 0) (read : Result Line LineRefused) → ((line : Line) → P line → Q line) → IfOk read P → IfOk read Q
 each P Q (Ok line) gives h = gives line h
@@ -245,12 +242,34 @@ lines-short : (bytes : List ℕ) → length bytes ≤ LONGEST_LINE → IfOk (tak
 lines-short bytes le =
     each (IsGood (length bytes)) IsShortLine (taken_line bytes) (λ line good. short_line (length bytes) line le good.1) (lines-good bytes)
 
-read_good : (P : Line → Type 0) (bytes : List ℕ) (read : Result Line LineRefused) → IfOk (taken_line bytes) P → is_later bytes ≡ false → Gives read (line_of bytes) → IfOk read P
-read_good P bytes (Ok line) all other is = rw (other, is) at all
-read_good P bytes (Err why) all other is = tt
+given : (P : Line → Type 0) (read line : Result Line LineRefused) → Gives read line → IfOk line P → IfOk read P
+given P (Ok read) line is all = rw is at all
+given P (Err why) line is all = tt
 
-pub read-taken : (bytes : List ℕ) (read : Result Line LineRefused) → is_later bytes ≡ false → Gives read (line_of bytes) → IfOk read IsTaken
-read-taken bytes read other is = read_good IsTaken bytes read (lines-taken bytes) other is
+-- ---- the words that are held
 
-pub read-short : (bytes : List ℕ) (read : Result Line LineRefused) → length bytes ≤ LONGEST_LINE → is_later bytes ≡ false → Gives read (line_of bytes) → IfOk read IsShortLine
-read-short bytes read short other is = read_good IsShortLine bytes read (lines-short bytes short) other is
+pub held_words : {A : Type 0} (f : A → List ℕ) (bytes : List ℕ) (items words : List A) → AreHeldWords (map f items) bytes → words ≡ items → AreHeldWords (map f words) bytes
+held_words f bytes items words are same = ap (map f) same ∙ are
+
+-- the first word tells the kind
+later_first : (words : List (List ℕ)) → is_later (take HELD_WORDS words) ≡ is_later words
+later_first [] = refl
+later_first (kind ∷ words) = refl
+
+later_held : (words : List (List ℕ)) (bytes : List ℕ) → AreHeldWords words bytes → is_later (words_of bytes) ≡ is_later words
+later_held words bytes held = sym (ap is_later held ∙ later_first (words_of bytes))
+
+-- a line of a later kind is refused
+pub later_refused : (words : List (List ℕ)) (bytes : List ℕ) → AreHeldWords words bytes → is_later words ≡ true → taken_line bytes ≡ Err LineRefused.Kind
+later_refused words bytes held is = ap (λ b. cond b (Err LineRefused.Kind) (line_of bytes)) (later_held words bytes held ∙ is)
+
+-- what is read of another line is what it asks for
+pub read_is : (words : List (List ℕ)) (bytes : List ℕ) (read : Result Line LineRefused) → AreHeldWords words bytes → is_later words ≡ false → ReadsLine read bytes → Gives read (taken_line bytes)
+read_is words bytes read held other gives =
+    subst (Gives read) (sym (ap (λ b. cond b (Err LineRefused.Kind) (line_of bytes)) (later_held words bytes held ∙ other))) gives
+
+pub asks_taken : (bytes : List ℕ) (read : Result Line LineRefused) → Gives read (taken_line bytes) → IfOk read IsTaken
+asks_taken bytes read gives = given IsTaken read (taken_line bytes) gives (lines-taken bytes)
+
+pub asks_short : (bytes : List ℕ) (read : Result Line LineRefused) → length bytes ≤ LONGEST_LINE → Gives read (taken_line bytes) → IfOk read IsShortLine
+asks_short bytes read short gives = given IsShortLine read (taken_line bytes) gives (lines-short bytes short)

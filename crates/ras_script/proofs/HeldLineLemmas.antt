@@ -1,9 +1,7 @@
 -- The words of a line that are held ask for what all its words do: a line of more words is refused,
 -- or is a comment, whatever the others are.
-use Rattle.std.proofs.Common.{◌≡◌, ℕ, ◌==◌, Bool, true, false, cond, List, [], ◌∷◌, length, map, take, refl, ap, sym, subst, ◌∙◌, arith, Result, Ok, Err}
+use Rattle.std.proofs.Common.{◌≡◌, ℕ, ◌==◌, Bool, true, false, cond, List, [], ◌∷◌, length, take, refl, ap, sym, subst, ◌∙◌, arith, Result, Ok, Err}
 use Rattle.std.proofs.lemmas.Bool.Decides.{nat_tests}
-use Rattle.std.specs.List.{slice_get}
-use Rattle.std.specs.Option.{option_map}
 use Rattle.std.specs.Prelude.{slice_index}
 use Rattle.std.specs.Str.{bytes_eq}
 use Rattle.ras_script.specs.declared.line.Line.{Line}
@@ -45,10 +43,3 @@ held_ask (kind ∷ words) = ap (λ event. cond (slice_index kind 0 == 35) (Ok Li
 -- what is read of the words held is read of the line
 pub reads_held : (words : List (List ℕ)) (bytes : List ℕ) (read : Result Line LineRefused) → AreHeldWords words bytes → Gives read (line_of_words words) → ReadsLine read bytes
 reads_held words bytes read held gives = subst (Gives read) (ap line_of_words held ∙ held_ask (words_of bytes)) gives
-
--- the first of the words held is the line's
-pub first_held : {A : Type 0} (f : A → List ℕ) (held : List A) (words : List (List ℕ)) → map f held ≡ take HELD_WORDS words → option_map f (slice_get held 0) ≡ slice_get words 0
-first_held f [] [] is = refl
-first_held f [] (word ∷ words) is = absurd cc
-first_held f (word ∷ held) [] is = absurd cc
-first_held f (word ∷ held) (first ∷ words) is = cc

@@ -26,4 +26,4 @@ pub use reader::{
     LONGEST_LINE, LONGEST_SCRIPT, LineReader, NextRefused, line_feeds_cut_scripts,
     lines_within_limits_are_the_script,
 };
-pub use splitting::{HELD_WORDS, first_word, lines_are_the_script, spaces_separate_words, words};
+pub use splitting::{HELD_WORDS, lines_are_the_script, spaces_separate_words, words};

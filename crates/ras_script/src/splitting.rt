@@ -1,8 +1,6 @@
 //! The lines of a script, and the words of a line.
 
 ghost use Rattle.std.specs.Prelude.{◌≡◌, ℕ, ◌+◌, ◌<◌, ◌≤◌, List, [], ◌∷◌, ◌++◌, length, map, take};
-ghost use Rattle.std.specs.List.{slice_get};
-ghost use Rattle.std.specs.Option.{option_map};
 ghost use Rattle.std.specs.List.{AllByRecursion, join_with_byte};
 ghost use Rattle.ras_script.specs.Splitting.{AreHeldWords, lines_of, words_of};
 ghost use Rattle.ras_script.specs.SplittingLaws.{Lacks, IsWord, script_of, with_last_line_feed};
@@ -16,9 +14,7 @@ pub const HELD_WORDS: usize = MOST_WORDS + 1;
 
 /// The words of a line, which spaces separate, up to the first `HELD_WORDS`. They take no memory.
 pub fn words(line: &[u8]) -> ArrayVec<&[u8], HELD_WORDS>
-    ensures held { AreHeldWords (map (λ word. word.now) result.items) line.now }
-    ensures first { option_map (λ word. word.now) (slice_get result.items 0)
-        ≡ slice_get (words_of line.now) 0 }
+    ensures { AreHeldWords (map (λ word. word.now) result.items) line.now }
 {
     let mut words = ArrayVec::new();
     let mut start = 0;
@@ -42,14 +38,6 @@ fn hold<'a>(words: &mut ArrayVec<&'a [u8], HELD_WORDS>, text: &'a [u8])
     if !words.is_full() && !text.is_empty() {
         words.push(text);
     }
-}
-
-/// The first word of a line, if it has words. It takes no memory.
-pub fn first_word(line: &[u8]) -> Option<&[u8]>
-    ensures { option_map (λ word. word.now) result ≡ slice_get (words_of line.now) 0 }
-{
-    line.split(|byte| *byte == b' ')
-        .find(|word| !word.is_empty())
 }
 
 /// The lines of a script, each with a line feed at its end, are the script, which gets one if its
