@@ -4,7 +4,7 @@ ghost use Rattle.std.specs.Prelude.{◌≡◌, ℕ, ◌<◌, List, length, map, 
 ghost use Rattle.ras_script.specs.Line.{Gives, ReadsLine, line_of, line_of_words};
 ghost use Rattle.ras_script.specs.LineLaws.{IsInRange, line_text};
 ghost use Rattle.ras_script.specs.Refusals.{line_number};
-ghost use Rattle.ras_script.specs.Splitting.{words_of};
+ghost use Rattle.ras_script.specs.Splitting.{AreHeldWords, words_of};
 ghost use Rattle.ras_script.specs.declared.line.LineRefused.TheVariants as RefusedFor;
 
 use crate::kinds::event_of;
@@ -70,7 +70,8 @@ pub enum ErrorReport {
     },
 }
 
-/// Why a line is refused: the first that applies, and of its words from left to right.
+/// Why a line is refused: the first that applies, and of its words from left to right. The numbers
+/// are those by which a refusal is printed.
 #[derive(Clone, Copy, Debug, Error, PartialEq, Eq)]
 pub enum LineRefused {
     /// 1: the first word is no kind of line.
@@ -94,20 +95,56 @@ pub enum LineRefused {
     NoMemory,
 }
 
+impl LineRefused {
+    /// The number by which the refusal is printed, or None if memory ran out.
+    pub fn number(self) -> Option<u8>
+        ensures { result ≡ line_number self }
+    {
+        match self {
+            LineRefused::Kind => Some(1),
+            LineRefused::Words => Some(2),
+            LineRefused::Number => Some(3),
+            LineRefused::Hex => Some(4),
+            LineRefused::Label => Some(6),
+            LineRefused::NoMemory => None,
+        }
+    }
+}
+
 /// What a line asks for, whose bytes these are without its line feed.
 ///
 /// # Errors
 ///
-/// The first that applies: `Kind` where its first word is no kind of line, `Words` where the number
-/// of words isn't the kind's; then from left to right `Number` where a word that has to be a number
-/// is none or is out of its range, `Hex` where a word that has to be bytes is no even number of
-/// hexadecimal digits, and `Label` where a word that has to be a label is none. `NoMemory` comes
-/// for want of memory alone.
+/// As `line_of_words` gives them.
 pub fn read_line(alloc: Global, bytes: &[u8]) -> Result<Line, LineRefused>
     ensures read { ReadsLine result bytes.now }
     ensures range { IfOk result IsInRange }
 {
     line_of_words(alloc, &words(bytes))
+}
+
+/// What a line asks for, whose words `words` gave.
+///
+/// # Errors
+///
+/// The first that applies: `Kind` if the first word is no kind of line, `Words` if the number of
+/// words isn't the kind's; then from left to right `Number` if a word that has to be a number is
+/// none or is out of its range, `Hex` if a word that has to be bytes is no even number of
+/// hexadecimal digits, and `Label` if a word that has to be a label is none. `NoMemory` comes only
+/// if memory runs out.
+pub fn line_of_words(alloc: Global, words: &[&[u8]]) -> Result<Line, LineRefused>
+    ensures read { Gives result (line_of_words (map (λ word. word.now) words.now)) }
+    ensures line { (bytes : List ℕ) → AreHeldWords (map (λ word. word.now) words.now) bytes
+        → ReadsLine result bytes }
+    ensures range { IfOk result IsInRange }
+{
+    let [kind, rest @ ..] = words else {
+        return Ok(Line::Nothing);
+    };
+    if kind.first() == Some(&b'#') {
+        return Ok(Line::Nothing);
+    }
+    event_of(alloc, kind, rest)
 }
 
 /// The numbers of a line that is read are within their ranges: a bank's registers below 2^64, its
@@ -129,39 +166,10 @@ pub fn refused_lines_have_words()
     ensures { (bytes : List ℕ) → IsErr (line_of bytes) → 0 < length (words_of bytes) }
 {}
 
-impl LineRefused {
-    /// The number by which the refusal is printed, or None if memory ran out.
-    pub fn number(self) -> Option<u8>
-        ensures { result ≡ line_number self }
-    {
-        match self {
-            LineRefused::Kind => Some(1),
-            LineRefused::Words => Some(2),
-            LineRefused::Number => Some(3),
-            LineRefused::Hex => Some(4),
-            LineRefused::Label => Some(6),
-            LineRefused::NoMemory => None,
-        }
-    }
-}
-
 impl From<NoMemory> for LineRefused {
     ghost from_gives = { λ _ e. e ≡ RefusedFor.NoMemory };
 
     fn from(_: NoMemory) -> Self {
         LineRefused::NoMemory
     }
-}
-
-/// What a line asks for whose words these are, as `read_line`.
-pub fn line_of_words(alloc: Global, words: &[&[u8]]) -> Result<Line, LineRefused>
-    ensures { Gives result (line_of_words (map (λ word. word.now) words.now)) }
-{
-    let [kind, rest @ ..] = words else {
-        return Ok(Line::Nothing);
-    };
-    if kind.first() == Some(&b'#') {
-        return Ok(Line::Nothing);
-    }
-    event_of(alloc, kind, rest)
 }
