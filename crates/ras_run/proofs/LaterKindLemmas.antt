@@ -19,7 +19,7 @@ use Rattle.ras_script.specs.declared.reader.TheConstants.{LONGEST_LINE}
 use Rattle.ras_script.specs.Fields.{hex_bytes_of, hex_u64_of, label_of, limit_of, number_of, report_of, u16_of, u64_of, u8_of}
 use Rattle.ras_script.specs.Kinds.{bank_asks, cpu_asks, module_asks, range_asks, place_asks, limit_asks, module_limit_asks, hest_asks, bert_asks, ghes_asks, retire_asks, restart_asks}
 use Rattle.ras_script.specs.Line.{Gives, ReadsLine, kinds, line_named, line_of, line_of_words}
-use Rattle.ras_script.specs.Splitting.{words_of}
+use Rattle.ras_script.specs.Splitting.{AreHeldWords, words_of}
 use Rattle.ras_script.specs.declared.splitting.TheConstants.{HELD_WORDS}
 use Rattle.ras_script.proofs.FieldLemmas.{then_within}
 use Rattle.ras_events.specs.Sizes.{IsShortLine}
@@ -248,29 +248,28 @@ given P (Err why) line is all = tt
 
 -- ---- the words that are held
 
--- the first words tell the kind
-later_held : (words : List (List ℕ)) → is_later (take HELD_WORDS words) ≡ is_later words
-later_held [] = refl
-later_held (kind ∷ words) = refl
+pub held_words : {A : Type 0} (f : A → List ℕ) (bytes : List ℕ) (items words : List A) → AreHeldWords (map f items) bytes → words ≡ items → AreHeldWords (map f words) bytes
+held_words f bytes items words are same = ap (map f) same ∙ are
 
--- `kind` are the words that were held
-module _ {A : Type 0} (f : A → List ℕ) (bytes : List ℕ) (words kind : List A) (is : map f words ≡ take HELD_WORDS (words_of bytes)) (same : kind ≡ words) where
-  by_kind : (later : Bool) → is_later (map f kind) ≡ later → taken_line bytes ≡ cond later (Err LineRefused.Kind) (line_of bytes)
-  by_kind later found =
-      ap (λ b. cond b (Err LineRefused.Kind) (line_of bytes))
-      (sym (ap (λ ws. is_later (map f ws)) same ∙ (ap is_later is ∙ later_held (words_of bytes))) ∙ found)
+-- the first word tells the kind
+later_first : (words : List (List ℕ)) → is_later (take HELD_WORDS words) ≡ is_later words
+later_first [] = refl
+later_first (kind ∷ words) = refl
 
-  -- a line of a later kind is refused
-  pub later_refused : is_later (map f kind) ≡ true → taken_line bytes ≡ Err LineRefused.Kind
-  later_refused found = by_kind true found
+later_held : (words : List (List ℕ)) (bytes : List ℕ) → AreHeldWords words bytes → is_later (words_of bytes) ≡ is_later words
+later_held words bytes held = sym (ap is_later held ∙ later_first (words_of bytes))
 
-  -- what is read of another is what the line asks for
-  module _ (read : Result Line LineRefused) (other : is_later (map f kind) ≡ false) (reads : ReadsLine read bytes) where
-    pub asks_line : Gives read (taken_line bytes)
-    asks_line = subst (Gives read) (sym (by_kind false other)) reads
+-- a line of a later kind is refused
+pub later_refused : (words : List (List ℕ)) (bytes : List ℕ) → AreHeldWords words bytes → is_later words ≡ true → taken_line bytes ≡ Err LineRefused.Kind
+later_refused words bytes held is = ap (λ b. cond b (Err LineRefused.Kind) (line_of bytes)) (later_held words bytes held ∙ is)
 
-    pub asks_taken : IfOk read IsTaken
-    asks_taken = given IsTaken read (taken_line bytes) asks_line (lines-taken bytes)
+-- what is read of another line is what it asks for
+pub read_is : (words : List (List ℕ)) (bytes : List ℕ) (read : Result Line LineRefused) → AreHeldWords words bytes → is_later words ≡ false → ReadsLine read bytes → Gives read (taken_line bytes)
+read_is words bytes read held other gives =
+    subst (Gives read) (sym (ap (λ b. cond b (Err LineRefused.Kind) (line_of bytes)) (later_held words bytes held ∙ other))) gives
 
-    pub asks_short : length bytes ≤ LONGEST_LINE → IfOk read IsShortLine
-    asks_short short = given IsShortLine read (taken_line bytes) asks_line (lines-short bytes short)
+pub asks_taken : (bytes : List ℕ) (read : Result Line LineRefused) → Gives read (taken_line bytes) → IfOk read IsTaken
+asks_taken bytes read gives = given IsTaken read (taken_line bytes) gives (lines-taken bytes)
+
+pub asks_short : (bytes : List ℕ) (read : Result Line LineRefused) → length bytes ≤ LONGEST_LINE → Gives read (taken_line bytes) → IfOk read IsShortLine
+asks_short bytes read short gives = given IsShortLine read (taken_line bytes) gives (lines-short bytes short)
