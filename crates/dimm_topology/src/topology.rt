@@ -5,7 +5,7 @@ ghost use Rattle.std.specs.List.{list_any, list_all, find};
 ghost use Rattle.std.specs.Option.{option_copied};
 ghost use Rattle.dimm_topology.specs.declared.row.Row.{Row};
 ghost use Rattle.dimm_topology.specs.Rows.{names_module, labels_of_rows, overlap, is_at, names, is_range_over, is_module_label};
-ghost use Rattle.dimm_topology.specs.Refusals.{row_refusal, Answers, SharesAddress};
+ghost use Rattle.dimm_topology.specs.Refusals.{row_refusal, topology_number, Answers, SharesAddress};
 ghost use Rattle.dimm_topology.specs.Owners.{owner_by_rows, owner_of_address, owner_at, socket_by_rows, channel_of, bank_location, section_location, ranges_over};
 ghost use Rattle.dimm_topology.specs.Topology.{is_upright, IsApart, IsTopology};
 
@@ -44,18 +44,32 @@ impl Model for Topology {
 /// Why a topology doesn't take a row. Where several apply, the first of them is answered.
 #[derive(Clone, Copy, Debug, PartialEq, Eq, Error)]
 pub enum TopologyRefused {
-    /// A range or a place names a label that no module row has.
+    /// 1: a range or a place names a label that no module row has.
     #[error("no memory module has the label")]
     Label,
-    /// A range has an address in common with one that is held.
+    /// 2: a range has an address in common with one that is held.
     #[error("the range has an address in common with another")]
     Overlap,
-    /// `MOST_ROWS` rows are held.
+    /// 3: `MOST_ROWS` rows are held.
     #[error("the topology has as many rows as it may hold")]
     Full,
-    /// Memory ran out.
+    /// Memory ran out. It has no number, since it is no fault of the row.
     #[error("memory ran out")]
     NoMemory,
+}
+
+impl TopologyRefused {
+    /// The number by which the refusal is printed, or None if memory ran out.
+    pub fn number(self) -> Option<u8>
+        ensures { result ≡ topology_number self }
+    {
+        match self {
+            TopologyRefused::Label => Some(1),
+            TopologyRefused::Overlap => Some(2),
+            TopologyRefused::Full => Some(3),
+            TopologyRefused::NoMemory => None,
+        }
+    }
 }
 
 impl Topology {

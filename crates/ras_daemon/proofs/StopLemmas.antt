@@ -9,7 +9,7 @@ use Rattle.text_laws.proofs.ByteLemmas.{decimal_unbroken, is_unbroken, lacks_fro
 use Rattle.text_laws.proofs.LineLemmas.{refused_quiet}
 use Rattle.text_laws.proofs.QuietLemmas.{quiet_line, quiet_none}
 use Rattle.ras_exit.specs.declared.exit.Exit.{Exit}
-use Rattle.ras_exit.specs.declared.exit.Exit.TheVariants.{BadLine, Damaged, DiskFault, Done, Full, NoMemory, PrintFault, SourceFault, TooLong, Usage}
+use Rattle.ras_exit.specs.declared.exit.Exit.TheVariants.{BadLine, Damaged, Full, TooLong, Usage}
 use Rattle.ras_exit.specs.Reasons.{reason_number, reason_text, reason_word}
 use Rattle.ras_exit.specs.StopLine.{stop_line}
 
@@ -26,17 +26,13 @@ reason-unbroken why =
     unbroken_both (reason_word why) (option_map_or (λ n. codes "." ++ decimal n) (reason_number why) []) (word-unbroken why) (number-unbroken (reason_number why))
 
 pub stop_quiet : (exit : Exit) → AreQuietLines (stop_line exit)
-stop_quiet Done = quiet_none
 stop_quiet Usage = quiet_line (codes "stop 1 usage") refl refl
 stop_quiet (BadLine line why) = refused_quiet line (reason_text why) (lacks_from (reason_text why) (reason-unbroken why))
-stop_quiet SourceFault = quiet_none
-stop_quiet DiskFault = quiet_none
-stop_quiet PrintFault = quiet_none
 stop_quiet (Damaged file place) =
     quiet_line (codes "stop 7 file=" ++ decimal file ++ codes " place=" ++ decimal place)
     (unbroken_both (codes "stop 7 file=" ++ decimal file ++ codes " place=") (decimal place)
     (unbroken_both (codes "stop 7 file=" ++ decimal file) (codes " place=")
     (unbroken_both (codes "stop 7 file=") (decimal file) refl (decimal_unbroken file)) refl) (decimal_unbroken place)) refl
 stop_quiet Full = quiet_line (codes "stop 8 full") refl refl
-stop_quiet NoMemory = quiet_none
 stop_quiet TooLong = quiet_line (codes "stop 13 too-long") refl refl
+stop_quiet exit = quiet_none

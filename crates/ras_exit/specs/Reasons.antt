@@ -2,17 +2,10 @@
 use Rattle.std.specs.Prelude.{ℕ, List, [], ◌++◌, Option, None, Some, codes, decimal}
 use Rattle.std.specs.Option.{option_map_or}
 use Rattle.apei_sources.specs.Refusals.{block_number, table_number}
-use Rattle.dimm_topology.specs.declared.topology.TopologyRefused.{TopologyRefused}
-use Rattle.dimm_topology.specs.declared.topology.TopologyRefused.TheVariants as rows
+use Rattle.dimm_topology.specs.Refusals.{topology_number}
 use Rattle.ras_script.specs.Refusals.{line_number}
 use Rattle.ras_exit.specs.declared.reason.Reason.{Reason}
 use Rattle.ras_exit.specs.declared.reason.Reason.TheVariants.{Line, LongLine, Topology, Hest, Bert, Block, Source}
-
-abbrev pub topology_number : TopologyRefused → Option ℕ
-topology_number rows.Label = Some 1
-topology_number rows.Overlap = Some 2
-topology_number rows.Full = Some 3
-topology_number rows.NoMemory = None
 
 -- which reader refuses
 abbrev pub reason_word : Reason → List ℕ

@@ -1,7 +1,7 @@
 //! Why a line of a script is refused.
 
 ghost use Rattle.std.specs.Prelude.{◌≡◌};
-ghost use Rattle.ras_exit.specs.Reasons.{reason_number, reason_word, topology_number};
+ghost use Rattle.ras_exit.specs.Reasons.{reason_number, reason_word};
 
 use apei_sources::{BlockRefused, TableRefused};
 use dimm_topology::TopologyRefused;
@@ -57,21 +57,10 @@ impl Reason {
         match self {
             Reason::Line(refused) => refused.number(),
             Reason::LongLine => Some(5),
-            Reason::Topology(refused) => topology_number(refused),
+            Reason::Topology(refused) => refused.number(),
             Reason::Hest(refused) | Reason::Bert(refused) => refused.number(),
             Reason::Block(refused) => Some(refused.number()),
             Reason::Source => None,
         }
-    }
-}
-
-fn topology_number(refused: TopologyRefused) -> Option<u8>
-    ensures { result ≡ topology_number refused }
-{
-    match refused {
-        TopologyRefused::Label => Some(1),
-        TopologyRefused::Overlap => Some(2),
-        TopologyRefused::Full => Some(3),
-        TopologyRefused::NoMemory => None,
     }
 }
