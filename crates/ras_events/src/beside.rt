@@ -14,7 +14,7 @@ use ras_account::Account;
 use ras_base::NoMemory;
 use ras_facts::{Entry, Name};
 use ras_reports::Detail;
-use ras_texts::{push_entry, repeat_line};
+use ras_texts::{push_entry, push_repeat};
 use std::alloc::Global;
 
 /// The lines of what an event makes: those of each entry at its own place.
@@ -52,9 +52,7 @@ fn push_lines(
     if is_news(account, earlier, entry) {
         push_entry(alloc, text, details, account, entry)
     } else {
-        let line = repeat_line(alloc, account, entry)?;
-        text.extend_from_slice(&line)?;
-        Ok(())
+        push_repeat(text, account, entry)
     }
 }
 
