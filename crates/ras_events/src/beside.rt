@@ -21,7 +21,7 @@ use std::alloc::Global;
 ///
 /// # Errors
 ///
-/// `NoMemory` comes for want of memory alone.
+/// `NoMemory` comes only if memory runs out.
 pub(crate) fn lines_of(alloc: Global, account: &Account, made: &Made) -> Result<Vec<u8>, NoMemory>
     requires alike { AreAlike made.now.entries }
     ensures { IfOk result (λ text. text.items ≡ text_along account.now.state (pieces_in made.now)) }
@@ -60,7 +60,7 @@ fn push_lines(
 ///
 /// # Errors
 ///
-/// `NoMemory` comes for want of memory alone.
+/// `NoMemory` comes only if memory runs out.
 pub(crate) fn news_of(
     alloc: Global,
     account: &Account,

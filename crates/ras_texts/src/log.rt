@@ -58,8 +58,8 @@ fn is_retired(floor: u64, name: &Name) -> bool
     }
 }
 
-/// How many names an account holds of boots below one.
-pub(crate) fn retired_names(account: &Account, boot: u64) -> u64
+// How many names an account holds of boots below one.
+fn retired_names(account: &Account, boot: u64) -> u64
     ensures { result ≡ count_by (is_retired boot) account.now.state.names }
 {
     let mut count = 0;
@@ -85,14 +85,15 @@ pub(crate) fn push_limit(text: &mut Vec<u8>, word: &[u8], limit: Limit) -> Resul
     Ok(())
 }
 
-/// Adds the line of a fresh retire, with how many names it drops.
-pub(crate) fn push_retire(text: &mut Vec<u8>, boot: u64, dropped: u64) -> Result<(), NoMemory>
-    ensures { OnOk result (text.new.items ≡ text.old.items ++ retire_line boot dropped) }
+/// Adds the line of a retire that is fresh in an account, with how many names it drops.
+pub(crate) fn push_retire(text: &mut Vec<u8>, account: &Account, boot: u64) -> Result<(), NoMemory>
+    ensures { OnOk result (text.new.items ≡ text.old.items
+        ++ retire_line boot (count_by (is_retired boot) account.now.state.names)) }
 {
     text.extend_from_slice(b"retire boot=")?;
     push_number(text, boot)?;
     text.extend_from_slice(b" names=")?;
-    push_number(text, dropped)?;
+    push_number(text, retired_names(account, boot))?;
     text.extend_from_slice(b"\n")?;
     Ok(())
 }

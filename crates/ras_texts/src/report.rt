@@ -6,7 +6,7 @@ ghost use Rattle.ras_texts.specs.Reports.{detail_text, empty_line, entry_lines, 
 ghost use Rattle.ras_texts.specs.Text.{item_head};
 
 use crate::detail::push_bank;
-use crate::log::{push_limit, push_retire, retired_names};
+use crate::log::{push_limit, push_retire};
 use crate::pieces::{class_word, push_label, push_name, push_number, push_page};
 use crate::section::{push_memory, push_other, push_processor, push_x64};
 use ras_account::Account;
@@ -34,7 +34,7 @@ pub fn push_entry(
     match entry {
         Entry::Fact(fact) => push_report(alloc, text, fact, details),
         Entry::Limit(limit) => push_limit(text, b"limit ", *limit),
-        Entry::Retire(boot) => push_retire(text, *boot, retired_names(account, *boot)),
+        Entry::Retire(boot) => push_retire(text, account, *boot),
         Entry::ModuleLimit(limit) => push_limit(text, b"module-limit ", *limit),
     }
 }
