@@ -4,6 +4,7 @@ ghost use Rattle.std.specs.Prelude.{◌≡◌, ◌≤◌, ◌↔◌, ℕ, List, 
 ghost use Rattle.std.specs.List.{list_any, list_all, find};
 ghost use Rattle.std.specs.Option.{option_copied};
 ghost use Rattle.dimm_topology.specs.declared.row.Row.{Row};
+ghost use Rattle.dimm_topology.specs.Labels.{is_label_or_none};
 ghost use Rattle.dimm_topology.specs.Rows.{names_module, labels_of_rows, overlap, is_at, names, is_range_over, is_module_label};
 ghost use Rattle.dimm_topology.specs.Refusals.{row_refusal, topology_number, Answers, SharesAddress};
 ghost use Rattle.dimm_topology.specs.Owners.{owner_by_rows, owner_of_address, owner_at, socket_by_rows, channel_of, bank_location, section_location, ranges_over};
@@ -80,6 +81,14 @@ impl Topology {
         Topology {
             rows: Vec::new(alloc),
         }
+    }
+
+    /// What holds of the rows of every topology. The function does nothing: its clause is what it
+    /// is for.
+    pub fn invariant(&self)
+        ensures { IsTopology self.now }
+    {
+        let _ = &self.rows;
     }
 
     /// Says in which socket a CPU is. The last row of a CPU counts.
@@ -199,6 +208,7 @@ impl Topology {
 
         // An owner is the label of a module row.
         ensures named { IfSome result (λ label. IsTrue (is_module_label self.now label.now)) }
+        ensures valid { IfSome result (λ label. IsTrue (is_label_or_none label.now)) }
     {
         self.owner(address, self.bank_location(cpu, bank, code))
     }
@@ -213,6 +223,7 @@ impl Topology {
 
         // An owner is the label of a module row.
         ensures named { IfSome result (λ label. IsTrue (is_module_label self.now label.now)) }
+        ensures valid { IfSome result (λ label. IsTrue (is_label_or_none label.now)) }
     {
         self.owner(section.physical, location_of_section(section))
     }
@@ -222,6 +233,7 @@ impl Topology {
         ensures owner { option_copied result ≡ owner_by_rows self.now address location }
         ensures one_range { (held : ℕ) → length (ranges_over self.now held) ≤ 1 }
         ensures named { IfSome result (λ label. IsTrue (is_module_label self.now label.now)) }
+        ensures valid { IfSome result (λ label. IsTrue (is_label_or_none label.now)) }
     {
         // So that the clauses above can tell what holds of every topology.
         let _ = &self.rows;
@@ -253,6 +265,8 @@ impl Topology {
         if self.rows.len() >= MOST_ROWS {
             return Err(TopologyRefused::Full);
         }
+        // So that the rows are known to name labels alone.
+        let _ = row.label();
         match self.rows.push(row) {
             Ok(()) => Ok(()),
             Err(_) => Err(TopologyRefused::NoMemory),

@@ -47,7 +47,7 @@ impl Settings {
     ///
     /// `Refused` with the first reason that applies: of a row `Topology`; of a table of error
     /// sources `Hest`; of a status block first `Source`, and then `Block`; of boot errors first
-    /// `Bert`, and then `Block`. `NoMemory` comes for want of memory alone.
+    /// `Bert`, and then `Block`. `NoMemory` comes only if memory runs out.
     pub fn take(&mut self, alloc: Global, line: Line) -> Result<Event, EventRefused>
         requires range { IsInRange line }
         requires short { IsShortLine line }
