@@ -1,4 +1,4 @@
--- That an owner is the label of a module row.
+-- That an owner is the label of a module row, and a label or none.
 use Rattle.std.proofs.Common.{◌≡◌, ℕ, Bool, true, Option, Some, None, List, [], ◌∷◌, refl, arith, filter}
 use Rattle.std.specs.Prelude.{IsTrue, IfSome}
 use Rattle.std.proofs.lemmas.Grind.{common_steps}
@@ -6,11 +6,11 @@ use Rattle.std.specs.Cmp.Lexicographic.{nat_list_eq_equiv}
 use Rattle.std.specs.List.{list_all}
 use Rattle.std.specs.Option.{option_and_then, option_or, option_copied}
 use denote.Ref.{Bor}
-use Rattle.dimm_topology.specs.Labels.{Bytes}
+use Rattle.dimm_topology.specs.Labels.{Bytes, is_label_or_none}
 use Rattle.dimm_topology.specs.declared.row.Location.{Location}
 use Rattle.dimm_topology.specs.declared.row.Row.{Row}
 use Rattle.dimm_topology.specs.declared.row.Row.TheVariants.{Cpu, Module, Range, Place}
-use Rattle.dimm_topology.specs.Rows.{labels_of_rows, names_module, is_module_label, is_at, is_range_over}
+use Rattle.dimm_topology.specs.Rows.{labels_of_rows, names_module, is_labelled, is_module_label, is_at, is_range_over}
 use Rattle.dimm_topology.specs.Owners.{the_one, owner_by_rows, owner_of_address, owner_at}
 use Rattle.dimm_topology.specs.Topology.{IsTopology}
 
@@ -32,31 +32,62 @@ one_passes : (test : Bytes → Bool) (labels : List Bytes) → list_all test lab
 one_passes test [] all = tt
 one_passes test (label ∷ labels) all = grind (arith, common_steps)
 
-fitting : (rows : List Row) (test : Row → Bool) → IsTopology rows → IfSome (the_one (labels_of_rows (filter test rows))) (λ label. IsTrue (is_module_label rows label))
-fitting rows test topology = one_passes (is_module_label rows) (labels_of_rows (filter test rows)) (fits_named rows rows test (λ label held. held) topology.named)
+-- the labels of rows are labels or none
+fits_labelled : (xs : List Row) (test : Row → Bool) → list_all is_labelled xs ≡ true → list_all is_label_or_none (labels_of_rows (filter test xs)) ≡ true
+fits_labelled [] test all = refl
+fits_labelled (Cpu cpu socket ∷ xs) test all = grind (arith, common_steps, fits_labelled xs test)
+fits_labelled (Module label socket bank channel ∷ xs) test all = grind (arith, common_steps, fits_labelled xs test)
+fits_labelled (Range label first last ∷ xs) test all = grind (arith, common_steps, fits_labelled xs test)
+fits_labelled (Place label node card module' ∷ xs) test all = grind (arith, common_steps, fits_labelled xs test)
 
--- an owner is the label of a module row
-pub owner_named : (rows : List Row) (address : Option ℕ) (location : Option Location) → IsTopology rows
-    → IfSome (owner_by_rows rows address location) (λ label. IsTrue (is_module_label rows label))
-owner_named rows address location topology =
+-- an owner passes what the labels of all rows pass
+owner_passes : (rows : List Row) (address : Option ℕ) (location : Option Location) (passes : Bytes → Bool)
+    → ((test : Row → Bool) → list_all passes (labels_of_rows (filter test rows)) ≡ true)
+    → IfSome (owner_by_rows rows address location) (λ label. IsTrue (passes label))
+owner_passes rows address location passes all =
     either (option_and_then (owner_of_address rows) address) (option_and_then (owner_at rows) location) (over address) (at location)
   where
     P : Bytes → Type 0
-    P label = IsTrue (is_module_label rows label)
+    P label = IsTrue (passes label)
 
     either : (one other : Option Bytes) → IfSome one P → IfSome other P → IfSome (option_or one other) P
     either None other p q = q
     either (Some label) other p q = p
 
+    fitting : (test : Row → Bool) → IfSome (the_one (labels_of_rows (filter test rows))) P
+    fitting test = one_passes passes (labels_of_rows (filter test rows)) (all test)
+
     over : (address : Option ℕ) → IfSome (option_and_then (owner_of_address rows) address) P
     over None = tt
-    over (Some a) = fitting rows (is_range_over a) topology
+    over (Some a) = fitting (is_range_over a)
 
     at : (location : Option Location) → IfSome (option_and_then (owner_at rows) location) P
     at None = tt
-    at (Some l) = fitting rows (is_at l) topology
+    at (Some l) = fitting (is_at l)
+
+-- an owner is the label of a module row
+owner_named : (rows : List Row) (address : Option ℕ) (location : Option Location) → IsTopology rows
+    → IfSome (owner_by_rows rows address location) (λ label. IsTrue (is_module_label rows label))
+owner_named rows address location topology =
+    owner_passes rows address location (is_module_label rows) (λ test. fits_named rows rows test (λ label held. held) topology.named)
+
+-- an owner is a label or none
+pub owner_labelled : (rows : List Row) (address : Option ℕ) (location : Option Location) → IsTopology rows
+    → IfSome (owner_by_rows rows address location) (λ label. IsTrue (is_label_or_none label))
+owner_labelled rows address location topology =
+    owner_passes rows address location is_label_or_none (λ test. fits_labelled rows test topology.labelled)
 
 -- of what is behind a reference
-pub copied : (P : Bytes → Type 0) (result : Option (Bor Bytes)) (owner : Option Bytes) → option_copied result ≡ owner → IfSome owner P → IfSome result (λ label. P label.now)
+copied : (P : Bytes → Type 0) (result : Option (Bor Bytes)) (owner : Option Bytes) → option_copied result ≡ owner → IfSome owner P → IfSome result (λ label. P label.now)
 copied P None owner e p = tt
 copied P (Some label) owner e p = rw (← e) at p
+
+pub found_named : (rows : List Row) (address : Option ℕ) (location : Option Location) (result : Option (Bor Bytes)) → option_copied result ≡ owner_by_rows rows address location
+    → IsTopology rows → IfSome result (λ label. IsTrue (is_module_label rows label.now))
+found_named rows address location result is topology =
+    copied (λ label. IsTrue (is_module_label rows label)) result _ is (owner_named rows address location topology)
+
+pub found_labelled : (rows : List Row) (address : Option ℕ) (location : Option Location) (result : Option (Bor Bytes)) → option_copied result ≡ owner_by_rows rows address location
+    → IsTopology rows → IfSome result (λ label. IsTrue (is_label_or_none label.now))
+found_labelled rows address location result is topology =
+    copied (λ label. IsTrue (is_label_or_none label)) result _ is (owner_labelled rows address location topology)

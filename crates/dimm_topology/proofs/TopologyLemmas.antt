@@ -10,7 +10,7 @@ use Rattle.dimm_topology.specs.Labels.{Bytes}
 use Rattle.dimm_topology.specs.declared.row.Row.{Row}
 use Rattle.dimm_topology.specs.declared.row.Row.TheVariants.{Cpu, Module, Range, Place}
 use Rattle.dimm_topology.specs.declared.topology.TopologyRefused.{TopologyRefused}
-use Rattle.dimm_topology.specs.Rows.{is_range_over, overlap, names_module, is_module_of, socket_of}
+use Rattle.dimm_topology.specs.Rows.{is_range_over, overlap, names_module, is_labelled, is_module_of, socket_of}
 use Rattle.dimm_topology.specs.Owners.{owner_of_address, socket_by_rows}
 use Rattle.dimm_topology.specs.Refusals.{SharesAddress, Answers, row_refusal}
 use Rattle.dimm_topology.specs.Topology.{IsApart, IsTopology, is_upright}
@@ -52,11 +52,12 @@ all_named_kept : (rows more xs : List Row) → list_all (names_module rows) xs �
 all_named_kept rows more [] named = refl
 all_named_kept rows more (row ∷ xs) named = grind (arith, common_steps, named_kept rows more row, all_named_kept rows more xs)
 
-pub topology_more : (rows : List Row) (row : Row) → IsTopology rows → names_module rows row ≡ true → list_any (overlap row) rows ≡ false → is_upright row ≡ true → length rows < 4096 → IsTopology (rows ++ row ∷ [])
-topology_more rows row topology named free upright small = record {
+pub topology_more : (rows : List Row) (row : Row) → IsTopology rows → names_module rows row ≡ true → list_any (overlap row) rows ≡ false → is_upright row ≡ true → is_labelled row ≡ true → length rows < 4096 → IsTopology (rows ++ row ∷ [])
+topology_more rows row topology named free upright labelled small = record {
   apart = apart_more rows row topology.apart free;
   upright = grind (arith, common_steps, list_all-append is_upright rows (row ∷ []), topology.upright);
   named = grind (arith, common_steps, list_all-append (names_module (rows ++ row ∷ [])) rows (row ∷ []), all_named_kept rows (row ∷ []) rows topology.named, named_kept rows (row ∷ []) row named);
+  labelled = grind (arith, common_steps, list_all-append is_labelled rows (row ∷ []), topology.labelled);
   small = grind (arith, common_steps, length-append rows (row ∷ []));
 }
 

@@ -14,6 +14,13 @@ row_refusal rows row =
     else (if list_any (overlap row) rows then Some Overlap
     else (if nat_le MOST_ROWS (length rows) then Some Full else None))
 
+-- the number of a refusal; if memory ran out there is none
+abbrev pub topology_number : TopologyRefused → Option ℕ
+topology_number Label = Some 1
+topology_number Overlap = Some 2
+topology_number Full = Some 3
+topology_number NoMemory = None
+
 -- a call answers this refusal where there is one; where there is none, it takes the row or finds no
 -- memory
 abbrev pub Answers : Result (Unit {0}) TopologyRefused → Option TopologyRefused → Type 0

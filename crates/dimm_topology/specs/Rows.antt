@@ -2,7 +2,7 @@
 use Rattle.std.specs.Prelude.{ℕ, Bool, true, false, nat_eq, nat_le, ◌&&◌, Option, Some, None, List, if◌then◌else◌}
 use Rattle.std.specs.List.{list_any, filter_map}
 use Rattle.std.specs.Option.{option_map_or}
-use Rattle.dimm_topology.specs.Labels.{Bytes, same_label}
+use Rattle.dimm_topology.specs.Labels.{Bytes, same_label, is_label_or_none}
 use Rattle.dimm_topology.specs.declared.row.Location.{Location}
 use Rattle.dimm_topology.specs.declared.row.Location.TheVariants.{Channel, Numbers}
 use Rattle.dimm_topology.specs.declared.row.Row.{Row}
@@ -19,6 +19,10 @@ label_in (Cpu cpu socket) = None
 label_in (Module label socket bank channel) = Some label
 label_in (Range label first last) = Some label
 label_in (Place label node card module') = Some label
+
+-- whether the label that a row names is one or none
+abbrev pub is_labelled : Row → Bool
+is_labelled row = option_map_or is_label_or_none (label_in row) true
 
 -- the labels that rows name, in order
 abbrev pub labels_of_rows : List Row → List Bytes

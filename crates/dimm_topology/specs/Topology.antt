@@ -5,7 +5,7 @@ use Rattle.std.specs.List.{list_any, list_all}
 use Rattle.dimm_topology.specs.declared.row.Row.{Row}
 use Rattle.dimm_topology.specs.declared.row.Row.TheVariants.{Range}
 use Rattle.dimm_topology.specs.declared.topology.TheConstants.{MOST_ROWS}
-use Rattle.dimm_topology.specs.Rows.{names_module, overlap}
+use Rattle.dimm_topology.specs.Rows.{names_module, is_labelled, overlap}
 
 -- whether a row that is a range has its first address not behind its last
 abbrev pub is_upright : Row → Bool
@@ -25,4 +25,6 @@ pub record IsTopology (rows : List Row) : Type 0 where
   pub upright : IsTrue (list_all is_upright rows)
   -- each range and each place names a label of a module row
   pub named : IsTrue (list_all (names_module rows) rows)
+  -- each label that a row names is one or none
+  pub labelled : IsTrue (list_all is_labelled rows)
   pub small : length rows ≤ MOST_ROWS

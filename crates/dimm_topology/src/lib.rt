@@ -6,9 +6,11 @@
 #![tactic(auto)]
 
 mod label;
+mod laws;
 mod row;
 mod topology;
 
 pub use label::{Label, LabelRefused, MOST_LABEL_BYTES};
+pub use laws::{numbers, owners_have_labels};
 pub use row::{Location, Row};
 pub use topology::{MOST_ROWS, Topology, TopologyRefused};

@@ -1,8 +1,8 @@
 //! The rows of a topology.
 
-ghost use Rattle.std.specs.Prelude.{◌≡◌, Option};
+ghost use Rattle.std.specs.Prelude.{◌≡◌, IsTrue, Option};
 ghost use Rattle.std.specs.Option.{option_copied};
-ghost use Rattle.dimm_topology.specs.Rows.{socket_of, label_in, is_at, names, is_range_over, is_module_of, overlap};
+ghost use Rattle.dimm_topology.specs.Rows.{socket_of, label_in, is_labelled, is_at, names, is_range_over, is_module_of, overlap};
 
 use crate::Label;
 
@@ -59,11 +59,14 @@ impl Row {
 
     // The label that the row names.
     pub(crate) fn label(&self) -> Option<&Label>
-        ensures { option_copied result ≡ label_in self.now }
+        ensures label { option_copied result ≡ label_in self.now }
+        ensures labelled { IsTrue (is_labelled self.now) }
     {
         match self {
             Row::Cpu { .. } => None,
             Row::Module { label, .. } | Row::Range { label, .. } | Row::Place { label, .. } => {
+                // So that the clause above can tell what holds of every label.
+                let _ = label.bytes();
                 Some(label)
             }
         }

@@ -4,8 +4,9 @@ ghost use Rattle.std.specs.Prelude.{◌≡◌, ◌≤◌, ◌↔◌, ℕ, List, 
 ghost use Rattle.std.specs.List.{list_any, list_all, find};
 ghost use Rattle.std.specs.Option.{option_copied};
 ghost use Rattle.dimm_topology.specs.declared.row.Row.{Row};
+ghost use Rattle.dimm_topology.specs.Labels.{is_label_or_none};
 ghost use Rattle.dimm_topology.specs.Rows.{names_module, labels_of_rows, overlap, is_at, names, is_range_over, is_module_label};
-ghost use Rattle.dimm_topology.specs.Refusals.{row_refusal, Answers, SharesAddress};
+ghost use Rattle.dimm_topology.specs.Refusals.{row_refusal, topology_number, Answers, SharesAddress};
 ghost use Rattle.dimm_topology.specs.Owners.{owner_by_rows, owner_of_address, owner_at, socket_by_rows, channel_of, bank_location, section_location, ranges_over};
 ghost use Rattle.dimm_topology.specs.Topology.{is_upright, IsApart, IsTopology};
 
@@ -44,18 +45,32 @@ impl Model for Topology {
 /// Why a topology doesn't take a row. Where several apply, the first of them is answered.
 #[derive(Clone, Copy, Debug, PartialEq, Eq, Error)]
 pub enum TopologyRefused {
-    /// A range or a place names a label that no module row has.
+    /// 1: a range or a place names a label that no module row has.
     #[error("no memory module has the label")]
     Label,
-    /// A range has an address in common with one that is held.
+    /// 2: a range has an address in common with one that is held.
     #[error("the range has an address in common with another")]
     Overlap,
-    /// `MOST_ROWS` rows are held.
+    /// 3: `MOST_ROWS` rows are held.
     #[error("the topology has as many rows as it may hold")]
     Full,
-    /// Memory ran out.
+    /// Memory ran out. It has no number, since it is no fault of the row.
     #[error("memory ran out")]
     NoMemory,
+}
+
+impl TopologyRefused {
+    /// The number by which the refusal is printed, or None if memory ran out.
+    pub fn number(self) -> Option<u8>
+        ensures { result ≡ topology_number self }
+    {
+        match self {
+            TopologyRefused::Label => Some(1),
+            TopologyRefused::Overlap => Some(2),
+            TopologyRefused::Full => Some(3),
+            TopologyRefused::NoMemory => None,
+        }
+    }
 }
 
 impl Topology {
@@ -66,6 +81,14 @@ impl Topology {
         Topology {
             rows: Vec::new(alloc),
         }
+    }
+
+    /// What holds of the rows of every topology. The function does nothing: its clause is what it
+    /// is for.
+    pub fn invariant(&self)
+        ensures { IsTopology self.now }
+    {
+        let _ = &self.rows;
     }
 
     /// Says in which socket a CPU is. The last row of a CPU counts.
@@ -185,6 +208,7 @@ impl Topology {
 
         // An owner is the label of a module row.
         ensures named { IfSome result (λ label. IsTrue (is_module_label self.now label.now)) }
+        ensures valid { IfSome result (λ label. IsTrue (is_label_or_none label.now)) }
     {
         self.owner(address, self.bank_location(cpu, bank, code))
     }
@@ -199,6 +223,7 @@ impl Topology {
 
         // An owner is the label of a module row.
         ensures named { IfSome result (λ label. IsTrue (is_module_label self.now label.now)) }
+        ensures valid { IfSome result (λ label. IsTrue (is_label_or_none label.now)) }
     {
         self.owner(section.physical, location_of_section(section))
     }
@@ -208,6 +233,7 @@ impl Topology {
         ensures owner { option_copied result ≡ owner_by_rows self.now address location }
         ensures one_range { (held : ℕ) → length (ranges_over self.now held) ≤ 1 }
         ensures named { IfSome result (λ label. IsTrue (is_module_label self.now label.now)) }
+        ensures valid { IfSome result (λ label. IsTrue (is_label_or_none label.now)) }
     {
         // So that the clauses above can tell what holds of every topology.
         let _ = &self.rows;
@@ -239,6 +265,8 @@ impl Topology {
         if self.rows.len() >= MOST_ROWS {
             return Err(TopologyRefused::Full);
         }
+        // So that the rows are known to name labels alone.
+        let _ = row.label();
         match self.rows.push(row) {
             Ok(()) => Ok(()),
             Err(_) => Err(TopologyRefused::NoMemory),

@@ -15,9 +15,9 @@ use Rattle.ras_recover.specs.OpeningCalls.{IsOpening, IsRecovery}
 use Rattle.ras_ledger.specs.KeepingCalls.{IsKeeping, write_through_calls}
 use Rattle.ras_events.specs.declared.event.Event.{Event}
 use Rattle.ras_events.specs.declared.event.Event.TheVariants.{Nothing, Settled, Counted, Reopened}
-use Rattle.ras_events.specs.declared.reason.Reason.{Reason}
+use Rattle.ras_exit.specs.declared.reason.Reason.{Reason}
 use Rattle.ras_events.specs.Reports.{NumberedLine, Place, event_at}
-use Rattle.ras_run.specs.declared.exit.Exit.{Exit}
+use Rattle.ras_exit.specs.declared.exit.Exit.{Exit}
 use Rattle.ras_run.specs.LineCalls.{AreCallsAt, AreEventCalls, AreNewsCalls}
 use Rattle.ras_run.specs.Places.{Start, history_at, news_after}
 use Rattle.ras_run.specs.Status.{places_before_refusal}

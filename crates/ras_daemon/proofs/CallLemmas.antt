@@ -12,15 +12,15 @@ use Rattle.ras_journal.specs.Recovered.{Recovers}
 use Rattle.ras_texts.specs.Orders.{standing_lines}
 use Rattle.ras_events.specs.Reports.{NumberedLine, Place}
 use Rattle.text_laws.specs.DoneLines.{done_count}
-use Rattle.ras_run.specs.declared.exit.Exit.{Exit}
-use Rattle.ras_run.specs.declared.exit.Exit.TheVariants.{DiskFault, NoMemory, PrintFault, SourceFault}
+use Rattle.ras_exit.specs.declared.exit.Exit.{Exit}
+use Rattle.ras_exit.specs.Endings.{CallEnding, IfAnswered, OnAnswer, OnWhole, UnlessFaulted, answered, ending_of, faulted, source_failed, starved}
+use Rattle.ras_exit.specs.Telling.{PrintsPart}
 use Rattle.ras_run.specs.Output.{output_at}
 use Rattle.ras_run.specs.Places.{Start, account_at}
-use Rattle.ras_daemon.specs.Ended.{PrintsPart}
 use Rattle.ras_daemon.specs.Headline.{Headline, IsWhole, OverRun, StopsRecover, account_with}
 use Rattle.ras_daemon.specs.RunOutput.{closing_line, run_output}
-use Rattle.ras_daemon.specs.RunStatus.{OnAnswer, OnWhole, run_exit, start_of}
-use Rattle.ras_daemon.specs.Running.{AreAll, AreFirst, EndsSo, RunEnds, RunMoment, outputs}
+use Rattle.ras_daemon.specs.RunStatus.{run_exit, start_of}
+use Rattle.ras_daemon.specs.Running.{AreAll, AreFirst, EndsIn, EndsSo, RunEnds, RunMoment, outputs}
 use Rattle.ras_daemon.specs.Script.{events_of}
 use Rattle.ras_daemon.specs.declared.word.Task.{Task}
 use Rattle.ras_daemon.specs.declared.word.Task.TheVariants.{Run}
@@ -53,26 +53,22 @@ counted-so start script exit before all account =
     ∙ omega (arith, none, ap (λ (ps : List Place). events_among ps) all.all)
 
 module _ (start : Start) (script : List ℕ) (old now : Told) where
+  -- what an answer says
+  ends-answer : (exit : Exit) (P : Type 0) → (EndsSo start script exit old now → P) → RunEnds start script exit old now → OnAnswer exit P
+  ends-answer exit P so ends = by (ending_of exit) ends
+    where
+      by : (ending : CallEnding) → EndsIn start script exit ending old now → IfAnswered ending P
+      by answered ends = so ends
+      by ending ends = tt
+
   pub ends-status : (exit : Exit) → RunEnds start script exit old now → OnAnswer exit (exit ≡ run_exit start script)
-  ends-status DiskFault ends = tt
-  ends-status PrintFault ends = tt
-  ends-status NoMemory ends = tt
-  ends-status SourceFault ends = tt
-  ends-status exit ends = sym ends.all.exit_is
+  ends-status exit = ends-answer exit (exit ≡ run_exit start script) (λ ends. sym ends.all.exit_is)
 
   pub ends-output : (exit : Exit) → RunEnds start script exit old now → OnAnswer exit (now.here.out ≡ old.here.out ++ run_output start script)
-  ends-output DiskFault ends = tt
-  ends-output PrintFault ends = tt
-  ends-output NoMemory ends = tt
-  ends-output SourceFault ends = tt
-  ends-output exit ends = output-so start script exit old now ends
+  ends-output exit = ends-answer exit (now.here.out ≡ old.here.out ++ run_output start script) (output-so start script exit old now)
 
   pub ends-counted : (exit : Exit) → RunEnds start script exit old now → OnAnswer exit (done_count (run_output start script) ≡ length (events_of start script))
-  ends-counted DiskFault ends = tt
-  ends-counted PrintFault ends = tt
-  ends-counted NoMemory ends = tt
-  ends-counted SourceFault ends = tt
-  ends-counted exit ends = counted-so start script exit ends.before ends.all ends.account
+  ends-counted exit = ends-answer exit (done_count (run_output start script) ≡ length (events_of start script)) (λ ends. counted-so start script exit ends.before ends.all ends.account)
 
   -- whole events, by their number
   whole-by : (printed : List ℕ) (n : ℕ) → now.here.out ≡ old.here.out ++ printed → done_count printed ≡ n → Recovers (account_with start script n) now.here
@@ -109,11 +105,13 @@ module _ (start : Start) (script : List ℕ) (old now : Told) where
       whole-by [] 0 text refl (subst (λ (reads : List NumberedLine). Recovers (account_at start reads) now.here) none recovers)
 
   pub ends-whole : (exit : Exit) → RunEnds start script exit old now → OnWhole exit (IsWhole start script old now)
-  ends-whole DiskFault ends = tt
-  ends-whole PrintFault ends = tt
-  ends-whole NoMemory ends = early-lines ends.before ends.first ends.recovers ends.text
-  ends-whole SourceFault ends = early-lines ends.before ends.first ends.recovers ends.text
-  ends-whole exit ends = whole-so exit ends
+  ends-whole exit ends = by (ending_of exit) ends
+    where
+      by : (ending : CallEnding) → EndsIn start script exit ending old now → UnlessFaulted ending (IsWhole start script old now)
+      by answered ends = whole-so exit ends
+      by (faulted kind) ends = tt
+      by source_failed ends = early-lines ends.before ends.first ends.recovers ends.text
+      by starved ends = early-lines ends.before ends.first ends.recovers ends.text
 
 -- ---- where words ask for a run
 
@@ -140,16 +138,12 @@ some-weaker P Q (Some t) weaker has = weaker t has
 
 -- where an exit is an answer, also what holds of what is told now
 pub on-answer : (exit : Exit) (P : Told → Type 0) (told : Option Told) → IsSomeAnd told (λ t. OnAnswer exit (P t)) → OnAnswer exit (IsSomeAnd told P)
-on-answer DiskFault P told has = tt
-on-answer PrintFault P told has = tt
-on-answer NoMemory P told has = tt
-on-answer SourceFault P told has = tt
-on-answer exit P told has = has
+on-answer exit P None has = absurd has
+on-answer exit P (Some t) has = has
 
 pub on-whole : (exit : Exit) (P : Told → Type 0) (told : Option Told) → IsSomeAnd told (λ t. OnWhole exit (P t)) → OnWhole exit (IsSomeAnd told P)
-on-whole DiskFault P told has = tt
-on-whole PrintFault P told has = tt
-on-whole exit P told has = has
+on-whole exit P None has = absurd has
+on-whole exit P (Some t) has = has
 
 -- ---- over moments
 

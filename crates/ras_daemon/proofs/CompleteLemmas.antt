@@ -1,14 +1,16 @@
 -- A run that no fault cut short and that is refused nowhere is done, where there is memory.
 use Rattle.std.proofs.Common.{◌≡◌, ℕ, List, Option, ◌∙◌, refl, inl, inr}
 use Rattle.std.specs.Prelude.{◌⊎◌}
-use Rattle.board_core.specs.Cause.{Faults, disk_call, print_call}
+use Rattle.board_core.specs.Cause.{Faults}
 use Rattle.board_core.specs.Told.{Told}
-use Rattle.ras_run.specs.declared.exit.Exit.{Exit}
-use Rattle.ras_run.specs.declared.exit.Exit.TheVariants.{DiskFault, Done, NoMemory, PrintFault, SourceFault}
-use Rattle.ras_run.specs.Causes.{BoardCause, SourceCause}
+use Rattle.ras_exit.specs.declared.exit.Exit.{Exit}
+use Rattle.ras_exit.specs.declared.exit.Exit.TheVariants.{Done, NoMemory}
+use Rattle.ras_exit.specs.Causes.{BoardCause, BoardCauseBy, SourceCause, SourceCauseBy}
+use Rattle.ras_exit.specs.Endings.{CallEnding, IfAnswered, OnAnswer, answered, ending_of, faulted, source_failed, starved}
+use Rattle.ras_exit.proofs.EndingLemmas.{memory_ran_out}
 use Rattle.ras_daemon.specs.Ended.{IsQuiet, IsQuietBoard}
 use Rattle.ras_daemon.specs.Headline.{OverRun}
-use Rattle.ras_daemon.specs.RunStatus.{OnAnswer, run_exit}
+use Rattle.ras_daemon.specs.RunStatus.{run_exit}
 use Rattle.ras_daemon.specs.declared.word.Task.{Task}
 use Rattle.ras_daemon.proofs.CallLemmas.{over-run}
 
@@ -16,11 +18,14 @@ use Rattle.ras_daemon.proofs.CallLemmas.{over-run}
 module _ (source source' : ℕ) (board board' : Faults) (quiet_source : IsQuiet source source') (quiet_board : IsQuietBoard board board') where
   exit-done : (exit status : Exit) → OnAnswer exit (exit ≡ status) → SourceCause exit source source' → BoardCause exit board board' → status ≡ Done
       → (exit ≡ Done) ⊎ (exit ≡ NoMemory)
-  exit-done SourceFault status answers rose same done = absurd (quiet_source rose)
-  exit-done DiskFault status answers same rose done = absurd (quiet_board disk_call rose.own)
-  exit-done PrintFault status answers same rose done = absurd (quiet_board print_call rose.own)
-  exit-done NoMemory status answers same also done = inr refl
-  exit-done exit status answers same also done = inl (answers ∙ done)
+  exit-done exit status answers cause_source cause_board done = by (ending_of exit) refl answers cause_source cause_board
+    where
+      by : (ending : CallEnding) → ending_of exit ≡ ending → IfAnswered ending (exit ≡ status) → SourceCauseBy ending source source' → BoardCauseBy ending board board'
+          → (exit ≡ Done) ⊎ (exit ≡ NoMemory)
+      by answered is answers same also = inl (answers ∙ done)
+      by (faulted kind) is answers same rose = absurd (quiet_board kind rose.own)
+      by source_failed is answers rose same = absurd (quiet_source rose)
+      by starved is answers same also = inr (memory_ran_out exit is)
 
 pub run-complete : (task : Option Task) (script : Option (List ℕ)) (told : Option Told) (exit : Exit) (source source' : ℕ) (board board' : Faults)
     → SourceCause exit source source' → BoardCause exit board board'

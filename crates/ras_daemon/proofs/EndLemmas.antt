@@ -1,6 +1,6 @@
 -- The end of a run over a journal that was opened.
-use Rattle.std.proofs.Common.{◌≡◌, ℕ, List, [], ◌++◌, Option, None, Some, IfSome, IsSomeAnd, Ok, Err, refl, ap, sym, ◌∙◌, subst, append_assoc, inl, inr}
-use Rattle.std.specs.Prelude.{⊤, ◌⊎◌}
+use Rattle.std.proofs.Common.{◌≡◌, ℕ, true, false, List, [], ◌++◌, Option, None, Some, IfSome, IsSomeAnd, Ok, Err, refl, ap, sym, ◌∙◌, subst, append_assoc, inl, inr}
+use Rattle.std.specs.Prelude.{⊤}
 use Rattle.std.specs.Option.{option_map}
 use Rattle.board_core.specs.Clock.{Clock, Adds, Rests}
 use Rattle.board_core.specs.ClockLemmas.{adds_weaker}
@@ -8,18 +8,20 @@ use Rattle.board_core.specs.Stop.{Left, Begins, InOut}
 use Rattle.board_core.specs.Told.{FailsPrint, Relates, Steps, Told, after_print}
 use Rattle.ras_account.specs.Account.{State, account_of}
 use Rattle.ras_account.specs.Accounts.{IsAccount}
-use Rattle.ras_journal.specs.Appending.{Before}
 use Rattle.ras_journal.specs.Recovered.{Recovers}
 use Rattle.ras_ledger.specs.declared.ledger.Ledger.{Ledger}
 use Rattle.ras_events.specs.Reports.{NumberedLine}
 use Rattle.ras_texts.specs.Orders.{standing_lines}
-use Rattle.ras_run.specs.declared.exit.Exit.{Exit}
-use Rattle.ras_run.specs.declared.exit.Exit.TheVariants.{Done, Usage, BadLine, SourceFault, DiskFault, PrintFault, Damaged, Full, NoMemory, TooLong}
-use Rattle.ras_run.specs.Device.{LeavesDevice}
+use Rattle.ras_exit.specs.declared.exit.Exit.{Exit}
+use Rattle.ras_exit.specs.declared.exit.Exit.TheVariants.{Done}
+use Rattle.ras_exit.specs.Endings.{CallEnding, IsAnswer, IsCut, IsLineExit, answered, ending_of, faulted, is_answered, source_failed, starved}
+use Rattle.ras_exit.proofs.EndingLemmas.{answer_or_cut, at_answer, not_both}
+use Rattle.ras_exit.specs.Device.{LeavesDevice}
 use Rattle.ras_run.specs.Places.{Start, account_at}
 use Rattle.ras_run.specs.Taking.{LedgerStands, Prints}
+use Rattle.ras_run.proofs.StandsLemmas.{before_of}
 use Rattle.ras_daemon.specs.RunOutput.{closing_line}
-use Rattle.ras_daemon.specs.Running.{AreAll, EndsEarly, EndsSo, Ends, IsAnswer, IsAtRest, IsCut, IsLineExit, IsStart, LinesMoment, OpenMoment, RunEnds, Says, TakesLines, TookLines, UnlessFault, lines_from, outputs}
+use Rattle.ras_daemon.specs.Running.{AreAll, EndsAmong, EndsEarly, EndsIn, EndsSo, Ends, IsAtRest, IsStart, LinesMoment, OpenMoment, RunEnds, Says, TakesLines, TookLines, UnlessFault, lines_from, outputs}
 use Rattle.ras_daemon.specs.Script.{reads_of}
 use Rattle.ras_daemon.proofs.MomentLemmas.{store_later}
 
@@ -27,16 +29,16 @@ use Rattle.ras_daemon.proofs.MomentLemmas.{store_later}
 
 -- an answer with its last line
 pub answers_so : (start : Start) (script : List ℕ) (exit : Exit) (old now : Told) → IsAnswer exit → EndsSo start script exit old now → RunEnds start script exit old now
-answers_so start script Done old now answer ends = ends
-answers_so start script Usage old now answer ends = ends
-answers_so start script (BadLine line why) old now answer ends = ends
-answers_so start script (Damaged file place) old now answer ends = ends
-answers_so start script Full old now answer ends = ends
-answers_so start script TooLong old now answer ends = ends
-answers_so start script SourceFault old now answer ends = absurd answer
-answers_so start script DiskFault old now answer ends = absurd answer
-answers_so start script PrintFault old now answer ends = absurd answer
-answers_so start script NoMemory old now answer ends = absurd answer
+answers_so start script exit old now answer ends = by (ending_of exit) answer
+  where
+    by : (ending : CallEnding) → is_answered ending ≡ true → EndsIn start script exit ending old now
+    by answered answer = ends
+    by ending answer = absurd cc
+
+-- only the last line of a whole run tells of the account
+last_same : (exit : Exit) (one other : State) → IsLineExit exit → closing_line one exit ≡ closing_line other exit
+last_same Done one other stop = absurd stop
+last_same exit one other stop = refl
 
 -- What was taken where a run ends by an answer: these lines, and its last line tells of their
 -- account, where it tells of one.
@@ -52,16 +54,11 @@ answered_done start script state old now is takes = record { before = reads_of s
 
 pub answered_stop : (start : Start) (script : List ℕ) (exit : Exit) (state : State) (old now : Told) → IsAnswer exit → IsLineExit exit → TakesLines start script (Err exit) old now
     → Answered start script exit (closing_line state exit) old now
-answered_stop start script Done state old now answer stop takes = absurd stop
-answered_stop start script Usage state old now answer stop takes = absurd stop
-answered_stop start script (BadLine line why) state old now answer stop takes = record { before = takes.0; took = takes.1; all = takes.2; same = refl }
-answered_stop start script (Damaged file place) state old now answer stop takes = record { before = takes.0; took = takes.1; all = takes.2; same = refl }
-answered_stop start script Full state old now answer stop takes = record { before = takes.0; took = takes.1; all = takes.2; same = refl }
-answered_stop start script TooLong state old now answer stop takes = record { before = takes.0; took = takes.1; all = takes.2; same = refl }
-answered_stop start script SourceFault state old now answer stop takes = absurd answer
-answered_stop start script DiskFault state old now answer stop takes = absurd answer
-answered_stop start script PrintFault state old now answer stop takes = absurd answer
-answered_stop start script NoMemory state old now answer stop takes = absurd answer
+answered_stop start script exit state old now answer stop takes = by (ending_of exit) answer takes
+  where
+    by : (ending : CallEnding) → is_answered ending ≡ true → EndsAmong start script exit ending old now → Answered start script exit (closing_line state exit) old now
+    by answered answer takes = record { before = takes.0; took = takes.1; all = takes.2; same = last_same exit state (account_at start takes.0) stop }
+    by ending answer takes = absurd cc
 
 -- ---- what is told at the end
 
@@ -82,45 +79,42 @@ module _ (start : Start) (script : List ℕ) (t u : Told) (account : IsAccount (
 
   -- a run that was cut short among its lines
   cut_after : (exit : Exit) (now : Told) → IsCut exit → TakesLines start script (Err exit) u now → RunEnds start script exit t now
-  cut_after SourceFault now cut takes = early_after now takes.0 takes.1
-  cut_after NoMemory now cut takes = early_after now takes.0 takes.1
-  cut_after DiskFault now cut takes = tt
-  cut_after PrintFault now cut takes = tt
-  cut_after Done now cut takes = absurd cut
-  cut_after Usage now cut takes = absurd cut
-  cut_after (BadLine line why) now cut takes = absurd cut
-  cut_after (Damaged file place) now cut takes = absurd cut
-  cut_after Full now cut takes = absurd cut
-  cut_after TooLong now cut takes = absurd cut
+  cut_after exit now cut takes = by (ending_of exit) cut takes
+    where
+      by : (ending : CallEnding) → is_answered ending ≡ false → EndsAmong start script exit ending u now → EndsIn start script exit ending t now
+      by answered cut takes = absurd cc
+      by (faulted kind) cut takes = tt
+      by source_failed cut takes = early_after now takes.0 takes.1
+      by starved cut takes = early_after now takes.0 takes.1
 
   -- a last line was printed
   so_after : (exit : Exit) (line : List ℕ) (mid : Told) → Answered start script exit line u mid → EndsSo start script exit t (after_print line mid)
-  so_after exit line mid answered =
-      let lines : List ℕ = outputs start answered.before in
+  so_after exit line mid come =
+      let lines : List ℕ = outputs start come.before in
       let orders : List ℕ = standing_lines (account_of start.history) in
       record {
-        before = answered.before;
-        all = answered.all;
+        before = come.before;
+        all = come.all;
         account = account;
-        recovers = record { is = answered.took.recovers.is };
+        recovers = record { is = come.took.recovers.is };
         text =
-            ap (λ out. out ++ line) (answered.took.text ∙ ap (λ out. out ++ lines) began)
+            ap (λ out. out ++ line) (come.took.text ∙ ap (λ out. out ++ lines) began)
             ∙ append_assoc (t.here.out ++ orders) lines line
             ∙ append_assoc t.here.out orders (lines ++ line)
-            ∙ ap (λ last. t.here.out ++ (orders ++ (lines ++ last))) answered.same;
+            ∙ ap (λ last. t.here.out ++ (orders ++ (lines ++ last))) come.same;
       }
 
   -- The last line of a run whose lines were taken so.
   says_after : (exit result : Exit) (line : List ℕ) (mid : Told) (new : Option Told) → IsAnswer exit → Answered start script exit line u mid
       → Says exit result line (Some mid) new → IsSomeAnd new (RunEnds start script result t)
-  says_after exit result line mid new answer answered (inl said) =
-      rw (said.1, said.0) (answers_so start script exit t (after_print line mid) answer (so_after exit line mid answered))
-  says_after exit result line mid new answer answered (inr (inl failed)) = rw failed.0 (told_after new failed.1)
+  says_after exit result line mid new answer come (inl said) =
+      rw (said.1, said.0) (answers_so start script exit t (after_print line mid) answer (so_after exit line mid come))
+  says_after exit result line mid new answer come (inr (inl failed)) = rw failed.0 (told_after new failed.1)
     where
       told_after : (new : Option Told) → Relates (FailsPrint line) (Some mid) new → IsSomeAnd new (λ _. ⊤)
       told_after None fails = absurd fails
       told_after (Some now) fails = tt
-  says_after exit result line mid new answer answered (inr (inr same)) = rw (same.1, same.0) (early_after mid answered.before answered.took)
+  says_after exit result line mid new answer come (inr (inr same)) = rw (same.1, same.0) (early_after mid come.before come.took)
 
   -- how a run ends whose lines were all taken, and one that ends among its lines
   pub done_after : (result : Exit) (state : State) (mid new : Option Told) → state ≡ account_at start (reads_of script) → IsSomeAnd mid (TakesLines start script (Ok tt) u)
@@ -130,8 +124,8 @@ module _ (start : Start) (script : List ℕ) (t u : Told) (account : IsAccount (
       by found.0 found.2 (subst (λ o. Ends Done result (closing_line state Done) o new) found.1 ends)
     where
       by : (m : Told) → TakesLines start script (Ok tt) u m → Ends Done result (closing_line state Done) (Some m) new → IsSomeAnd new (RunEnds start script result t)
-      by m takes (inl said) = says_after Done result (closing_line state Done) m new tt (answered_done start script state u m is takes) said.1
-      by m takes (inr cut) = absurd cut.0
+      by m takes (inl said) = says_after Done result (closing_line state Done) m new refl (answered_done start script state u m is takes) said.1
+      by m takes (inr cut) = absurd (not_both Done cut.0 refl)
 
   pub stop_after : (exit result : Exit) (state : State) (mid new : Option Told) → IsLineExit exit → IsSomeAnd mid (TakesLines start script (Err exit) u)
       → Ends exit result (closing_line state exit) mid new → IsSomeAnd new (RunEnds start script result t)
@@ -185,71 +179,29 @@ lines_moments start script t u b c began store adds =
 -- while the last line is printed
 pub end_moments : (start : Start) (script : List ℕ) (t u mid : Told) (exit : Exit) (line : List ℕ) (c d : Clock) → Prints (standing_lines (account_of start.history)) t u
     → mid.here.store ≡ t.here.store → Answered start script exit line u mid → Adds (InOut (Begins line) mid.here) c d → Adds (OpenStop start script t) c d
-end_moments start script t u mid exit line c d began store answered adds =
+end_moments start script t u mid exit line c d began store come adds =
     adds_weaker (InOut (Begins line) mid.here) (OpenStop start script t) c d adds
     (λ left by. (
       ap (λ (l : Left). l.store) by.rest ∙ store,
       inr (inr (record {
-        before = answered.before;
+        before = come.before;
         exit = exit;
-        all = answered.all;
-        recovers = printing_recovers (account_at start answered.before) line mid.here left answered.took.recovers by;
+        all = come.all;
+        recovers = printing_recovers (account_at start come.before) line mid.here left come.took.recovers by;
         text = at_end left by;
       })),
     ))
   where
-    from : mid.here.out ≡ lines_from start t.here ++ outputs start answered.before
-    from = answered.took.text ∙ ap (λ out. out ++ outputs start answered.before) began
+    from : mid.here.out ≡ lines_from start t.here ++ outputs start come.before
+    from = come.took.text ∙ ap (λ out. out ++ outputs start come.before) began
 
-    at_end : (left : Left) → InOut (Begins line) mid.here left → Begins (closing_line (account_at start answered.before) exit) (lines_from start t.here ++ outputs start answered.before) left.out
+    at_end : (left : Left) → InOut (Begins line) mid.here left → Begins (closing_line (account_at start come.before) exit) (lines_from start t.here ++ outputs start come.before) left.out
     at_end left by =
         let begins : Begins line mid.here.out left.out = printing_text line mid.here left by in
-        subst (λ text. Begins text (lines_from start t.here ++ outputs start answered.before) left.out) answered.same
+        subst (λ text. Begins text (lines_from start t.here ++ outputs start come.before) left.out) come.same
         (subst (λ out. Begins line out left.out) from begins)
 
--- an exit is an answer, or it cuts a run short
-pub answer_or_cut : (exit : Exit) → IsAnswer exit ⊎ IsCut exit
-answer_or_cut Done = inl tt
-answer_or_cut Usage = inl tt
-answer_or_cut (BadLine line why) = inl tt
-answer_or_cut (Damaged file place) = inl tt
-answer_or_cut Full = inl tt
-answer_or_cut TooLong = inl tt
-answer_or_cut SourceFault = inr tt
-answer_or_cut DiskFault = inr tt
-answer_or_cut PrintFault = inr tt
-answer_or_cut NoMemory = inr tt
-
--- what holds of the end of a part holds where it ends by an answer
-pub at_rest_so : (exit : Exit) (P : Type 0) → IsAnswer exit → UnlessFault {T = Unit {0}} (Err exit) P → P
-at_rest_so Done P answer holds = holds
-at_rest_so Usage P answer holds = holds
-at_rest_so (BadLine line why) P answer holds = holds
-at_rest_so (Damaged file place) P answer holds = holds
-at_rest_so Full P answer holds = holds
-at_rest_so TooLong P answer holds = holds
-at_rest_so SourceFault P answer holds = absurd answer
-at_rest_so DiskFault P answer holds = absurd answer
-at_rest_so PrintFault P answer holds = absurd answer
-at_rest_so NoMemory P answer holds = absurd answer
-
 -- ---- the start
-
--- A ledger stands where the orders were printed.
-pub stands_printed : (ledger : Ledger) (piece : List ℕ) (old new : Option Told) (a b : Clock) → LedgerStands ledger old a → Steps (after_print piece) old new
-    → ((t : Told) → Rests t old a → Rests (after_print piece t) new b) → LedgerStands ledger new b
-stands_printed ledger piece None new a b stands steps rests = rw steps tt
-stands_printed ledger piece (Some t) new a b stands steps rests =
-    let rest : Rests (after_print piece t) new b = rests t stands.rests in
-    let before : Before ledger.journal.standing ledger.account.state (after_print piece t) new b =
-    record { rests = rest; at = record { recovers = stands.at.recovers; position = stands.at.position } } in
-    rw steps (subst (λ o. Before ledger.journal.standing ledger.account.state (after_print piece t) o b) steps before)
-
--- what a ledger that stands there says, where the board tells this
-pub stands_at : (ledger : Ledger) (told : Option Told) (clock : Clock) (t : Told) → told ≡ Some t → LedgerStands ledger told clock → Before ledger.journal.standing ledger.account.state t told clock
-stands_at ledger told clock t is stands =
-    let here : IsSomeAnd (Some t) (λ u. Before ledger.journal.standing ledger.account.state u told clock) =
-    subst (λ o. IfSome o (λ u. Before ledger.journal.standing ledger.account.state u told clock)) is stands in here
 
 module _ (start : Start) (script : List ℕ) (t : Told) (ledger : Ledger) (is_start : IsStart start ledger) where
   -- the orders that are printed first
@@ -272,7 +224,7 @@ module _ (start : Start) (script : List ℕ) (t : Told) (ledger : Ledger) (is_st
   -- while they are printed
   pub begun_moments : (told : Option Told) (a b : Clock) → told ≡ Some t → LedgerStands ledger told a → ((u : Told) → Rests u told a → Adds (InOut (Begins orders) u.here) a b) → Adds (OpenStop start script t) a b
   begun_moments told a b is stands stops =
-      let before = stands_at ledger told a t is stands in
+      let before = before_of ledger.journal.standing ledger.account.state told a t stands is in
       let recovers : Recovers (account_of start.history) t.here = record { is = before.at.recovers ∙ ap Ok is_start.account } in
       start_moments start script t a b recovers (subst (λ text. Adds (InOut (Begins text) t.here) a b) same_orders (stops t before.rests))
 
@@ -301,7 +253,7 @@ module _ (start : Start) (script : List ℕ) (t : Told) (ledger : Ledger) (is_st
         (let mid = some_now told (TakesLines start script (Err found) told_begun) takes in
         end_moments start script t told_begun mid.0 found (closing_line state found) c d begun (mid_store told mid.0 b c mid.1 leaves)
         (answered_stop start script found state told_begun mid.0 answer stop mid.2)
-        (subst (λ e. Adds (InOut (Begins (closing_line state e)) mid.0.here) c d) same (stops mid.0 (rests_at told mid.0 c mid.1 (at_rest_so found (IsAtRest told c) answer rests)))))
+        (subst (λ e. Adds (InOut (Begins (closing_line state e)) mid.0.here) c d) same (stops mid.0 (rests_at told mid.0 c mid.1 (at_answer found (IsAtRest told c) answer rests)))))
   ]
 
 -- a last line by what was found of the exit

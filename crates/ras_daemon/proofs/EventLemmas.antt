@@ -37,15 +37,15 @@ use Rattle.ras_texts.specs.Orders.{standing_lines}
 use Rattle.ras_texts.specs.Text.{done_line}
 use Rattle.ras_events.specs.declared.event.Event.{Event}
 use Rattle.ras_events.specs.declared.event.Event.TheVariants.{Nothing, Settled, Counted, Reopened}
-use Rattle.ras_events.specs.declared.reason.Reason.{Reason}
-use Rattle.ras_events.specs.declared.reason.Reason.TheVariants as reason
+use Rattle.ras_exit.specs.declared.reason.Reason.{Reason}
+use Rattle.ras_exit.specs.declared.reason.Reason.TheVariants as reason
 use Rattle.ras_events.specs.declared.settings.Settings.{Settings}
 use Rattle.ras_events.specs.Events.{block_event, counts_report, has_source, hest_event, or_reason, report_event, row_event}
 use Rattle.ras_events.specs.Reports.{NumberedLine, Place, entries_at, event_at, made_in, reports, settings_told}
 use Rattle.ras_events.specs.Sizes.{IsFitEvent}
 use Rattle.ras_events.specs.Texts.{event_text}
 use Rattle.text_laws.specs.QuietLines.{AreQuietLines}
-use Rattle.ras_run.specs.declared.exit.Exit.TheVariants.{BadLine, Full}
+use Rattle.ras_exit.specs.declared.exit.Exit.TheVariants.{BadLine, Full}
 use Rattle.ras_run.specs.LaterKinds.{IsTaken, taken_line}
 use Rattle.ras_run.specs.Output.{event_output, output_at}
 use Rattle.ras_run.specs.Places.{Start, account_at, history_at, lacks_room_for, news_after, standing_at}

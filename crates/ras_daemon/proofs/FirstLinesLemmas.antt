@@ -8,18 +8,19 @@ use Rattle.ras_account.specs.Account.{account_of}
 use Rattle.ras_account.specs.History.{with_entries}
 use Rattle.ras_events.specs.declared.event.Event.{Event}
 use Rattle.ras_events.specs.declared.event.Event.TheVariants.{Nothing, Settled, Counted, Reopened}
-use Rattle.ras_events.specs.declared.reason.Reason.{Reason}
+use Rattle.ras_exit.specs.declared.reason.Reason.{Reason}
 use Rattle.ras_texts.specs.Text.{end_line}
 use Rattle.ras_events.specs.Reports.{NumberedLine, Place, entries_at, event_at}
-use Rattle.ras_run.specs.declared.exit.Exit.{Exit}
-use Rattle.ras_run.specs.declared.exit.Exit.TheVariants.{Done, Full, Usage}
+use Rattle.ras_exit.specs.declared.exit.Exit.{Exit}
+use Rattle.ras_exit.specs.declared.exit.Exit.TheVariants.{Done, Full, Usage}
 use Rattle.ras_run.specs.Places.{Start, account_at, history_at, has_no_room_for, standing_at}
 use Rattle.ras_run.specs.Status.{event_refusal, places_before_refusal, refusal_at}
 use Rattle.ras_run.specs.Taking.{IsAccepted}
 use Rattle.ras_daemon.specs.RunOutput.{closing_line}
 use Rattle.ras_daemon.specs.RunStatus.{first_among, refusal_among, run_exit}
 use Rattle.ras_daemon.specs.Running.{AreAccepted, AreAll, AreFirst}
-use Rattle.ras_daemon.specs.Script.{reads_of, script_exit}
+use Rattle.ras_exit.specs.ScriptEnd.{script_exit}
+use Rattle.ras_daemon.specs.Script.{reads_of}
 
 -- accepted lines stand before the first refused one
 accepted-before : (start : Start) (ps qs : List Place) → AllByRecursion (IsAccepted start) ps

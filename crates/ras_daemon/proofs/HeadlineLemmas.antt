@@ -18,12 +18,12 @@ use Rattle.ras_texts.specs.Orders.{standing_lines}
 use Rattle.ras_events.specs.Reports.{NumberedLine, Place, entries_at}
 use Rattle.text_laws.specs.DoneLines.{done_count}
 use Rattle.text_laws.specs.QuietLines.{AreQuietLines}
-use Rattle.ras_run.specs.declared.exit.Exit.{Exit}
-use Rattle.ras_run.specs.declared.exit.Exit.TheVariants.{Done, Usage}
+use Rattle.ras_exit.specs.declared.exit.Exit.{Exit}
+use Rattle.ras_exit.specs.declared.exit.Exit.TheVariants.{Done, Usage}
 use Rattle.ras_run.specs.Output.{output_at}
 use Rattle.ras_run.specs.Places.{Start, account_at}
 use Rattle.ras_run.specs.Status.{places_before_refusal}
-use Rattle.ras_daemon.specs.Ended.{PrintsPart}
+use Rattle.ras_exit.specs.Telling.{PrintsPart}
 use Rattle.ras_daemon.specs.Headline.{Headline, StopsRecover, account_with}
 use Rattle.ras_daemon.specs.RunOutput.{closing_line, lines_output, output_upto, run_output}
 use Rattle.ras_daemon.specs.RunStatus.{run_exit}

@@ -17,7 +17,8 @@ use Rattle.ras_events.proofs.ReportLemmas.{reports-cut, settings-line}
 use Rattle.ras_run.specs.LaterKinds.{taken_line}
 use Rattle.ras_run.specs.Places.{Start}
 use Rattle.ras_daemon.specs.Headline.{account_with, reported}
-use Rattle.ras_daemon.specs.Runs.{AreJoined, Follows, IsTakenWhole, event_count, no_settings}
+use Rattle.ras_daemon.specs.Runs.{AreJoined, Follows, IsTakenWhole, event_count}
+use Rattle.ras_events.specs.Events.{no_settings}
 use Rattle.ras_daemon.specs.Script.{reads_in, reads_of}
 use Rattle.ras_daemon.proofs.HistoryLemmas.{with_entries-append}
 use Rattle.ras_daemon.proofs.RunLawLemmas.{by-events, reported-all, reports-none, taken-events}

@@ -22,13 +22,14 @@ use Rattle.ras_run.specs.LineCalls.{AreCallsAt}
 use Rattle.ras_run.specs.TakingCalls.{ArePart, BeginsLine}
 use Rattle.ras_daemon.specs.RunCalls.{AreCallsAlong}
 use Rattle.ras_daemon.proofs.AlongLemmas.{along-snoc, along_begun}
-use Rattle.ras_run.specs.declared.exit.Exit.{Exit}
-use Rattle.ras_run.specs.declared.exit.Exit.TheVariants.{SourceFault}
+use Rattle.ras_exit.specs.declared.exit.Exit.{Exit}
+use Rattle.ras_exit.specs.declared.exit.Exit.TheVariants.{SourceFault}
 use Rattle.ras_run.specs.declared.run.Run.{Run}
 use Rattle.ras_run.specs.LaterKinds.{taken_line}
 use Rattle.ras_run.specs.Places.{Start}
 use Rattle.ras_run.specs.Status.{places_before_refusal}
-use Rattle.ras_run.specs.Taking.{IsAccepted, IsStop, LineMoment}
+use Rattle.ras_exit.specs.Endings.{IsStop}
+use Rattle.ras_run.specs.Taking.{IsAccepted, LineMoment}
 use Rattle.ras_daemon.specs.Running.{AreFirst, EndsAhead, MakesAlong, ReadAhead, first_size, outputs}
 use Rattle.ras_daemon.specs.Script.{reads_in, reads_of}
 use Rattle.ras_daemon.proofs.PlaceLemmas.{first_more, reads-append, reads_behind}

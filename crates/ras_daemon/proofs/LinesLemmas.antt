@@ -21,17 +21,19 @@ use Rattle.ras_run.specs.LineCalls.{AreCallsAt}
 use Rattle.ras_run.specs.TakingCalls.{MakesLine}
 use Rattle.ras_daemon.specs.RunCalls.{AreCallsAlong}
 use Rattle.ras_daemon.proofs.AlongLemmas.{along-snoc}
-use Rattle.ras_run.specs.declared.exit.Exit.{Exit}
-use Rattle.ras_run.specs.declared.exit.Exit.TheVariants.{Done, Usage, BadLine, SourceFault, DiskFault, PrintFault, Damaged, Full, NoMemory, TooLong}
+use Rattle.ras_exit.specs.declared.exit.Exit.{Exit}
+use Rattle.ras_exit.specs.declared.exit.Exit.TheVariants.{Done}
+use Rattle.ras_exit.specs.Endings.{AnyFault, CallEnding, EndsBy, UnlessFaulted, answered, ending_of, faulted, source_failed, starved}
 use Rattle.ras_run.specs.declared.run.Run.{Run}
-use Rattle.ras_run.specs.Device.{LeavesDevice}
+use Rattle.ras_exit.specs.Device.{LeavesDevice}
 use Rattle.ras_run.specs.LaterKinds.{taken_line}
 use Rattle.ras_run.specs.Output.{output_at}
 use Rattle.ras_run.specs.Places.{Start, account_at}
 use Rattle.ras_run.specs.Status.{refusal_at}
-use Rattle.ras_run.specs.Taking.{IsRunAfter, IsStop, LedgerStands, LineMoment, OnRefusal, Prints, TakesLine}
-use Rattle.ras_daemon.specs.Running.{AreAccepted, AreAll, AreFirst, LinesMoment, TakesLines, TookLines, outputs}
-use Rattle.ras_daemon.specs.Script.{ending_exit, reads_in, reads_of}
+use Rattle.ras_run.specs.Taking.{IsRunAfter, LedgerStands, LineMoment, OnRefusal, Prints, TakesLine}
+use Rattle.ras_daemon.specs.Running.{AreAccepted, AreAll, AreFirst, EndsAmong, LinesMoment, TakesLines, TookLines, outputs}
+use Rattle.ras_exit.specs.ScriptEnd.{ending_exit}
+use Rattle.ras_daemon.specs.Script.{reads_in, reads_of}
 use Rattle.ras_daemon.proofs.MomentLemmas.{adds_store, store_later}
 use Rattle.ras_daemon.proofs.PlaceLemmas.{accepted-snoc, all_read, first_more, line_refused, outputs-snoc, reads-append, reads_behind}
 
@@ -351,19 +353,18 @@ module _ (start : Start) (script : List ℕ) (t : Told) (before : List NumberedL
       (took_given relates stands)
       (λ now took. (before, took, line_refused start script before given.rest read exit given.splits given.accepted refused))
 
-  pub stopped : (exit : Exit) (more : Run) → IsStop exit → IsSomeAnd later (λ _. ⊤) → OnRefusal {T = Unit {0}} (Err exit) (LedgerStands ledger later clock)
+  pub stopped : (exit : Exit) (more : Run) → IsSomeAnd later (λ _. ⊤) → OnRefusal {T = Unit {0}} (Err exit) (LedgerStands ledger later clock)
       → TakesLine start (before, read) (Err exit) more told later → IsSomeAnd later (TakesLines start script (Err exit) t)
-  stopped Done more stop tells stands takes = absurd stop
-  stopped Usage more stop tells stands takes = absurd stop
-  stopped SourceFault more stop tells stands takes = absurd stop
-  stopped DiskFault more stop tells stands takes = tells
-  stopped PrintFault more stop tells stands takes = tells
-  stopped NoMemory more stop tells stands takes = some_more later (TookLines start script before t)
-      (λ now. (before : List NumberedLine) × TookLines start script before t now) (took_given takes stands) (λ now took. (before, took))
-  stopped (BadLine line why) more stop tells stands takes = refused_given (BadLine line why) takes.0 takes.1 stands
-  stopped (Damaged file place) more stop tells stands takes = refused_given (Damaged file place) takes.0 takes.1 stands
-  stopped Full more stop tells stands takes = refused_given Full takes.0 takes.1 stands
-  stopped TooLong more stop tells stands takes = refused_given TooLong takes.0 takes.1 stands
+  stopped exit more tells stands takes = by (ending_of exit) stands takes
+    where
+      by : (ending : CallEnding) → UnlessFaulted ending (LedgerStands ledger later clock)
+          → EndsBy ((refusal_at start (before, read) ≡ Some exit) × Relates (Prints []) told later) (Relates (Prints []) told later) AnyFault ending
+          → IsSomeAnd later (EndsAmong start script exit ending t)
+      by answered stands takes = refused_given exit takes.0 takes.1 stands
+      by (faulted kind) stands takes = tells
+      by source_failed stands takes = absurd takes
+      by starved stands takes = some_more later (TookLines start script before t)
+          (λ now. (before : List NumberedLine) × TookLines start script before t now) (took_given takes stands) (λ now took. (before, took))
 
 -- what a board told still tells
 pub still_tells : (told later : Option Told) (a b : Clock) (t : Told) → told ≡ Some t → LeavesDevice told later a b → IsSomeAnd later (λ _. ⊤)

@@ -1,10 +1,9 @@
 -- What stops leave over several calls, and what stays of the device.
-use Rattle.std.proofs.Common.{◌≡◌, Option, None, Some, IsSomeAnd, refl, subst, ◌∙◌, inl, inr}
+use Rattle.std.proofs.Common.{◌≡◌, Option, None, Some, IsSomeAnd, refl, subst, inl, inr}
 use Rattle.board_core.specs.Clock.{Clock, Adds}
-use Rattle.board_core.specs.ClockLemmas.{adds_both, adds_none, adds_weaker}
 use Rattle.board_core.specs.Stop.{Left}
 use Rattle.board_core.specs.Told.{Told}
-use Rattle.ras_run.specs.Device.{KeepsDevice, LeavesDevice}
+use Rattle.ras_exit.specs.Device.{KeepsDevice, LeavesDevice}
 
 -- two properties that are added, together
 pub adds_and : (P Q : Left → Type 0) (old new : Clock) → Adds P old new → Adds Q old new → Adds (λ left. P left × Q left) old new
@@ -17,27 +16,6 @@ adds_and P Q old new first second = record {
 }
 
 -- ---- the device
-
-same_device : (t : Told) → KeepsDevice t t
-same_device t = record { store = refl; volatile = refl; accesses = refl }
-
-pub device_stays : (told : Option Told) (clock : Clock) → LeavesDevice told told clock clock
-device_stays None clock = tt
-device_stays (Some t) clock = (same_device t, adds_none (λ left. left.store ≡ t.here.store) clock)
-
-pub device_goes_on : (first mid last : Option Told) (a b c : Clock) → LeavesDevice first mid a b → LeavesDevice mid last b c → LeavesDevice first last a c
-device_goes_on None mid last a b c one two = tt
-device_goes_on (Some t) None last a b c one two = absurd one.0
-device_goes_on (Some t) (Some m) None a b c one two = absurd two.0
-device_goes_on (Some t) (Some m) (Some n) a b c one two = (
-  record {
-    store = two.0.store ∙ one.0.store;
-    volatile = two.0.volatile ∙ one.0.volatile;
-    accesses = two.0.accesses ∙ one.0.accesses;
-  },
-  adds_both (λ left. left.store ≡ t.here.store) a b c one.1
-      (adds_weaker (λ left. left.store ≡ m.here.store) (λ left. left.store ≡ t.here.store) b c two.1 (λ left is. is ∙ one.0.store)),
-)
 
 -- what a board told still tells
 pub tells_on : (t : Told) (told : Option Told) (a b : Clock) → LeavesDevice (Some t) told a b → (now : Told) × (told ≡ Some now)

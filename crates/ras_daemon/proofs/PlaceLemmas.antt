@@ -7,7 +7,7 @@ use Rattle.ras_base.specs.Places.{places, places_behind}
 use Rattle.ras_base.specs.PlacesLemmas.{places-snoc, places_behind-append}
 use Rattle.ras_events.specs.Reports.{NumberedLine, Place}
 use Rattle.ras_script.specs.Lines.{Ending, Lines, script_lines}
-use Rattle.ras_run.specs.declared.exit.Exit.{Exit}
+use Rattle.ras_exit.specs.declared.exit.Exit.{Exit}
 use Rattle.ras_run.specs.LaterKinds.{taken_line}
 use Rattle.ras_run.specs.Output.{output_at}
 use Rattle.ras_run.specs.Places.{Start}
@@ -15,7 +15,8 @@ use Rattle.ras_run.specs.Status.{places_before_refusal, refusal_at}
 use Rattle.ras_run.specs.Taking.{IsAccepted}
 use Rattle.ras_daemon.specs.RunStatus.{refusal_among}
 use Rattle.ras_daemon.specs.Running.{AreAccepted, AreAll, AreFirst, outputs}
-use Rattle.ras_daemon.specs.Script.{ending_exit, reads_in, reads_of, script_exit}
+use Rattle.ras_exit.specs.ScriptEnd.{ending_exit, script_exit}
+use Rattle.ras_daemon.specs.Script.{reads_in, reads_of}
 
 -- ---- numbered lines
 

@@ -28,7 +28,7 @@ use Rattle.ras_script.specs.declared.line.Line.TheVariants as asks
 use Rattle.ras_texts.specs.Orders.{standing_lines}
 use Rattle.ras_events.specs.declared.event.Event.{Event}
 use Rattle.ras_events.specs.declared.event.Event.TheVariants.{Nothing}
-use Rattle.ras_events.specs.declared.reason.Reason.{Reason}
+use Rattle.ras_exit.specs.declared.reason.Reason.{Reason}
 use Rattle.ras_events.specs.Reports.{NumberedLine, Place, entries_at, event_at, made_in, reports}
 use Rattle.ras_events.specs.Sizes.{IsFact}
 use Rattle.ras_events.specs.Texts.{orders_of_entries}

@@ -1,7 +1,8 @@
 -- A run from its start: the journal is opened, or it is refused.
-use Rattle.std.proofs.Common.{◌≡◌, ℕ, List, [], ◌++◌, Option, None, Some, IfSome, IsSomeAnd, Result, Ok, Err, refl, ap, sym, ◌∙◌, subst, append-nil, inl, inr, unwrap_or}
-use Rattle.std.specs.Prelude.{◌⊎◌}
+use Rattle.std.proofs.Common.{◌≡◌, ℕ, false, List, [], ◌++◌, Option, None, Some, IfSome, IsSomeAnd, Result, Ok, Err, refl, ap, sym, ◌∙◌, subst, append-nil, inl, inr, unwrap_or}
+use Rattle.std.specs.Prelude.{◌⊎◌, ⊤}
 use Rattle.std.specs.Result.{result_unwrap_or}
+use Rattle.board_core.specs.Cause.{disk_call}
 use Rattle.board_core.specs.Clock.{Clock, Adds}
 use Rattle.board_core.specs.ClockLemmas.{adds_weaker}
 use Rattle.board_core.specs.Stop.{Left, Begins}
@@ -12,19 +13,22 @@ use Rattle.ras_account.specs.History.{History, empty}
 use Rattle.ras_journal.specs.Recovered.{JournalFile, Recovers, Refusal, damaged, journal_of, position_of, recovered, too_long}
 use Rattle.ras_ledger.specs.declared.ledger.Ledger.{Ledger}
 use Rattle.ras_recover.specs.Opening.{Opening, standing_opened}
-use Rattle.ras_recover.specs.Recovering.{IsDamagedAt, file_number}
+use Rattle.ras_recover.specs.Recovering.{file_number}
 use Rattle.ras_texts.specs.Orders.{standing_lines}
-use Rattle.ras_run.specs.declared.exit.Exit.{Exit}
-use Rattle.ras_run.specs.declared.exit.Exit.TheVariants.{Done, Usage, BadLine, SourceFault, DiskFault, PrintFault, Damaged, Full, NoMemory, TooLong}
-use Rattle.ras_run.specs.Device.{LeavesDevice}
+use Rattle.ras_exit.specs.declared.exit.Exit.{Exit}
+use Rattle.ras_exit.specs.declared.exit.Exit.TheVariants.{Damaged, NoMemory, TooLong}
+use Rattle.ras_exit.specs.Endings.{CallEnding, EndsBy, IsCut, OnlyFault, answered, ending_of, faulted, is_answered, source_failed, starved}
+use Rattle.ras_exit.proofs.EndingLemmas.{ends_weaker, memory_ran_out, not_both, on_answer, on_cut}
+use Rattle.ras_exit.specs.Device.{LeavesDevice}
 use Rattle.ras_run.specs.Places.{Start, account_at}
-use Rattle.ras_run.specs.StopLine.{stop_line}
-use Rattle.ras_run.specs.Taking.{KeepsFiles, KeepsRefused, Opens, Prints}
+use Rattle.ras_exit.specs.StopLine.{stop_line}
+use Rattle.ras_run.specs.Files.{KeepsFiles, KeepsRefused, files_refusal, refusal_exit}
+use Rattle.ras_run.specs.Taking.{Opens, Prints}
 use Rattle.ras_daemon.specs.Ended.{OverFiles, Refuses, RefusesFiles}
 use Rattle.ras_daemon.specs.Headline.{OverRun}
 use Rattle.ras_daemon.specs.RunOutput.{closing_line}
-use Rattle.ras_daemon.specs.RunStatus.{OnAnswer, files_refusal, refusal_exit, start_of}
-use Rattle.ras_daemon.specs.Running.{EndsEarly, EndsSo, Ends, IsAnswer, IsCut, IsStart, LinesMoment, OpenMoment, RunEnds, RunMoment, outputs}
+use Rattle.ras_daemon.specs.RunStatus.{start_of}
+use Rattle.ras_daemon.specs.Running.{EndsEarly, EndsIn, EndsSo, Ends, IsStart, LinesMoment, OpenMoment, RunEnds, RunMoment, outputs}
 use Rattle.ras_daemon.specs.declared.word.Task.TheVariants.{Run}
 use Rattle.ras_daemon.proofs.EndLemmas.{OpenStop, early_none}
 
@@ -81,7 +85,7 @@ told_both P told new t u one two relates = subst (λ n. Relates P (Some t) n) tw
 -- ---- a run that is told of from an earlier moment with the same text
 
 runs_from : (start : Start) (script : List ℕ) (exit : Exit) (t u now : Told) → u.here.out ≡ t.here.out → RunEnds start script exit u now → RunEnds start script exit t now
-runs_from start script exit t u now same ends = by exit ends
+runs_from start script exit t u now same ends = by (ending_of exit) ends
   where
     early : EndsEarly start script u now → EndsEarly start script t now
     early ends = record {
@@ -103,17 +107,11 @@ runs_from start script exit t u now same ends = by exit ends
       text = ends.text ∙ ap (λ out. out ++ (standing_lines (account_of start.history) ++ (outputs start ends.before ++ closing_line (account_at start ends.before) exit))) same;
     }
 
-    by : (exit : Exit) → RunEnds start script exit u now → RunEnds start script exit t now
-    by DiskFault ends = tt
-    by PrintFault ends = tt
-    by NoMemory ends = early ends
-    by SourceFault ends = early ends
-    by Done ends = so Done ends
-    by Usage ends = so Usage ends
-    by (BadLine line why) ends = so (BadLine line why) ends
-    by (Damaged file place) ends = so (Damaged file place) ends
-    by Full ends = so Full ends
-    by TooLong ends = so TooLong ends
+    by : (ending : CallEnding) → EndsIn start script exit ending u now → EndsIn start script exit ending t now
+    by answered ends = so exit ends
+    by (faulted kind) ends = tt
+    by source_failed ends = early ends
+    by starved ends = early ends
 
 pub opened_runs : (start : Start) (script : List ℕ) (exit : Exit) (t u : Told) (new : Option Told) → Prints [] t u → IsSomeAnd new (RunEnds start script exit u) → IsSomeAnd new (RunEnds start script exit t)
 opened_runs start script exit t u None same ends = absurd ends
@@ -151,99 +149,55 @@ opened_moments clock start script t u b c account same store adds = adds_weaker 
 
 -- ---- a journal that isn't opened
 
--- where the files hold an account, only a fault of the disk or want of memory keeps it from being
+-- if the files hold an account, only a fault of the disk or lack of memory keeps it from being
 -- opened
 abbrev pub IsCutOpening : Exit → Type 0
-IsCutOpening exit = (exit ≡ DiskFault) ⊎ (exit ≡ NoMemory)
+IsCutOpening exit = EndsBy ⊥ ⊤ (OnlyFault disk_call) (ending_of exit)
 
 pub cut_opening : (exit : Exit) (account : State) (held : Result State Refusal) → held ≡ Ok account → Opens (Err exit) held → IsCutOpening exit
-cut_opening exit account held is opens = by exit (subst (λ h. Opens (Err exit) h) is opens)
-  where
-    by : (exit : Exit) → Opens (Err exit) (Ok account) → IsCutOpening exit
-    by DiskFault opens = inl refl
-    by NoMemory opens = inr refl
-    by (Damaged file place) opens = absurd (no opens.is)
-      where
-        no : {why : Refusal} → ◌≡◌ {A = Result State Refusal} (Ok account) (Err why) → ⊥
-        no is = cc
-    by TooLong opens = absurd (no opens)
-      where
-        no : {why : Refusal} → ◌≡◌ {A = Result State Refusal} (Ok account) (Err why) → ⊥
-        no is = cc
-    by Done opens = absurd opens
-    by Usage opens = absurd opens
-    by (BadLine line why) opens = absurd opens
-    by SourceFault opens = absurd opens
-    by PrintFault opens = absurd opens
-    by Full opens = absurd opens
+cut_opening exit account held is opens =
+    ends_weaker (refusal_exit held ≡ Some exit) ⊥ ⊤ ⊤ (OnlyFault disk_call) (OnlyFault disk_call) exit
+    (λ found. let not : refusal_exit held ≡ None = ap (λ (h : Result State Refusal). refusal_exit h) is in cc) (λ memory over. over) (λ kind is. is) opens
 
 pub cut_is : (exit : Exit) → IsCutOpening exit → IsCut exit
-cut_is exit (inl is) = rw is tt
-cut_is exit (inr is) = rw is tt
+cut_is exit cut = by (ending_of exit) cut
+  where
+    by : (ending : CallEnding) → EndsBy ⊥ ⊤ (OnlyFault disk_call) ending → is_answered ending ≡ false
+    by answered cut = absurd cut
+    by ending cut = refl
 
 -- A run whose opening was cut short so.
 pub cut_runs : (history : History) (script : List ℕ) (exit : Exit) (t : Told) (mid : Option Told) → IsCutOpening exit → Recovers (account_of history) t.here
     → (u : Told) × (mid ≡ Some u) × Prints [] t u → (exit ≡ NoMemory → Relates KeepsFiles (Some t) mid) → IsSomeAnd mid (RunEnds (start_of history t.here) script exit t)
-cut_runs history script exit t mid (inl is) recovers told kept = rw (told.1, is) tt
-cut_runs history script exit t mid (inr is) recovers told kept =
-    let keeps : KeepsFiles t told.0 = subst (λ o. Relates KeepsFiles (Some t) o) told.1 (kept is) in
-    let held : Recovers (account_of history) told.0.here = record { is = rw (keeps.file0, keeps.file1) recovers.is } in
-    rw (told.1, is) (early_none (start_of history t.here) script t told.0 held told.2)
+cut_runs history script exit t mid cut recovers told kept = subst (λ o. IsSomeAnd o (RunEnds (start_of history t.here) script exit t)) (sym told.1) (by (ending_of exit) refl cut)
+  where
+    by : (ending : CallEnding) → ending_of exit ≡ ending → EndsBy ⊥ ⊤ (OnlyFault disk_call) ending → EndsIn (start_of history t.here) script exit ending t told.0
+    by answered is cut = absurd cut
+    by source_failed is cut = absurd cut
+    by (faulted kind) is cut = tt
+    by starved is cut =
+        let keeps : KeepsFiles t told.0 = subst (λ o. Relates KeepsFiles (Some t) o) told.1 (kept (memory_ran_out exit is)) in
+        let held : Recovers (account_of history) told.0.here = record { is = rw (keeps.file0, keeps.file1) recovers.is } in
+        early_none (start_of history t.here) script t told.0 held told.2
 
 -- ---- how a last line ends a run
-
--- no exit is both
-both : (exit : Exit) → IsCut exit → IsAnswer exit → ⊥
-both Done cut answer = cut
-both Usage cut answer = cut
-both (BadLine line why) cut answer = cut
-both (Damaged file place) cut answer = cut
-both Full cut answer = cut
-both TooLong cut answer = cut
-both SourceFault cut answer = answer
-both DiskFault cut answer = answer
-both PrintFault cut answer = answer
-both NoMemory cut answer = answer
 
 -- where a run is cut short its exit is that
 pub ends_cut : (exit result : Exit) (line : List ℕ) (old new : Option Told) → IsCut exit → Ends exit result line old new → result ≡ exit
 ends_cut exit result line old new cut (inr is) = is.1
-ends_cut exit result line old new cut (inl said) = absurd (both exit cut said.0)
+ends_cut exit result line old new cut (inl said) = absurd (not_both exit cut said.0)
 
 -- ---- files that are refused
-
-on_answer : (exit : Exit) (P : Type 0) → P → OnAnswer exit P
-on_answer Done P holds = holds
-on_answer Usage P holds = holds
-on_answer (BadLine line why) P holds = holds
-on_answer (Damaged file place) P holds = holds
-on_answer Full P holds = holds
-on_answer TooLong P holds = holds
-on_answer SourceFault P holds = tt
-on_answer DiskFault P holds = tt
-on_answer PrintFault P holds = tt
-on_answer NoMemory P holds = tt
-
-on_cut : (exit : Exit) (P : Type 0) → IsCut exit → OnAnswer exit P
-on_cut SourceFault P cut = tt
-on_cut DiskFault P cut = tt
-on_cut PrintFault P cut = tt
-on_cut NoMemory P cut = tt
-on_cut Done P cut = absurd cut
-on_cut Usage P cut = absurd cut
-on_cut (BadLine line why) P cut = absurd cut
-on_cut (Damaged file place) P cut = absurd cut
-on_cut Full P cut = absurd cut
-on_cut TooLong P cut = absurd cut
 
 -- nothing was printed, and the run was cut short
 pub refuses_cut : (why result : Exit) (before now : Told) → IsCut result → Prints [] before now → KeepsFiles before now → Refuses why result before now
 refuses_cut why result before now cut text keeps = record {
-  answers = on_cut result (result ≡ why) cut;
-  prints = ([], (stop_line why, refl), text);
-  whole = on_cut result (now.here.out ≡ before.here.out ++ stop_line why) cut;
-  file0 = keeps.file0;
-  file1 = keeps.file1;
+  tells = record {
+    answers = on_cut result (result ≡ why) cut;
+    begun = ([], (stop_line why, refl), text);
+    whole = on_cut result (now.here.out ≡ before.here.out ++ stop_line why) cut;
+  };
+  files = keeps;
 }
 
 pub files_cut : (why : Option Exit) (result : Exit) (before now : Told) → IsCut result → Prints [] before now → KeepsFiles before now → RefusesFiles why result before now
@@ -265,33 +219,13 @@ refusal_line (Err (damaged file place)) why state is = subst (λ e. closing_line
 
 -- An opening is refused for that, or it was cut short.
 refused_as : (held : Result State Refusal) (why exit : Exit) → refusal_exit held ≡ Some why → Opens (Err exit) held → (exit ≡ why) ⊎ IsCut exit
-refused_as (Ok account) why exit is opens = absurd cc
-refused_as (Err w) why exit is opens = by exit opens
+refused_as held why exit is opens = by (ending_of exit) refl opens
   where
-    too : (w : Refusal) → refusal_exit {A = State} (Err w) ≡ Some why → ◌≡◌ {A = Result State Refusal} (Err w) (Err too_long) → TooLong ≡ why
-    too too_long is opens = some_same TooLong why is
-    too (damaged file place) is opens = absurd cc
-
-    hurt : (w : Refusal) (number place : ℕ) → refusal_exit {A = State} (Err w) ≡ Some why → IsDamagedAt {A = State} number place (Err w) → Damaged number place ≡ why
-    hurt too_long number place is at = let e = at.is in absurd cc
-    hurt (damaged file from) number place is at =
-        let e = at.is in
-        let one : at.file ≡ file = cc in
-        let two : place ≡ from = cc in
-        let three : number ≡ file_number file = at.number_is ∙ ap file_number one in
-        rw (three, two) (some_same (Damaged (file_number file) from) why is)
-
-    by : (exit : Exit) → Opens (Err exit) (Err w) → (exit ≡ why) ⊎ IsCut exit
-    by DiskFault opens = inr tt
-    by NoMemory opens = inr tt
-    by (Damaged number place) opens = inl (hurt w number place is opens)
-    by TooLong opens = inl (too w is opens)
-    by Done opens = absurd opens
-    by Usage opens = absurd opens
-    by (BadLine line reason) opens = absurd opens
-    by SourceFault opens = absurd opens
-    by PrintFault opens = absurd opens
-    by Full opens = absurd opens
+    by : (ending : CallEnding) → ending_of exit ≡ ending → EndsBy (refusal_exit held ≡ Some exit) ⊤ (OnlyFault disk_call) ending → (exit ≡ why) ⊎ IsCut exit
+    by answered so found = inl (some_same exit why (sym found ∙ is))
+    by source_failed so found = absurd found
+    by (faulted kind) so found = inr (ap is_answered so)
+    by starved so found = inr (ap is_answered so)
 
 module _ (why exit result : Exit) (line : List ℕ) (before mid : Told) (text : Prints [] before mid) (keeps : KeepsFiles before mid) where
   refuses_short : IsCut result → Refuses why result before mid
@@ -301,31 +235,33 @@ module _ (why exit result : Exit) (line : List ℕ) (before mid : Told) (text : 
   refuses_printed same is =
       let all : mid.here.out ++ line ≡ before.here.out ++ stop_line why = ap (λ out. out ++ line) (text ∙ append-nil before.here.out) ∙ ap (λ last. before.here.out ++ last) same in
       record {
-        answers = on_answer result (result ≡ why) is;
-        prints = (stop_line why, ([], append-nil (stop_line why)), all);
-        whole = on_answer result (mid.here.out ++ line ≡ before.here.out ++ stop_line why) all;
-        file0 = keeps.file0;
-        file1 = keeps.file1;
+        tells = record {
+          answers = on_answer result (result ≡ why) is;
+          begun = (stop_line why, ([], append-nil (stop_line why)), all);
+          whole = on_answer result (mid.here.out ++ line ≡ before.here.out ++ stop_line why) all;
+        };
+        files = record { file0 = keeps.file0; file1 = keeps.file1 };
       }
 
   refuses_failed : (new : Option Told) → line ≡ stop_line why → IsCut result → Relates (FailsPrint line) (Some mid) new → IsSomeAnd new (Refuses why result before)
   refuses_failed None same cut fails = absurd fails
   refuses_failed (Some now) same cut (part, rest, splits, is) = rw is (record {
-    answers = on_cut result (result ≡ why) cut;
-    prints = (part, (rest, splits ∙ same), ap (λ out. out ++ part) (text ∙ append-nil before.here.out));
-    whole = on_cut result (mid.here.out ++ part ≡ before.here.out ++ stop_line why) cut;
-    file0 = keeps.file0;
-    file1 = keeps.file1;
+    tells = record {
+      answers = on_cut result (result ≡ why) cut;
+      begun = (part, (rest, splits ∙ same), ap (λ out. out ++ part) (text ∙ append-nil before.here.out));
+      whole = on_cut result (mid.here.out ++ part ≡ before.here.out ++ stop_line why) cut;
+    };
+    files = record { file0 = keeps.file0; file1 = keeps.file1 };
   })
 
   -- the last line of a run whose files are refused
   refuses_end : (new : Option Told) → (exit ≡ why) ⊎ IsCut exit → (exit ≡ why → line ≡ stop_line why) → Ends exit result line (Some mid) new → IsSomeAnd new (Refuses why result before)
   refuses_end new found same (inr cut) = rw cut.2 (refuses_short (rw cut.1 cut.0))
   refuses_end new (inl is) same (inl (answer, inl said)) = rw said.1 (refuses_printed (same is) (said.0 ∙ is))
-  refuses_end new (inl is) same (inl (answer, inr (inl failed))) = refuses_failed new (same is) (rw failed.0 tt) failed.1
-  refuses_end new (inl is) same (inl (answer, inr (inr short))) = rw short.1 (refuses_short (rw short.0 tt))
+  refuses_end new (inl is) same (inl (answer, inr (inl failed))) = refuses_failed new (same is) (rw failed.0 refl) failed.1
+  refuses_end new (inl is) same (inl (answer, inr (inr short))) = rw short.1 (refuses_short (rw short.0 refl))
   refuses_end new (inr cut) same (inl said) =
-      absurd (both exit cut said.0)
+      absurd (not_both exit cut said.0)
 
 pub files_opened : (held : Result State Refusal) (account : State) (result : Exit) (before now : Told) → held ≡ Ok account → RefusesFiles (refusal_exit held) result before now
 files_opened held account result before now is = rw is tt

@@ -16,20 +16,21 @@ use Rattle.ras_texts.specs.Orders.{order_lines, standing_lines}
 use Rattle.ras_texts.specs.Text.{done_line}
 use Rattle.ras_events.specs.declared.event.Event.{Event}
 use Rattle.ras_events.specs.declared.event.Event.TheVariants.{Nothing, Settled, Counted, Reopened}
-use Rattle.ras_events.specs.declared.reason.Reason.{Reason}
+use Rattle.ras_exit.specs.declared.reason.Reason.{Reason}
 use Rattle.ras_events.specs.Making.{Pieces, pieces_in}
 use Rattle.ras_events.specs.Preparing.{orders_along_entries, text_along}
 use Rattle.ras_events.specs.Reports.{NumberedLine, Place, entries_at, event_at, reports}
 use Rattle.ras_events.specs.Texts.{event_text}
 use Rattle.ras_events.proofs.HistoryLemmas.{event_by_history}
-use Rattle.ras_run.specs.declared.exit.Exit.{Exit}
-use Rattle.ras_run.specs.declared.exit.Exit.TheVariants.{Full}
+use Rattle.ras_exit.specs.declared.exit.Exit.{Exit}
+use Rattle.ras_exit.specs.declared.exit.Exit.TheVariants.{Full}
 use Rattle.ras_run.specs.Output.{event_output, output_at}
 use Rattle.ras_run.specs.Places.{Start, account_at, history_at, has_no_room_for, lacks_room_for, news_after, standing_along, standing_at, standing_with_news}
 use Rattle.ras_run.specs.Status.{event_refusal, places_before_refusal, refusal_at}
 use Rattle.ras_daemon.specs.RunOutput.{closing_line, run_output}
 use Rattle.ras_daemon.specs.RunStatus.{first_among, run_exit}
-use Rattle.ras_daemon.specs.Script.{reads_of, script_exit}
+use Rattle.ras_exit.specs.ScriptEnd.{script_exit}
+use Rattle.ras_daemon.specs.Script.{reads_of}
 
 -- ---- room and standing by an account
 

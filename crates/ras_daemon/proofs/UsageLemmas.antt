@@ -3,9 +3,9 @@
 use Rattle.std.proofs.Common.{◌≡◌, ℕ, List, [], Option, Some, None, refl, sym, ap, append-nil, inl, inr}
 use Rattle.std.specs.Prelude.{IfNone}
 use Rattle.board_core.specs.Told.{FailsPrint, Relates, Steps, Told, after_print}
-use Rattle.ras_run.specs.declared.exit.Exit.{Exit}
-use Rattle.ras_run.specs.declared.exit.Exit.TheVariants.{NoMemory, PrintFault, Usage}
-use Rattle.ras_daemon.specs.Ended.{OnlyPrints}
+use Rattle.ras_exit.specs.declared.exit.Exit.{Exit}
+use Rattle.ras_exit.specs.declared.exit.Exit.TheVariants.{NoMemory, PrintFault, Usage}
+use Rattle.ras_exit.specs.Telling.{OnlyPrints}
 use Rattle.ras_daemon.specs.Running.{Says}
 use Rattle.ras_daemon.specs.declared.word.Task.{Task}
 

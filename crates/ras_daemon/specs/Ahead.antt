@@ -5,8 +5,8 @@ use Rattle.board_core.specs.Told.{Told}
 use Rattle.ras_script.specs.declared.reader.TheConstants.{LONGEST_LINE}
 use Rattle.ras_script.specs.Splitting.{lines_of}
 use Rattle.text_laws.specs.DoneLines.{done_count, ended_lines}
-use Rattle.ras_run.specs.declared.exit.Exit.{Exit}
-use Rattle.ras_run.specs.declared.exit.Exit.TheVariants.{SourceFault}
+use Rattle.ras_exit.specs.declared.exit.Exit.{Exit}
+use Rattle.ras_exit.specs.declared.exit.Exit.TheVariants.{SourceFault}
 use Rattle.ras_run.specs.LaterKinds.{taken_line}
 use Rattle.ras_daemon.specs.Script.{is_event}
 
@@ -15,7 +15,7 @@ abbrev pub is_event_line : List ℕ → Bool
 is_event_line line = is_event ([], (1, taken_line line))
 
 -- how far lines reach to the end of the event that has n events before it, each line with its line
--- feed: to no end where there is no such event
+-- feed: to no end if there is no such event
 abbrev pub end_of_event : ℕ → List (List ℕ) → Option ℕ
 end_of_event n [] = None
 end_of_event n (line ∷ lines) =

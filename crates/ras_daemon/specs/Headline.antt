@@ -41,7 +41,7 @@ pub record Headline (start : Start) (script : List ℕ) (here left : Left) : Typ
       → Recovers (account_with start script (done_count printed + 1)) left
   pub store : left.store ≡ here.store
 
--- What is told where no call of the board failed: whole events, those that are done by what was
+-- What is told if no call of the board failed: whole events, those that are done by what was
 -- printed.
 pub record IsWhole (start : Start) (script : List ℕ) (before now : Told) : Type 0 where
   pub printed : List ℕ
@@ -52,7 +52,7 @@ pub record IsWhole (start : Start) (script : List ℕ) (before now : Told) : Typ
 abbrev pub StopsRecover : Start → Clock → Type 0
 StopsRecover start clock = (left : Left) → LeftNow clock left → Recovers (account_of start.history) left
 
--- where the words ask for a run, source and board tell, and the files hold a history
+-- if the words ask for a run, source and board tell, and the files hold a history
 abbrev pub OverRun : (Start → List ℕ → Told → Type 0) → Option Task → Option (List ℕ) → Option Told → Type 0
 OverRun P (Some Run) (Some script) (Some t) =
     (history : History) → Recovers (account_of history) t.here → P (start_of history t.here) script t

@@ -6,12 +6,12 @@ use Rattle.ras_account.specs.Account.{State, account_of}
 use Rattle.ras_events.specs.Reports.{NumberedLine}
 use Rattle.ras_texts.specs.Orders.{standing_lines}
 use Rattle.ras_texts.specs.Text.{end_line}
-use Rattle.ras_run.specs.declared.exit.Exit.{Exit}
-use Rattle.ras_run.specs.declared.exit.Exit.TheVariants.{Done}
+use Rattle.ras_exit.specs.declared.exit.Exit.{Exit}
+use Rattle.ras_exit.specs.declared.exit.Exit.TheVariants.{Done}
 use Rattle.ras_run.specs.Output.{output_at}
 use Rattle.ras_run.specs.Places.{Start, account_at}
 use Rattle.ras_run.specs.Status.{places_before_refusal}
-use Rattle.ras_run.specs.StopLine.{stop_line}
+use Rattle.ras_exit.specs.StopLine.{stop_line}
 use Rattle.ras_daemon.specs.RunStatus.{run_exit}
 use Rattle.ras_daemon.specs.Script.{events_of, reads_of}
 

@@ -15,8 +15,9 @@ use Rattle.ras_script.specs.declared.reader.TheConstants.{LONGEST_LINE}
 use Rattle.ras_script.specs.Splitting.{lines_of}
 use Rattle.ras_script.specs.SplittingLaws.{script_of}
 use Rattle.ras_texts.specs.Orders.{standing_lines}
-use Rattle.ras_run.specs.declared.exit.Exit.{Exit}
-use Rattle.ras_run.specs.declared.exit.Exit.TheVariants.{Done, Usage, SourceFault, DiskFault, PrintFault, NoMemory}
+use Rattle.ras_exit.specs.declared.exit.Exit.{Exit}
+use Rattle.ras_exit.specs.declared.exit.Exit.TheVariants.{Done, PrintFault, NoMemory}
+use Rattle.ras_exit.specs.Endings.{CallEnding, IsAnswer, IsCut, OnWhole, answered, ending_of, faulted}
 use Rattle.ras_run.specs.Output.{output_at}
 use Rattle.ras_run.specs.Places.{Start, account_at}
 use Rattle.ras_run.specs.Status.{places_before_refusal}
@@ -103,19 +104,12 @@ RunMoment clock start script here left =
 
 -- P holds unless a call of the board failed.
 abbrev pub UnlessFault : {T : Type 0} → Result T Exit → Type 0 → Type 0
-UnlessFault (Err DiskFault) P = ⊤
-UnlessFault (Err PrintFault) P = ⊤
-UnlessFault result P = P
+UnlessFault (Ok done) P = P
+UnlessFault (Err exit) P = OnWhole exit P
 
--- where a board tells, a stop now leaves just what is told
+-- if a board tells, a stop now leaves just what is told
 abbrev pub IsAtRest : Option Told → Clock → Type 0
 IsAtRest told clock = IfSome told (λ t. Rests t told clock)
-
--- an exit that ends a run among its lines
-abbrev pub IsLineExit : Exit → Type 0
-IsLineExit Done = ⊥
-IsLineExit Usage = ⊥
-IsLineExit exit = ⊤
 
 -- a ledger with which a run begins so
 pub record IsStart (start : Start) (ledger : Ledger) : Type 0 where
@@ -130,19 +124,22 @@ pub record TookLines (start : Start) (script : List ℕ) (before : List Numbered
   pub text : Prints (outputs start before) old now
   pub recovers : Recovers (account_at start before) now.here
 
+-- A run that ends among them took some: those before the refused line, or before it was cut short.
+abbrev pub EndsAmong : Start → List ℕ → Exit → CallEnding → Told → Told → Type 0
+EndsAmong start script exit answered old now =
+    (before : List NumberedLine) × TookLines start script before old now × AreAll start script exit before
+EndsAmong start script exit (faulted kind) old now = ⊤
+EndsAmong start script exit ending old now = (before : List NumberedLine) × TookLines start script before old now
+
 abbrev pub TakesLines : Start → List ℕ → Result (Unit {0}) Exit → Told → Told → Type 0
 TakesLines start script (Ok done) old now =
     TookLines start script (reads_of script) old now × AreAll start script Done (reads_of script)
-TakesLines start script (Err DiskFault) old now = ⊤
-TakesLines start script (Err PrintFault) old now = ⊤
-TakesLines start script (Err NoMemory) old now = (before : List NumberedLine) × TookLines start script before old now
-TakesLines start script (Err SourceFault) old now = (before : List NumberedLine) × TookLines start script before old now
-TakesLines start script (Err exit) old now = (before : List NumberedLine) × TookLines start script before old now × AreAll start script exit before
+TakesLines start script (Err exit) old now = EndsAmong start script exit (ending_of exit) old now
 
 -- ---- how a run ends
 
--- Where memory ran out, or the source failed, some first lines were taken, or not even the orders
--- at the start were printed.
+-- If memory ran out or the source failed, some first lines were taken, or not even the orders at
+-- the start were printed.
 pub record EndsEarly (start : Start) (script : List ℕ) (old now : Told) : Type 0 where
   pub before : List NumberedLine
   pub first : AreFirst start script before
@@ -152,7 +149,7 @@ pub record EndsEarly (start : Start) (script : List ℕ) (old now : Told) : Type
       × Prints (standing_lines (account_of start.history) ++ outputs start before) old now)
       ⊎ (Prints [] old now × (before ≡ []))
 
--- And where a run comes to an answer, its last line was printed.
+-- And if a run comes to an answer, its last line was printed.
 pub record EndsSo (start : Start) (script : List ℕ) (exit : Exit) (old now : Told) : Type 0 where
   pub before : List NumberedLine
   pub all : AreAll start script exit before
@@ -160,30 +157,15 @@ pub record EndsSo (start : Start) (script : List ℕ) (exit : Exit) (old now : T
   pub recovers : Recovers (account_at start before) now.here
   pub text : Prints (standing_lines (account_of start.history) ++ (outputs start before ++ closing_line (account_at start before) exit)) old now
 
+abbrev pub EndsIn : Start → List ℕ → Exit → CallEnding → Told → Told → Type 0
+EndsIn start script exit answered old now = EndsSo start script exit old now
+EndsIn start script exit (faulted kind) old now = ⊤
+EndsIn start script exit ending old now = EndsEarly start script old now
+
 abbrev pub RunEnds : Start → List ℕ → Exit → Told → Told → Type 0
-RunEnds start script DiskFault old now = ⊤
-RunEnds start script PrintFault old now = ⊤
-RunEnds start script NoMemory old now = EndsEarly start script old now
-RunEnds start script SourceFault old now = EndsEarly start script old now
-RunEnds start script exit old now = EndsSo start script exit old now
+RunEnds start script exit old now = EndsIn start script exit (ending_of exit) old now
 
 -- ---- the last line
-
--- An exit that ends a run with a last line: it was read to its end, or it is refused. Any other
--- cuts it short.
-abbrev pub IsAnswer : Exit → Type 0
-IsAnswer SourceFault = ⊥
-IsAnswer DiskFault = ⊥
-IsAnswer PrintFault = ⊥
-IsAnswer NoMemory = ⊥
-IsAnswer exit = ⊤
-
-abbrev pub IsCut : Exit → Type 0
-IsCut SourceFault = ⊤
-IsCut DiskFault = ⊤
-IsCut PrintFault = ⊤
-IsCut NoMemory = ⊤
-IsCut exit = ⊥
 
 -- A last line was printed, or that failed, or memory ran out before it.
 abbrev pub Says : Exit → Exit → List ℕ → Option Told → Option Told → Type 0
@@ -211,8 +193,8 @@ abbrev pub first_size : List (List ℕ) → ℕ
 first_size [] = 0
 first_size (line ∷ lines) = length line + 1
 
--- Lines of a script were done: what they print is printed, behind a text. What was taken of the
--- script reaches at most 40,001 bytes past the line behind them. Where the source failed, they are
+-- Lines of a script were done: what they print is printed, after a text. What was taken of the
+-- script reaches at most 40,001 bytes past the line after them. If the source failed, they are
 -- all that were taken with their line feeds.
 pub record ReadAhead (Fault : Type 0) (start : Start) (script from left : List ℕ) (now : Told) : Type 0 where
   pub done : List (List ℕ)
@@ -225,7 +207,7 @@ pub record ReadAhead (Fault : Type 0) (start : Start) (script from left : List �
   pub splits : taken ++ left ≡ script
   pub whole : Fault → events_in (ended_lines taken) ≤ events_in done
 
--- the same where source and board tell at the end
+-- the same if source and board tell at the end
 abbrev pub EndsAhead : Type 0 → Start → List ℕ → List ℕ → Option (List ℕ) → Option Told → Type 0
 EndsAhead Fault start script from left told =
     IsSomeAnd left (λ rest. IsSomeAnd told (ReadAhead Fault start script from rest))

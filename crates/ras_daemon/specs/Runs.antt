@@ -1,5 +1,5 @@
 -- What the laws of runs speak of: what runs log and order, one run after the other.
-use Rattle.std.specs.Prelude.{◌≡◌, ℕ, List, [], ◌∷◌, ◌++◌, length, take, All, None}
+use Rattle.std.specs.Prelude.{◌≡◌, ℕ, List, [], ◌∷◌, ◌++◌, length, take, All}
 use Rattle.std.specs.List.{flat_map}
 use Rattle.page_policy.specs.declared.rows.Order.{Order}
 use Rattle.ras_facts.specs.declared.entry.Entry.{Entry}
@@ -8,11 +8,11 @@ use Rattle.ras_facts.specs.declared.fact.Fact.{Fact as FactOf}
 use Rattle.ras_account.specs.Account.{State, account_of}
 use Rattle.ras_account.specs.History.{History, with_entries}
 use Rattle.ras_account.specs.Numbers.{fresh_entries_in}
-use Rattle.ras_events.specs.declared.settings.Settings.{Settings}
+use Rattle.ras_events.specs.Events.{no_settings}
 use Rattle.ras_events.specs.Reports.{entries_at, reports, settings_told}
 use Rattle.ras_events.specs.Sizes.{IsFact}
 use Rattle.ras_events.specs.Texts.{orders_of_entries}
-use Rattle.ras_run.specs.declared.exit.Exit.TheVariants.{Done}
+use Rattle.ras_exit.specs.declared.exit.Exit.TheVariants.{Done}
 use Rattle.ras_run.specs.Places.{Start, history_at}
 use Rattle.ras_daemon.specs.Headline.{reported}
 use Rattle.ras_daemon.specs.RunStatus.{run_exit}
@@ -33,7 +33,7 @@ facts_of [] = []
 facts_of (Fact fact ∷ entries) = fact ∷ facts_of entries
 facts_of (other ∷ entries) = facts_of entries
 
--- the orders that these events give, each behind all that was reported before it
+-- the orders that these events give, each after all that was reported before it
 abbrev pub ordered : Start → List ℕ → ℕ → List Order
 ordered start script n =
     flat_map (λ place. orders_of_entries (history_at start place.0) (entries_at place)) (take n (events_of start script))
@@ -57,10 +57,6 @@ ReportsFacts start script = All IsFact (reported start script (event_count start
 -- two accounts are the same but for the number of their entries
 abbrev pub CountTheSame : State → State → Type 0
 CountTheSame one other = record one { entries = 0 } ≡ record other { entries = 0 }
-
--- what is known of a machine of which nothing was told
-abbrev pub no_settings : Settings
-no_settings = record { topology = []; sources = None }
 
 -- Two scripts begin with the same lines, which report nothing: they tell of the machine. The other
 -- lines of the first script tell nothing of it. A third script has these first lines once, and then

@@ -6,18 +6,21 @@ ghost use Rattle.board_core.specs.Clock.{Adds, Always};
 ghost use Rattle.board_core.specs.Told.{Relates, Steps, Told, after_print};
 ghost use Rattle.ras_account.specs.Accounts.{IsAccount};
 ghost use Rattle.ras_recover.specs.DiskCalls.{IsBeginning, Makes};
-ghost use Rattle.ras_run.specs.Causes.{BoardCause, SourceCause};
-ghost use Rattle.ras_run.specs.Device.{LeavesDevice};
+ghost use Rattle.ras_exit.specs.Causes.{BoardCause, SourceCause};
+ghost use Rattle.ras_exit.specs.Device.{LeavesDevice};
+ghost use Rattle.ras_exit.specs.Endings.{OnAnswer, OnWhole};
 ghost use Rattle.ras_run.specs.Places.{Start};
-ghost use Rattle.ras_run.specs.StopLine.{stop_line};
+ghost use Rattle.ras_exit.specs.StopLine.{stop_line};
+ghost use Rattle.ras_exit.specs.Telling.{OnlyPrints, PrintsPart};
+ghost use Rattle.ras_run.specs.Files.{files_refusal};
 ghost use Rattle.ras_run.specs.Taking.{LedgerStands};
 ghost use Rattle.text_laws.specs.DoneLines.{done_count};
 ghost use Rattle.ras_daemon.specs.Ahead.{TakesAhead};
-ghost use Rattle.ras_daemon.specs.Ended.{IsQuiet, IsQuietBoard, OnlyPrints, OverFiles, PrintsPart, RefusesFiles};
+ghost use Rattle.ras_daemon.specs.Ended.{IsQuiet, IsQuietBoard, OverFiles, RefusesFiles};
 ghost use Rattle.ras_daemon.specs.Headline.{Headline, IsWhole, OverRun, StopsRecover};
 ghost use Rattle.ras_daemon.specs.RunCalls.{AreRunCalls};
 ghost use Rattle.ras_daemon.specs.RunOutput.{run_output};
-ghost use Rattle.ras_daemon.specs.RunStatus.{OnAnswer, OnWhole, files_refusal, run_exit};
+ghost use Rattle.ras_daemon.specs.RunStatus.{run_exit};
 ghost use Rattle.ras_daemon.specs.Running.{IsStart, MakesAlong, OpenMoment, RunAhead, RunEnds, RunMoment};
 ghost use Rattle.ras_daemon.specs.Script.{events_of};
 ghost use Rattle.ras_daemon.specs.Task.{task_of};
@@ -29,8 +32,9 @@ use board_core::{Board, Source};
 use ras_account::Account;
 use ras_base::NoMemory;
 use ras_events::Settings;
+use ras_exit::Exit;
 use ras_ledger::Ledger;
-use ras_run::{Exit, Run, open, print_standing};
+use ras_run::{Run, open, print_standing};
 use ras_script::LineReader;
 use std::alloc::Global;
 
@@ -49,8 +53,8 @@ pub fn rasd<S: Source, B: Board>(
         (task_of words.now) (S.left source.old) (B.told board.old) }
 
     // The exit and what was printed are the stated functions of the script, the earlier history and
-    // where the journal stands, and its done lines number its events. A fault or want of memory
-    // cuts what is printed short, and but for a fault of the board whole events were done.
+    // where the journal stands, and its done lines number its events. What is printed is cut short
+    // by a fault, or if memory runs out; but for a fault of the board whole events were done.
     ensures status { OverRun (λ start script told. OnAnswer result (result ≡ run_exit start script))
         (task_of words.now) (S.left source.old) (B.told board.old) }
     ensures output { OverRun (λ start script told. OnAnswer result (IsSomeAnd (B.told board.new)
@@ -67,7 +71,7 @@ pub fn rasd<S: Source, B: Board>(
         (task_of words.now) (S.left source.old) (B.told board.old) }
 
     // A run takes no more of its source than it needs: at most 40,001 bytes past the first event
-    // that isn't done. Where the source fails, all is done that was taken whole.
+    // that isn't done. If the source fails, all is done that was taken whole.
     ensures ahead { OverRun (λ start script told. IsSomeAnd (S.left source.new) (λ left.
         IsSomeAnd (B.told board.new) (TakesAhead result script left told)))
         (task_of words.now) (S.left source.old) (B.told board.old) }
@@ -78,13 +82,13 @@ pub fn rasd<S: Source, B: Board>(
         (Makes (IsBeginning (AreRunCalls start script told.here)) told))
         (task_of words.now) (S.left source.old) (B.told board.old) }
 
-    // Where the files at the start are damaged or too long, the run says so and leaves them.
+    // If the files at the start are damaged or too long, the run says so and leaves them.
     ensures refused { OverFiles
         (λ before now. RefusesFiles (files_refusal before.here) result before now)
         (task_of words.now) (B.told board.old) (B.told board.new) }
 
-    // A run is done once its source is read to its end. Where no count of faults rose, a run that
-    // is refused nowhere is done, but for want of memory.
+    // A run is done once its source is read to its end. If no count of faults rose, a run that is
+    // refused nowhere is done, unless memory ran out.
     ensures ended { result ≡ Exit.Done
         → IfSome (S.left source.old) (λ script. S.left source.new ≡ Some []) }
     ensures complete { OverRun (λ start script told.
@@ -94,7 +98,7 @@ pub fn rasd<S: Source, B: Board>(
         → (result ≡ Exit.Done) ⊎ (result ≡ Exit.NoMemory))
         (task_of words.now) (S.left source.old) (B.told board.old) }
 
-    // Where a count of faults rose that fault is the exit, and every other count is as it was.
+    // If a count of faults rose that fault is the exit, and every other count is as it was.
     ensures source { SourceCause result (S.faults source.old) (S.faults source.new) }
     ensures board { BoardCause result (B.faults board.old) (B.faults board.new) }
     ensures device { LeavesDevice (B.told board.old) (B.told board.new)
@@ -114,7 +118,8 @@ pub fn rasd<S: Source, B: Board>(
     call(alloc, words, source, board)
 }
 
-// The same, by how far the run comes.
+// Does what the words ask for. What its clauses say of a run is how far it comes, and those of
+// `rasd` follow from it.
 fn call<S: Source, B: Board>(
     alloc: Global,
     words: &[RasWord],

@@ -4,24 +4,25 @@ ghost use Rattle.std.specs.Prelude.{◌≡◌, ◌⊎◌, IfOk};
 ghost use Rattle.board_core.specs.Clock.{Adds, Rests};
 ghost use Rattle.board_core.specs.Stop.{Begins, InOut};
 ghost use Rattle.board_core.specs.Told.{Told};
-ghost use Rattle.ras_run.specs.Causes.{BoardCause};
-ghost use Rattle.ras_run.specs.Device.{LeavesDevice};
+ghost use Rattle.ras_exit.specs.Causes.{BoardCause};
+ghost use Rattle.ras_exit.specs.Device.{LeavesDevice};
+ghost use Rattle.ras_exit.specs.Endings.{IsAnswer, IsCut};
 ghost use Rattle.ras_daemon.specs.RunOutput.{closing_line};
-ghost use Rattle.ras_daemon.specs.Running.{Ends, IsAnswer, IsCut, Says};
+ghost use Rattle.ras_daemon.specs.Running.{Ends, Says};
 
 use board_core::Board;
 use ras_account::Account;
 use ras_base::NoMemory;
-use ras_run::{Exit, print, stop_line};
+use ras_exit::{Exit, print, stop_line};
 use ras_texts::end_line;
 use std::alloc::Global;
 
-/// The last line of a run: the end line of its account where it is done, and else the stop line of
-/// its refusal.
+/// The last line of a run: the end line of its account if it is done, and else the stop line of its
+/// refusal.
 ///
 /// # Errors
 ///
-/// `NoMemory` comes for want of memory alone.
+/// `NoMemory` comes only if memory runs out.
 pub fn closing_line(alloc: Global, exit: Exit, account: &Account) -> Result<Vec<u8>, NoMemory>
     ensures { IfOk result (λ line. line.items ≡ closing_line account.now.state exit) }
 {
@@ -31,7 +32,8 @@ pub fn closing_line(alloc: Global, exit: Exit, account: &Account) -> Result<Vec<
     }
 }
 
-/// Ends a run so, with its last line. A fault and want of memory have none.
+/// Prints the last line of a run that ends by this exit, and tells how it ended. If a fault or lack
+/// of memory cut the run short, it has no last line.
 pub fn end_run<B: Board>(alloc: Global, exit: Exit, account: &Account, board: &mut B) -> Exit
     ensures ends { Ends exit result (closing_line account.now.state exit)
         (B.told board.old) (B.told board.new) }
@@ -43,16 +45,16 @@ pub fn end_run<B: Board>(alloc: Global, exit: Exit, account: &Account, board: &m
     ensures device { LeavesDevice (B.told board.old) (B.told board.new)
         (B.clock board.old) (B.clock board.new) }
 {
-    match exit {
-        Exit::SourceFault | Exit::DiskFault | Exit::PrintFault | Exit::NoMemory => exit,
-        _ => match closing_line(alloc, exit, account) {
-            Ok(line) => last_line(&line, exit, board),
-            Err(NoMemory) => Exit::NoMemory,
-        },
+    if !exit.is_answer() {
+        return exit;
+    }
+    match closing_line(alloc, exit, account) {
+        Ok(line) => last_line(&line, exit, board),
+        Err(NoMemory) => Exit::NoMemory,
     }
 }
 
-/// Prints the last line of a call that ends so.
+/// Prints the last line of a call that ends by this exit, and tells how it ended.
 pub fn last_line<B: Board>(line: &[u8], exit: Exit, board: &mut B) -> Exit
     requires { IsAnswer exit }
     ensures says { Says exit result line.now (B.told board.old) (B.told board.new) }

@@ -35,12 +35,12 @@ pub fn run_laws()
     ensures printed { (start : Start) (script : List ℕ) (n : ℕ)
         → IsPrefixOf (output_upto start script n) (run_output start script) }
 
-    // What lines print doesn't depend on the lines behind them.
+    // What lines print doesn't depend on the lines after them.
     ensures lines { (start : Start) (lines more : List (List ℕ))
         → IsPrefixOf (lines_output start (reads_in lines))
         (lines_output start (reads_in (lines ++ more))) }
 
-    // What a run logs comes behind what the earlier runs logged, and no name is logged twice.
+    // What a run logs comes after what the earlier runs logged, and no name is logged twice.
     ensures logged { (start : Start) (script : List ℕ) (n : ℕ)
         → fresh_entries (history_after start script n)
         ≡ fresh_entries start.history ++ logged start script n }
@@ -66,7 +66,7 @@ pub fn run_laws()
         ≡ account_with start script (event_count start script) }
 
     // Together such runs log each report of the run that isn't stopped once, in the same order. The
-    // stop can keep a report's lines from being printed only where it comes between the report's
+    // stop can keep a report's lines from being printed only if it comes between the report's
     // link and its print; what the report ordered stands then at the next start, by the clauses
     // on what stands.
     ensures together { (start next : Start) (script : List ℕ) (n : ℕ) → IsTakenWhole start script
@@ -75,14 +75,14 @@ pub fn run_laws()
         ≡ facts_of (logged start script (event_count start script)) }
 
     // Two scripts that are run one after the other leave the account of the script that joins them,
-    // where both begin with the same rows of the machine, which the joined script has once.
+    // if both begin with the same rows of the machine, which the joined script has once.
     ensures joined { (start next : Start) (one other both : List ℕ) → AreJoined one other both
         → IsTakenWhole start one → Follows start one (event_count start one) next
         → IsTakenWhole next other → IsTakenWhole start both
         → account_with next other (event_count next other)
         ≡ account_with start both (event_count start both) }
 
-    // The orders of a run come behind those of the earlier runs, and together they take a page out
+    // The orders of a run come after those of the earlier runs, and together they take a page out
     // of use at most once softly and at most once hard, and never softly after that.
     ensures ordered { (start : Start) (script : List ℕ) (n : ℕ)
         → orders (history_after start script n)
@@ -91,7 +91,7 @@ pub fn run_laws()
         → AreOnceInOrder page
         (orders_for_page page (orders start.history ++ ordered start script n)) }
 
-    // Since the last mark they ask for a module to be replaced once where its own corrected errors
+    // Since the last mark they ask for a module to be replaced once if its own corrected errors
     // have made its bucket trip, and else not at all.
     ensures module { (start : Start) (script : List ℕ) (n : ℕ) (label : Bytes)
         → let history = history_after start script n in HasRow history label
@@ -101,7 +101,7 @@ pub fn run_laws()
         then replace_order history label ∷ [] else []) }
 
     // What stands, and is printed when the next run starts: a page in the highest state that its
-    // orders asked for, and a module that is to be replaced where its own errors made its bucket
+    // orders asked for, and a module that is to be replaced if its own errors made its bucket
     // trip.
     ensures page_stands { (start : Start) (script : List ℕ) (n page : ℕ)
         → state_in (account_of (history_after start script n)).pages page

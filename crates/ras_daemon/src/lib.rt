@@ -10,6 +10,5 @@ mod word;
 
 pub use daemon::rasd;
 pub use laws::run_laws;
-pub use ras_events::Reason;
-pub use ras_run::Exit;
+pub use ras_exit::{Exit, Reason};
 pub use word::{RasWord, Task, task_of};

@@ -3,16 +3,17 @@
 ghost use Rattle.std.specs.Prelude.{◌≡◌, Err, ℕ, List, [], false, Ok, Some, IfErr, IfSome, IsSomeAnd};
 ghost use Rattle.board_core.specs.Clock.{Adds};
 ghost use Rattle.board_core.specs.Told.{Told};
-ghost use Rattle.ras_run.specs.Causes.{BoardCause, Causes, SourceCause};
-ghost use Rattle.ras_run.specs.Device.{LeavesDevice};
+ghost use Rattle.ras_exit.specs.Causes.{BoardCause, Causes, SourceCause};
+ghost use Rattle.ras_exit.specs.Device.{LeavesDevice};
+ghost use Rattle.ras_exit.specs.Endings.{IsLineExit};
 ghost use Rattle.ras_run.specs.Places.{Start};
 ghost use Rattle.ras_run.specs.Taking.{IsRunAfter, LedgerStands};
-ghost use Rattle.ras_daemon.specs.Running.{EndsAhead, IsAtRest, IsLineExit, LinesMoment, MakesAlong, TakesLines, UnlessFault};
+ghost use Rattle.ras_daemon.specs.Running.{EndsAhead, IsAtRest, LinesMoment, MakesAlong, TakesLines, UnlessFault};
 ghost use Rattle.ras_daemon.specs.Script.{reads_of};
 
 use board_core::{Board, Source};
-use ras_events::Reason;
-use ras_run::{Exit, Run, take_line};
+use ras_exit::{Exit, Reason};
+use ras_run::{Run, take_line};
 use ras_script::{LineReader, NextRefused};
 use std::alloc::Global;
 
@@ -20,9 +21,9 @@ use std::alloc::Global;
 ///
 /// # Errors
 ///
-/// Why the run ends among its lines: as `take_line` of ras_run; `BadLine` also where the line has
-/// more than 40,000 bytes, `TooLong` where the script has too many, and `SourceFault` only where
-/// the source failed.
+/// Why the run ends among its lines: as `take_line` of ras_run; `BadLine` also if the line has more
+/// than 40,000 bytes, `TooLong` if the script has too many, and `SourceFault` only if the source
+/// failed.
 pub fn take_lines<S: Source, B: Board>(
     alloc: Global,
     reader: &mut LineReader,

@@ -46,7 +46,7 @@ pub enum Task {
     Run,
 }
 
-/// What these words ask for, where they are a form of a call: the one word `run`.
+/// What these words ask for, if they are a form of a call: the one word `run`.
 pub fn task_of(words: &[RasWord]) -> Option<Task>
     ensures { result ≡ task_of words.now }
 {

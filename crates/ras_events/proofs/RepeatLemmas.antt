@@ -1,21 +1,13 @@
 -- A bank's report that is no news.
-use Rattle.std.proofs.Common.{◌≡◌, ◌∙◌, ℕ, ◌<◌, ◌/◌, ◌^◌, true, false, not, if◌then◌else◌, List, [], ◌∷◌, ◌++◌, Option, None, Some, Ok, IfSome, refl, sym, ap, subst, append-nil, arith}
-use Rattle.std.specs.Prelude.{IsTrue}
+use Rattle.std.proofs.Common.{◌≡◌, ◌∙◌, true, false, not, if◌then◌else◌, List, [], ◌∷◌, ◌++◌, Option, None, Some, Ok, IfSome, refl, sym, ap, subst, append-nil, arith}
 use Rattle.std.specs.Option.{option_map}
-use Rattle.std.proofs.lemmas.List.Elements.{All-from_recursion}
-use Rattle.mca_status.specs.declared.classes.Class.{Class}
-use Rattle.mca_status.specs.Address.{usable_page_of}
-use Rattle.mca_status.specs.Classes.{class_of_rows}
-use Rattle.mca_status.specs.Weight.{weight_of}
-use Rattle.dimm_topology.specs.declared.row.Row.{Row}
-use Rattle.dimm_topology.specs.Labels.{is_label_or_none}
 use Rattle.ras_account.specs.Account.{State}
 use Rattle.ras_account.specs.Accounts.{IsAccount}
 use Rattle.ras_account.specs.Continued.{is_fresh_in, knows}
 use Rattle.ras_account.specs.Numbers.{AreWithin, fresh_entries_in}
 use Rattle.ras_account.proofs.NumberLemmas.{with_fresh_ones}
-use Rattle.ras_facts.specs.Facts.{bank_fact, bank_item, bank_label, bank_name, cap_in, misc_in, status_in}
-use Rattle.ras_facts.specs.Valid.{IsPage, IsValidFact, IsValidItem, IsValidName}
+use Rattle.ras_facts.specs.Facts.{bank_fact}
+use Rattle.ras_facts.specs.Valid.{IsValidFact}
 use Rattle.ras_facts.specs.declared.bank.BankReport.{BankReport}
 use Rattle.ras_facts.specs.declared.entry.Entry.{Entry}
 use Rattle.ras_facts.specs.declared.entry.Entry.TheVariants as entry
@@ -77,32 +69,3 @@ bank_repeats account settings bank name named valid known within = by (bank_fact
         let name_is : fact.name ≡ name = cc in
         subst (λ (n : Name). IsRepeat account settings (asks.Report (Bank bank)) (known_line account n)) name_is
         (fact_repeats account settings bank fact is v (ap (knows account) name_is ∙ known) within)
-
--- ---- the fact of a bank's report is valid
-
-page_within : (page : Option ℕ) (address : ℕ) → IfSome page (λ n. n ≡ address / 4096) → address < 2 ^ 64 → IfSome page IsPage
-page_within None address is below = tt
-page_within (Some page) address is below = omega (arith, is, below)
-
-class_valid : (bank : BankReport) (rows : List Row) (class : Option Class) → IsValidName (bank_name bank) → bank.seconds < 2 ^ 64 → ((of : Class) → IsValidItem (bank_item bank rows of))
-    → IfSome (option_map (λ of. record { name = bank_name bank; seconds = bank.seconds; items = bank_item bank rows of ∷ [] }) class) IsValidFact
-class_valid bank rows None name seconds item = tt
-class_valid bank rows (Some class) name seconds item = record {
-  name = name;
-  seconds = seconds;
-  count = omega arith;
-  items = All-from_recursion IsValidItem (bank_item bank rows class ∷ []) (item class, tt);
-}
-
-pub bank_valid : (bank : BankReport) (rows : List Row) → IsValidName (bank_name bank) → bank.seconds < 2 ^ 64 → bank.addr < 2 ^ 64
-    → IsTrue (is_label_or_none (bank_label bank rows))
-    → IfSome (usable_page_of (cap_in bank) (status_in bank) bank.addr (misc_in bank)) (λ page. page ≡ bank.addr / 4096)
-    → 0 < weight_of (cap_in bank) (status_in bank) → weight_of (cap_in bank) (status_in bank) < 2 ^ 15
-    → IfSome (bank_fact bank rows) IsValidFact
-bank_valid bank rows name seconds address label page some weight =
-    class_valid bank rows (class_of_rows (cap_in bank) (status_in bank)) name seconds (λ class. record {
-      label = label;
-      page = page_within (usable_page_of (cap_in bank) (status_in bank) bank.addr (misc_in bank)) bank.addr page address;
-      some = omega arith;
-      weight = omega arith;
-    })

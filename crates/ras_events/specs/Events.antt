@@ -21,8 +21,8 @@ use Rattle.ras_events.specs.declared.event.Event.{Event}
 use Rattle.ras_events.specs.declared.event.Event.TheVariants.{Nothing, Settled, Counted, Reopened}
 use Rattle.ras_events.specs.declared.event.EventRefused.{EventRefused}
 use Rattle.ras_events.specs.declared.event.EventRefused.TheVariants.{Refused, NoMemory}
-use Rattle.ras_events.specs.declared.reason.Reason.{Reason}
-use Rattle.ras_events.specs.declared.reason.Reason.TheVariants as reason
+use Rattle.ras_exit.specs.declared.reason.Reason.{Reason}
+use Rattle.ras_exit.specs.declared.reason.Reason.TheVariants as reason
 use Rattle.ras_events.specs.declared.settings.Settings.{Settings}
 use Rattle.ras_events.specs.Making.{made_by_report, made_of_entry, nothing_made}
 

@@ -1,19 +1,18 @@
 -- What the lines of a script report, each under what the lines before it tell of the machine.
-use Rattle.std.specs.Prelude.{ℕ, List, [], ◌∷◌, map, Option, None, Some, Result, Ok, Err}
-use Rattle.std.specs.List.{enumerate_from, filter_map, flat_map}
+use Rattle.std.specs.Prelude.{ℕ, List, [], ◌∷◌, Option, None, Some, Result, Ok, Err}
+use Rattle.std.specs.List.{filter_map, flat_map}
 use Rattle.ras_base.specs.Places.{places}
 use Rattle.apei_sources.specs.Hest.{Sources, hest_of}
 use Rattle.dimm_topology.specs.declared.row.Row.{Row}
 use Rattle.ras_facts.specs.declared.entry.Entry.{Entry}
-use Rattle.ras_script.specs.Line.{line_of}
 use Rattle.ras_script.specs.declared.line.Line.{Line}
 use Rattle.ras_script.specs.declared.line.Line.TheVariants as asks
 use Rattle.ras_script.specs.declared.line.LineRefused.{LineRefused}
 use Rattle.ras_script.specs.declared.line.Table.TheVariants.{Hest}
 use Rattle.ras_events.specs.declared.event.Event.{Event}
 use Rattle.ras_events.specs.declared.event.Event.TheVariants.{Counted}
-use Rattle.ras_events.specs.declared.reason.Reason.{Reason}
-use Rattle.ras_events.specs.declared.reason.Reason.TheVariants as reason
+use Rattle.ras_exit.specs.declared.reason.Reason.{Reason}
+use Rattle.ras_exit.specs.declared.reason.Reason.TheVariants as reason
 use Rattle.ras_events.specs.declared.settings.Settings.{Settings}
 use Rattle.ras_events.specs.Events.{event_of}
 use Rattle.ras_events.specs.Making.{Pieces, nothing_made}
@@ -21,10 +20,6 @@ use Rattle.ras_events.specs.Making.{Pieces, nothing_made}
 -- a line's number, and what the line asks for or why it can't be read
 abbrev pub NumberedLine : Type 0
 NumberedLine = ℕ × Result Line LineRefused
-
--- lines in order, numbered from a number on
-abbrev pub reads_from : ℕ → List (List ℕ) → List NumberedLine
-reads_from number lines = enumerate_from number (map line_of lines)
 
 -- the row of the machine that a line tells, and the rows that lines tell, in order
 abbrev pub row_by : NumberedLine → Option Row

@@ -14,14 +14,14 @@ use ras_account::Account;
 use ras_base::NoMemory;
 use ras_facts::{Entry, Name};
 use ras_reports::Detail;
-use ras_texts::{push_entry, repeat_line};
+use ras_texts::{push_entry, push_repeat};
 use std::alloc::Global;
 
 /// The lines of what an event makes: those of each entry at its own place.
 ///
 /// # Errors
 ///
-/// `NoMemory` comes for want of memory alone.
+/// `NoMemory` comes only if memory runs out.
 pub(crate) fn lines_of(alloc: Global, account: &Account, made: &Made) -> Result<Vec<u8>, NoMemory>
     requires alike { AreAlike made.now.entries }
     ensures { IfOk result (λ text. text.items ≡ text_along account.now.state (pieces_in made.now)) }
@@ -52,9 +52,7 @@ fn push_lines(
     if is_news(account, earlier, entry) {
         push_entry(alloc, text, details, account, entry)
     } else {
-        let line = repeat_line(alloc, account, entry)?;
-        text.extend_from_slice(&line)?;
-        Ok(())
+        push_repeat(text, account, entry)
     }
 }
 
@@ -62,7 +60,7 @@ fn push_lines(
 ///
 /// # Errors
 ///
-/// `NoMemory` comes for want of memory alone.
+/// `NoMemory` comes only if memory runs out.
 pub(crate) fn news_of(
     alloc: Global,
     account: &Account,

@@ -2,8 +2,9 @@
 
 ghost use Rattle.std.specs.Prelude.{◌≡◌};
 
-use crate::{Made, Reason};
+use crate::Made;
 use ras_base::NoMemory;
+use ras_exit::Reason;
 use thiserror::Error;
 
 /// What a line asks a run to do.

@@ -7,7 +7,6 @@ mod event;
 mod laws;
 mod made;
 mod preparing;
-mod reason;
 mod repeat;
 mod settings;
 
@@ -15,5 +14,4 @@ pub use event::{Event, EventRefused};
 pub use laws::{event_laws, report_laws};
 pub use made::Made;
 pub use preparing::{News, PrepareRefused, Prepared, count, prepare};
-pub use reason::Reason;
 pub use settings::Settings;

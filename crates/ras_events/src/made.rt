@@ -44,7 +44,7 @@ impl Made {
     ///
     /// # Errors
     ///
-    /// `NoMemory` comes for want of memory alone.
+    /// `NoMemory` comes only if memory runs out.
     pub fn of_entry(alloc: Global, entry: Entry) -> Result<Made, NoMemory>
         ensures { IfOk result (λ made. made ≡ made_of_entry entry) }
     {
@@ -55,7 +55,7 @@ impl Made {
     ///
     /// # Errors
     ///
-    /// `NoMemory` comes for want of memory alone.
+    /// `NoMemory` comes only if memory runs out.
     pub fn of_report(alloc: Global, report: Option<Report>) -> Result<Made, NoMemory>
         ensures { IfOk result (λ made. made ≡ option_map_or made_by_report report nothing_made) }
     {

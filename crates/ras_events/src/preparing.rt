@@ -70,7 +70,7 @@ impl From<NoMemory> for PrepareRefused {
 /// # Errors
 ///
 /// `Full` comes exactly where the account has no room for all that is news of the entries, and
-/// `NoMemory` for want of memory alone.
+/// `NoMemory` only if memory runs out.
 pub fn prepare(
     alloc: Global,
     number: u64,

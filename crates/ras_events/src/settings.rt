@@ -12,9 +12,10 @@ ghost use Rattle.ras_events.specs.Events.{hest_event, no_settings, report_event,
 ghost use Rattle.ras_events.specs.Events.{settings_after, with_sources};
 ghost use Rattle.ras_events.specs.Sizes.{IsFitEvent, IsShortLine, IsShortReport};
 
-use crate::{Event, EventRefused, Made, Reason};
+use crate::{Event, EventRefused, Made};
 use apei_sources::{Hest, TableRefused, read_bert, read_block, read_hest};
 use dimm_topology::{Row, Topology, TopologyRefused};
+use ras_exit::Reason;
 use ras_facts::Name;
 use ras_reports::{report_of_bank, report_of_block};
 use ras_script::{ErrorReport, Line, Table};
@@ -46,7 +47,7 @@ impl Settings {
     ///
     /// `Refused` with the first reason that applies: of a row `Topology`; of a table of error
     /// sources `Hest`; of a status block first `Source`, and then `Block`; of boot errors first
-    /// `Bert`, and then `Block`. `NoMemory` comes for want of memory alone.
+    /// `Bert`, and then `Block`. `NoMemory` comes only if memory runs out.
     pub fn take(&mut self, alloc: Global, line: Line) -> Result<Event, EventRefused>
         requires range { IsInRange line }
         requires short { IsShortLine line }

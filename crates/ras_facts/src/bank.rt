@@ -1,7 +1,9 @@
 //! The fact that the snapshot of a machine-check bank gives.
-ghost use Rattle.std.specs.Prelude.{◌≡◌, ◌↔◌, List, Ok, None, IfOk, IfSome};
+ghost use Rattle.std.specs.Prelude.{◌≡◌, ◌↔◌, List, Ok, None, IfOk, IfSome, IsTrue};
 ghost use Rattle.std.specs.Bool.{IsFalse};
 ghost use Rattle.std.specs.Option.{option_map};
+ghost use Rattle.dimm_topology.specs.Labels.{is_label_or_none};
+ghost use Rattle.dimm_topology.specs.Topology.{IsTopology};
 ghost use Rattle.dimm_topology.specs.declared.row.Row.{Row};
 ghost use Rattle.mca_status.specs.Registers.{valid};
 ghost use Rattle.ras_facts.specs.Facts.{bank_name, bank_label, bank_item, status_in, bank_fact};
@@ -56,7 +58,8 @@ impl BankReport {
     // The label of the module that the error belongs to, by its address or else by the memory
     // channel of its code.
     fn label(&self, alloc: Global, topology: &Topology) -> Result<Label, NoMemory>
-        ensures { IfOk result (λ label. label ≡ bank_label self.now topology.now) }
+        ensures label { IfOk result (λ label. label ≡ bank_label self.now topology.now) }
+        ensures valid { IfOk result (λ label. IsTrue (is_label_or_none label)) }
     {
         let (cap, status) = (Cap(self.cap), Status(self.status));
         let address = usable_address(cap, status, self.addr, Misc(self.misc));
@@ -73,12 +76,9 @@ impl BankReport {
         ensures valid { IfOk result IsValidItem }
     {
         let (cap, status) = (Cap(self.cap), Status(self.status));
-        let label = self.label(alloc, topology)?;
-        // So that the clause above can tell what holds of every label.
-        let _ = label.bytes();
         Ok(Item {
             class: class.into(),
-            label,
+            label: self.label(alloc, topology)?,
             page: usable_page(cap, status, self.addr, Misc(self.misc)),
             weight: weight_of(cap, status),
         })
@@ -87,9 +87,13 @@ impl BankReport {
 
 /// The name of the fact that a bank's snapshot gives, whatever the topology is. It is None exactly
 /// where the bank holds no error, and takes no memory.
-pub fn name_of_bank(bank: &BankReport) -> Option<Name>
-    ensures { (rows : List Row)
-        → result ≡ option_map (λ fact. fact.name) (bank_fact bank.now rows) }
+pub fn name_of_bank(bank: BankReport) -> Option<Name>
+    ensures name { (rows : List Row)
+        → result ≡ option_map (λ fact. fact.name) (bank_fact bank rows) }
+
+    // The fact is valid, whatever the topology is.
+    ensures valid { (rows : List Row) → IsTopology rows
+        → IfSome (bank_fact bank rows) IsValidFact }
 {
     match class_of(Cap(bank.cap), Status(bank.status)) {
         Some(_) => Some(bank.name()),

@@ -19,6 +19,7 @@ pub use block::fact_of_block;
 pub use entry::Entry;
 pub use fact::Fact;
 pub use items::{Item, Items, MOST_ITEMS, MOST_WEIGHT, PAGES};
-pub use laws::labels_are_of_their_sections;
+pub use laws::{labels_are_of_their_sections, numbers};
 pub use name::Name;
 pub use record::fact_of_record;
+pub use section::severity_class;

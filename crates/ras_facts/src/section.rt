@@ -1,6 +1,7 @@
 //! The item of a section that firmware reports.
 
-ghost use Rattle.std.specs.Prelude.{◌≡◌, ◌<◌, ◌^◌, Ok, IfOk, IfSome};
+ghost use Rattle.std.specs.Prelude.{◌≡◌, ◌<◌, ◌^◌, Ok, IfOk, IfSome, IsTrue};
+ghost use Rattle.dimm_topology.specs.Labels.{is_label_or_none};
 ghost use Rattle.ras_facts.specs.Reported.{severity_class, section_label, section_page, section_item};
 ghost use Rattle.ras_facts.specs.Valid.{IsValidItem, IsPage};
 
@@ -23,19 +24,17 @@ pub(crate) fn section_item(
     ensures item { IfOk result (λ item. item ≡ section_item topology.now read.now.severity (Ok read.now.section)) }
     ensures valid { IfOk result IsValidItem }
 {
-    let label = section_label(alloc, read.section, topology)?;
-    // So that the clause above can tell what holds of every label.
-    let _ = label.bytes();
     Ok(Item {
         class: severity_class(read.severity),
-        label,
+        label: section_label(alloc, read.section, topology)?,
         page: section_page(read.section),
         weight: 1,
     })
 }
 
-// The class of a section of this severity.
-fn severity_class(severity: u32) -> ItemClass
+/// The class of a section of this severity: 0 is recoverable, 1 fatal, 2 corrected and 3
+/// informational. (UEFI, appendix N, "Section Descriptor".)
+pub fn severity_class(severity: u32) -> ItemClass
     ensures { result ≡ severity_class severity }
 {
     match severity {
@@ -49,7 +48,8 @@ fn severity_class(severity: u32) -> ItemClass
 
 // The label of the module that owns the error of a section.
 fn section_label(alloc: Global, section: Section, topology: &Topology) -> Result<Label, NoMemory>
-    ensures { IfOk result (λ label. label ≡ section_label topology.now (Ok section)) }
+    ensures label { IfOk result (λ label. label ≡ section_label topology.now (Ok section)) }
+    ensures valid { IfOk result (λ label. IsTrue (is_label_or_none label)) }
 {
     let Section::Memory(memory) = section else {
         return Ok(Label::none());

@@ -1,6 +1,7 @@
 -- An event that counts what is made of its line, by the history that it is counted behind.
 use Rattle.std.proofs.Common.{◌≡◌, ℕ, Bool, true, false, ◌||◌, List, [], ◌∷◌, ◌++◌, Option, Some, Result, Ok, Err, OnOk, OnErr, refl, sym, ap, subst, ◌∙◌, inl, inr, arith}
 use Rattle.std.proofs.lemmas.Bool.Decides.{nat_tests}
+use Rattle.board_core.specs.Cause.{disk_call}
 use Rattle.board_core.specs.Clock.{Clock, Adds, Rests}
 use Rattle.board_core.specs.ClockLemmas.{adds_both, adds_weaker}
 use Rattle.board_core.specs.Stop.{Left, Begins, InOut}
@@ -20,10 +21,12 @@ use Rattle.ras_events.specs.Making.{Pieces, pieces_in}
 use Rattle.ras_events.specs.Preparing.{orders_along_entries, text_along}
 use Rattle.ras_events.specs.Texts.{event_text}
 use Rattle.ras_events.proofs.HistoryLemmas.{account_by_history, event_by_history, news_account}
-use Rattle.ras_run.specs.declared.exit.Exit.{Exit}
-use Rattle.ras_run.specs.declared.exit.Exit.TheVariants.{Done, Usage, BadLine, SourceFault, DiskFault, PrintFault, Damaged, Full, NoMemory, TooLong}
+use Rattle.ras_exit.specs.declared.exit.Exit.{Exit}
+use Rattle.ras_exit.specs.declared.exit.Exit.TheVariants.{Full, PrintFault}
+use Rattle.ras_exit.specs.Endings.{AnyFault, OnlyFault}
+use Rattle.ras_exit.proofs.EndingLemmas.{ends_weaker}
 use Rattle.ras_run.specs.Places.{has_no_room_for, lacks_room_for, news_after, standing_with_news}
-use Rattle.ras_run.specs.Taking.{MadeMoment, NewsMoment, Prints, TakesMade, TakesNews, count_output, has_no_room, standing_behind}
+use Rattle.ras_run.specs.Taking.{IsFull, MadeMoment, NewsMoment, Prints, TakesMade, TakesNews, count_output, has_no_room, standing_behind}
 use Rattle.ras_run.proofs.StandsLemmas.{adds_printed, begins_nothing, prints_same, prints_text}
 
 -- ---- room
@@ -102,27 +105,26 @@ text_told a now news made first text same first_is text_is =
 -- an event that finds no room, or no memory, before anything is done
 pub full_made : (history : History) (number : ℕ) (made : Pieces) (before after : Ledger) (told : Option Told) → before.account.state ≡ account_of history → HasNoRoomFor before.account.state made.entries
     → TakesMade history number made before (Err Full) after told told
-full_made history number made before after told is past =
-    (is_full_past history made before.journal.standing before.account.state (fresh_entries_in before.account.state made.entries) is refl past, prints_same told)
+full_made history number made before after told is past = record {
+  exit_is = refl;
+  lacks_is = is_full_past history made before.journal.standing before.account.state (fresh_entries_in before.account.state made.entries) is refl past;
+  none = prints_same told;
+}
 
 -- an event of which the news weren't kept
 pub news_refused : (history : History) (number : ℕ) (made : Pieces) (news : List Entry) (before now after after' : Ledger) (exit : Exit) (told told' : Option Told)
     → now.account.state ≡ before.account.state → now.journal.standing ≡ before.journal.standing → before.account.state ≡ account_of history → news ≡ fresh_entries_in before.account.state made.entries
     → TakesNews news now (Err exit) after told told' → TakesMade history number made before (Err exit) after' told told'
-news_refused history number made news before now after after' Done told told' same standing is news_are takes = absurd takes
-news_refused history number made news before now after after' Usage told told' same standing is news_are takes = absurd takes
-news_refused history number made news before now after after' (BadLine line why) told told' same standing is news_are takes = absurd takes
-news_refused history number made news before now after after' SourceFault told told' same standing is news_are takes = absurd takes
-news_refused history number made news before now after after' DiskFault told told' same standing is news_are takes = tt
-news_refused history number made news before now after after' PrintFault told told' same standing is news_are takes = absurd takes
-news_refused history number made news before now after after' (Damaged file place) told told' same standing is news_are takes = absurd takes
-news_refused history number made news before now after after' Full told told' same standing is news_are takes = (
-  is_full_journal history made before.journal.standing before.account.state news is news_are
-      (ap (λ (b : State). has_no_room before.journal.standing b news) (sym same) ∙ (ap (λ (t : Standing). has_no_room t now.account.state news) (sym standing) ∙ takes.0)),
-  takes.1,
-)
-news_refused history number made news before now after after' NoMemory told told' same standing is news_are takes = takes
-news_refused history number made news before now after after' TooLong told told' same standing is news_are takes = absurd takes
+news_refused history number made news before now after after' exit told told' same standing is news_are takes =
+    ends_weaker (IsFull exit (has_no_room now.journal.standing now.account.state news) told told') (IsFull exit (has_no_room_for history before.journal.standing made.entries) told told')
+    (Relates (Prints []) told told') (Relates (Prints []) told told') (OnlyFault disk_call) AnyFault exit
+    (λ full. record {
+      exit_is = full.exit_is;
+      lacks_is = is_full_journal history made before.journal.standing before.account.state news is news_are
+          (ap (λ (b : State). has_no_room before.journal.standing b news) (sym same) ∙ (ap (λ (t : Standing). has_no_room t now.account.state news) (sym standing) ∙ full.lacks_is));
+      none = full.none;
+    })
+    (λ memory none. none) (λ kind is. tt) takes
 
 -- an event whose news were kept, and whose text was printed or wasn't
 pub made_printed : (history : History) (number : ℕ) (made : Pieces) (news : List Entry) (before now after : Ledger) (printed : Result (Unit {0}) Exit) (text done : List ℕ) (told mid told' : Option Told)

@@ -28,9 +28,9 @@ use Rattle.ras_events.specs.Making.{Pieces}
 use Rattle.ras_events.specs.Preparing.{news_entries}
 use Rattle.ras_events.specs.Sizes.{IsFit}
 use Rattle.ras_events.proofs.NewsLemmas.{few_news, short_news, valid_news}
-use Rattle.ras_run.specs.Device.{LeavesDevice}
+use Rattle.ras_exit.specs.Device.{LeavesDevice}
 use Rattle.ras_run.specs.Taking.{CanBeKept, NewsMoment, Prints, has_no_room, standing_behind}
-use Rattle.ras_run.proofs.DeviceLemmas.{Beside, beside_same, beside_then, device_by, steps_relate, through_beside, through_failed}
+use Rattle.ras_exit.proofs.DeviceLemmas.{Beside, beside_same, beside_then, device_by, steps_relate, through_beside, through_failed}
 use Rattle.ras_run.proofs.StandsLemmas.{before_of, prints_beside, stands_on}
 
 -- ---- keeping a link leaves text and device

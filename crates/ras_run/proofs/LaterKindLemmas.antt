@@ -1,9 +1,9 @@
 -- What a line asks for that is taken is of a kind that a run takes, and its bytes are no more than
 -- the line's.
-use Rattle.std.proofs.Common.{◌≡◌, ℕ, zero, suc, ◌+◌, ◌*◌, ◌≤◌, ◌==◌, ◌||◌, Bool, true, false, cond, List, [], ◌∷◌, length, refl, arith, None, Result, Ok, Err, IfOk, codes, nat_le, nat_lt}
+use Rattle.std.proofs.Common.{◌≡◌, ℕ, ◌+◌, ◌*◌, ◌≤◌, ◌==◌, ◌||◌, Bool, true, false, cond, List, [], ◌∷◌, length, map, take, refl, sym, ap, subst, ◌∙◌, arith, None, Result, Ok, Err, IfOk, codes, nat_le, nat_lt}
 use Rattle.std.specs.List.{AllByRecursion, filter, list_any, onto_first, slice_split}
 use Rattle.std.specs.Option.{ok_or}
-use Rattle.std.specs.Prelude.{⊤, slice_index, slice_index_or}
+use Rattle.std.specs.Prelude.{⊤, slice_index}
 use Rattle.std.specs.Result.{result_ok}
 use Rattle.std.specs.Str.{bytes_eq}
 use Rattle.dimm_topology.specs.declared.row.Row.TheVariants.{Range}
@@ -16,10 +16,11 @@ use Rattle.ras_script.specs.declared.line.Line.{Line}
 use Rattle.ras_script.specs.declared.line.Line.TheVariants as asks
 use Rattle.ras_script.specs.declared.line.LineRefused.{LineRefused}
 use Rattle.ras_script.specs.declared.reader.TheConstants.{LONGEST_LINE}
-use Rattle.ras_script.specs.Fields.{hex_bytes_at, decimal_at, hexadecimal_at, label_word_at, limit_from_words, report_at}
+use Rattle.ras_script.specs.Fields.{hex_bytes_of, hex_u64_of, label_of, limit_of, number_of, report_of, u16_of, u64_of, u8_of}
 use Rattle.ras_script.specs.Kinds.{bank_asks, cpu_asks, module_asks, range_asks, place_asks, limit_asks, module_limit_asks, hest_asks, bert_asks, ghes_asks, retire_asks, restart_asks}
-use Rattle.ras_script.specs.Line.{Gives, kinds, line_named, line_of, line_of_words}
-use Rattle.ras_script.specs.Splitting.{words_of}
+use Rattle.ras_script.specs.Line.{Gives, ReadsLine, kinds, line_named, line_of, line_of_words}
+use Rattle.ras_script.specs.Splitting.{AreHeldWords, words_of}
+use Rattle.ras_script.specs.declared.splitting.TheConstants.{HELD_WORDS}
 use Rattle.ras_script.proofs.FieldLemmas.{then_within}
 use Rattle.ras_events.specs.Sizes.{IsShortLine}
 use Rattle.ras_run.specs.LaterKinds.{IsTaken, is_later, later_kinds, taken_line}
@@ -57,11 +58,6 @@ kept_short most p (word ∷ words) all = by (p word) (kept_short most p words al
 words_short : (line : List ℕ) → AreShort (length line) (words_of line)
 words_short line = kept_short (length line) (λ word. nat_lt 0 (length word)) (slice_split (λ b. b == 32) line) (parts_short (λ b. b == 32) line)
 
-word_short : (most : ℕ) (words : List (List ℕ)) (place : ℕ) → AreShort most words → length (slice_index_or words place []) ≤ most
-word_short most [] place all = omega arith
-word_short most (word ∷ words) zero all = all.0
-word_short most (word ∷ words) (suc place) all = word_short most words place all.1
-
 -- ---- bytes are no more than the digits of their word
 
 abbrev IsShort : ℕ → List ℕ → Type 0
@@ -73,10 +69,8 @@ read_short most word true decoded short is = tt
 read_short most word false (Err why) short is = tt
 read_short most word false (Ok bytes) short is = (let twice : length word ≡ 2 * length bytes = (decode_of-ok word bytes is).2 in omega arith)
 
-bytes_short : (most : ℕ) (words : List (List ℕ)) (place : ℕ) → AreShort most words → IfOk (hex_bytes_at words place) (IsShort most)
-bytes_short most words place all =
-    let word : List ℕ = slice_index_or words place [] in
-    read_short most word (length word == 0) (decode_of word) (word_short most words place all) refl
+bytes_short : (most : ℕ) (word : List ℕ) → length word ≤ most → IfOk (hex_bytes_of word) (IsShort most)
+bytes_short most word short = read_short most word (length word == 0) (decode_of word) short refl
 
 -- ---- each kind that is taken
 
@@ -92,91 +86,86 @@ IsGood most line = IsTaken line × HasShortBytes most line
 
 module _ (most : ℕ) where
   -- readings one after another, of whichever values
-  if_words : (b : Bool) (read : Result Line LineRefused) → IfOk read (IsGood most) → IfOk (cond b read (Err LineRefused.Words)) (IsGood most)
-  if_words true read h = h
-  if_words false read h = tt
-
   then_any : {A : Type 0} (read : Result A LineRefused) (next : A → Result Line LineRefused) → ((x : A) → IfOk (next x) (IsGood most)) → IfOk (read >>= next) (IsGood most)
   then_any (Ok x) next h = h x
   then_any (Err why) next h = tt
 
   bank-good : (words : List (List ℕ)) → IfOk (bank_asks words) (IsGood most)
-  bank-good words = if_words (length words == 10) _ (
-      then_any (report_at words 0) _ (λ report.
-      (tt, tt)))
+  bank-good words = then_any (report_of words) _ (λ report. (tt, tt))
 
   cpu-good : (words : List (List ℕ)) → IfOk (cpu_asks words) (IsGood most)
-  cpu-good words = if_words (length words == 2) _ (
-      then_any (decimal_at words 0 65535) _ (λ cpu.
-      then_any (decimal_at words 1 255) _ (λ socket.
-      (tt, tt))))
+  cpu-good (cpu ∷ socket ∷ []) =
+      then_any (u16_of cpu) _ (λ cpu.
+      then_any (u8_of socket) _ (λ socket.
+      (tt, tt)))
+  cpu-good words = tt
 
   module-good : (words : List (List ℕ)) → IfOk (module_asks words) (IsGood most)
-  module-good words = if_words (length words == 4) _ (
-      then_any (label_word_at words 0) _ (λ label.
-      then_any (decimal_at words 1 255) _ (λ socket.
-      then_any (decimal_at words 2 255) _ (λ bank.
-      then_any (decimal_at words 3 14) _ (λ channel.
-      (tt, tt))))))
+  module-good (label ∷ socket ∷ bank ∷ channel ∷ []) =
+      then_any (label_of label) _ (λ label.
+      then_any (u8_of socket) _ (λ socket.
+      then_any (u8_of bank) _ (λ bank.
+      then_any (number_of 14 channel) _ (λ channel.
+      (tt, tt)))))
+  module-good words = tt
 
   range-good : (words : List (List ℕ)) → IfOk (range_asks words) (IsGood most)
-  range-good words = if_words (length words == 3) _ (
-      then_any (label_word_at words 0) _ (λ label.
-      then_any (hexadecimal_at words 1) _ (λ first.
-      then_any (hexadecimal_at words 2) _ (λ last.
-      upright label first last (nat_le first last)))))
+  range-good (label ∷ first ∷ last ∷ []) =
+      then_any (label_of label) _ (λ label.
+      then_any (hex_u64_of first) _ (λ first.
+      then_any (hex_u64_of last) _ (λ last.
+      upright label first last (nat_le first last))))
     where
       upright : (label : List ℕ) (first last : ℕ) (b : Bool) → IfOk (cond b (Ok (Line.Row (Range label first last))) (Err LineRefused.Number)) (IsGood most)
       upright label first last true = (tt, tt)
       upright label first last false = tt
+  range-good words = tt
 
   place-good : (words : List (List ℕ)) → IfOk (place_asks words) (IsGood most)
-  place-good words = if_words (length words == 4) _ (
-      then_any (label_word_at words 0) _ (λ label.
-      then_any (decimal_at words 1 65535) _ (λ node.
-      then_any (decimal_at words 2 65535) _ (λ card.
-      then_any (decimal_at words 3 65535) _ (λ number.
-      (tt, tt))))))
+  place-good (label ∷ node ∷ card ∷ number ∷ []) =
+      then_any (label_of label) _ (λ label.
+      then_any (u16_of node) _ (λ node.
+      then_any (u16_of card) _ (λ card.
+      then_any (u16_of number) _ (λ number.
+      (tt, tt)))))
+  place-good words = tt
 
   limit-good : (words : List (List ℕ)) → IfOk (limit_asks words) (IsGood most)
-  limit-good words = if_words (length words == 2) _ (
-      then_any (limit_from_words words) _ (λ limit.
-      (tt, tt)))
+  limit-good words = then_any (limit_of words) _ (λ limit. (tt, tt))
 
   module_limit-good : (words : List (List ℕ)) → IfOk (module_limit_asks words) (IsGood most)
-  module_limit-good words = if_words (length words == 2) _ (
-      then_any (limit_from_words words) _ (λ limit.
-      (tt, tt)))
+  module_limit-good words = then_any (limit_of words) _ (λ limit. (tt, tt))
 
   hest-good : (words : List (List ℕ)) → IfOk (hest_asks words) (IsGood most)
-  hest-good words = if_words (length words == 1) _ (
-      then_any (hex_bytes_at words 0) _ (λ bytes.
-      (tt, tt)))
+  hest-good (bytes ∷ []) = then_any (hex_bytes_of bytes) _ (λ bytes. (tt, tt))
+  hest-good words = tt
 
   bert-good : (words : List (List ℕ)) → AreShort most words → IfOk (bert_asks words) (IsGood most)
-  bert-good words short = if_words (length words == 4) _ (
-      then_any (decimal_at words 0 (18446744073709551615)) _ (λ boot.
-      then_any (decimal_at words 1 (18446744073709551615)) _ (λ seconds.
-      then_any (hex_bytes_at words 2) _ (λ table.
-      then_within (IsShort most) (IsGood most) (hex_bytes_at words 3) _ (bytes_short most words 3 short) (λ region region_short.
-      (tt, region_short))))))
+  bert-good (boot ∷ seconds ∷ table ∷ region ∷ []) short =
+      then_any (u64_of boot) _ (λ boot.
+      then_any (u64_of seconds) _ (λ seconds.
+      then_any (hex_bytes_of table) _ (λ table.
+      then_within (IsShort most) (IsGood most) (hex_bytes_of region) _ (bytes_short most region short.1.1.1.0) (λ region region_short.
+      (tt, region_short)))))
+  bert-good words short = tt
 
   ghes-good : (words : List (List ℕ)) → AreShort most words → IfOk (ghes_asks words) (IsGood most)
-  ghes-good words short = if_words (length words == 5) _ (
-      then_any (decimal_at words 0 (18446744073709551615)) _ (λ boot.
-      then_any (decimal_at words 1 (18446744073709551615)) _ (λ seconds.
-      then_any (decimal_at words 2 65535) _ (λ source.
-      then_any (decimal_at words 3 (18446744073709551615)) _ (λ number.
-      then_within (IsShort most) (IsGood most) (hex_bytes_at words 4) _ (bytes_short most words 4 short) (λ bytes bytes_are.
-      (tt, bytes_are)))))))
+  ghes-good (boot ∷ seconds ∷ source ∷ number ∷ bytes ∷ []) short =
+      then_any (u64_of boot) _ (λ boot.
+      then_any (u64_of seconds) _ (λ seconds.
+      then_any (u16_of source) _ (λ source.
+      then_any (u64_of number) _ (λ number.
+      then_within (IsShort most) (IsGood most) (hex_bytes_of bytes) _ (bytes_short most bytes short.1.1.1.1.0) (λ bytes bytes_are.
+      (tt, bytes_are))))))
+  ghes-good words short = tt
 
   retire-good : (words : List (List ℕ)) → IfOk (retire_asks words) (IsGood most)
-  retire-good words = if_words (length words == 1) _ (
-      then_any (decimal_at words 0 (18446744073709551615)) _ (λ boot.
-      (tt, tt)))
+  retire-good (boot ∷ []) = then_any (u64_of boot) _ (λ boot. (tt, tt))
+  retire-good words = tt
 
   restart-good : (words : List (List ℕ)) → IfOk (restart_asks words) (IsGood most)
-  restart-good words = if_words (length words == 0) (Ok Line.Restart) (tt, tt)
+  restart-good [] = (tt, tt)
+  restart-good words = tt
 
   -- ---- a kind by its name: one that is taken, or one that is later
 
@@ -220,17 +209,13 @@ module _ (most : ℕ) where
   comment-good true event h = (tt, tt)
   comment-good false event h = h
 
-  line-good : (kind : List ℕ) (words : List (List ℕ)) (later : Bool) → AreShort most words → list_any (bytes_eq kind) later_kinds ≡ later
-      → IfOk (cond later (Err LineRefused.Kind) (line_of_words (kind ∷ words))) (IsGood most)
-  line-good kind words true short is = tt
-  line-good kind words false short is = comment-good (slice_index kind 0 == 35) (line_named kinds kind words) (named-good kind words short is)
+  line-good : (words : List (List ℕ)) (later : Bool) → AreShort most words → is_later words ≡ later → IfOk (cond later (Err LineRefused.Kind) (line_of_words words)) (IsGood most)
+  line-good words true short is = tt
+  line-good [] false short is = (tt, tt)
+  line-good (kind ∷ words) false short is = comment-good (slice_index kind 0 == 35) (line_named kinds kind words) (named-good kind words short.1 is)
 
 lines-good : (bytes : List ℕ) → IfOk (taken_line bytes) (IsGood (length bytes))
-lines-good bytes = by (words_of bytes) refl (words_short bytes)
-  where
-    by : (words : List (List ℕ)) → words_of bytes ≡ words → AreShort (length bytes) words → IfOk (taken_line bytes) (IsGood (length bytes))
-    by [] is all = rw is (tt, tt)
-    by (kind ∷ words) is all = rw is (line-good (length bytes) kind words (list_any (bytes_eq kind) later_kinds) all.1 refl)
+lines-good bytes = line-good (length bytes) (words_of bytes) (is_later (words_of bytes)) (words_short bytes) refl
 
 each : (P Q : Line → Type 0) (read : Result Line LineRefused) → ((line : Line) → P line → Q line) → IfOk read P → IfOk read Q
 each P Q (Ok line) gives h = gives line h
@@ -257,12 +242,34 @@ lines-short : (bytes : List ℕ) → length bytes ≤ LONGEST_LINE → IfOk (tak
 lines-short bytes le =
     each (IsGood (length bytes)) IsShortLine (taken_line bytes) (λ line good. short_line (length bytes) line le good.1) (lines-good bytes)
 
-read_good : (P : Line → Type 0) (bytes : List ℕ) (read : Result Line LineRefused) → IfOk (taken_line bytes) P → is_later bytes ≡ false → Gives read (line_of bytes) → IfOk read P
-read_good P bytes (Ok line) all other is = rw (other, is) at all
-read_good P bytes (Err why) all other is = tt
+given : (P : Line → Type 0) (read line : Result Line LineRefused) → Gives read line → IfOk line P → IfOk read P
+given P (Ok read) line is all = rw is at all
+given P (Err why) line is all = tt
 
-pub read-taken : (bytes : List ℕ) (read : Result Line LineRefused) → is_later bytes ≡ false → Gives read (line_of bytes) → IfOk read IsTaken
-read-taken bytes read other is = read_good IsTaken bytes read (lines-taken bytes) other is
+-- ---- the words that are held
 
-pub read-short : (bytes : List ℕ) (read : Result Line LineRefused) → length bytes ≤ LONGEST_LINE → is_later bytes ≡ false → Gives read (line_of bytes) → IfOk read IsShortLine
-read-short bytes read short other is = read_good IsShortLine bytes read (lines-short bytes short) other is
+pub held_words : {A : Type 0} (f : A → List ℕ) (bytes : List ℕ) (items words : List A) → AreHeldWords (map f items) bytes → words ≡ items → AreHeldWords (map f words) bytes
+held_words f bytes items words are same = ap (map f) same ∙ are
+
+-- the first word tells the kind
+later_first : (words : List (List ℕ)) → is_later (take HELD_WORDS words) ≡ is_later words
+later_first [] = refl
+later_first (kind ∷ words) = refl
+
+later_held : (words : List (List ℕ)) (bytes : List ℕ) → AreHeldWords words bytes → is_later (words_of bytes) ≡ is_later words
+later_held words bytes held = sym (ap is_later held ∙ later_first (words_of bytes))
+
+-- a line of a later kind is refused
+pub later_refused : (words : List (List ℕ)) (bytes : List ℕ) → AreHeldWords words bytes → is_later words ≡ true → taken_line bytes ≡ Err LineRefused.Kind
+later_refused words bytes held is = ap (λ b. cond b (Err LineRefused.Kind) (line_of bytes)) (later_held words bytes held ∙ is)
+
+-- what is read of another line is what it asks for
+pub read_is : (words : List (List ℕ)) (bytes : List ℕ) (read : Result Line LineRefused) → AreHeldWords words bytes → is_later words ≡ false → ReadsLine read bytes → Gives read (taken_line bytes)
+read_is words bytes read held other gives =
+    subst (Gives read) (sym (ap (λ b. cond b (Err LineRefused.Kind) (line_of bytes)) (later_held words bytes held ∙ other))) gives
+
+pub asks_taken : (bytes : List ℕ) (read : Result Line LineRefused) → Gives read (taken_line bytes) → IfOk read IsTaken
+asks_taken bytes read gives = given IsTaken read (taken_line bytes) gives (lines-taken bytes)
+
+pub asks_short : (bytes : List ℕ) (read : Result Line LineRefused) → length bytes ≤ LONGEST_LINE → Gives read (taken_line bytes) → IfOk read IsShortLine
+asks_short bytes read short gives = given IsShortLine read (taken_line bytes) gives (lines-short bytes short)

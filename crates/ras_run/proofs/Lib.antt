@@ -1,5 +1,3 @@
-pub mod FaultLemmas
-pub mod DeviceLemmas
 pub mod PrintLemmas
 pub mod StandsLemmas
 pub mod KeepLemmas

@@ -10,7 +10,7 @@ use Rattle.journal_format.specs.Links.{link_bytes}
 use Rattle.ras_script.specs.declared.line.Line.{Line}
 use Rattle.ras_events.specs.declared.event.Event.{Event}
 use Rattle.ras_events.specs.declared.event.Event.TheVariants.{Nothing, Settled, Counted, Reopened}
-use Rattle.ras_events.specs.declared.reason.Reason.{Reason}
+use Rattle.ras_exit.specs.declared.reason.Reason.{Reason}
 use Rattle.ras_events.specs.Events.{event_of}
 use Rattle.ras_events.specs.Making.{Pieces}
 use Rattle.ras_events.specs.Reports.{NumberedLine, Place, event_at}
@@ -18,8 +18,8 @@ use Rattle.ras_events.specs.Sizes.{IsFit, IsFitEvent}
 use Rattle.ras_recover.specs.DiskCalls.{IsBeginning, IsReading, Makes}
 use Rattle.ras_recover.specs.OpeningCalls.{IsRecovery}
 use Rattle.ras_ledger.proofs.KeepingCallsLemmas.{is_some_keeping, some_keeping}
-use Rattle.ras_run.specs.declared.exit.Exit.{Exit}
-use Rattle.ras_run.specs.declared.exit.Exit.TheVariants.{Full}
+use Rattle.ras_exit.specs.declared.exit.Exit.{Exit}
+use Rattle.ras_exit.specs.declared.exit.Exit.TheVariants.{Full}
 use Rattle.ras_run.specs.declared.run.Run.{Run}
 use Rattle.ras_run.specs.LineCalls.{AreCallsAt, AreEventCalls, AreNewsCalls}
 use Rattle.ras_run.specs.Places.{Start, history_at, has_no_room_for, news_after}

@@ -18,48 +18,38 @@ use Rattle.ras_texts.specs.Orders.{standing_lines}
 use Rattle.ras_texts.specs.Text.{done_line}
 use Rattle.ras_events.specs.declared.event.Event.{Event}
 use Rattle.ras_events.specs.declared.event.Event.TheVariants.{Nothing, Settled, Counted, Reopened}
-use Rattle.ras_events.specs.declared.reason.Reason.{Reason}
+use Rattle.ras_exit.specs.declared.reason.Reason.{Reason}
 use Rattle.ras_events.specs.Events.{event_of, settings_after}
 use Rattle.ras_events.specs.Making.{Pieces}
 use Rattle.ras_events.specs.Reports.{NumberedLine, Place, event_at}
 use Rattle.ras_events.specs.Sizes.{IsFit, IsFitEvent}
-use Rattle.ras_run.specs.declared.exit.Exit.{Exit}
-use Rattle.ras_run.specs.declared.exit.Exit.TheVariants.{Done, Usage, BadLine, SourceFault, DiskFault, PrintFault, Damaged, Full, NoMemory, TooLong}
+use Rattle.ras_exit.specs.declared.exit.Exit.{Exit}
+use Rattle.ras_exit.specs.declared.exit.Exit.TheVariants.{BadLine, Full, NoMemory}
 use Rattle.ras_run.specs.declared.run.Run.{Run}
-use Rattle.ras_run.specs.Causes.{BoardCause}
+use Rattle.ras_exit.specs.Causes.{BoardCause}
+use Rattle.ras_exit.specs.Endings.{AnyFault, IsStop, unread_exit}
+use Rattle.ras_exit.proofs.EndingLemmas.{ends_weaker}
 use Rattle.ras_run.specs.Output.{event_output, output_at}
 use Rattle.ras_run.specs.Places.{Start, account_at, history_at, has_no_room_for, news_after, standing_with_news}
-use Rattle.ras_run.specs.Status.{event_refusal}
-use Rattle.ras_run.specs.Taking.{AfterLine, IsAccepted, IsPrintExit, IsRunAfter, IsStop, LineMoment, MadeMoment, Prints, ReopenMoment, Reopens, TakesLine, TakesMade, unread_exit}
+use Rattle.ras_run.specs.Status.{event_refusal, refusal_at}
+use Rattle.ras_run.specs.Taking.{AfterLine, IsAccepted, IsFull, IsPrintExit, IsRunAfter, LineMoment, MadeMoment, Prints, ReopenMoment, Reopens, TakesLine, TakesMade}
 use Rattle.ras_run.proofs.PlaceLemmas.{account_after, event_is, run_after}
-use Rattle.ras_run.proofs.StandsLemmas.{adds_printed, prints_same, prints_text}
+use Rattle.ras_run.proofs.StandsLemmas.{adds_printed, print_ends, prints_same, prints_text}
 
 -- ---- a line that is refused
 
 pub unread : (start : Start) (before : List NumberedLine) (number : ℕ) (read : Result Line LineRefused) (why : LineRefused) (run : Run) (told : Option Told) → Gives (Err why) read
     → TakesLine start (before, (number, read)) (Err (unread_exit number why)) run told told
 unread start before number read refused.NoMemory run told is = prints_same told
-unread start before number read refused.Kind run told is = rw is (refl, prints_same told)
-unread start before number read refused.Words run told is = rw is (refl, prints_same told)
-unread start before number read refused.Number run told is = rw is (refl, prints_same told)
-unread start before number read refused.Hex run told is = rw is (refl, prints_same told)
-unread start before number read refused.Label run told is = rw is (refl, prints_same told)
+unread start before number read why run told is = rw is (refl, prints_same told)
 
 pub unread_stop : (number : ℕ) (why : LineRefused) → IsStop (unread_exit number why)
 unread_stop number refused.NoMemory = tt
-unread_stop number refused.Kind = tt
-unread_stop number refused.Words = tt
-unread_stop number refused.Number = tt
-unread_stop number refused.Hex = tt
-unread_stop number refused.Label = tt
+unread_stop number why = tt
 
 pub unread_cause : (number : ℕ) (why : LineRefused) (faults : Faults) → BoardCause (unread_exit number why) faults faults
 unread_cause number refused.NoMemory faults = refl
-unread_cause number refused.Kind faults = refl
-unread_cause number refused.Words faults = refl
-unread_cause number refused.Number faults = refl
-unread_cause number refused.Hex faults = refl
-unread_cause number refused.Label faults = refl
+unread_cause number why faults = refl
 
 pub event_refused : (start : Start) (before : List NumberedLine) (number : ℕ) (line : Line) (why : Reason) (run after : Run) (told : Option Told) → IsRunAfter start before run → event_of run.settings line ≡ Err why
     → TakesLine start (before, (number, Ok line)) (Err (BadLine number why)) after told told
@@ -116,17 +106,8 @@ takes_settled start before number line run after (Ok over) told told' is asked s
   run_after start before number line Settled run after is asked settings (ap (λ (l : Ledger). l.account.state) ledger ∙ is.account) (ap (λ (l : Ledger). l.journal.standing) ledger ∙ is.standing),
   subst (λ bytes. Relates (Prints bytes) told told') (sym (output_is start before number line Settled run is asked tt)) (prints_text (done_line number) told told told' (prints_same told) steps),
 )
-takes_settled start before number line run after (Err Done) told told' is asked settings ledger steps same exit = absurd exit
-takes_settled start before number line run after (Err Usage) told told' is asked settings ledger steps same exit = absurd exit
-takes_settled start before number line run after (Err (BadLine n why)) told told' is asked settings ledger steps same exit = absurd exit
-takes_settled start before number line run after (Err SourceFault) told told' is asked settings ledger steps same exit = absurd exit
-takes_settled start before number line run after (Err DiskFault) told told' is asked settings ledger steps same exit = absurd exit
-takes_settled start before number line run after (Err PrintFault) told told' is asked settings ledger steps same exit = tt
-takes_settled start before number line run after (Err (Damaged file at)) told told' is asked settings ledger steps same exit = absurd exit
-takes_settled start before number line run after (Err Full) told told' is asked settings ledger steps same exit = absurd exit
-takes_settled start before number line run after (Err NoMemory) told told' is asked settings ledger steps same exit =
-    subst (λ (o : Option Told). Relates (Prints []) told o) (sym (same refl)) (prints_same told)
-takes_settled start before number line run after (Err TooLong) told told' is asked settings ledger steps same exit = absurd exit
+takes_settled start before number line run after (Err why) told told' is asked settings ledger steps same exit =
+    print_ends ((refusal_at start (before, (number, Ok line)) ≡ Some why) × Relates (Prints []) told told') why told told' (λ memory. same (ap (λ (e : Exit). Err e) memory)) exit
 
 pub settled_moments : (start : Start) (before : List NumberedLine) (number : ℕ) (line : Line) (run : Run) (told : Option Told) (clock clock' : Clock) (t : Told)
     → IsRunAfter start before run → event_of run.settings line ≡ Ok Settled → Stands run.ledger.journal.standing run.ledger.account.state told clock → told ≡ Some t
@@ -156,17 +137,15 @@ takes_counted start before number line made run after ledger (Ok over) told told
       (ap (λ (l : Ledger). l.journal.standing) same ∙ (takes.2 ∙ ap (λ standing. standing_with_news (history_at start before) standing (news_after (history_at start before) made.entries)) is.standing)),
   subst (λ bytes. Relates (Prints bytes) told told') (sym (output_is start before number line (Counted made) run is asked fit)) takes.3,
 )
-takes_counted start before number line made run after ledger (Err Done) told told' is asked fit settings same takes = absurd takes
-takes_counted start before number line made run after ledger (Err Usage) told told' is asked fit settings same takes = absurd takes
-takes_counted start before number line made run after ledger (Err (BadLine n why)) told told' is asked fit settings same takes = absurd takes
-takes_counted start before number line made run after ledger (Err SourceFault) told told' is asked fit settings same takes = absurd takes
-takes_counted start before number line made run after ledger (Err DiskFault) told told' is asked fit settings same takes = tt
-takes_counted start before number line made run after ledger (Err PrintFault) told told' is asked fit settings same takes = tt
-takes_counted start before number line made run after ledger (Err (Damaged file at)) told told' is asked fit settings same takes = absurd takes
-takes_counted start before number line made run after ledger (Err Full) told told' is asked fit settings same takes =
-    (ap (event_refusal start (before, (number, Ok line))) (here start before number line (Counted made) run is asked fit) ∙ count_refusal start before number line made run true is takes.0, takes.1)
-takes_counted start before number line made run after ledger (Err NoMemory) told told' is asked fit settings same takes = takes
-takes_counted start before number line made run after ledger (Err TooLong) told told' is asked fit settings same takes = absurd takes
+takes_counted start before number line made run after ledger (Err why) told told' is asked fit settings same takes =
+    ends_weaker (IsFull why (has_no_room_for (history_at start before) run.ledger.journal.standing made.entries) told told') ((refusal_at start (before, (number, Ok line)) ≡ Some why) × Relates (Prints []) told told')
+    (Relates (Prints []) told told') (Relates (Prints []) told told') AnyFault AnyFault why
+    (λ full. (
+      ap (event_refusal start (before, (number, Ok line))) (here start before number line (Counted made) run is asked fit)
+          ∙ (count_refusal start before number line made run true is full.lacks_is ∙ ap (λ (e : Exit). Some e) (sym full.exit_is)),
+      full.none,
+    ))
+    (λ memory none. none) (λ kind any. any) takes
 
 counted_moment : (start : Start) (before : List NumberedLine) (number : ℕ) (line : Line) (made : Pieces) (run : Run) (left now : Left) → IsRunAfter start before run → event_of run.settings line ≡ Ok (Counted made) → IsFit made
     → MadeMoment (history_at start before) number made run.ledger left now → LineMoment start (before, (number, Ok line)) left now
@@ -194,16 +173,9 @@ takes_reopened start before number line run after ledger (Ok over) told told' is
   subst (λ bytes. Relates (Prints bytes) told told')
       (ap (λ (a : State). standing_lines a ++ done_line number) is.account ∙ sym (output_is start before number line Reopened run is asked tt)) takes.2,
 )
-takes_reopened start before number line run after ledger (Err Done) told told' is asked settings same takes = absurd takes
-takes_reopened start before number line run after ledger (Err Usage) told told' is asked settings same takes = absurd takes
-takes_reopened start before number line run after ledger (Err (BadLine n why)) told told' is asked settings same takes = absurd takes
-takes_reopened start before number line run after ledger (Err SourceFault) told told' is asked settings same takes = absurd takes
-takes_reopened start before number line run after ledger (Err DiskFault) told told' is asked settings same takes = tt
-takes_reopened start before number line run after ledger (Err PrintFault) told told' is asked settings same takes = tt
-takes_reopened start before number line run after ledger (Err (Damaged file at)) told told' is asked settings same takes = absurd takes
-takes_reopened start before number line run after ledger (Err Full) told told' is asked settings same takes = absurd takes
-takes_reopened start before number line run after ledger (Err NoMemory) told told' is asked settings same takes = takes
-takes_reopened start before number line run after ledger (Err TooLong) told told' is asked settings same takes = absurd takes
+takes_reopened start before number line run after ledger (Err why) told told' is asked settings same takes =
+    ends_weaker ⊥ ((refusal_at start (before, (number, Ok line)) ≡ Some why) × Relates (Prints []) told told')
+    (Relates (Prints []) told told') (Relates (Prints []) told told') AnyFault AnyFault why (λ none. absurd none) (λ memory none. none) (λ kind any. any) takes
 
 pub reopened_moments : (start : Start) (before : List NumberedLine) (number : ℕ) (line : Line) (run : Run) (left : Left) (clock clock' : Clock)
     → IsRunAfter start before run → event_of run.settings line ≡ Ok Reopened

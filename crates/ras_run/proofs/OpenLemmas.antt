@@ -1,5 +1,6 @@
 -- The journal opened, at the start of a run and in the midst of one.
 use Rattle.std.proofs.Common.{◌≡◌, ℕ, ◌≤◌, List, [], ◌++◌, Option, None, Some, IfSome, Result, Ok, Err, OnOk, OnErr, refl, sym, ap, subst, ◌∙◌, inl, inr, append-nil, arith}
+use Rattle.std.specs.Prelude.{⊤}
 use Rattle.erst_store.specs.Store.{Stored}
 use Rattle.board_core.specs.Cause.{Faults, FailsAs, disk_call}
 use Rattle.board_core.specs.Clock.{Clock, Adds, Rests}
@@ -10,7 +11,7 @@ use Rattle.ras_account.specs.Account.{State, account_of}
 use Rattle.ras_account.specs.History.{empty}
 use Rattle.ras_journal.specs.declared.standing.Standing.{Standing}
 use Rattle.ras_journal.specs.Appending.{Before}
-use Rattle.ras_journal.specs.Recovered.{Refusal, damaged, position_of, recovered, too_long}
+use Rattle.ras_journal.specs.Recovered.{Refusal, position_of, recovered}
 use Rattle.ras_recover.specs.Opening.{IsOpened, Opening, standing_opened}
 use Rattle.ras_recover.specs.OpeningCalls.{AfterOpening, AfterRecovery}
 use Rattle.ras_recover.specs.declared.refused.OpenRefused.{OpenRefused}
@@ -20,13 +21,16 @@ use Rattle.ras_ledger.specs.Keeping.{Stands}
 use Rattle.ras_ledger.specs.declared.ledger.Ledger.{Ledger}
 use Rattle.ras_texts.specs.Orders.{standing_lines}
 use Rattle.ras_texts.specs.Text.{done_line}
-use Rattle.ras_run.specs.declared.exit.Exit.{Exit}
-use Rattle.ras_run.specs.declared.exit.Exit.TheVariants.{Done, Usage, BadLine, SourceFault, DiskFault, PrintFault, Damaged, Full, NoMemory, TooLong}
-use Rattle.ras_run.specs.Causes.{BoardCause}
-use Rattle.ras_run.specs.Device.{KeepsDevice, LeavesDevice}
-use Rattle.ras_run.specs.Taking.{IsStop, KeepsFiles, KeepsRefused, Opens, Prints, ReopenMoment, Reopens, refusal_exit, reopen_output}
-use Rattle.ras_run.proofs.DeviceLemmas.{StoreIsLeft, device_by}
-use Rattle.ras_run.proofs.FaultLemmas.{raised, same_faults}
+use Rattle.ras_exit.specs.declared.exit.Exit.{Exit}
+use Rattle.ras_exit.specs.declared.exit.Exit.TheVariants.{PrintFault, Damaged, NoMemory}
+use Rattle.ras_exit.specs.Endings.{AnyFault, IsStop, OnlyFault}
+use Rattle.ras_exit.proofs.EndingLemmas.{ends_weaker}
+use Rattle.ras_exit.specs.Causes.{BoardCause}
+use Rattle.ras_exit.specs.Device.{KeepsDevice, LeavesDevice}
+use Rattle.ras_run.specs.Files.{KeepsFiles, KeepsRefused, refusal_exit}
+use Rattle.ras_run.specs.Taking.{Opens, Prints, ReopenMoment, Reopens, reopen_output, unopened_exit}
+use Rattle.ras_exit.proofs.DeviceLemmas.{StoreIsLeft, device_by}
+use Rattle.ras_exit.proofs.FaultLemmas.{raised, same_faults}
 use Rattle.ras_run.proofs.StandsLemmas.{adds_printed, before_of, begins_nothing, prints_text, stands_by}
 
 -- ---- what an opening tells
@@ -68,17 +72,17 @@ opening_device told told' a b law after stops =
 
 -- ---- a refusal
 
-pub opens_refused : (why : OpenRefused) (held : Result State Refusal) → Refuses why held → Opens (Err (refusal_exit why)) held
-opens_refused opening.Disk held refuses = tt
-opens_refused opening.TooLong held refuses = refuses
-opens_refused (opening.Damaged file place) held refuses = refuses
+pub opens_refused : (why : OpenRefused) (held : Result State Refusal) → Refuses why held → Opens (Err (unopened_exit why)) held
+opens_refused opening.Disk held refuses = refl
+opens_refused opening.TooLong held refuses = ap (λ (h : Result State Refusal). refusal_exit h) refuses
+opens_refused (opening.Damaged file place) held refuses = ap (λ (h : Result State Refusal). refusal_exit h) refuses.is ∙ ap (λ n. Some (Damaged n place)) (sym refuses.number_is)
 opens_refused opening.NoMemory held refuses = tt
 
-pub told_refused : (why : OpenRefused) (told : Option Told) → IfSome told (λ t. Refuses why (recovered t.here.file0 t.here.file1)) → IfSome told (λ t. Opens (Err (refusal_exit why)) (recovered t.here.file0 t.here.file1))
+pub told_refused : (why : OpenRefused) (told : Option Told) → IfSome told (λ t. Refuses why (recovered t.here.file0 t.here.file1)) → IfSome told (λ t. Opens (Err (unopened_exit why)) (recovered t.here.file0 t.here.file1))
 told_refused why None refuses = tt
 told_refused why (Some t) refuses = opens_refused why (recovered t.here.file0 t.here.file1) refuses
 
-memory_alone : (why : OpenRefused) → refusal_exit why ≡ NoMemory → why ≡ opening.NoMemory
+memory_alone : (why : OpenRefused) → unopened_exit why ≡ NoMemory → why ≡ opening.NoMemory
 memory_alone opening.Disk is = cc
 memory_alone opening.TooLong is = cc
 memory_alone (opening.Damaged file place) is = cc
@@ -88,22 +92,18 @@ recovery_keeps : (old new : Told) → AfterRecovery old new → KeepsFiles old n
 recovery_keeps old new after = record { file0 = after.file0; file1 = after.file1 }
 
 -- where memory runs out, both files are told as before
-pub memory_kept : (T : Type 0) (why : OpenRefused) (exit : Exit) (told told' : Option Told) → exit ≡ refusal_exit why
+pub memory_kept : (T : Type 0) (why : OpenRefused) (exit : Exit) (told told' : Option Told) → exit ≡ unopened_exit why
     → (◌≡◌ {A = Result T OpenRefused} (Err why) (Err opening.NoMemory) → Relates AfterRecovery told told') → exit ≡ NoMemory → Relates KeepsFiles told told'
 memory_kept T why exit told told' is kept memory =
     weaker AfterRecovery KeepsFiles told told' recovery_keeps (kept (ap (λ (w : OpenRefused). Err w) (memory_alone why (sym is ∙ memory))))
 
-pub stop_refused : (why : OpenRefused) → IsStop (refusal_exit why)
+pub stop_refused : (why : OpenRefused) → IsStop (unopened_exit why)
 stop_refused opening.Disk = tt
-stop_refused opening.TooLong = tt
-stop_refused (opening.Damaged file place) = tt
-stop_refused opening.NoMemory = tt
+stop_refused why = tt
 
-pub cause_refused : (T : Type 0) (why : OpenRefused) (before now : Faults) → FailsAs disk_call before now (open_failure {T = T} (Err why)) → BoardCause (refusal_exit why) before now
+pub cause_refused : (T : Type 0) (why : OpenRefused) (before now : Faults) → FailsAs disk_call before now (open_failure {T = T} (Err why)) → BoardCause (unopened_exit why) before now
 cause_refused T opening.Disk before now cause = raised disk_call before now cause
-cause_refused T opening.TooLong before now cause = same_faults disk_call before now cause
-cause_refused T (opening.Damaged file place) before now cause = same_faults disk_call before now cause
-cause_refused T opening.NoMemory before now cause = same_faults disk_call before now cause
+cause_refused T why before now cause = same_faults disk_call before now cause
 
 -- ---- over a journal that stands
 
@@ -183,16 +183,10 @@ module _ (number : ℕ) (before after : Ledger) (told told' : Option Told) (cloc
   held = (before_of before.journal.standing before.account.state told clock t stands is).at.recovers
 
   refuses : (exit : Exit) → Opens (Err exit) (recovered t.here.file0 t.here.file1) → Reopens number before (Err exit) after told told'
-  refuses Done opens = absurd opens
-  refuses Usage opens = absurd opens
-  refuses (BadLine line why) opens = absurd opens
-  refuses SourceFault opens = absurd opens
-  refuses DiskFault opens = tt
-  refuses PrintFault opens = absurd opens
-  refuses (Damaged file place) opens = absurd (let damage : recovered t.here.file0 t.here.file1 ≡ Err (damaged opens.file place) = opens.is in let ok : recovered t.here.file0 t.here.file1 ≡ Ok before.account.state = held in cc)
-  refuses Full opens = absurd opens
-  refuses NoMemory opens = none
-  refuses TooLong opens = absurd (let long : recovered t.here.file0 t.here.file1 ≡ Err too_long = opens in let ok : recovered t.here.file0 t.here.file1 ≡ Ok before.account.state = held in cc)
+  refuses exit opens =
+      ends_weaker (refusal_exit (recovered t.here.file0 t.here.file1) ≡ Some exit) ⊥ ⊤ (Relates (Prints []) told told') (OnlyFault disk_call) AnyFault exit
+      (λ found. let not : refusal_exit (recovered t.here.file0 t.here.file1) ≡ None = ap (λ (h : Result State Refusal). refusal_exit h) held in cc)
+      (λ memory over. none) (λ kind is. tt) opens
 
   pub reopen_refused : (exit : Exit) → IfSome told (λ u. Opens (Err exit) (recovered u.here.file0 u.here.file1)) → Reopens number before (Err exit) after told told'
   reopen_refused exit opens = refuses exit (rw is at opens)

@@ -8,7 +8,7 @@ use Rattle.ras_account.specs.History.{with_entries, with_entry}
 use Rattle.ras_journal.specs.declared.standing.Standing.{Standing}
 use Rattle.ras_script.specs.declared.line.Line.{Line}
 use Rattle.ras_events.specs.declared.event.Event.{Event}
-use Rattle.ras_events.specs.declared.reason.Reason.{Reason}
+use Rattle.ras_exit.specs.declared.reason.Reason.{Reason}
 use Rattle.ras_events.specs.Events.{event_of, settings_after}
 use Rattle.ras_events.specs.Reports.{NumberedLine, Place, entries_at, event_at, made_in, reports}
 use Rattle.ras_events.proofs.ReportLemmas.{reports-cut, settings-line}

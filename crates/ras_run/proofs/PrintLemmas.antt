@@ -1,27 +1,10 @@
 -- What prints one after another tell, and what stops leave of them.
-use Rattle.std.proofs.Common.{◌≡◌, ℕ, ◌==◌, true, List, [], ◌∷◌, ◌++◌, length, Option, None, Some, refl, sym, ap, subst, ◌∙◌, append_assoc, append-nil, arith}
-use Rattle.std.proofs.lemmas.Bool.Decides.{nat_tests}
+use Rattle.std.proofs.Common.{◌≡◌, ℕ, List, ◌++◌, Option, None, Some, sym, ap, subst, ◌∙◌, append_assoc}
 use Rattle.std.specs.Option.{option_map}
 use Rattle.board_core.specs.Clock.{Clock, Adds, Rests}
 use Rattle.board_core.specs.ClockLemmas.{adds_both, adds_weaker}
 use Rattle.board_core.specs.Stop.{Left, Begins, InOut}
 use Rattle.board_core.specs.Told.{Told, Steps, after_print}
-
--- ---- nothing is printed
-
-after_none : (t : Told) → after_print [] t ≡ t
-after_none t = ap (λ text. record t { here = record t.here { out = text } }) (append-nil t.here.out)
-
-pub nothing_told : (text : List ℕ) (told : Option Told) → (length text == 0) ≡ true → Steps (after_print text) told told
-nothing_told [] None none = refl
-nothing_told [] (Some t) none = ap (λ (u : Told). Some u) (sym (after_none t))
-nothing_told (b ∷ text) told none = absurd (grind (arith, nat_tests))
-
-pub nothing_rests : (text : List ℕ) (t : Told) (told : Option Told) (clock : Clock) → (length text == 0) ≡ true → Rests t told clock → Rests (after_print text t) told clock
-nothing_rests [] t told clock none rests = subst (λ (u : Told). Rests u told clock) (sym (after_none t)) rests
-nothing_rests (b ∷ text) t told clock none rests = absurd (grind (arith, nat_tests))
-
--- ---- two texts
 
 pub after_both : (one two : List ℕ) (t : Told) → after_print two (after_print one t) ≡ after_print (one ++ two) t
 after_both one two t = ap (λ text. record t { here = record t.here { out = text } }) (append_assoc t.here.out one two)

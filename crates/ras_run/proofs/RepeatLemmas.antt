@@ -18,14 +18,14 @@ use Rattle.ras_events.specs.declared.settings.Settings.{Settings}
 use Rattle.ras_events.specs.Making.{pieces_in}
 use Rattle.ras_events.specs.Preparing.{orders_along_entries, text_along}
 use Rattle.ras_events.specs.Repeats.{IsRepeat}
-use Rattle.ras_run.specs.declared.exit.Exit.{Exit}
-use Rattle.ras_run.specs.declared.exit.Exit.TheVariants.{Done, Usage, BadLine, SourceFault, DiskFault, PrintFault, Damaged, Full, NoMemory, TooLong}
+use Rattle.ras_exit.specs.declared.exit.Exit.{Exit}
+use Rattle.ras_exit.specs.declared.exit.Exit.TheVariants.{NoMemory}
 use Rattle.ras_run.specs.LineCalls.{AreNewsCalls}
-use Rattle.ras_run.specs.Places.{news_after}
-use Rattle.ras_run.specs.Taking.{IsPrintExit, MadeMoment, NewsMoment, Prints, TakesMade, TakesNews}
+use Rattle.ras_run.specs.Places.{has_no_room_for, news_after}
+use Rattle.ras_run.specs.Taking.{IsFull, IsPrintExit, MadeMoment, NewsMoment, TakesMade, TakesNews}
 use Rattle.ras_run.specs.TakingCalls.{KeepsCalls, MakesMade}
 use Rattle.ras_run.proofs.CountLemmas.{adds_made, made_printed}
-use Rattle.ras_run.proofs.StandsLemmas.{prints_same}
+use Rattle.ras_run.proofs.StandsLemmas.{print_ends, prints_same}
 use Rattle.ras_run.proofs.TakingCallsLemmas.{made_none}
 
 module _ (history : History) (number : ℕ) (settings : Settings) (line : Line) (text : List ℕ) (before : Ledger) (is : before.account.state ≡ account_of history) (repeat : IsRepeat before.account.state settings line text) where
@@ -42,16 +42,8 @@ module _ (history : History) (number : ℕ) (settings : Settings) (line : Line) 
       → TakesMade history number repeat.made before result before told told'
   repeat_taken (Ok over) told told' steps same exit =
       made_printed history number repeat.made [] before before before (Ok over) text (done_line number) told told told' refl refl is (sym repeat.none) repeat.room text_is refl (none_kept told) steps tt
-  repeat_taken (Err Done) told told' steps same exit = absurd exit
-  repeat_taken (Err Usage) told told' steps same exit = absurd exit
-  repeat_taken (Err (BadLine n why)) told told' steps same exit = absurd exit
-  repeat_taken (Err SourceFault) told told' steps same exit = absurd exit
-  repeat_taken (Err DiskFault) told told' steps same exit = absurd exit
-  repeat_taken (Err PrintFault) told told' steps same exit = tt
-  repeat_taken (Err (Damaged file at)) told told' steps same exit = absurd exit
-  repeat_taken (Err Full) told told' steps same exit = absurd exit
-  repeat_taken (Err NoMemory) told told' steps same exit = subst (λ (o : Option Told). Relates (Prints []) told o) (sym (same refl)) (prints_same told)
-  repeat_taken (Err TooLong) told told' steps same exit = absurd exit
+  repeat_taken (Err why) told told' steps same exit =
+      print_ends (IsFull why (has_no_room_for history before.journal.standing repeat.made.entries) told told') why told told' (λ memory. same (ap (λ (e : Exit). Err e) memory)) exit
 
   pub repeat_moments : (told : Option Told) (clock clock' : Clock) (t : Told) → told ≡ Some t → Stands before.journal.standing a told clock
       → ((m : Told) → Rests m told clock → Adds (InOut (Begins (text ++ done_line number)) m.here) clock clock')

@@ -1,5 +1,7 @@
 -- Where a ledger stands over calls of a board, and what stops leave of them.
 use Rattle.std.proofs.Common.{◌≡◌, ℕ, List, [], ◌++◌, Option, None, Some, Result, Ok, Err, IfErr, OnOk, OnErr, refl, sym, ap, subst, ◌∙◌, append-nil}
+use Rattle.std.specs.Prelude.{⊤}
+use Rattle.board_core.specs.Cause.{print_call}
 use Rattle.board_core.specs.Clock.{Clock, Adds, Rests}
 use Rattle.board_core.specs.ClockLemmas.{adds_weaker, not_told}
 use Rattle.board_core.specs.Stop.{Left, Begins, InOut}
@@ -9,9 +11,11 @@ use Rattle.ras_journal.specs.declared.standing.Standing.{Standing}
 use Rattle.ras_journal.specs.Appending.{Before}
 use Rattle.ras_journal.specs.Recovered.{Recovers, recovered}
 use Rattle.ras_ledger.specs.Keeping.{Stands}
-use Rattle.ras_run.specs.declared.exit.Exit.{Exit}
-use Rattle.ras_run.specs.declared.exit.Exit.TheVariants.{Done, Usage, BadLine, SourceFault, DiskFault, PrintFault, Damaged, Full, NoMemory, TooLong}
-use Rattle.ras_run.specs.Taking.{IsPrintExit, IsStop, OnRefusal, Prints}
+use Rattle.ras_exit.specs.declared.exit.Exit.{Exit}
+use Rattle.ras_exit.specs.declared.exit.Exit.TheVariants.{PrintFault, NoMemory}
+use Rattle.ras_exit.specs.Endings.{AnyFault, EndsBy, IsStop, OnlyFault, ending_of}
+use Rattle.ras_exit.proofs.EndingLemmas.{ends_weaker, on_whole}
+use Rattle.ras_run.specs.Taking.{IsPrintExit, OnRefusal, Prints}
 
 -- ---- what holds of an answer
 
@@ -29,16 +33,7 @@ on_any (Err why) p = tt
 
 pub any_refusal : {T : Type 0} (P : Type 0) (result : Result T Exit) → P → OnRefusal result P
 any_refusal P (Ok done) p = tt
-any_refusal P (Err Done) p = p
-any_refusal P (Err Usage) p = p
-any_refusal P (Err (BadLine line why)) p = p
-any_refusal P (Err SourceFault) p = p
-any_refusal P (Err DiskFault) p = tt
-any_refusal P (Err PrintFault) p = tt
-any_refusal P (Err (Damaged file place)) p = p
-any_refusal P (Err Full) p = p
-any_refusal P (Err NoMemory) p = p
-any_refusal P (Err TooLong) p = p
+any_refusal P (Err exit) p = on_whole exit P p
 
 -- a print that failed is no refusal
 pub no_refusal : {T : Type 0} (P : Type 0) (result : Result T Exit) → OnErr result (result ≡ Err PrintFault) → OnRefusal result P
@@ -47,7 +42,7 @@ no_refusal {T} P (Err why) is = subst (λ (r : Result T Exit). OnRefusal r P) (s
 
 pub print_exit : {T : Type 0} (result : Result T Exit) → OnErr result (result ≡ Err PrintFault) → IfErr result IsPrintExit
 print_exit (Ok done) is = tt
-print_exit {T} (Err why) is = subst (λ (r : Result T Exit). IfErr r IsPrintExit) (sym is) tt
+print_exit {T} (Err why) is = subst (λ (r : Result T Exit). IfErr r IsPrintExit) (sym is) refl
 
 pub print_stop : {T : Type 0} (result : Result T Exit) → OnErr result (result ≡ Err PrintFault) → IfErr result IsStop
 print_stop (Ok done) is = tt
@@ -98,6 +93,13 @@ stands_printed s a piece told told' clock clock' stands steps rests =
 pub prints_same : (told : Option Told) → Relates (Prints []) told told
 prints_same None = refl
 prints_same (Some t) = sym (append-nil t.here.out)
+
+-- a part of a run that prints ended by that, or memory ran out before
+pub print_ends : (Answered : Type 0) (exit : Exit) (told told' : Option Told) → (exit ≡ NoMemory → told' ≡ told) → IsPrintExit exit
+    → EndsBy Answered (Relates (Prints []) told told') AnyFault (ending_of exit)
+print_ends Answered exit told told' same ends =
+    ends_weaker ⊥ Answered ⊤ (Relates (Prints []) told told') (OnlyFault print_call) AnyFault exit (λ none. absurd none)
+    (λ memory over. subst (λ (o : Option Told). Relates (Prints []) told o) (sym (same memory)) (prints_same told)) (λ kind is. tt) ends
 
 pub prints_beside : (f : Told → Told) (told told' : Option Told) → Steps f told told' → ((t : Told) → (f t).here.out ≡ t.here.out) → Relates (Prints []) told told'
 prints_beside f None told' steps same = steps

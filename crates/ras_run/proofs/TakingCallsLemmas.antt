@@ -20,7 +20,7 @@ use Rattle.ras_ledger.specs.Keeping.{Stands, lacks_room}
 use Rattle.ras_ledger.specs.KeepingCalls.{IsKeeping}
 use Rattle.ras_events.specs.declared.preparing.News.{News}
 use Rattle.ras_events.specs.Making.{Pieces}
-use Rattle.ras_run.specs.declared.exit.Exit.{Exit}
+use Rattle.ras_exit.specs.declared.exit.Exit.{Exit}
 use Rattle.ras_run.specs.LineCalls.{AreNewsCalls}
 use Rattle.ras_run.specs.Places.{has_no_room_for, news_after}
 use Rattle.ras_run.specs.Taking.{CanBeKept, has_no_room}

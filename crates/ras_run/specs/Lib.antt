@@ -1,8 +1,5 @@
 pub mod LaterKinds
-pub mod ExitStatus
-pub mod StopLine
-pub mod Causes
-pub mod Device
+pub mod Files
 pub mod Places
 pub mod Status
 pub mod Output

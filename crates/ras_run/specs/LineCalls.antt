@@ -7,7 +7,7 @@ use Rattle.ras_recover.specs.OpeningCalls.{IsRecovery}
 use Rattle.ras_ledger.specs.KeepingCalls.{IsKeeping}
 use Rattle.ras_events.specs.declared.event.Event.{Event}
 use Rattle.ras_events.specs.declared.event.Event.TheVariants.{Counted, Reopened}
-use Rattle.ras_events.specs.declared.reason.Reason.{Reason}
+use Rattle.ras_exit.specs.declared.reason.Reason.{Reason}
 use Rattle.ras_events.specs.Reports.{Place, event_at}
 use Rattle.ras_run.specs.Places.{Start, history_at, news_after}
 

@@ -2,10 +2,10 @@
 use Rattle.std.specs.Prelude.{List, [], ◌∷◌, Option, None, Some, Result, Ok, Err, is_some, if◌then◌else◌}
 use Rattle.ras_events.specs.declared.event.Event.{Event}
 use Rattle.ras_events.specs.declared.event.Event.TheVariants.{Counted}
-use Rattle.ras_events.specs.declared.reason.Reason.{Reason}
+use Rattle.ras_exit.specs.declared.reason.Reason.{Reason}
 use Rattle.ras_events.specs.Reports.{Place, event_at}
-use Rattle.ras_run.specs.declared.exit.Exit.{Exit}
-use Rattle.ras_run.specs.declared.exit.Exit.TheVariants.{BadLine, Full}
+use Rattle.ras_exit.specs.declared.exit.Exit.{Exit}
+use Rattle.ras_exit.specs.declared.exit.Exit.TheVariants.{BadLine, Full}
 use Rattle.ras_run.specs.Places.{Start, history_at, has_no_room_for, standing_at}
 
 -- Why a line is refused at its place, if it is: it can't be read, or what it asks for can't be

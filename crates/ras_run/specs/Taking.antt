@@ -1,5 +1,6 @@
 -- How far a run has come, and what stops leave of it at every moment.
 use Rattle.std.specs.Prelude.{◌≡◌, ℕ, ◌⊎◌, Bool, true, false, List, [], ◌∷◌, ◌++◌, Option, None, Some, Result, Ok, Err, IfOk, ⊤}
+use Rattle.board_core.specs.Cause.{disk_call, print_call}
 use Rattle.board_core.specs.Clock.{Clock}
 use Rattle.board_core.specs.Stop.{Left, Begins}
 use Rattle.board_core.specs.Told.{Told, Relates}
@@ -10,25 +11,23 @@ use Rattle.ras_facts.specs.declared.entry.Entry.{Entry}
 use Rattle.entry_format.specs.declared.version.Version.TheVariants.{Two}
 use Rattle.journal_format.specs.Links.{CanLink, link_bytes}
 use Rattle.ras_journal.specs.declared.standing.Standing.{Standing}
-use Rattle.ras_journal.specs.Recovered.{Refusal, Recovers, recovered, too_long}
+use Rattle.ras_journal.specs.Recovered.{Refusal, Recovers}
 use Rattle.ras_recover.specs.declared.refused.OpenRefused.{OpenRefused}
 use Rattle.ras_recover.specs.declared.refused.OpenRefused.TheVariants as opening
-use Rattle.ras_recover.specs.Recovering.{IsDamagedAt}
 use Rattle.ras_ledger.specs.declared.ledger.Ledger.{Ledger}
 use Rattle.ras_ledger.specs.Keeping.{Stands, lacks_room, standing_kept}
 use Rattle.ras_events.specs.declared.preparing.News.{News}
-use Rattle.ras_script.specs.declared.line.LineRefused.{LineRefused}
-use Rattle.ras_script.specs.declared.line.LineRefused.TheVariants as refused
-use Rattle.ras_events.specs.declared.reason.Reason.TheVariants as reason
 use Rattle.ras_events.specs.Making.{Pieces}
 use Rattle.ras_events.specs.Reports.{NumberedLine, Place, event_at, settings_told}
 use Rattle.ras_events.specs.Sizes.{IsFitEvent}
 use Rattle.ras_events.specs.Texts.{event_text}
 use Rattle.ras_texts.specs.Orders.{standing_lines}
 use Rattle.ras_texts.specs.Text.{done_line}
-use Rattle.ras_run.specs.declared.exit.Exit.{Exit}
-use Rattle.ras_run.specs.declared.exit.Exit.TheVariants.{Done, Usage, BadLine, SourceFault, DiskFault, PrintFault, Damaged, Full, NoMemory, TooLong}
+use Rattle.ras_exit.specs.declared.exit.Exit.{Exit}
+use Rattle.ras_exit.specs.declared.exit.Exit.TheVariants.{DiskFault, Damaged, Full, NoMemory, TooLong}
+use Rattle.ras_exit.specs.Endings.{AnyFault, EndsBy, OnWhole, OnlyFault, ending_of}
 use Rattle.ras_run.specs.declared.run.Run.{Run}
+use Rattle.ras_run.specs.Files.{refusal_exit}
 use Rattle.ras_run.specs.Output.{output_at}
 use Rattle.ras_run.specs.Places.{Start, account_at, has_no_room_for, news_after, standing_at, standing_with_news}
 use Rattle.ras_run.specs.Status.{refusal_at}
@@ -44,29 +43,18 @@ pub record IsRunAfter (start : Start) (before : List NumberedLine) (run : Run) :
 abbrev pub Prints : List ℕ → Told → Told → Type 0
 Prints piece old new = new.here.out ≡ old.here.out ++ piece
 
--- a ledger stands where a board tells
+-- a ledger stands, if a board tells
 abbrev pub LedgerStands : Ledger → Option Told → Clock → Type 0
 LedgerStands ledger told clock = Stands ledger.journal.standing ledger.account.state told clock
 
--- what holds where a part of a run is refused, or memory ran out: no call of the board failed
+-- what holds if a part of a run is refused, or memory ran out: no call of the board failed
 abbrev pub OnRefusal : {T : Type 0} → Result T Exit → Type 0 → Type 0
 OnRefusal (Ok done) P = ⊤
-OnRefusal (Err DiskFault) P = ⊤
-OnRefusal (Err PrintFault) P = ⊤
-OnRefusal (Err exit) P = P
-
--- an exit that ends a run among its lines
-abbrev pub IsStop : Exit → Type 0
-IsStop Done = ⊥
-IsStop Usage = ⊥
-IsStop SourceFault = ⊥
-IsStop exit = ⊤
+OnRefusal (Err exit) P = OnWhole exit P
 
 -- an exit of a part that prints: printing failed, or memory ran out
 abbrev pub IsPrintExit : Exit → Type 0
-IsPrintExit PrintFault = ⊤
-IsPrintExit NoMemory = ⊤
-IsPrintExit exit = ⊥
+IsPrintExit exit = EndsBy ⊥ ⊤ (OnlyFault print_call) (ending_of exit)
 
 -- ---- a line
 
@@ -75,21 +63,14 @@ pub record IsAccepted (start : Start) (place : Place) : Type 0 where
   pub taken : refusal_at start place ≡ None
   pub fit : IfOk (event_at place) IsFitEvent
 
--- how a run ends whose line of this number isn't read
-abbrev pub unread_exit : ℕ → LineRefused → Exit
-unread_exit number refused.NoMemory = NoMemory
-unread_exit number why = BadLine number (reason.Line why)
-
--- A line was taken at its place, or the run ends there. Where it ends nothing was printed of it,
--- unless a call of the board failed.
+-- A line was taken at its place, or the run ends there: the line is refused, or memory ran out, and
+-- nothing was printed of it; or a call of the board failed.
 abbrev pub TakesLine : Start → Place → Result (Unit {0}) Exit → Run → Option Told → Option Told → Type 0
 TakesLine start place (Ok done) run old new =
     IsAccepted start place × IsRunAfter start (place.0 ++ place.1 ∷ []) run
     × Relates (Prints (output_at start place)) old new
-TakesLine start place (Err DiskFault) run old new = ⊤
-TakesLine start place (Err PrintFault) run old new = ⊤
-TakesLine start place (Err NoMemory) run old new = Relates (Prints []) old new
-TakesLine start place (Err exit) run old new = (refusal_at start place ≡ Some exit) × Relates (Prints []) old new
+TakesLine start place (Err exit) run old new =
+    EndsBy ((refusal_at start place ≡ Some exit) × Relates (Prints []) old new) (Relates (Prints []) old new) AnyFault (ending_of exit)
 
 -- While a line is taken, a stop leaves what was there before it; or the account with what the line
 -- reports, and a beginning of what it prints.
@@ -111,7 +92,7 @@ pub record CanBeKept (news : News) : Type 0 where
   pub bytes : news.link ≡ link_bytes news.entries.items
   pub can : CanLink Two news.entries.items
 
--- where the journal stands with news behind an account, and whether it has no room for them
+-- where the journal stands with news after an account, and whether it has no room for them
 abbrev pub standing_behind : Standing → State → List Entry → Standing
 standing_behind standing account [] = standing
 standing_behind standing account (entry ∷ entries) = standing_kept standing account (link_bytes (entry ∷ entries))
@@ -120,6 +101,12 @@ abbrev pub has_no_room : Standing → State → List Entry → Bool
 has_no_room standing account [] = false
 has_no_room standing account (entry ∷ entries) = lacks_room standing account (link_bytes (entry ∷ entries))
 
+-- there is no room, and nothing was printed
+pub record IsFull (exit : Exit) (lacks : Bool) (old new : Option Told) : Type 0 where
+  pub exit_is : exit ≡ Full
+  pub lacks_is : lacks ≡ true
+  pub none : Relates (Prints []) old new
+
 -- News were kept and counted, or the run ends there.
 abbrev pub TakesNews : List Entry → Ledger → Result (Unit {0}) Exit → Ledger → Option Told → Option Told → Type 0
 TakesNews news before (Ok done) after old new =
@@ -127,11 +114,8 @@ TakesNews news before (Ok done) after old new =
     × (after.account.state ≡ account_after_all before.account.state news)
     × (after.journal.standing ≡ standing_behind before.journal.standing before.account.state news)
     × Relates (Prints []) old new
-TakesNews news before (Err Full) after old new =
-    (has_no_room before.journal.standing before.account.state news ≡ true) × Relates (Prints []) old new
-TakesNews news before (Err NoMemory) after old new = Relates (Prints []) old new
-TakesNews news before (Err DiskFault) after old new = ⊤
-TakesNews news before (Err exit) after old new = ⊥
+TakesNews news before (Err exit) after old new =
+    EndsBy (IsFull exit (has_no_room before.journal.standing before.account.state news) old new) (Relates (Prints []) old new) (OnlyFault disk_call) (ending_of exit)
 
 -- a stop meanwhile leaves the account as it was, or with the news
 abbrev pub NewsMoment : List Entry → Ledger → Left → Left → Type 0
@@ -153,12 +137,8 @@ TakesMade history number made before (Ok done) after old new =
     × (after.account.state ≡ account_of (with_entries history made.entries))
     × (after.journal.standing ≡ standing_with_news history before.journal.standing (news_after history made.entries))
     × Relates (Prints (count_output history number made)) old new
-TakesMade history number made before (Err Full) after old new =
-    (has_no_room_for history before.journal.standing made.entries ≡ true) × Relates (Prints []) old new
-TakesMade history number made before (Err NoMemory) after old new = Relates (Prints []) old new
-TakesMade history number made before (Err DiskFault) after old new = ⊤
-TakesMade history number made before (Err PrintFault) after old new = ⊤
-TakesMade history number made before (Err exit) after old new = ⊥
+TakesMade history number made before (Err exit) after old new =
+    EndsBy (IsFull exit (has_no_room_for history before.journal.standing made.entries) old new) (Relates (Prints []) old new) AnyFault (ending_of exit)
 
 abbrev pub MadeMoment : History → ℕ → Pieces → Ledger → Left → Left → Type 0
 MadeMoment history number made before here left =
@@ -169,30 +149,17 @@ MadeMoment history number made before here left =
 
 -- ---- an opening
 
--- how a run ends whose journal is refused
-abbrev pub refusal_exit : OpenRefused → Exit
-refusal_exit opening.Disk = DiskFault
-refusal_exit opening.TooLong = TooLong
-refusal_exit (opening.Damaged file place) = Damaged file place
-refusal_exit opening.NoMemory = NoMemory
-
--- both files are told as before
-pub record KeepsFiles (old new : Told) : Type 0 where
-  pub file0 : new.here.file0 ≡ old.here.file0
-  pub file1 : new.here.file1 ≡ old.here.file1
-
--- so they are where an opening refuses them
-abbrev pub KeepsRefused : Told → Told → Type 0
-KeepsRefused old new = (why : Refusal) → recovered old.here.file0 old.here.file1 ≡ Err why → KeepsFiles old new
+-- how a run ends whose journal can't be opened
+abbrev pub unopened_exit : OpenRefused → Exit
+unopened_exit opening.Disk = DiskFault
+unopened_exit opening.TooLong = TooLong
+unopened_exit (opening.Damaged file place) = Damaged file place
+unopened_exit opening.NoMemory = NoMemory
 
 -- What is opened is what the files hold, or why they are refused.
 abbrev pub Opens : Result Ledger Exit → Result State Refusal → Type 0
 Opens (Ok ledger) held = held ≡ Ok ledger.account.state
-Opens (Err (Damaged file place)) held = IsDamagedAt file place held
-Opens (Err TooLong) held = held ≡ Err too_long
-Opens (Err DiskFault) held = ⊤
-Opens (Err NoMemory) held = ⊤
-Opens (Err exit) held = ⊥
+Opens (Err exit) held = EndsBy (refusal_exit held ≡ Some exit) ⊤ (OnlyFault disk_call) (ending_of exit)
 
 -- ---- an opening in the midst of a run
 
@@ -205,10 +172,7 @@ abbrev pub Reopens : ℕ → Ledger → Result (Unit {0}) Exit → Ledger → Op
 Reopens number before (Ok done) after old new =
     (after.account.state ≡ before.account.state) × (after.journal.standing ≡ before.journal.standing)
     × Relates (Prints (reopen_output number before)) old new
-Reopens number before (Err NoMemory) after old new = Relates (Prints []) old new
-Reopens number before (Err DiskFault) after old new = ⊤
-Reopens number before (Err PrintFault) after old new = ⊤
-Reopens number before (Err exit) after old new = ⊥
+Reopens number before (Err exit) after old new = EndsBy ⊥ (Relates (Prints []) old new) AnyFault (ending_of exit)
 
 abbrev pub ReopenMoment : ℕ → Ledger → Left → Left → Type 0
 ReopenMoment number before here left =

@@ -17,7 +17,7 @@ use Rattle.ras_run.specs.Taking.{IsAccepted, has_no_room}
 abbrev pub KeepsCalls : Told → Told → Type 0
 KeepsCalls old new = new.disk_calls ≡ old.disk_calls
 
--- no calls, or a beginning of such, which are made only where this holds
+-- no calls, or a beginning of such, which are made only if this holds
 abbrev pub ArePart : Type 0 → (List DiskCall → Type 0) → List DiskCall → Type 0
 ArePart Allowed Are calls = (calls ≡ []) ⊎ (Allowed × IsBeginning Are calls)
 

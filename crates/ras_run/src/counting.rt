@@ -9,19 +9,20 @@ ghost use Rattle.ras_account.specs.History.{History};
 ghost use Rattle.ras_events.specs.Preparing.{CanTake, news_entries, orders_along_entries};
 ghost use Rattle.ras_events.specs.Sizes.{IsFit};
 ghost use Rattle.ras_recover.specs.DiskCalls.{Makes};
-ghost use Rattle.ras_run.specs.Causes.{BoardCause, Causes};
-ghost use Rattle.ras_run.specs.Device.{LeavesDevice};
+ghost use Rattle.ras_exit.specs.Causes.{BoardCause, Causes};
+ghost use Rattle.ras_exit.specs.Device.{LeavesDevice};
+ghost use Rattle.ras_exit.specs.Endings.{IsStop};
 ghost use Rattle.ras_run.specs.LineCalls.{AreNewsCalls};
-ghost use Rattle.ras_run.specs.Taking.{CanBeKept, IsStop, LedgerStands, MadeMoment};
+ghost use Rattle.ras_run.specs.Taking.{CanBeKept, LedgerStands, MadeMoment};
 ghost use Rattle.ras_run.specs.Taking.{NewsMoment, OnRefusal, TakesMade, TakesNews};
 ghost use Rattle.ras_run.specs.TakingCalls.{BeginsMade, BeginsNews, MakesMade};
 ghost use Rattle.ras_texts.specs.OrderRoom.{HasOrderRoom};
 ghost use Rattle.ras_texts.specs.Orders.{order_lines};
 
-use crate::Exit;
 use crate::printing::print_event;
 use board_core::Board;
 use ras_events::{Made, News, PrepareRefused, Prepared, count, prepare};
+use ras_exit::Exit;
 use ras_ledger::{KeepRefused, Ledger};
 use std::alloc::Global;
 
@@ -30,9 +31,9 @@ use std::alloc::Global;
 ///
 /// # Errors
 ///
-/// `Full` comes exactly where the account has no room for the news, or the journal none for their
-/// link. `DiskFault` and `PrintFault` come only where such a call failed. `NoMemory` comes for want
-/// of memory alone, and never after the news are kept.
+/// `Full` comes exactly if the account has no room for the news, or the journal none for their
+/// link. `DiskFault` and `PrintFault` come only if such a call failed. `NoMemory` comes only if
+/// memory runs out, and never after the news are kept.
 pub fn take_made<B: Board>(
     alloc: Global,
     number: u64,

@@ -1,6 +1,6 @@
 //! The kinds of lines that a run doesn't take yet.
 
-ghost use Rattle.std.specs.Prelude.{◌≡◌, ◌≤◌, IfOk, length};
+ghost use Rattle.std.specs.Prelude.{◌≡◌, ◌≤◌, IfOk, length, map};
 ghost use Rattle.std.specs.List.{list_any};
 ghost use Rattle.std.specs.Str.{bytes_eq};
 ghost use Rattle.ras_script.specs.Line.{Gives};
@@ -9,7 +9,7 @@ ghost use Rattle.ras_script.specs.LineLaws.{IsInRange};
 ghost use Rattle.ras_script.specs.declared.reader.TheConstants.{LONGEST_LINE};
 ghost use Rattle.ras_run.specs.LaterKinds.{IsTaken, is_later, later_kinds, taken_line};
 
-use ras_script::{Line, LineRefused, first_word, read_line};
+use ras_script::{Line, LineRefused, line_of_words, words};
 use std::alloc::Global;
 
 /// What a line asks for, of the kinds that a run takes. A line of a later kind is refused as one of
@@ -21,19 +21,20 @@ pub fn read_taken_line(alloc: Global, bytes: &[u8]) -> Result<Line, LineRefused>
     ensures short { IfOk result IsShortLine }
     ensures taken { IfOk result IsTaken }
 {
-    if is_later(bytes) {
+    let words = words(bytes);
+    if is_later(&words) {
         return Err(LineRefused::Kind);
     }
-    read_line(alloc, bytes)
+    line_of_words(alloc, &words)
 }
 
-// Whether a line is of a kind that a run doesn't take yet.
-fn is_later(bytes: &[u8]) -> bool
-    ensures { result ≡ is_later bytes.now }
+// Whether a line of these words is of a kind that a run doesn't take yet.
+fn is_later(words: &[&[u8]]) -> bool
+    ensures { result ≡ is_later (map (λ word. word.now) words.now) }
 {
-    match first_word(bytes) {
-        Some(kind) => is_later_kind(kind),
-        None => false,
+    match words {
+        [kind, ..] => is_later_kind(kind),
+        [] => false,
     }
 }
 

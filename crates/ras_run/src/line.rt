@@ -8,26 +8,27 @@ ghost use Rattle.ras_events.specs.Reports.{NumberedLine};
 ghost use Rattle.ras_recover.specs.DiskCalls.{IsBeginning, Makes};
 ghost use Rattle.ras_recover.specs.OpeningCalls.{IsRecovery};
 ghost use Rattle.ras_script.specs.declared.reader.TheConstants.{LONGEST_LINE};
-ghost use Rattle.ras_run.specs.Causes.{BoardCause, Causes};
-ghost use Rattle.ras_run.specs.Device.{LeavesDevice};
+ghost use Rattle.ras_exit.specs.Causes.{BoardCause, Causes};
+ghost use Rattle.ras_exit.specs.Device.{LeavesDevice};
+ghost use Rattle.ras_exit.specs.Endings.{IsStop};
 ghost use Rattle.ras_run.specs.LaterKinds.{taken_line};
 ghost use Rattle.ras_run.specs.Places.{Start};
-ghost use Rattle.ras_run.specs.Taking.{IsPrintExit, IsRunAfter, IsStop, LedgerStands, LineMoment};
-ghost use Rattle.ras_run.specs.Taking.{OnRefusal, Reopens, ReopenMoment, TakesLine, unread_exit};
+ghost use Rattle.ras_run.specs.Taking.{IsPrintExit, IsRunAfter, LedgerStands, LineMoment};
+ghost use Rattle.ras_run.specs.Taking.{OnRefusal, Reopens, ReopenMoment, TakesLine};
 ghost use Rattle.ras_run.specs.TakingCalls.{BeginsLine, KeepsCalls, MakesLine};
 ghost use Rattle.ras_texts.specs.Text.{done_line, known_line};
 
+use crate::Run;
 use crate::counting::take_made;
 use crate::later_kinds::read_taken_line;
 use crate::opening::open;
 use crate::printing::print_event;
-use crate::{Exit, Run};
 use board_core::Board;
 use ras_account::Account;
-use ras_events::{Event, EventRefused, Reason};
+use ras_events::{Event, EventRefused};
+use ras_exit::Exit;
 use ras_facts::Name;
 use ras_ledger::Ledger;
-use ras_script::LineRefused;
 use ras_texts::{done_line, push_done, push_known, standing_lines};
 use std::alloc::Global;
 
@@ -37,10 +38,10 @@ use std::alloc::Global;
 ///
 /// # Errors
 ///
-/// `BadLine` comes exactly where the line is refused at its place, and `Full` exactly where there
-/// is no room for what it reports; then nothing was called. `Damaged` and `TooLong` come of a
-/// journal that is opened again, exactly where its files' bytes say so. `DiskFault` and
-/// `PrintFault` come only where such a call failed, and `NoMemory` for want of memory alone.
+/// `BadLine` comes exactly if the line is refused at its place, and `Full` exactly if there is no
+/// room for what it reports; then nothing was called. `Damaged` and `TooLong` come exactly if the
+/// bytes of a journal that is opened again say so. `DiskFault` and `PrintFault` come only if such a
+/// call failed, and `NoMemory` only if memory runs out.
 pub fn take_line<B: Board>(
     alloc: Global,
     number: u64,
@@ -82,14 +83,19 @@ pub fn take_line<B: Board>(
 {
     let line = match read_taken_line(alloc, bytes) {
         Ok(line) => line,
-        Err(refused) => return Err(unread_exit(number, refused)),
+        Err(refused) => return Err(Exit::of_unread(number, refused)),
     };
     if let Some(name) = run.settings.repeat_of(&line, &run.ledger.account) {
         return end_repeat(number, &name, &run.ledger.account, &mut run.text, board);
     }
     let event = match run.settings.take(alloc, line) {
         Ok(event) => event,
-        Err(EventRefused::Refused(reason)) => return Err(bad_line(number, reason)),
+        Err(EventRefused::Refused(reason)) => {
+            return Err(Exit::BadLine {
+                line: number,
+                reason,
+            });
+        }
         Err(EventRefused::NoMemory) => return Err(Exit::NoMemory),
     };
     match event {
@@ -100,33 +106,9 @@ pub fn take_line<B: Board>(
     }
 }
 
-// How a run ends whose line of this number isn't read.
-fn unread_exit(number: u64, refused: LineRefused) -> Exit
-    ensures { result ≡ unread_exit number refused }
-{
-    match refused {
-        LineRefused::NoMemory => Exit::NoMemory,
-        LineRefused::Kind
-        | LineRefused::Words
-        | LineRefused::Number
-        | LineRefused::Hex
-        | LineRefused::Label => bad_line(number, Reason::Line(refused)),
-    }
-}
-
-// Why a run ends at the line of this number.
-fn bad_line(number: u64, reason: Reason) -> Exit
-    ensures { result ≡ Exit.BadLine number reason }
-{
-    Exit::BadLine {
-        line: number,
-        reason,
-    }
-}
-
-// Ends the event of the line of this number, the report of a name that the account knows: with the
-// line of the name and its done line. Both are put into the buffer before either is printed; the
-// buffer has their room from the repeats before.
+// Prints what a repeat prints: the line of a name that the account knows, and the done line of the
+// event, whose line has this number. Both are put into the buffer before either is printed, and
+// the buffer keeps its room from repeat to repeat.
 fn end_repeat<B: Board>(
     number: u64,
     name: &Name,
@@ -158,8 +140,8 @@ fn end_repeat<B: Board>(
     print_event(line, done, board)
 }
 
-// Ends the event of the line of this number, which keeps nothing: with its text, which is empty
-// where the line told of the machine alone, and its done line.
+// Prints what an event prints that keeps nothing: its text, which is empty if its line told of the
+// machine alone, and its done line, by the number of the line.
 fn end_event<B: Board>(alloc: Global, number: u64, text: &[u8], board: &mut B) -> Result<(), Exit>
     ensures told { OnOk result (Steps (after_print (text.now ++ done_line number))
         (B.told board.old) (B.told board.new)) }

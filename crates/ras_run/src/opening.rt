@@ -1,4 +1,4 @@
-//! Opening the journal, at the start of a run and where a line asks for it again.
+//! Opening the journal, at the start of a run and if a line asks for it again.
 
 ghost use Rattle.std.specs.Prelude.{◌≡◌, [], false, Err, IfErr, IfOk, IfSome, OnOk, Some};
 ghost use Rattle.board_core.specs.Clock.{Adds, Rests};
@@ -11,16 +11,16 @@ ghost use Rattle.ras_journal.specs.Recovered.{recovered};
 ghost use Rattle.ras_ledger.specs.Keeping.{Stands};
 ghost use Rattle.ras_recover.specs.Opening.{Opening, standing_opened};
 ghost use Rattle.ras_texts.specs.Orders.{standing_lines};
-ghost use Rattle.ras_run.specs.Causes.{BoardCause, Causes};
-ghost use Rattle.ras_run.specs.Device.{LeavesDevice};
-ghost use Rattle.ras_run.specs.Taking.{IsPrintExit, IsStop, KeepsFiles, KeepsRefused};
-ghost use Rattle.ras_run.specs.Taking.{LedgerStands, Opens, Prints, refusal_exit};
+ghost use Rattle.ras_exit.specs.Causes.{BoardCause, Causes};
+ghost use Rattle.ras_exit.specs.Device.{LeavesDevice};
+ghost use Rattle.ras_exit.specs.Endings.{IsStop};
+ghost use Rattle.ras_run.specs.Files.{KeepsFiles, KeepsRefused};
+ghost use Rattle.ras_run.specs.Taking.{IsPrintExit, LedgerStands, Opens, Prints, unopened_exit};
 ghost use Rattle.ras_run.specs.TakingCalls.{BeginsOpening, KeepsCalls, MakesOpening};
 
-use crate::Exit;
-use crate::printing::print;
 use board_core::Board;
 use ras_account::Account;
+use ras_exit::{Exit, print};
 use ras_ledger::Ledger;
 use ras_recover::{OpenRefused, open_journal};
 use ras_texts::standing_lines;
@@ -30,8 +30,8 @@ use std::alloc::Global;
 ///
 /// # Errors
 ///
-/// `TooLong` and `Damaged` come exactly where the files' bytes say so, `DiskFault` only where a
-/// disk call failed, and `NoMemory` for want of memory alone.
+/// `TooLong` and `Damaged` come exactly if the files' bytes say so, `DiskFault` only if a disk call
+/// failed, and `NoMemory` only if memory runs out.
 pub fn open<B: Board>(alloc: Global, board: &mut B) -> Result<Ledger, Exit>
     ensures opens { IfSome (B.told board.old)
         (λ t. Opens result (recovered t.here.file0 t.here.file1)) }
@@ -52,7 +52,7 @@ pub fn open<B: Board>(alloc: Global, board: &mut B) -> Result<Ledger, Exit>
     ensures stops { (t : Told) → B.told board.old ≡ Some t
         → Adds (Opening (B.clock board.old) t.here) (B.clock board.old) (B.clock board.new) }
     ensures stop { IfErr result IsStop }
-    // The disk calls made are a beginning of an opening's, and where it is opened all of them.
+    // The disk calls made are a beginning of an opening's, and once it is open all of them.
     ensures calls { Relates BeginsOpening (B.told board.old) (B.told board.new) }
     ensures whole { OnOk result (Relates MakesOpening (B.told board.old) (B.told board.new)) }
     ensures faults { Causes BoardCause result (B.faults board.old) (B.faults board.new) }
@@ -61,13 +61,13 @@ pub fn open<B: Board>(alloc: Global, board: &mut B) -> Result<Ledger, Exit>
 {
     match open_journal(alloc, board) {
         Ok((account, journal)) => Ok(Ledger { account, journal }),
-        Err(refused) => Err(refusal_exit(refused)),
+        Err(refused) => Err(unopened_exit(refused)),
     }
 }
 
-// How a run ends whose journal is refused.
-fn refusal_exit(refused: OpenRefused) -> Exit
-    ensures { result ≡ refusal_exit refused }
+// How a run ends whose journal can't be opened.
+fn unopened_exit(refused: OpenRefused) -> Exit
+    ensures { result ≡ unopened_exit refused }
 {
     match refused {
         OpenRefused::Disk => Exit::DiskFault,
@@ -77,11 +77,11 @@ fn refusal_exit(refused: OpenRefused) -> Exit
     }
 }
 
-/// Prints the lines of the orders that stand in an account, by one call where there are some.
+/// Prints the lines of the orders that stand in an account, by one call if there are some.
 ///
 /// # Errors
 ///
-/// `PrintFault` comes only where printing failed, and `NoMemory` for want of memory alone.
+/// `PrintFault` comes only if printing failed, and `NoMemory` only if memory runs out.
 pub fn print_standing<B: Board>(alloc: Global, account: &Account, board: &mut B) -> Result<(), Exit>
     ensures told { OnOk result (Steps (after_print (standing_lines account.now.state))
         (B.told board.old) (B.told board.new)) }

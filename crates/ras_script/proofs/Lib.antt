@@ -12,3 +12,4 @@ pub mod WindowLemmas
 pub mod LinesLemmas
 pub mod ReaderLemmas
 pub mod LinesLawLemmas
+pub mod ShapeLemmas

@@ -9,117 +9,115 @@ use Rattle.page_policy.specs.Buckets.{IsLimit}
 use Rattle.ras_script.specs.declared.line.Line.{Line}
 use Rattle.ras_script.specs.declared.line.LineRefused.{LineRefused}
 use Rattle.ras_script.specs.Bytes.{AreBytes}
-use Rattle.ras_script.specs.Fields.{hex_bytes_at, decimal_at, hexadecimal_at, label_word_at, limit_from_words, report_at}
+use Rattle.ras_script.specs.Fields.{hex_bytes_of, hex_u64_of, label_of, limit_of, number_of, report_of, u16_of, u64_of, u8_of}
 use Rattle.ras_script.specs.Kinds.{Reading, bank_asks, cpu_asks, module_asks, range_asks, place_asks, limit_asks, module_limit_asks, hest_asks, erst_asks, bert_asks, ghes_asks, put_asks, poll_asks, retire_asks, panic_asks, restart_asks}
-use Rattle.ras_script.specs.Line.{kinds, line_named, line_of_words, line_of, ReadsLine}
+use Rattle.ras_script.specs.Line.{Gives, kinds, line_named, line_of_words}
 use Rattle.ras_script.specs.LineLaws.{IsInRange, IsBankInRange}
-use Rattle.ras_script.specs.Splitting.{words_of}
-use Rattle.ras_script.proofs.FieldLemmas.{bytes_within, decimal_within, hexadecimal_within, label_within, report_within, two_within, then_within}
-
-if_words : (b : Bool) (read : Result Line LineRefused) → IfOk read IsInRange → IfOk (cond b read (Err LineRefused.Words)) IsInRange
-if_words true read h = h
-if_words false read h = tt
+use Rattle.ras_script.proofs.FieldLemmas.{bytes_in, hexadecimal_in, label_in, limit_in, number_in, report_in, then_within}
 
 bank_within : (words : List (List ℕ)) → IfOk (bank_asks words) IsInRange
-bank_within words = if_words (length words == 10) _ (
-    then_within IsBankInRange IsInRange (report_at words 0) _ (report_within words 0) (λ report report_in.
-    report_in))
+bank_within words = then_within IsBankInRange IsInRange (report_of words) _ (report_in words) (λ report report_is. report_is)
 
 cpu_within : (words : List (List ℕ)) → IfOk (cpu_asks words) IsInRange
-cpu_within words = if_words (length words == 2) _ (
-    then_within (λ n. n ≤ 65535) IsInRange (decimal_at words 0 65535) _ (decimal_within words 0 65535) (λ cpu cpu_in.
-    then_within (λ n. n ≤ 255) IsInRange (decimal_at words 1 255) _ (decimal_within words 1 255) (λ socket socket_in.
-    (omega arith, omega arith))))
+cpu_within (cpu ∷ socket ∷ []) =
+    then_within (λ n. n ≤ 65535) IsInRange (u16_of cpu) _ (number_in 65535 cpu) (λ cpu cpu_is.
+    then_within (λ n. n ≤ 255) IsInRange (u8_of socket) _ (number_in 255 socket) (λ socket socket_is.
+    (omega arith, omega arith)))
+cpu_within words = tt
 
 module_within : (words : List (List ℕ)) → IfOk (module_asks words) IsInRange
-module_within words = if_words (length words == 4) _ (
-    then_within (λ label. IsTrue (is_label label)) IsInRange (label_word_at words 0) _ (label_within words 0) (λ label label_in.
-    then_within (λ n. n ≤ 255) IsInRange (decimal_at words 1 255) _ (decimal_within words 1 255) (λ socket socket_in.
-    then_within (λ n. n ≤ 255) IsInRange (decimal_at words 2 255) _ (decimal_within words 2 255) (λ bank bank_in.
-    then_within (λ n. n ≤ 14) IsInRange (decimal_at words 3 14) _ (decimal_within words 3 14) (λ channel channel_in.
-    (label_in, omega arith, omega arith, channel_in))))))
+module_within (label ∷ socket ∷ bank ∷ channel ∷ []) =
+    then_within (λ label. IsTrue (is_label label)) IsInRange (label_of label) _ (label_in label) (λ label label_is.
+    then_within (λ n. n ≤ 255) IsInRange (u8_of socket) _ (number_in 255 socket) (λ socket socket_is.
+    then_within (λ n. n ≤ 255) IsInRange (u8_of bank) _ (number_in 255 bank) (λ bank bank_is.
+    then_within (λ n. n ≤ 14) IsInRange (number_of 14 channel) _ (number_in 14 channel) (λ channel channel_is.
+    (label_is, omega arith, omega arith, channel_is)))))
+module_within words = tt
 
 range_within : (words : List (List ℕ)) → IfOk (range_asks words) IsInRange
-range_within words = if_words (length words == 3) _ (
-    then_within (λ label. IsTrue (is_label label)) IsInRange (label_word_at words 0) _ (label_within words 0) (λ label label_in.
-    then_within (λ n. n ≤ 2 ^ 64 - 1) IsInRange (hexadecimal_at words 1) _ (hexadecimal_within words 1) (λ first first_in.
-    then_within (λ n. n ≤ 2 ^ 64 - 1) IsInRange (hexadecimal_at words 2) _ (hexadecimal_within words 2) (λ last last_in.
-    by label first last label_in last_in (nat_le first last) refl))))
+range_within (label ∷ first ∷ last ∷ []) =
+    then_within (λ label. IsTrue (is_label label)) IsInRange (label_of label) _ (label_in label) (λ label label_is.
+    then_within (λ n. n ≤ 2 ^ 64 - 1) IsInRange (hex_u64_of first) _ (hexadecimal_in first) (λ first first_is.
+    then_within (λ n. n ≤ 2 ^ 64 - 1) IsInRange (hex_u64_of last) _ (hexadecimal_in last) (λ last last_is.
+    by label first last label_is last_is (nat_le first last) refl)))
   where
     by : (label : List ℕ) (first last : ℕ) → IsTrue (is_label label) → last ≤ 2 ^ 64 - 1 → (b : Bool) → nat_le first last ≡ b
         → IfOk (cond b (Ok (Line.Row (Range label first last))) (Err LineRefused.Number)) IsInRange
-    by label first last label_in last_in true upright = (label_in, grind (arith, nat_tests, upright), omega arith)
-    by label first last label_in last_in false turned = tt
+    by label first last label_is last_is true upright = (label_is, grind (arith, nat_tests, upright), omega arith)
+    by label first last label_is last_is false turned = tt
+range_within words = tt
 
 place_within : (words : List (List ℕ)) → IfOk (place_asks words) IsInRange
-place_within words = if_words (length words == 4) _ (
-    then_within (λ label. IsTrue (is_label label)) IsInRange (label_word_at words 0) _ (label_within words 0) (λ label label_in.
-    then_within (λ n. n ≤ 65535) IsInRange (decimal_at words 1 65535) _ (decimal_within words 1 65535) (λ node node_in.
-    then_within (λ n. n ≤ 65535) IsInRange (decimal_at words 2 65535) _ (decimal_within words 2 65535) (λ card card_in.
-    then_within (λ n. n ≤ 65535) IsInRange (decimal_at words 3 65535) _ (decimal_within words 3 65535) (λ number number_in.
-    (label_in, omega arith, omega arith, omega arith))))))
+place_within (label ∷ node ∷ card ∷ number ∷ []) =
+    then_within (λ label. IsTrue (is_label label)) IsInRange (label_of label) _ (label_in label) (λ label label_is.
+    then_within (λ n. n ≤ 65535) IsInRange (u16_of node) _ (number_in 65535 node) (λ node node_is.
+    then_within (λ n. n ≤ 65535) IsInRange (u16_of card) _ (number_in 65535 card) (λ card card_is.
+    then_within (λ n. n ≤ 65535) IsInRange (u16_of number) _ (number_in 65535 number) (λ number number_is.
+    (label_is, omega arith, omega arith, omega arith)))))
+place_within words = tt
 
 limit_within : (words : List (List ℕ)) → IfOk (limit_asks words) IsInRange
-limit_within words = if_words (length words == 2) _ (
-    then_within IsLimit IsInRange (limit_from_words words) _ (two_within words) (λ limit limit_in.
-    limit_in))
+limit_within words = then_within IsLimit IsInRange (limit_of words) _ (limit_in words) (λ limit limit_is. limit_is)
 
 module_limit_within : (words : List (List ℕ)) → IfOk (module_limit_asks words) IsInRange
-module_limit_within words = if_words (length words == 2) _ (
-    then_within IsLimit IsInRange (limit_from_words words) _ (two_within words) (λ limit limit_in.
-    limit_in))
+module_limit_within words = then_within IsLimit IsInRange (limit_of words) _ (limit_in words) (λ limit limit_is. limit_is)
 
 hest_within : (words : List (List ℕ)) → IfOk (hest_asks words) IsInRange
-hest_within words = if_words (length words == 1) _ (
-    then_within AreBytes IsInRange (hex_bytes_at words 0) _ (bytes_within words 0) (λ bytes bytes_in.
-    bytes_in))
+hest_within (bytes ∷ []) = then_within AreBytes IsInRange (hex_bytes_of bytes) _ (bytes_in bytes) (λ bytes bytes_are. bytes_are)
+hest_within words = tt
 
 erst_within : (words : List (List ℕ)) → IfOk (erst_asks words) IsInRange
-erst_within words = if_words (length words == 1) _ (
-    then_within AreBytes IsInRange (hex_bytes_at words 0) _ (bytes_within words 0) (λ bytes bytes_in.
-    bytes_in))
+erst_within (bytes ∷ []) = then_within AreBytes IsInRange (hex_bytes_of bytes) _ (bytes_in bytes) (λ bytes bytes_are. bytes_are)
+erst_within words = tt
 
 bert_within : (words : List (List ℕ)) → IfOk (bert_asks words) IsInRange
-bert_within words = if_words (length words == 4) _ (
-    then_within (λ n. n ≤ 2 ^ 64 - 1) IsInRange (decimal_at words 0 (2 ^ 64 - 1)) _ (decimal_within words 0 (2 ^ 64 - 1)) (λ boot boot_in.
-    then_within (λ n. n ≤ 2 ^ 64 - 1) IsInRange (decimal_at words 1 (2 ^ 64 - 1)) _ (decimal_within words 1 (2 ^ 64 - 1)) (λ seconds seconds_in.
-    then_within AreBytes IsInRange (hex_bytes_at words 2) _ (bytes_within words 2) (λ table table_in.
-    then_within AreBytes IsInRange (hex_bytes_at words 3) _ (bytes_within words 3) (λ region region_in.
-    (omega arith, omega arith, table_in, region_in))))))
+bert_within (boot ∷ seconds ∷ table ∷ region ∷ []) =
+    then_within (λ n. n ≤ 2 ^ 64 - 1) IsInRange (u64_of boot) _ (number_in (2 ^ 64 - 1) boot) (λ boot boot_is.
+    then_within (λ n. n ≤ 2 ^ 64 - 1) IsInRange (u64_of seconds) _ (number_in (2 ^ 64 - 1) seconds) (λ seconds seconds_are.
+    then_within AreBytes IsInRange (hex_bytes_of table) _ (bytes_in table) (λ table table_is.
+    then_within AreBytes IsInRange (hex_bytes_of region) _ (bytes_in region) (λ region region_is.
+    (omega arith, omega arith, table_is, region_is)))))
+bert_within words = tt
 
 ghes_within : (words : List (List ℕ)) → IfOk (ghes_asks words) IsInRange
-ghes_within words = if_words (length words == 5) _ (
-    then_within (λ n. n ≤ 2 ^ 64 - 1) IsInRange (decimal_at words 0 (2 ^ 64 - 1)) _ (decimal_within words 0 (2 ^ 64 - 1)) (λ boot boot_in.
-    then_within (λ n. n ≤ 2 ^ 64 - 1) IsInRange (decimal_at words 1 (2 ^ 64 - 1)) _ (decimal_within words 1 (2 ^ 64 - 1)) (λ seconds seconds_in.
-    then_within (λ n. n ≤ 65535) IsInRange (decimal_at words 2 65535) _ (decimal_within words 2 65535) (λ source source_in.
-    then_within (λ n. n ≤ 2 ^ 64 - 1) IsInRange (decimal_at words 3 (2 ^ 64 - 1)) _ (decimal_within words 3 (2 ^ 64 - 1)) (λ number number_in.
-    then_within AreBytes IsInRange (hex_bytes_at words 4) _ (bytes_within words 4) (λ bytes bytes_in.
-    (omega arith, omega arith, omega arith, omega arith, bytes_in)))))))
+ghes_within (boot ∷ seconds ∷ source ∷ number ∷ bytes ∷ []) =
+    then_within (λ n. n ≤ 2 ^ 64 - 1) IsInRange (u64_of boot) _ (number_in (2 ^ 64 - 1) boot) (λ boot boot_is.
+    then_within (λ n. n ≤ 2 ^ 64 - 1) IsInRange (u64_of seconds) _ (number_in (2 ^ 64 - 1) seconds) (λ seconds seconds_are.
+    then_within (λ n. n ≤ 65535) IsInRange (u16_of source) _ (number_in 65535 source) (λ source source_is.
+    then_within (λ n. n ≤ 2 ^ 64 - 1) IsInRange (u64_of number) _ (number_in (2 ^ 64 - 1) number) (λ number number_is.
+    then_within AreBytes IsInRange (hex_bytes_of bytes) _ (bytes_in bytes) (λ bytes bytes_are.
+    (omega arith, omega arith, omega arith, omega arith, bytes_are))))))
+ghes_within words = tt
 
 put_within : (words : List (List ℕ)) → IfOk (put_asks words) IsInRange
-put_within words = if_words (length words == 2) _ (
-    then_within (λ n. n ≤ 2 ^ 64 - 1) IsInRange (hexadecimal_at words 0) _ (hexadecimal_within words 0) (λ id id_in.
-    then_within AreBytes IsInRange (hex_bytes_at words 1) _ (bytes_within words 1) (λ bytes bytes_in.
-    (omega arith, bytes_in))))
+put_within (id ∷ bytes ∷ []) =
+    then_within (λ n. n ≤ 2 ^ 64 - 1) IsInRange (hex_u64_of id) _ (hexadecimal_in id) (λ id id_is.
+    then_within AreBytes IsInRange (hex_bytes_of bytes) _ (bytes_in bytes) (λ bytes bytes_are.
+    (omega arith, bytes_are)))
+put_within words = tt
 
 poll_within : (words : List (List ℕ)) → IfOk (poll_asks words) IsInRange
-poll_within words = if_words (length words == 1) _ (
-    then_within (λ n. n ≤ 2 ^ 64 - 1) IsInRange (decimal_at words 0 (2 ^ 64 - 1)) _ (decimal_within words 0 (2 ^ 64 - 1)) (λ seconds seconds_in.
-    omega arith))
+poll_within (seconds ∷ []) = then_within (λ n. n ≤ 2 ^ 64 - 1) IsInRange (u64_of seconds) _ (number_in (2 ^ 64 - 1) seconds) (λ seconds seconds_are. omega arith)
+poll_within words = tt
 
 retire_within : (words : List (List ℕ)) → IfOk (retire_asks words) IsInRange
-retire_within words = if_words (length words == 1) _ (
-    then_within (λ n. n ≤ 2 ^ 64 - 1) IsInRange (decimal_at words 0 (2 ^ 64 - 1)) _ (decimal_within words 0 (2 ^ 64 - 1)) (λ boot boot_in.
-    omega arith))
+retire_within (boot ∷ []) = then_within (λ n. n ≤ 2 ^ 64 - 1) IsInRange (u64_of boot) _ (number_in (2 ^ 64 - 1) boot) (λ boot boot_is. omega arith)
+retire_within words = tt
 
 panic_within : (words : List (List ℕ)) → IfOk (panic_asks words) IsInRange
-panic_within words = if_words (length words == 11) _ (
-    then_within (λ n. n ≤ 2 ^ 64 - 1) IsInRange (hexadecimal_at words 0) _ (hexadecimal_within words 0) (λ id id_in.
-    then_within IsBankInRange IsInRange (report_at words 1) _ (report_within words 1) (λ bank bank_in.
-    (omega arith, bank_in))))
+panic_within [] = tt
+panic_within (id ∷ words) = if_words (length words == 10) _ (
+    then_within (λ n. n ≤ 2 ^ 64 - 1) IsInRange (hex_u64_of id) _ (hexadecimal_in id) (λ id id_is.
+    then_within IsBankInRange IsInRange (report_of words) _ (report_in words) (λ bank bank_is.
+    (omega arith, bank_is))))
+  where
+    if_words : (b : Bool) (read : Result Line LineRefused) → IfOk read IsInRange → IfOk (cond b read (Err LineRefused.Words)) IsInRange
+    if_words true read h = h
+    if_words false read h = tt
 
 restart_within : (words : List (List ℕ)) → IfOk (restart_asks words) IsInRange
-restart_within words = if_words (length words == 0) (Ok Line.Restart) tt
+restart_within [] = tt
+restart_within words = tt
 
 -- readings of which each gives lines in range
 abbrev AreWithin : List (List ℕ × Reading) → List (List ℕ) → Type 0
@@ -152,6 +150,6 @@ refused_has_words [] h = cc
 refused_has_words (kind ∷ words) h = omega arith
 
 -- what was read is in range
-pub read_within : (bytes : List ℕ) (read : Result Line LineRefused) → ReadsLine read bytes → IfOk read IsInRange
-read_within bytes (Ok line) is = (let within : IfOk (line_of bytes) IsInRange = line_within (words_of bytes) in rw is at within)
-read_within bytes (Err why) is = tt
+pub read_within : (words : List (List ℕ)) (read : Result Line LineRefused) → Gives read (line_of_words words) → IfOk read IsInRange
+read_within words (Ok line) is = (let within : IfOk (line_of_words words) IsInRange = line_within words in rw is at within)
+read_within words (Err why) is = tt

@@ -27,7 +27,7 @@ use Rattle.ras_script.specs.declared.line.ErrorReport.TheVariants.{Bank, Block, 
 use Rattle.ras_script.specs.declared.line.Table.{Table}
 use Rattle.ras_script.specs.declared.line.Table.TheVariants.{Hest, Erst}
 use Rattle.ras_script.specs.Bytes.{AreBytes, bytes_of}
-use Rattle.ras_script.specs.Fields.{label_word_at, limit_from_words, report_at}
+use Rattle.ras_script.specs.Fields.{label_of, limit_of, report_of}
 use Rattle.ras_script.specs.Kinds.{range_asks}
 use Rattle.ras_script.specs.Line.{line_of_words, line_of}
 use Rattle.ras_script.specs.LineLaws.{IsInRange, IsBankInRange, IsEntryInRange, IsReportInRange, IsRowInRange, IsTableInRange, hexadecimal, bank_words, entry_words, limit_words, line_text, line_words, report_words, row_words, table_words}
@@ -108,8 +108,8 @@ hexadecimal_is n small is = is ∙ ap (λ o. ok_or o LineRefused.Number) (hexade
 bytes_is : {read : Result (List ℕ) LineRefused} (bytes : List ℕ) → AreBytes bytes → read ≡ ok_or (bytes_of (encode_lower bytes)) LineRefused.Hex → read ≡ Ok bytes
 bytes_is bytes are is = is ∙ ap (λ o. ok_or o LineRefused.Hex) (lower_read bytes are)
 
-label_is : (label : List ℕ) (words : List (List ℕ)) → IsTrue (is_label label) → label_word_at (label ∷ words) 0 ≡ Ok label
-label_is label words is = rw is refl
+label_is : (label : List ℕ) → IsTrue (is_label label) → label_of label ≡ Ok label
+label_is label is = rw is refl
 
 -- a number from 1 on
 not_zero : (n : ℕ) → 1 ≤ n → (n == 0) ≡ false
@@ -120,7 +120,7 @@ positive_is n more is =
     let zero : (n == 0) ≡ false = not_zero n more in
     then_is n (λ n. if n == 0 then Err LineRefused.Number else Ok n) is (rw zero refl)
 
-limit_is : (limit : LimitOf) → IsLimit limit → limit_from_words (limit_words limit) ≡ Ok limit
+limit_is : (limit : LimitOf) → IsLimit limit → limit_of (limit_words limit) ≡ Ok limit
 limit_is limit within =
     let low = within.capacity_from in
     let high = within.capacity_to in
@@ -129,7 +129,7 @@ limit_is limit within =
     then_is limit.capacity _ (positive_is limit.capacity low (number_is 1000000 limit.capacity high (omega arith) refl)) (
     then_is limit.period _ (positive_is limit.period from (number_is 10000000 limit.period to (omega arith) refl)) refl)
 
-bank_is : (bank : BankReport) → IsBankInRange bank → report_at (bank_words bank) 0 ≡ Ok bank
+bank_is : (bank : BankReport) → IsBankInRange bank → report_of (bank_words bank) ≡ Ok bank
 bank_is bank within =
     then_is bank.boot _ (number_is (2 ^ 64 - 1) bank.boot (omega arith) (omega arith) refl) (
     then_is bank.seconds _ (number_is (2 ^ 64 - 1) bank.seconds (omega arith) (omega arith) refl) (
@@ -193,7 +193,7 @@ line_each asks.Restart within = (kind_word (codes "restart") refl, tt)
 range_is : (label : List ℕ) (first last : ℕ) → IsRowInRange (Range label first last) → range_asks (label ∷ hexadecimal first ∷ hexadecimal last ∷ []) ≡ Ok (asks.Row (Range label first last))
 range_is label first last within =
     let upright : nat_le first last ≡ true = grind (arith, nat_tests, within.1) in
-    then_is label _ (label_is label (hexadecimal first ∷ hexadecimal last ∷ []) within.0) (
+    then_is label _ (label_is label within.0) (
     then_is first _ (hexadecimal_is first (omega arith) refl) (
     then_is last _ (hexadecimal_is last (omega arith) refl) (rw upright refl)))
 
@@ -202,13 +202,13 @@ row_is (Cpu cpu socket) within =
     then_is cpu _ (number_is 65535 cpu (omega arith) (omega arith) refl) (
     then_is socket _ (number_is 255 socket (omega arith) (omega arith) refl) refl)
 row_is (Module label socket bank channel) within =
-    then_is label _ (label_is label (decimal socket ∷ decimal bank ∷ decimal channel ∷ []) within.0) (
+    then_is label _ (label_is label within.0) (
     then_is socket _ (number_is 255 socket (omega arith) (omega arith) refl) (
     then_is bank _ (number_is 255 bank (omega arith) (omega arith) refl) (
     then_is channel _ (number_is 14 channel (omega arith) (omega arith) refl) refl)))
 row_is (Range label first last) within = range_is label first last within
 row_is (Place label node card number) within =
-    then_is label _ (label_is label (decimal node ∷ decimal card ∷ decimal number ∷ []) within.0) (
+    then_is label _ (label_is label within.0) (
     then_is node _ (number_is 65535 node (omega arith) (omega arith) refl) (
     then_is card _ (number_is 65535 card (omega arith) (omega arith) refl) (
     then_is number _ (number_is 65535 number (omega arith) (omega arith) refl) refl)))

@@ -1,5 +1,5 @@
--- What the words of a line say at their places.
-use Rattle.std.specs.Prelude.{ℕ, ◌+◌, ◌-◌, ◌^◌, ◌==◌, List, [], Result, Ok, Err, if◌then◌else◌, slice_index_or}
+-- What a word of a line says, and what a few of them say together.
+use Rattle.std.specs.Prelude.{ℕ, ◌-◌, ◌^◌, ◌==◌, List, [], ◌∷◌, Result, Ok, Err, if◌then◌else◌}
 use Rattle.std.specs.Option.{ok_or}
 use Rattle.dimm_topology.specs.Labels.{is_label}
 use Rattle.page_policy.specs.declared.buckets.Limit.{Limit}
@@ -7,56 +7,62 @@ use Rattle.page_policy.specs.declared.buckets.TheConstants.{MOST_CAPACITY, MOST_
 use Rattle.ras_base.specs.Chaining.{◌>>=◌}
 use Rattle.ras_facts.specs.declared.bank.BankReport.{BankReport}
 use Rattle.ras_script.specs.declared.line.LineRefused.{LineRefused}
-use Rattle.ras_script.specs.declared.line.LineRefused.TheVariants.{Number, Hex, Label as NoLabel}
+use Rattle.ras_script.specs.declared.line.LineRefused.TheVariants.{Words, Number, Hex, Label as NoLabel}
 use Rattle.ras_script.specs.Bytes.{bytes_of}
 use Rattle.ras_script.specs.Number.{decimal_of, hexadecimal_of}
 
 -- a decimal number in its range
-abbrev pub decimal_at : List (List ℕ) → ℕ → ℕ → Result ℕ LineRefused
-decimal_at words place most = ok_or (decimal_of most (slice_index_or words place [])) Number
+abbrev pub number_of : ℕ → List ℕ → Result ℕ LineRefused
+number_of most word = ok_or (decimal_of most word) Number
+
+-- a decimal number of 64, of 16 and of 8 bits
+abbrev pub u64_of : List ℕ → Result ℕ LineRefused
+u64_of word = number_of (2 ^ 64 - 1) word
+
+abbrev pub u16_of : List ℕ → Result ℕ LineRefused
+u16_of word = number_of 65535 word
+
+abbrev pub u8_of : List ℕ → Result ℕ LineRefused
+u8_of word = number_of 255 word
 
 -- a decimal number from 1 on
-abbrev pub positive_at : List (List ℕ) → ℕ → ℕ → Result ℕ LineRefused
-positive_at words place most =
-    decimal_at words place most >>= λ n. if n == 0 then Err Number else Ok n
+abbrev pub positive_of : ℕ → List ℕ → Result ℕ LineRefused
+positive_of most word = number_of most word >>= λ n. if n == 0 then Err Number else Ok n
 
 -- a hexadecimal number
-abbrev pub hexadecimal_at : List (List ℕ) → ℕ → Result ℕ LineRefused
-hexadecimal_at words place = ok_or (hexadecimal_of (slice_index_or words place [])) Number
+abbrev pub hex_u64_of : List ℕ → Result ℕ LineRefused
+hex_u64_of word = ok_or (hexadecimal_of word) Number
 
 -- bytes
-abbrev pub hex_bytes_at : List (List ℕ) → ℕ → Result (List ℕ) LineRefused
-hex_bytes_at words place = ok_or (bytes_of (slice_index_or words place [])) Hex
+abbrev pub hex_bytes_of : List ℕ → Result (List ℕ) LineRefused
+hex_bytes_of word = ok_or (bytes_of word) Hex
 
 -- a label
-abbrev pub label_word_at : List (List ℕ) → ℕ → Result (List ℕ) LineRefused
-label_word_at words place =
-    let word = slice_index_or words place [] in
-    if is_label word then Ok word else Err NoLabel
+abbrev pub label_of : List ℕ → Result (List ℕ) LineRefused
+label_of word = if is_label word then Ok word else Err NoLabel
 
--- the first two words as a limit: how many corrected errors within how many seconds are too many,
--- in decimal and from 1 on
-abbrev pub limit_from_words : List (List ℕ) → Result Limit LineRefused
-limit_from_words words = do
-  capacity ← positive_at words 0 MOST_CAPACITY
-  period ← positive_at words 1 MOST_PERIOD
+-- a limit: how many corrected errors within how many seconds are too many, in decimal and from 1 on
+abbrev pub limit_of : List (List ℕ) → Result Limit LineRefused
+limit_of (capacity ∷ period ∷ []) = do
+  capacity ← positive_of MOST_CAPACITY capacity
+  period ← positive_of MOST_PERIOD period
   Ok (record { capacity = capacity; period = period })
+limit_of words = Err Words
 
--- The ten words from a place on as the snapshot of a machine-check bank: boot, seconds, cpu, bank
--- and time-stamp counter in decimal, then IA32_MCG_CAP, IA32_MCG_STATUS and the bank's
--- IA32_MCi_STATUS, ADDR and MISC in hexadecimal.
-abbrev pub report_at : List (List ℕ) → ℕ → Result BankReport LineRefused
-report_at words place = do
-  boot ← decimal_at words place (2 ^ 64 - 1)
-  seconds ← decimal_at words (place + 1) (2 ^ 64 - 1)
-  cpu ← decimal_at words (place + 2) 65535
-  bank ← decimal_at words (place + 3) 255
-  tsc ← decimal_at words (place + 4) (2 ^ 64 - 1)
-  cap ← hexadecimal_at words (place + 5)
-  mcg ← hexadecimal_at words (place + 6)
-  status ← hexadecimal_at words (place + 7)
-  addr ← hexadecimal_at words (place + 8)
-  misc ← hexadecimal_at words (place + 9)
+-- The snapshot of a machine-check bank: boot, seconds, cpu, bank and time-stamp counter in decimal,
+-- then IA32_MCG_CAP, IA32_MCG_STATUS and the bank's IA32_MCi_STATUS, ADDR and MISC in hexadecimal.
+abbrev pub report_of : List (List ℕ) → Result BankReport LineRefused
+report_of (boot ∷ seconds ∷ cpu ∷ bank ∷ tsc ∷ cap ∷ mcg ∷ status ∷ addr ∷ misc ∷ []) = do
+  boot ← u64_of boot
+  seconds ← u64_of seconds
+  cpu ← u16_of cpu
+  bank ← u8_of bank
+  tsc ← u64_of tsc
+  cap ← hex_u64_of cap
+  mcg ← hex_u64_of mcg
+  status ← hex_u64_of status
+  addr ← hex_u64_of addr
+  misc ← hex_u64_of misc
   Ok (record {
     boot = boot;
     seconds = seconds;
@@ -69,3 +75,4 @@ report_at words place = do
     addr = addr;
     misc = misc;
   })
+report_of words = Err Words

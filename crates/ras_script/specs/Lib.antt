@@ -4,6 +4,7 @@ pub mod Splitting
 pub mod Fields
 pub mod Kinds
 pub mod Line
+pub mod Refusals
 pub mod SplittingLaws
 pub mod LineLaws
 pub mod Lines

@@ -8,7 +8,7 @@ use Rattle.ras_script.specs.declared.line.LineRefused.TheVariants.{Kind, NoMemor
 use Rattle.ras_script.specs.Kinds.{Reading, bank_asks, cpu_asks, module_asks, range_asks, place_asks, limit_asks, module_limit_asks, hest_asks, erst_asks, bert_asks, ghes_asks, put_asks, poll_asks, retire_asks, panic_asks, restart_asks}
 use Rattle.ras_script.specs.Splitting.{words_of}
 
--- what words ask for after a kind's name, by the first of these readings that has the name
+-- what a kind's name and the words after it ask for, by the first reading of that name
 abbrev pub line_named : List (List ℕ × Reading) → List ℕ → List (List ℕ) → Result Line LineRefused
 line_named [] kind words = Err Kind
 line_named (reading ∷ readings) kind words =
@@ -34,7 +34,7 @@ line_of_words (kind ∷ words) =
 abbrev pub line_of : List ℕ → Result Line LineRefused
 line_of bytes = line_of_words (words_of bytes)
 
--- Reading gave this: what a line asks for, or want of memory.
+-- Reading gave what a line asks for, or memory ran out.
 abbrev pub Gives : {A : Type 0} → Result A LineRefused → Result A LineRefused → Type 0
 Gives (Err NoMemory) line = ⊤
 Gives read line = line ≡ read

@@ -26,9 +26,9 @@ without_last [] = []
 without_last (x ∷ []) = []
 without_last (x ∷ y ∷ xs) = x ∷ without_last (y ∷ xs)
 
--- The lines of a text that may have so many bytes. Of a longer text the byte after these counts
--- too, and none after that one. A line that is too long by then ends the list. Else a text that is
--- too long ends it, before the line that holds the one byte too many.
+-- The lines of a text that may have `most` bytes. Of a longer text one more byte counts, and none
+-- after it. If a line among these bytes is too long, the list ends before that line. Else a text
+-- that is too long ends it, before the line that holds the one byte too many.
 unfoldable pub lines_within : ℕ → List ℕ → Lines
 lines_within most text =
     let lines = lines_of (take (most + 1) text) in

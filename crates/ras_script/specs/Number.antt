@@ -5,13 +5,13 @@ use Rattle.std.specs.List.{list_all}
 use Rattle.std.specs.Str.Parse.{digits_value}
 use Rattle.ras_script.specs.declared.number.TheConstants.{DECIMAL_DIGITS, HEXADECIMAL_DIGITS}
 
--- 1 to so many digits, and nothing else
+-- 1 to `longest` digits, and nothing else
 abbrev pub is_numeral : ℕ → ℕ → List ℕ → Bool
 is_numeral radix longest word =
     nat_lt 0 (length word)
     && (nat_le (length word) longest && list_all (λ c. is_digit c radix) word)
 
--- the value of a word of 1 to so many digits, where it is within its range
+-- the value of a word of 1 to `longest` digits, if it is at most `most`
 abbrev pub numeral_value : ℕ → ℕ → ℕ → List ℕ → Option ℕ
 numeral_value radix longest most word =
     if is_numeral radix longest word && nat_le (digits_value radix word) most

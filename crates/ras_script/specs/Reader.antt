@@ -21,7 +21,7 @@ IsLine line = Lacks 10 line × (length line ≤ LONGEST_LINE)
 abbrev pub given_count : Reader → ℕ
 given_count reader = reader.taken - length reader.held
 
--- the lines that are to come, where the source has these bytes left
+-- the lines that are to come, if the source has these bytes left
 abbrev pub lines_to_come : Reader → List ℕ → Lines
 lines_to_come reader left = lines_within (LONGEST_SCRIPT - given_count reader) (reader.held ++ left)
 
@@ -33,20 +33,19 @@ GivesNext (Err LineTooLong) lines reader left = lines ≡ no_line line_too_long
 GivesNext (Err TooLong) lines reader left = lines ≡ no_line script_too_long
 GivesNext (Err Source) lines reader left = lines ≡ lines_to_come reader left
 
--- These bytes were taken from a source, the next ones where it tells.
+-- These bytes were taken from a source; if it tells its bytes, they are the next ones.
 abbrev pub AreTaken : List ℕ → Option (List ℕ) → Option (List ℕ) → Type 0
 AreTaken bytes None now = now ≡ None
 AreTaken bytes (Some left) now = IsSomeAnd now (λ rest. left ≡ bytes ++ rest)
 
--- A reader gave these bytes, of those that it held and those that it took besides. The rest of both
--- it holds.
+-- A reader gave these bytes, of those that it held and those that it then took. It holds the rest.
 pub record Moves (given : List ℕ) (old new : Reader) (before now : Option (List ℕ)) : Type 0 where
   pub bytes : List ℕ
   pub taken : AreTaken bytes before now
   pub kept : old.held ++ bytes ≡ given ++ new.held
   pub count : new.taken ≡ old.taken + length bytes
 
--- A reader and its source have nothing left, where the source tells.
+-- A reader has nothing left, and nor has its source, if it tells its bytes.
 abbrev pub IsAtEnd : Reader → Option (List ℕ) → Type 0
 IsAtEnd reader left = (reader.held ≡ []) × IfSome left (λ rest. rest ≡ [])
 
@@ -59,7 +58,7 @@ MovesLine (Ok true) old new before now =
 MovesLine (Ok false) old new before now = Moves [] old new before now × IsAtEnd new now
 MovesLine (Err refused) old new before now = Moves [] old new before now
 
--- A reading fails only where the source's count of faults rose, and else leaves it.
+-- A reading fails only if the source's count of faults rose; else the count is what it was.
 abbrev pub HasSourceCause : {T : Type 0} → Result T NextRefused → ℕ → ℕ → Type 0
 HasSourceCause (Err Source) before now = (before ≤ now) × Rose before now
 HasSourceCause result before now = now ≡ before

@@ -12,7 +12,7 @@ pub record FeedAt (place : ℕ) (text : List ℕ) : Type 0 where
   pub inside : place < length text
   pub parts : text ≡ take place text ++ 10 ∷ drop (place + 1) text
 
--- So many bytes more are held, which were taken from a source; none only at its end.
+-- `count` more bytes are held, which were taken from a source; none only at its end.
 pub record Gains (count : ℕ) (old new : List ℕ) (before now : Option (List ℕ)) : Type 0 where
   pub bytes : List ℕ
   pub size : length bytes ≡ count
@@ -27,7 +27,7 @@ pub record IsHeld (reader : Reader) : Type 0 where
   pub few : reader.taken ≤ LONGEST_SCRIPT + 1
   pub allowed : reader.taken ≤ LONGEST_SCRIPT + length reader.held
 
--- what a search for the next line's end finds, where the source has these bytes left
+-- what a search for the next line's end finds, if the source has these bytes left
 abbrev pub Finds : Result (Option ℕ) NextRefused → Reader → Option (List ℕ) → Type 0
 Finds (Ok (Some place)) reader left = FeedAt place reader.held
 Finds (Ok None) reader left =

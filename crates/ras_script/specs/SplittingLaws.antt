@@ -14,7 +14,7 @@ IsWord word = (0 < length word) × Lacks 32 word
 abbrev pub script_of : List (List ℕ) → List ℕ
 script_of lines = flat_map (λ line. line ++ 10 ∷ []) lines
 
--- a script that isn't empty with a line feed at its end: it gets one where its last byte is another
+-- a script with a line feed at its end: one is added if its last byte is another one
 abbrev pub with_last_line_feed : List ℕ → List ℕ
 with_last_line_feed [] = []
 with_last_line_feed (b ∷ []) = if b == 10 then b ∷ [] else b ∷ 10 ∷ []

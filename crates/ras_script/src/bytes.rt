@@ -10,8 +10,8 @@ use mca_codes::Text;
 use ras_base::NoMemory;
 use std::alloc::Global;
 
-/// The bytes of a word, of which two hexadecimal digits of either case write each. None comes
-/// exactly where the word is empty, has an odd number of bytes, or one that is no such digit.
+/// The bytes that a word writes, each with two hexadecimal digits of either case. None if the word
+/// is empty, has an odd number of bytes, or has a byte that is no such digit.
 pub fn bytes_of(alloc: Global, word: &[u8]) -> Result<Option<Text>, NoMemory>
     ensures { IfOk result (λ bytes. bytes ≡ bytes_of word.now) }
 {

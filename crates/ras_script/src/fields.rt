@@ -1,8 +1,8 @@
-//! What the words of a line say at their places.
+//! What a word of a line says, and what a few of them say together.
 
-ghost use Rattle.std.specs.Prelude.{◌≡◌, ◌+◌, ◌-◌, ◌^◌, ◌<◌, ◌≤◌, length, map, IfOk};
-ghost use Rattle.ras_script.specs.Fields.{hex_bytes_at, decimal_at, hexadecimal_at, label_word_at};
-ghost use Rattle.ras_script.specs.Fields.{limit_from_words, positive_at, report_at};
+ghost use Rattle.std.specs.Prelude.{◌≡◌, ◌≤◌, map, IfOk};
+ghost use Rattle.ras_script.specs.Fields.{hex_bytes_of, hex_u64_of, label_of, limit_of, number_of};
+ghost use Rattle.ras_script.specs.Fields.{positive_of, report_of, u16_of, u64_of, u8_of};
 ghost use Rattle.ras_script.specs.Line.{Gives};
 
 use crate::LineRefused;
@@ -17,131 +17,107 @@ use std::alloc::Global;
 /// How many words stand for the snapshot of a bank.
 pub const BANK_WORDS: usize = 10;
 
-/// How many words stand for a limit.
-pub const LIMIT_WORDS: usize = 2;
-
-// The word at a place as a decimal number of at most `most`.
+// A word as a decimal number of at most `most`.
 #[inline(always)]
-pub(crate) fn decimal_at(words: &[&[u8]], place: usize, most: u64) -> Result<u64, LineRefused>
-    requires { place < length words.now }
-    ensures value { result ≡ decimal_at (map (λ word. word.now) words.now) place most }
+pub(crate) fn number_of(word: &[u8], most: u64) -> Result<u64, LineRefused>
+    ensures value { result ≡ number_of most word.now }
     ensures within { IfOk result (λ n. n ≤ most) }
 {
-    decimal(words[place], most).ok_or(LineRefused::Number)
+    decimal(word, most).ok_or(LineRefused::Number)
 }
 
-// The word at a place as a decimal number of 64 bits.
+// A word as a decimal number of 64 bits.
 #[inline(always)]
-pub(crate) fn u64_at(words: &[&[u8]], place: usize) -> Result<u64, LineRefused>
-    requires { place < length words.now }
-    ensures { result ≡ decimal_at (map (λ word. word.now) words.now) place (2 ^ 64 - 1) }
+pub(crate) fn u64_of(word: &[u8]) -> Result<u64, LineRefused>
+    ensures { result ≡ u64_of word.now }
 {
-    decimal_at(words, place, u64::MAX)
+    number_of(word, u64::MAX)
 }
 
-// The word at a place as a decimal number of 16 bits.
+// A word as a decimal number of 16 bits.
 #[inline(always)]
-pub(crate) fn u16_at(words: &[&[u8]], place: usize) -> Result<u16, LineRefused>
-    requires { place < length words.now }
-    ensures { result ≡ decimal_at (map (λ word. word.now) words.now) place 65535 }
+pub(crate) fn u16_of(word: &[u8]) -> Result<u16, LineRefused>
+    ensures { result ≡ u16_of word.now }
 {
-    Ok(decimal_at(words, place, u64::from(u16::MAX))? as u16)
+    Ok(number_of(word, u64::from(u16::MAX))? as u16)
 }
 
-// The word at a place as a decimal number of 8 bits.
+// A word as a decimal number of 8 bits.
 #[inline(always)]
-pub(crate) fn u8_at(words: &[&[u8]], place: usize) -> Result<u8, LineRefused>
-    requires { place < length words.now }
-    ensures { result ≡ decimal_at (map (λ word. word.now) words.now) place 255 }
+pub(crate) fn u8_of(word: &[u8]) -> Result<u8, LineRefused>
+    ensures { result ≡ u8_of word.now }
 {
-    Ok(decimal_at(words, place, u64::from(u8::MAX))? as u8)
+    Ok(number_of(word, u64::from(u8::MAX))? as u8)
 }
 
-// The word at a place as a decimal number from 1 to `most`.
-fn positive_at(words: &[&[u8]], place: usize, most: u64) -> Result<u64, LineRefused>
-    requires { place < length words.now }
-    ensures value { result ≡ positive_at (map (λ word. word.now) words.now) place most }
+// A word as a decimal number from 1 to `most`.
+fn positive_of(word: &[u8], most: u64) -> Result<u64, LineRefused>
+    ensures value { result ≡ positive_of most word.now }
     ensures within { IfOk result (λ n. (1 ≤ n) × (n ≤ most)) }
 {
-    let number = decimal_at(words, place, most)?;
+    let number = number_of(word, most)?;
     if number == 0 {
         return Err(LineRefused::Number);
     }
     Ok(number)
 }
 
-// The word at a place as a hexadecimal number.
+// A word as a hexadecimal number.
 #[inline(always)]
-pub(crate) fn hexadecimal_at(words: &[&[u8]], place: usize) -> Result<u64, LineRefused>
-    requires { place < length words.now }
-    ensures { result ≡ hexadecimal_at (map (λ word. word.now) words.now) place }
+pub(crate) fn hex_u64_of(word: &[u8]) -> Result<u64, LineRefused>
+    ensures { result ≡ hex_u64_of word.now }
 {
-    hexadecimal(words[place]).ok_or(LineRefused::Number)
+    hexadecimal(word).ok_or(LineRefused::Number)
 }
 
-// The word at a place as a label.
-pub(crate) fn label_word_at(
-    alloc: Global,
-    words: &[&[u8]],
-    place: usize,
-) -> Result<Label, LineRefused>
-    requires { place < length words.now }
-    ensures { Gives result (label_word_at (map (λ word. word.now) words.now) place) }
+// A word as a label.
+pub(crate) fn label_of(alloc: Global, word: &[u8]) -> Result<Label, LineRefused>
+    ensures { Gives result (label_of word.now) }
 {
-    match Label::new(alloc, words[place]) {
+    match Label::new(alloc, word) {
         Ok(label) => Ok(label),
         Err(LabelRefused::Bad) => Err(LineRefused::Label),
         Err(LabelRefused::NoMemory) => Err(LineRefused::NoMemory),
     }
 }
 
-// The word at a place as bytes.
-pub(crate) fn hex_bytes_at(
-    alloc: Global,
-    words: &[&[u8]],
-    place: usize,
-) -> Result<Text, LineRefused>
-    requires { place < length words.now }
-    ensures { Gives result (hex_bytes_at (map (λ word. word.now) words.now) place) }
+// A word as bytes.
+pub(crate) fn hex_bytes_of(alloc: Global, word: &[u8]) -> Result<Text, LineRefused>
+    ensures { Gives result (hex_bytes_of word.now) }
 {
-    bytes_of(alloc, words[place])?.ok_or(LineRefused::Hex)
+    bytes_of(alloc, word)?.ok_or(LineRefused::Hex)
 }
 
-// The first two words as a limit.
-pub(crate) fn limit_from_words(words: &[&[u8]]) -> Result<Limit, LineRefused>
-    requires { LIMIT_WORDS ≤ length words.now }
-    ensures { result ≡ limit_from_words (map (λ word. word.now) words.now) }
+// Two words as a limit.
+pub(crate) fn limit_of(words: &[&[u8]]) -> Result<Limit, LineRefused>
+    ensures { result ≡ limit_of (map (λ word. word.now) words.now) }
 {
-    let capacity = positive_at(words, 0, u64::from(MOST_CAPACITY))? as u32;
-    let period = positive_at(words, 1, u64::from(MOST_PERIOD))? as u32;
+    let [capacity, period] = words else {
+        return Err(LineRefused::Words);
+    };
+    let capacity = positive_of(capacity, u64::from(MOST_CAPACITY))? as u32;
+    let period = positive_of(period, u64::from(MOST_PERIOD))? as u32;
     Ok(Limit { capacity, period })
 }
 
-// The ten words from a place on as the snapshot of a bank.
-pub(crate) fn report_at(words: &[&[u8]], place: usize) -> Result<BankReport, LineRefused>
-    requires { place + BANK_WORDS ≤ length words.now }
-    ensures { result ≡ report_at (map (λ word. word.now) words.now) place }
+// Ten words as the snapshot of a bank.
+#[tactic(auto, using(crate::proofs::ShapeLemmas::ten, crate::proofs::ShapeLemmas::too_few, crate::proofs::ShapeLemmas::too_many))]
+pub(crate) fn report_of(words: &[&[u8]]) -> Result<BankReport, LineRefused>
+    ensures { result ≡ report_of (map (λ word. word.now) words.now) }
 {
-    let boot = u64_at(words, place)?;
-    let seconds = u64_at(words, place + 1)?;
-    let cpu = u16_at(words, place + 2)?;
-    let bank = u8_at(words, place + 3)?;
-    let tsc = u64_at(words, place + 4)?;
-    let cap = hexadecimal_at(words, place + 5)?;
-    let mcg = hexadecimal_at(words, place + 6)?;
-    let status = hexadecimal_at(words, place + 7)?;
-    let addr = hexadecimal_at(words, place + 8)?;
-    let misc = hexadecimal_at(words, place + 9)?;
+    let [boot, seconds, cpu, bank, tsc, cap, mcg, status, addr, misc] = words else {
+        return Err(LineRefused::Words);
+    };
     Ok(BankReport {
-        boot,
-        seconds,
-        cpu,
-        bank,
-        tsc,
-        cap,
-        mcg,
-        status,
-        addr,
-        misc,
+        boot: u64_of(boot)?,
+        seconds: u64_of(seconds)?,
+        cpu: u16_of(cpu)?,
+        bank: u8_of(bank)?,
+        tsc: u64_of(tsc)?,
+        cap: hex_u64_of(cap)?,
+        mcg: hex_u64_of(mcg)?,
+        status: hex_u64_of(status)?,
+        addr: hex_u64_of(addr)?,
+        misc: hex_u64_of(misc)?,
     })
 }

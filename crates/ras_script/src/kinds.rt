@@ -8,8 +8,8 @@ ghost use Rattle.ras_script.specs.Kinds.{restart_asks, retire_asks};
 ghost use Rattle.ras_script.specs.Line.{Gives, kinds, line_named};
 
 use crate::fields::{
-    BANK_WORDS, LIMIT_WORDS, decimal_at, hex_bytes_at, hexadecimal_at, label_word_at,
-    limit_from_words, report_at, u8_at, u16_at, u64_at,
+    BANK_WORDS, hex_bytes_of, hex_u64_of, label_of, limit_of, number_of, report_of, u8_of, u16_of,
+    u64_of,
 };
 use crate::{ErrorReport, Line, LineRefused, Table};
 use dimm_topology::Row;
@@ -19,31 +19,8 @@ use std::alloc::Global;
 /// The greatest number of a memory channel.
 pub const LAST_CHANNEL: u64 = 14;
 
-// How many words stand after the name of each other kind.
-const CPU_WORDS: usize = 2;
-
-const MODULE_WORDS: usize = 4;
-
-const RANGE_WORDS: usize = 3;
-
-const PLACE_WORDS: usize = 4;
-
-const TABLE_WORDS: usize = 1;
-
-const BERT_WORDS: usize = 4;
-
-const GHES_WORDS: usize = 5;
-
-const PUT_WORDS: usize = 2;
-
-const POLL_WORDS: usize = 1;
-
-const RETIRE_WORDS: usize = 1;
-
-const PANIC_WORDS: usize = 1 + BANK_WORDS;
-
-/// The most words of a line of any kind: the name `panic`, and the words after it.
-pub const MOST_WORDS: usize = 1 + PANIC_WORDS;
+/// The most words of a line of any kind: of `panic`, its name, an identifier, and a bank.
+pub const MOST_WORDS: usize = 2 + BANK_WORDS;
 
 // What a line asks for whose first word is this and whose other words are these.
 pub(crate) fn event_of(alloc: Global, kind: &[u8], words: &[&[u8]]) -> Result<Line, LineRefused>
@@ -104,10 +81,7 @@ pub(crate) fn event_of(alloc: Global, kind: &[u8], words: &[&[u8]]) -> Result<Li
 fn bank_asks(words: &[&[u8]]) -> Result<Line, LineRefused>
     ensures { result ≡ bank_asks (map (λ word. word.now) words.now) }
 {
-    if words.len() != BANK_WORDS {
-        return Err(LineRefused::Words);
-    }
-    let report = report_at(words, 0)?;
+    let report = report_of(words)?;
     Ok(Line::Report(ErrorReport::Bank(report)))
 }
 
@@ -115,25 +89,26 @@ fn bank_asks(words: &[&[u8]]) -> Result<Line, LineRefused>
 fn cpu_asks(words: &[&[u8]]) -> Result<Line, LineRefused>
     ensures { result ≡ cpu_asks (map (λ word. word.now) words.now) }
 {
-    if words.len() != CPU_WORDS {
+    let [cpu, socket] = words else {
         return Err(LineRefused::Words);
-    }
-    let cpu = u16_at(words, 0)?;
-    let socket = u8_at(words, 1)?;
+    };
+    let cpu = u16_of(cpu)?;
+    let socket = u8_of(socket)?;
     Ok(Line::Row(Row::Cpu { cpu, socket }))
 }
 
 // A memory module, from the words after `module`.
+#[tactic(auto, using(crate::proofs::ShapeLemmas::four))]
 fn module_asks(alloc: Global, words: &[&[u8]]) -> Result<Line, LineRefused>
     ensures { Gives result (module_asks (map (λ word. word.now) words.now)) }
 {
-    if words.len() != MODULE_WORDS {
+    let [label, socket, bank, channel] = words else {
         return Err(LineRefused::Words);
-    }
-    let label = label_word_at(alloc, words, 0)?;
-    let socket = u8_at(words, 1)?;
-    let bank = u8_at(words, 2)?;
-    let channel = decimal_at(words, 3, LAST_CHANNEL)? as u8;
+    };
+    let label = label_of(alloc, label)?;
+    let socket = u8_of(socket)?;
+    let bank = u8_of(bank)?;
+    let channel = number_of(channel, LAST_CHANNEL)? as u8;
     Ok(Line::Row(Row::Module {
         label,
         socket,
@@ -143,15 +118,16 @@ fn module_asks(alloc: Global, words: &[&[u8]]) -> Result<Line, LineRefused>
 }
 
 // A range of addresses, from the words after `range`.
+#[tactic(auto, using(crate::proofs::ShapeLemmas::three))]
 fn range_asks(alloc: Global, words: &[&[u8]]) -> Result<Line, LineRefused>
     ensures { Gives result (range_asks (map (λ word. word.now) words.now)) }
 {
-    if words.len() != RANGE_WORDS {
+    let [label, first, last] = words else {
         return Err(LineRefused::Words);
-    }
-    let label = label_word_at(alloc, words, 0)?;
-    let first = hexadecimal_at(words, 1)?;
-    let last = hexadecimal_at(words, 2)?;
+    };
+    let label = label_of(alloc, label)?;
+    let first = hex_u64_of(first)?;
+    let last = hex_u64_of(last)?;
     if first > last {
         return Err(LineRefused::Number);
     }
@@ -159,16 +135,17 @@ fn range_asks(alloc: Global, words: &[&[u8]]) -> Result<Line, LineRefused>
 }
 
 // Where firmware finds a memory module, from the words after `place`.
+#[tactic(auto, using(crate::proofs::ShapeLemmas::four))]
 fn place_asks(alloc: Global, words: &[&[u8]]) -> Result<Line, LineRefused>
     ensures { Gives result (place_asks (map (λ word. word.now) words.now)) }
 {
-    if words.len() != PLACE_WORDS {
+    let [label, node, card, module] = words else {
         return Err(LineRefused::Words);
-    }
-    let label = label_word_at(alloc, words, 0)?;
-    let node = u16_at(words, 1)?;
-    let card = u16_at(words, 2)?;
-    let module = u16_at(words, 3)?;
+    };
+    let label = label_of(alloc, label)?;
+    let node = u16_of(node)?;
+    let card = u16_of(card)?;
+    let module = u16_of(module)?;
     Ok(Line::Row(Row::Place {
         label,
         node,
@@ -181,10 +158,7 @@ fn place_asks(alloc: Global, words: &[&[u8]]) -> Result<Line, LineRefused>
 fn limit_asks(words: &[&[u8]]) -> Result<Line, LineRefused>
     ensures { result ≡ limit_asks (map (λ word. word.now) words.now) }
 {
-    if words.len() != LIMIT_WORDS {
-        return Err(LineRefused::Words);
-    }
-    let limit = limit_from_words(words)?;
+    let limit = limit_of(words)?;
     Ok(Line::Entry(Entry::Limit(limit)))
 }
 
@@ -192,10 +166,7 @@ fn limit_asks(words: &[&[u8]]) -> Result<Line, LineRefused>
 fn module_limit_asks(words: &[&[u8]]) -> Result<Line, LineRefused>
     ensures { result ≡ module_limit_asks (map (λ word. word.now) words.now) }
 {
-    if words.len() != LIMIT_WORDS {
-        return Err(LineRefused::Words);
-    }
-    let limit = limit_from_words(words)?;
+    let limit = limit_of(words)?;
     Ok(Line::Entry(Entry::ModuleLimit(limit)))
 }
 
@@ -203,10 +174,10 @@ fn module_limit_asks(words: &[&[u8]]) -> Result<Line, LineRefused>
 fn hest_asks(alloc: Global, words: &[&[u8]]) -> Result<Line, LineRefused>
     ensures { Gives result (hest_asks (map (λ word. word.now) words.now)) }
 {
-    if words.len() != TABLE_WORDS {
+    let [bytes] = words else {
         return Err(LineRefused::Words);
-    }
-    let bytes = hex_bytes_at(alloc, words, 0)?;
+    };
+    let bytes = hex_bytes_of(alloc, bytes)?;
     Ok(Line::Table(Table::Hest(bytes)))
 }
 
@@ -214,24 +185,25 @@ fn hest_asks(alloc: Global, words: &[&[u8]]) -> Result<Line, LineRefused>
 fn erst_asks(alloc: Global, words: &[&[u8]]) -> Result<Line, LineRefused>
     ensures { Gives result (erst_asks (map (λ word. word.now) words.now)) }
 {
-    if words.len() != TABLE_WORDS {
+    let [bytes] = words else {
         return Err(LineRefused::Words);
-    }
-    let bytes = hex_bytes_at(alloc, words, 0)?;
+    };
+    let bytes = hex_bytes_of(alloc, bytes)?;
     Ok(Line::Table(Table::Erst(bytes)))
 }
 
 // A boot error record table and its region, from the words after `bert`.
+#[tactic(auto, using(crate::proofs::ShapeLemmas::four))]
 fn bert_asks(alloc: Global, words: &[&[u8]]) -> Result<Line, LineRefused>
     ensures { Gives result (bert_asks (map (λ word. word.now) words.now)) }
 {
-    if words.len() != BERT_WORDS {
+    let [boot, seconds, table, region] = words else {
         return Err(LineRefused::Words);
-    }
-    let boot = u64_at(words, 0)?;
-    let seconds = u64_at(words, 1)?;
-    let table = hex_bytes_at(alloc, words, 2)?;
-    let region = hex_bytes_at(alloc, words, 3)?;
+    };
+    let boot = u64_of(boot)?;
+    let seconds = u64_of(seconds)?;
+    let table = hex_bytes_of(alloc, table)?;
+    let region = hex_bytes_of(alloc, region)?;
     Ok(Line::Report(ErrorReport::Boot {
         boot,
         seconds,
@@ -241,17 +213,18 @@ fn bert_asks(alloc: Global, words: &[&[u8]]) -> Result<Line, LineRefused>
 }
 
 // A generic error status block, from the words after `ghes`.
+#[tactic(auto, using(crate::proofs::ShapeLemmas::five))]
 fn ghes_asks(alloc: Global, words: &[&[u8]]) -> Result<Line, LineRefused>
     ensures { Gives result (ghes_asks (map (λ word. word.now) words.now)) }
 {
-    if words.len() != GHES_WORDS {
+    let [boot, seconds, source, number, bytes] = words else {
         return Err(LineRefused::Words);
-    }
-    let boot = u64_at(words, 0)?;
-    let seconds = u64_at(words, 1)?;
-    let source = u16_at(words, 2)?;
-    let number = u64_at(words, 3)?;
-    let bytes = hex_bytes_at(alloc, words, 4)?;
+    };
+    let boot = u64_of(boot)?;
+    let seconds = u64_of(seconds)?;
+    let source = u16_of(source)?;
+    let number = u64_of(number)?;
+    let bytes = hex_bytes_of(alloc, bytes)?;
     Ok(Line::Report(ErrorReport::Block {
         boot,
         seconds,
@@ -265,11 +238,11 @@ fn ghes_asks(alloc: Global, words: &[&[u8]]) -> Result<Line, LineRefused>
 fn put_asks(alloc: Global, words: &[&[u8]]) -> Result<Line, LineRefused>
     ensures { Gives result (put_asks (map (λ word. word.now) words.now)) }
 {
-    if words.len() != PUT_WORDS {
+    let [id, bytes] = words else {
         return Err(LineRefused::Words);
-    }
-    let id = hexadecimal_at(words, 0)?;
-    let bytes = hex_bytes_at(alloc, words, 1)?;
+    };
+    let id = hex_u64_of(id)?;
+    let bytes = hex_bytes_of(alloc, bytes)?;
     Ok(Line::Put { id, bytes })
 }
 
@@ -277,10 +250,10 @@ fn put_asks(alloc: Global, words: &[&[u8]]) -> Result<Line, LineRefused>
 fn poll_asks(words: &[&[u8]]) -> Result<Line, LineRefused>
     ensures { result ≡ poll_asks (map (λ word. word.now) words.now) }
 {
-    if words.len() != POLL_WORDS {
+    let [seconds] = words else {
         return Err(LineRefused::Words);
-    }
-    let seconds = u64_at(words, 0)?;
+    };
+    let seconds = u64_of(seconds)?;
     Ok(Line::Poll { seconds })
 }
 
@@ -288,10 +261,10 @@ fn poll_asks(words: &[&[u8]]) -> Result<Line, LineRefused>
 fn retire_asks(words: &[&[u8]]) -> Result<Line, LineRefused>
     ensures { result ≡ retire_asks (map (λ word. word.now) words.now) }
 {
-    if words.len() != RETIRE_WORDS {
+    let [boot] = words else {
         return Err(LineRefused::Words);
-    }
-    let boot = u64_at(words, 0)?;
+    };
+    let boot = u64_of(boot)?;
     Ok(Line::Entry(Entry::Retire(boot)))
 }
 
@@ -299,11 +272,14 @@ fn retire_asks(words: &[&[u8]]) -> Result<Line, LineRefused>
 fn panic_asks(words: &[&[u8]]) -> Result<Line, LineRefused>
     ensures { result ≡ panic_asks (map (λ word. word.now) words.now) }
 {
-    if words.len() != PANIC_WORDS {
+    let [id, words @ ..] = words else {
+        return Err(LineRefused::Words);
+    };
+    if words.len() != BANK_WORDS {
         return Err(LineRefused::Words);
     }
-    let id = hexadecimal_at(words, 0)?;
-    let bank = report_at(words, 1)?;
+    let id = hex_u64_of(id)?;
+    let bank = report_of(words)?;
     Ok(Line::Panic { id, bank })
 }
 
@@ -311,8 +287,8 @@ fn panic_asks(words: &[&[u8]]) -> Result<Line, LineRefused>
 fn restart_asks(words: &[&[u8]]) -> Result<Line, LineRefused>
     ensures { result ≡ restart_asks (map (λ word. word.now) words.now) }
 {
-    if !words.is_empty() {
+    let [] = words else {
         return Err(LineRefused::Words);
-    }
+    };
     Ok(Line::Restart)
 }

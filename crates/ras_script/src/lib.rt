@@ -4,6 +4,7 @@
 mod bytes;
 mod fields;
 mod kinds;
+mod laws;
 mod line;
 mod number;
 mod reader;
@@ -11,10 +12,11 @@ mod splitting;
 mod window;
 
 pub use bytes::{bytes_of, written_bytes_are_read};
-pub use fields::{BANK_WORDS, LIMIT_WORDS};
+pub use fields::BANK_WORDS;
 pub use kinds::{LAST_CHANNEL, MOST_WORDS};
+pub use laws::numbers_in_digits;
 pub use line::{
-    ErrorReport, Line, LineRefused, Table, numbers_are_in_range, read_line,
+    ErrorReport, Line, LineRefused, Table, line_of_words, numbers_are_in_range, read_line,
     refused_lines_have_words, written_lines_are_read,
 };
 pub use number::{
@@ -24,6 +26,4 @@ pub use reader::{
     LONGEST_LINE, LONGEST_SCRIPT, LineReader, NextRefused, line_feeds_cut_scripts,
     lines_within_limits_are_the_script,
 };
-pub use splitting::{
-    HELD_WORDS, first_line, first_word, lines_are_the_script, spaces_separate_words, words,
-};
+pub use splitting::{HELD_WORDS, lines_are_the_script, spaces_separate_words, words};

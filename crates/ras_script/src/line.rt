@@ -3,7 +3,8 @@
 ghost use Rattle.std.specs.Prelude.{◌≡◌, ℕ, ◌<◌, List, length, map, IfOk, IsErr};
 ghost use Rattle.ras_script.specs.Line.{Gives, ReadsLine, line_of, line_of_words};
 ghost use Rattle.ras_script.specs.LineLaws.{IsInRange, line_text};
-ghost use Rattle.ras_script.specs.Splitting.{words_of};
+ghost use Rattle.ras_script.specs.Refusals.{line_number};
+ghost use Rattle.ras_script.specs.Splitting.{AreHeldWords, words_of};
 ghost use Rattle.ras_script.specs.declared.line.LineRefused.TheVariants as RefusedFor;
 
 use crate::kinds::event_of;
@@ -69,7 +70,8 @@ pub enum ErrorReport {
     },
 }
 
-/// Why a line is refused: the first that applies, and of its words from left to right.
+/// Why a line is refused: the first that applies, and of its words from left to right. The numbers
+/// are those by which a refusal is printed.
 #[derive(Clone, Copy, Debug, Error, PartialEq, Eq)]
 pub enum LineRefused {
     /// 1: the first word is no kind of line.
@@ -93,20 +95,56 @@ pub enum LineRefused {
     NoMemory,
 }
 
+impl LineRefused {
+    /// The number by which the refusal is printed, or None if memory ran out.
+    pub fn number(self) -> Option<u8>
+        ensures { result ≡ line_number self }
+    {
+        match self {
+            LineRefused::Kind => Some(1),
+            LineRefused::Words => Some(2),
+            LineRefused::Number => Some(3),
+            LineRefused::Hex => Some(4),
+            LineRefused::Label => Some(6),
+            LineRefused::NoMemory => None,
+        }
+    }
+}
+
 /// What a line asks for, whose bytes these are without its line feed.
 ///
 /// # Errors
 ///
-/// The first that applies: `Kind` where its first word is no kind of line, `Words` where the number
-/// of words isn't the kind's; then from left to right `Number` where a word that has to be a number
-/// is none or is out of its range, `Hex` where a word that has to be bytes is no even number of
-/// hexadecimal digits, and `Label` where a word that has to be a label is none. `NoMemory` comes
-/// for want of memory alone.
+/// As `line_of_words` gives them.
 pub fn read_line(alloc: Global, bytes: &[u8]) -> Result<Line, LineRefused>
     ensures read { ReadsLine result bytes.now }
     ensures range { IfOk result IsInRange }
 {
     line_of_words(alloc, &words(bytes))
+}
+
+/// What a line asks for, whose words `words` gave.
+///
+/// # Errors
+///
+/// The first that applies: `Kind` if the first word is no kind of line, `Words` if the number of
+/// words isn't the kind's; then from left to right `Number` if a word that has to be a number is
+/// none or is out of its range, `Hex` if a word that has to be bytes is no even number of
+/// hexadecimal digits, and `Label` if a word that has to be a label is none. `NoMemory` comes only
+/// if memory runs out.
+pub fn line_of_words(alloc: Global, words: &[&[u8]]) -> Result<Line, LineRefused>
+    ensures read { Gives result (line_of_words (map (λ word. word.now) words.now)) }
+    ensures line { (bytes : List ℕ) → AreHeldWords (map (λ word. word.now) words.now) bytes
+        → ReadsLine result bytes }
+    ensures range { IfOk result IsInRange }
+{
+    let [kind, rest @ ..] = words else {
+        return Ok(Line::Nothing);
+    };
+    if kind.first() == Some(&b'#') {
+        return Ok(Line::Nothing);
+    }
+    event_of(alloc, kind, rest)
 }
 
 /// The numbers of a line that is read are within their ranges: a bank's registers below 2^64, its
@@ -134,17 +172,4 @@ impl From<NoMemory> for LineRefused {
     fn from(_: NoMemory) -> Self {
         LineRefused::NoMemory
     }
-}
-
-// What a line asks for whose words these are.
-fn line_of_words(alloc: Global, words: &[&[u8]]) -> Result<Line, LineRefused>
-    ensures { Gives result (line_of_words (map (λ word. word.now) words.now)) }
-{
-    let [kind, rest @ ..] = words else {
-        return Ok(Line::Nothing);
-    };
-    if kind.first() == Some(&b'#') {
-        return Ok(Line::Nothing);
-    }
-    event_of(alloc, kind, rest)
 }

@@ -11,7 +11,7 @@ pub const DECIMAL_DIGITS: usize = 20;
 /// The most digits that a hexadecimal word may have.
 pub const HEXADECIMAL_DIGITS: usize = 16;
 
-// So many digits of any radix up to 16 are a value below 2^64.
+// This many digits, in any radix up to 16, are a value below 2^64.
 const FITTING_DIGITS: usize = 16;
 
 // The codes of the first and of the last decimal digit.
@@ -19,7 +19,7 @@ const ZERO: u64 = b'0' as u64;
 
 const NINE: u64 = b'9' as u64;
 
-/// The value of a decimal word of 1 to 20 digits, where it is at most `most`.
+/// The value of a decimal word of 1 to 20 digits, if it is at most `most`.
 pub fn decimal(word: &[u8], most: u64) -> Option<u64>
     ensures value { result ≡ decimal_of most word.now }
     ensures within { IfSome result (λ n. n ≤ most) }
@@ -43,8 +43,8 @@ pub fn written_numbers_are_read()
         → hexadecimal_of (digits 16 upper n) ≡ Some n }
 {}
 
-// The value of a word of 1 to `longest` digits, where it is at most `most`. It is inlined, so that
-// the radix is known where it runs: most words of a script are numbers.
+// The value of a word of 1 to `longest` digits, if it is at most `most`. It is inlined, so that the
+// radix is known at each use: most words of a script are numbers.
 #[inline(always)]
 fn number(word: &[u8], radix: u32, longest: usize, most: u64) -> Option<u64>
     requires some_radix { 10 ≤ radix }

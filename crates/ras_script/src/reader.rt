@@ -48,7 +48,8 @@ impl From<Failed> for NextRefused {
 
 /// A line feed cuts the lines of a script: those of two texts with a line feed between them are
 /// those of the one and then those of the other, and within the limits a line that is ended by a
-/// line feed comes first, and then the lines of what follows, which may have so many bytes less.
+/// line feed comes first, and then the lines of what follows, whose limit is lower by the bytes of
+/// that line and its line feed.
 /// The function does nothing: its clauses are what it is for.
 pub fn line_feeds_cut_scripts()
     ensures cut { (front rest : List ℕ)
@@ -59,14 +60,14 @@ pub fn line_feeds_cut_scripts()
 {}
 
 /// The lines of a script within the limits, each with a line feed at its end, are the script again,
-/// up to where their list ends early: before a line that is too long, or before the one in which
-/// the script gets too long. The function does nothing: its clause is what it is for.
+/// unless their list ends early: before a line that is too long, or before the one in which the
+/// script gets too long. The function does nothing: its clause is what it is for.
 pub fn lines_within_limits_are_the_script()
     ensures { (most : ℕ) (text : List ℕ) → AreLinesOf most text (lines_within most text) }
 {}
 
-/// A reader of the lines of a script, which holds at most a line and a byte of the bytes that it
-/// took of its source.
+/// A reader of the lines of a script. Of the bytes that it took from its source it holds at most a
+/// line and a byte.
 #[derive(Drop)]
 pub struct LineReader {
     window: Window,
@@ -94,7 +95,7 @@ impl LineReader {
     ///
     /// # Errors
     ///
-    /// `NoMemory` comes for want of memory alone.
+    /// `NoMemory` if memory runs out.
     pub fn new(alloc: Global) -> Result<LineReader, NoMemory>
         ensures { IfOk result (λ reader. reader ≡ record { line = []; held = []; taken = 0 }) }
     {
@@ -109,15 +110,16 @@ impl LineReader {
         self.window.line()
     }
 
-    /// Goes to the next line, which `line` then gives, and answers whether there was one. It reads
-    /// only while it holds no line feed, and takes no memory. With each line the bytes given grow,
-    /// so a loop over the lines ends whatever its source tells.
+    /// Goes to the next line, which `line` then gives, and returns whether there was one. It reads
+    /// only while it holds no line feed, and takes no memory. With each line the number of bytes
+    /// given grows, so a loop over the lines ends, whatever its source gives.
     ///
     /// # Errors
     ///
-    /// `Source` where the source failed: no byte is lost. `LineTooLong` where the next line has
-    /// more than `LONGEST_LINE` bytes, and `TooLong` where one of its bytes, or its line feed, is
-    /// past `LONGEST_SCRIPT`, of which no more than one is read. Both stay what they are.
+    /// `Source` if the source failed: no byte is lost. `LineTooLong` if the next line has more than
+    /// `LONGEST_LINE` bytes, and `TooLong` if one of its bytes, or its line feed, is past
+    /// `LONGEST_SCRIPT`; no more than one byte past it is read. After either of these two, each
+    /// further call is refused in the same way.
     pub fn advance<S: Source>(&mut self, source: &mut S) -> Result<bool, NextRefused>
         ensures lines { IfSome (S.left source.old) (λ before. IfSome (S.left source.new) (λ now.
             GivesNext result (lines_to_come self.old before) self.new now)) }
@@ -136,7 +138,7 @@ impl LineReader {
         }
     }
 
-    // Reads until a line feed is held, and tells its place. There is none at the script's end.
+    // Reads until a line feed is held, and returns its place: None at the script's end.
     #[tactic(auto, using(crate::proofs::ReaderLemmas::lacks_not_contains))]
     fn find_line<S: Source>(&mut self, source: &mut S) -> Result<Option<usize>, NextRefused>
         ensures finds { Finds result self.new (S.left source.new) }
@@ -151,8 +153,7 @@ impl LineReader {
         self.read_to_line_feed(source)
     }
 
-    // Reads until a line feed is held, where none is yet, and tells its place. There is none at the
-    // script's end.
+    // The same, if no line feed is held yet.
     fn read_to_line_feed<S: Source>(&mut self, source: &mut S) -> Result<Option<usize>, NextRefused>
         requires { Lacks 10 self.old.held }
         ensures finds { Finds result self.new (S.left source.new) }
@@ -177,7 +178,7 @@ impl LineReader {
         }
     }
 
-    // How many bytes were taken of the source.
+    // How many bytes were taken from the source.
     fn taken_len(&self) -> usize
         ensures { result ≡ self.now.taken }
     {
@@ -192,7 +193,7 @@ impl LineReader {
         self.window.held_len()
     }
 
-    // The place of the first line feed among the bytes held, of which the first ones hold none.
+    // The place of the first line feed among the bytes held. There is none before `from`.
     fn first_line_feed(&self, from: usize) -> Option<usize>
         requires inside { from ≤ length self.now.held }
         requires before { Lacks 10 (take from self.now.held) }
@@ -203,7 +204,7 @@ impl LineReader {
         self.window.first_line_feed(from)
     }
 
-    // Reads after the bytes held, of which there are fewer than the buffer has room for.
+    // Reads more bytes, after those held. The buffer has room for at least one.
     fn read_more<S: Source>(&mut self, source: &mut S) -> Result<usize, Failed>
         requires room { length self.old.held ≤ LONGEST_LINE }
         requires few { self.old.taken ≤ LONGEST_SCRIPT }
@@ -222,7 +223,7 @@ impl LineReader {
         Ok(count)
     }
 
-    // Gives the bytes held before a line feed, unless this stands past the script's most bytes.
+    // Gives the bytes held before a line feed, unless the line feed is past the longest script.
     fn give_line(&mut self, size: usize) -> Result<bool, NextRefused>
         requires { FeedAt size self.old.held }
         ensures some { IfOk result (λ more. more ≡ true) }

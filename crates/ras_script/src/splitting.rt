@@ -1,10 +1,8 @@
 //! The lines of a script, and the words of a line.
 
 ghost use Rattle.std.specs.Prelude.{◌≡◌, ℕ, ◌+◌, ◌<◌, ◌≤◌, List, [], ◌∷◌, ◌++◌, length, map, take};
-ghost use Rattle.std.specs.List.{slice_get};
-ghost use Rattle.std.specs.Option.{option_map};
 ghost use Rattle.std.specs.List.{AllByRecursion, join_with_byte};
-ghost use Rattle.ras_script.specs.Splitting.{lines_of, words_of};
+ghost use Rattle.ras_script.specs.Splitting.{AreHeldWords, lines_of, words_of};
 ghost use Rattle.ras_script.specs.SplittingLaws.{Lacks, IsWord, script_of, with_last_line_feed};
 
 use crate::kinds::MOST_WORDS;
@@ -14,22 +12,9 @@ use arrayvec::ArrayVec;
 /// many words is known as one.
 pub const HELD_WORDS: usize = MOST_WORDS + 1;
 
-/// The first line of a script that isn't empty, without its line feed, and what follows that line.
-pub fn first_line(script: &[u8]) -> (&[u8], &[u8])
-    requires { 0 < length script.now }
-    ensures lines { lines_of script.now ≡ result.0.now ∷ lines_of result.1.now }
-    ensures shorter { length result.1.now < length script.now }
-    ensures within { length result.0.now + length result.1.now ≤ length script.now }
-{
-    match script.iter().position(|byte| *byte == b'\n') {
-        Some(end) => (&script[..end], &script[end + 1..]),
-        None => (script, &script[script.len()..]),
-    }
-}
-
 /// The words of a line, which spaces separate, up to the first `HELD_WORDS`. They take no memory.
 pub fn words(line: &[u8]) -> ArrayVec<&[u8], HELD_WORDS>
-    ensures { map (λ word. word.now) result.items ≡ take HELD_WORDS (words_of line.now) }
+    ensures { AreHeldWords (map (λ word. word.now) result.items) line.now }
 {
     let mut words = ArrayVec::new();
     let mut start = 0;
@@ -55,16 +40,8 @@ fn hold<'a>(words: &mut ArrayVec<&'a [u8], HELD_WORDS>, text: &'a [u8])
     }
 }
 
-/// The first word of a line, where it has words. It takes no memory.
-pub fn first_word(line: &[u8]) -> Option<&[u8]>
-    ensures { option_map (λ word. word.now) result ≡ slice_get (words_of line.now) 0 }
-{
-    line.split(|byte| *byte == b' ')
-        .find(|word| !word.is_empty())
-}
-
-/// The lines of a script, each with a line feed at its end, are the script, which gets one where
-/// its last byte is no line feed. No line holds a line feed, an empty script has no lines, and each
+/// The lines of a script, each with a line feed at its end, are the script, which gets one if its
+/// last byte is no line feed. No line holds a line feed, an empty script has no lines, and each
 /// line costs at least a byte. The function does nothing: its clauses are what it is for.
 pub fn lines_are_the_script()
     ensures none { lines_of [] ≡ [] }

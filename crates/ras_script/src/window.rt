@@ -63,7 +63,7 @@ impl Window {
         self.end - self.start
     }
 
-    // The place of the first line feed among the bytes held, of which the first ones hold none.
+    // The place of the first line feed among the bytes held. There is none before `from`.
     pub(crate) fn first_line_feed(&self, from: usize) -> Option<usize>
         requires inside { from ≤ length (held_in self.now) }
         requires before { Lacks 10 (take from (held_in self.now)) }
@@ -77,7 +77,7 @@ impl Window {
         }
     }
 
-    // Gives so many of the bytes held as a line, and drops so many after them.
+    // Gives the first `size` bytes held as a line, and drops the `dropped` bytes after them.
     pub(crate) fn give(&mut self, size: usize, dropped: usize)
         requires { size + dropped ≤ length (held_in self.old) }
         ensures line { line_in self.new ≡ take size (held_in self.old) }
@@ -88,7 +88,7 @@ impl Window {
         self.start = self.line_end + dropped;
     }
 
-    // Moves the bytes held to the front, where the line that was given last may have stood.
+    // Moves the bytes held to the front. They may overwrite the line that was given last.
     pub(crate) fn move_to_front(&mut self)
         ensures held { held_in self.new ≡ held_in self.old }
         ensures front { self.new.start ≡ 0 }
@@ -104,7 +104,7 @@ impl Window {
         }
     }
 
-    // Reads at most so many bytes after those held.
+    // Reads at most `most` bytes after those held.
     pub(crate) fn read_from<S: Source>(
         &mut self,
         source: &mut S,
@@ -126,7 +126,7 @@ impl Window {
     }
 }
 
-// Reads at most so many bytes behind the first ones.
+// Reads at most `most` bytes into the buffer from `end` on.
 fn read_after<S: Source>(
     source: &mut S,
     bytes: &mut [u8],

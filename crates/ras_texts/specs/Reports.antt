@@ -1,5 +1,5 @@
 -- The lines of fresh reports, one for each item with what is told of it.
-use Rattle.std.specs.Prelude.{ℕ, ◌==◌, List, [], ◌++◌, codes, decimal, length, if◌then◌else◌}
+use Rattle.std.specs.Prelude.{ℕ, ◌==◌, List, ◌++◌, codes, count_by, decimal, length, if◌then◌else◌}
 use Rattle.std.specs.List.{flat_map, zip}
 use Rattle.ras_facts.specs.declared.fact.Fact.{Fact}
 use Rattle.ras_facts.specs.declared.items.Item.{Item}
@@ -8,9 +8,10 @@ use Rattle.ras_facts.specs.declared.entry.Entry.TheVariants.{Fact as FactEntry, 
 use Rattle.ras_reports.specs.declared.details.Detail.{Detail}
 use Rattle.ras_reports.specs.declared.details.Detail.TheVariants.{Bank, Memory, Processor, X64, Other}
 use Rattle.ras_account.specs.Account.{State}
+use Rattle.ras_account.specs.History.{is_retired}
 use Rattle.ras_texts.specs.Detail.{bank_detail}
 use Rattle.ras_texts.specs.Sections.{memory_text, processor_text, x64_text, other_text}
-use Rattle.ras_texts.specs.Text.{item_line, line_with, log_lines, name_text}
+use Rattle.ras_texts.specs.Text.{item_line, limit_line, line_with, module_limit_line, name_text, retire_line}
 
 -- what is told of an item beside the item
 abbrev pub detail_text : Detail → List ℕ
@@ -34,9 +35,9 @@ report_lines fact details =
     if length fact.items == 0 then empty_line fact
     else flat_map (told_line fact) (zip fact.items details)
 
--- the lines of an entry that is fresh in an account
+-- the lines of an entry that is fresh in an account: those of a fact's report; of others one
 abbrev pub entry_lines : List Detail → State → Entry → List ℕ
 entry_lines details account (FactEntry fact) = report_lines fact details
-entry_lines details account (PageLimit limit) = log_lines [] account (PageLimit limit)
-entry_lines details account (Retire boot) = log_lines [] account (Retire boot)
-entry_lines details account (ModuleLimit limit) = log_lines [] account (ModuleLimit limit)
+entry_lines details account (PageLimit limit) = limit_line limit
+entry_lines details account (Retire boot) = retire_line boot (count_by (is_retired boot) account.names)
+entry_lines details account (ModuleLimit limit) = module_limit_line limit

@@ -1,7 +1,6 @@
 -- The lines that are printed of entries, of events and of runs, each with its line feed.
-use Rattle.std.specs.Prelude.{ℕ, ◌==◌, List, [], ◌∷◌, ◌++◌, codes, count_by, decimal, drop, length, Option, None, Some, if◌then◌else◌}
+use Rattle.std.specs.Prelude.{ℕ, ◌==◌, List, [], ◌∷◌, ◌++◌, codes, decimal, drop, length, Option, None, Some, if◌then◌else◌}
 use Rattle.std.specs.Int.{to_be_bytes, w64}
-use Rattle.std.specs.List.{flat_map}
 use Rattle.hex.specs.Hex.{encode_lower}
 use Rattle.mca_status.specs.declared.classes.ItemClass.{ItemClass}
 use Rattle.mca_status.specs.declared.classes.ItemClass.TheVariants.{Ce, Ucna, Srao, Srar, Uc, Odd, Corrected, Recoverable, Fatal, Informational}
@@ -79,14 +78,6 @@ module_limit_line limit = line_with (codes "module-limit " ++ limit_text limit)
 abbrev pub retire_line : ℕ → ℕ → List ℕ
 retire_line boot dropped =
     line_with (codes "retire boot=" ++ decimal boot ++ codes " names=" ++ decimal dropped)
-
--- the lines of an entry that is fresh in an account: of a fact one for each item, of others one
-abbrev pub log_lines : List ℕ → State → Entry → List ℕ
-log_lines detail account (FactEntry fact) = flat_map (item_line fact detail) fact.items
-log_lines detail account (PageLimit limit) = limit_line limit
-log_lines detail account (Retire boot) =
-    retire_line boot (count_by (is_retired boot) account.names)
-log_lines detail account (ModuleLimit limit) = module_limit_line limit
 
 -- the line of a name that an account knows: stale where its boot is retired, and else a repeat
 abbrev pub known_line : State → Name → List ℕ

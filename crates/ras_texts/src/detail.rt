@@ -1,6 +1,6 @@
 //! What a log line tells of a bank's registers.
 
-ghost use Rattle.std.specs.Prelude.{◌≡◌, ◌++◌, IfOk, OnOk};
+ghost use Rattle.std.specs.Prelude.{◌≡◌, ◌++◌, OnOk};
 ghost use Rattle.ras_texts.specs.Detail.{bank_detail, code_detail, error_detail, flags_detail};
 ghost use Rattle.ras_texts.specs.Detail.{bit_text, mark_text, threshold_text};
 
@@ -9,19 +9,6 @@ use mca_status::{Cap, GlobalStatus, Status, Threshold, threshold_of};
 use ras_base::NoMemory;
 use ras_facts::BankReport;
 use std::alloc::Global;
-
-/// What a bank's registers tell beside the class, the weight and the page.
-///
-/// # Errors
-///
-/// `NoMemory` comes for want of memory alone.
-pub fn bank_detail(alloc: Global, bank: &BankReport) -> Result<Vec<u8>, NoMemory>
-    ensures { IfOk result (λ text. text.items ≡ bank_detail bank.now) }
-{
-    let mut text = Vec::new(alloc);
-    push_bank(alloc, &mut text, bank)?;
-    Ok(text)
-}
 
 /// Adds what a bank's registers tell beside the class, the weight and the page.
 pub fn push_bank(alloc: Global, text: &mut Vec<u8>, bank: &BankReport) -> Result<(), NoMemory>

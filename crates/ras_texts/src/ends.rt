@@ -15,7 +15,7 @@ const DONE_LENGTH: usize = 26;
 ///
 /// # Errors
 ///
-/// `NoMemory` comes for want of memory alone.
+/// `NoMemory` comes only if memory runs out.
 pub fn done_line(alloc: Global, number: u64) -> Result<Vec<u8>, NoMemory>
     ensures { IfOk result (λ text. text.items ≡ done_line number) }
 {
@@ -29,7 +29,7 @@ pub fn done_line(alloc: Global, number: u64) -> Result<Vec<u8>, NoMemory>
 ///
 /// # Errors
 ///
-/// `NoMemory` comes for want of memory alone.
+/// `NoMemory` comes only if memory runs out.
 pub fn push_done(text: &mut Vec<u8>, number: u64) -> Result<(), NoMemory>
     ensures { OnOk result (text.new.items ≡ text.old.items ++ done_line number) }
 {
@@ -43,7 +43,7 @@ pub fn push_done(text: &mut Vec<u8>, number: u64) -> Result<(), NoMemory>
 ///
 /// # Errors
 ///
-/// `NoMemory` comes for want of memory alone.
+/// `NoMemory` comes only if memory runs out.
 pub fn end_line(alloc: Global, account: &Account) -> Result<Vec<u8>, NoMemory>
     ensures { IfOk result (λ text. text.items ≡ end_line account.now.state) }
 {

@@ -10,9 +10,8 @@ mod pieces;
 mod report;
 mod section;
 
-pub use detail::bank_detail;
 pub use ends::{done_line, end_line, push_done};
-pub use log::{push_fresh, push_known, repeat_line};
+pub use log::{push_known, push_repeat};
 pub use order::{ORDER_LENGTH, push_orders, standing_lines};
-pub use pieces::push_number;
-pub use report::{push_detail, push_entry};
+pub use pieces::{class_word, push_name, push_number};
+pub use report::{push_detail, push_entry, push_report};

@@ -34,7 +34,7 @@ pub fn push_orders(text: &mut Vec<u8>, orders: &Orders, account: &Account)
 ///
 /// # Errors
 ///
-/// `NoMemory` comes for want of memory alone.
+/// `NoMemory` comes only if memory runs out.
 pub fn standing_lines(alloc: Global, account: &Account) -> Result<Vec<u8>, NoMemory>
     ensures { IfOk result (λ text. text.items ≡ standing_lines account.now.state) }
 {

@@ -15,7 +15,7 @@ use ras_facts::Name;
 ///
 /// # Errors
 ///
-/// `NoMemory` comes for want of memory alone.
+/// `NoMemory` comes only if memory runs out.
 #[tactic(auto, using(std::proofs::lemmas::Fmt::decimal_digit))]
 pub fn push_number(text: &mut Vec<u8>, number: u64) -> Result<(), NoMemory>
     ensures { OnOk result (text.new.items ≡ text.old.items ++ decimal number) }

@@ -1,16 +1,17 @@
-//! The lines of a fresh report, with what is told of each of its items.
+//! The lines of a fresh entry: of a report one for each item, with what is told of the item.
 
 ghost use Rattle.std.specs.Prelude.{◌≡◌, ◌++◌, OnOk};
 ghost use Rattle.std.specs.List.{flat_map, zip};
 ghost use Rattle.ras_texts.specs.Reports.{detail_text, empty_line, entry_lines, report_lines, told_line};
+ghost use Rattle.ras_texts.specs.Text.{item_head};
 
 use crate::detail::push_bank;
-use crate::log::{push_fresh, push_item};
-use crate::pieces::{push_name, push_number};
+use crate::log::{push_limit, push_retire};
+use crate::pieces::{class_word, push_label, push_name, push_number, push_page};
 use crate::section::{push_memory, push_other, push_processor, push_x64};
 use ras_account::Account;
 use ras_base::NoMemory;
-use ras_facts::{Entry, Fact};
+use ras_facts::{Entry, Fact, Item};
 use ras_reports::Detail;
 use std::alloc::Global;
 
@@ -19,7 +20,7 @@ use std::alloc::Global;
 ///
 /// # Errors
 ///
-/// `NoMemory` comes for want of memory alone.
+/// `NoMemory` comes only if memory runs out.
 pub fn push_entry(
     alloc: Global,
     text: &mut Vec<u8>,
@@ -32,31 +33,19 @@ pub fn push_entry(
 {
     match entry {
         Entry::Fact(fact) => push_report(alloc, text, fact, details),
-        Entry::Limit(_) | Entry::Retire(_) | Entry::ModuleLimit(_) => {
-            push_fresh(text, b"", account, entry)
-        }
+        Entry::Limit(limit) => push_limit(text, b"limit ", *limit),
+        Entry::Retire(boot) => push_retire(text, account, *boot),
+        Entry::ModuleLimit(limit) => push_limit(text, b"module-limit ", *limit),
     }
 }
 
-/// Adds what is told of an item beside the item.
+/// Adds the lines of a fresh report: one for each item with its detail, or the one that it lists
+/// nothing. The details are beside the items, one for each.
 ///
 /// # Errors
 ///
-/// `NoMemory` comes for want of memory alone.
-pub fn push_detail(alloc: Global, text: &mut Vec<u8>, detail: &Detail) -> Result<(), NoMemory>
-    ensures { OnOk result (text.new.items ≡ text.old.items ++ detail_text detail.now) }
-{
-    match detail {
-        Detail::Bank(bank) => push_bank(alloc, text, bank),
-        Detail::Memory(memory) => push_memory(text, memory),
-        Detail::Processor(processor) => push_processor(text, processor),
-        Detail::X64(x64) => push_x64(text, x64),
-        Detail::Other(guid) => push_other(text, *guid),
-    }
-}
-
-// Adds the lines of a report.
-fn push_report(
+/// `NoMemory` comes only if memory runs out.
+pub fn push_report(
     alloc: Global,
     text: &mut Vec<u8>,
     fact: &Fact,
@@ -68,6 +57,23 @@ fn push_report(
         push_empty(text, fact)
     } else {
         push_items(alloc, text, fact, details)
+    }
+}
+
+/// Adds what is told of an item beside the item.
+///
+/// # Errors
+///
+/// `NoMemory` comes only if memory runs out.
+pub fn push_detail(alloc: Global, text: &mut Vec<u8>, detail: &Detail) -> Result<(), NoMemory>
+    ensures { OnOk result (text.new.items ≡ text.old.items ++ detail_text detail.now) }
+{
+    match detail {
+        Detail::Bank(bank) => push_bank(alloc, text, bank),
+        Detail::Memory(memory) => push_memory(text, memory),
+        Detail::Processor(processor) => push_processor(text, processor),
+        Detail::X64(x64) => push_x64(text, x64),
+        Detail::Other(guid) => push_other(text, *guid),
     }
 }
 
@@ -96,9 +102,45 @@ fn push_items(
 {
     let items = fact.items.as_slice();
     for i in 0..items.len().min(details.len()) {
-        let mut detail = Vec::new(alloc);
-        push_detail(alloc, &mut detail, &details[i])?;
-        push_item(text, fact, &detail, &items[i])?;
+        push_item(alloc, text, fact, &items[i], &details[i])?;
     }
     Ok(())
+}
+
+// Adds the line of an item with its detail.
+#[tactic(auto, unfolding(crate::specs::Text::item_line))]
+fn push_item(
+    alloc: Global,
+    text: &mut Vec<u8>,
+    fact: &Fact,
+    item: &Item,
+    detail: &Detail,
+) -> Result<(), NoMemory>
+    ensures { OnOk result
+        (text.new.items ≡ text.old.items ++ told_line fact.now (item.now, detail.now)) }
+{
+    push_head(text, fact, item)?;
+    text.extend_from_slice(b" label=")?;
+    push_label(text, &item.label)?;
+    text.extend_from_slice(b" page=")?;
+    push_page(text, item.page)?;
+    text.extend_from_slice(b" ")?;
+    push_detail(alloc, text, detail)?;
+    text.extend_from_slice(b"\n")?;
+    Ok(())
+}
+
+// Adds the name, the time, the class and the weight of an item.
+#[tactic(auto, unfolding(crate::specs::Text::item_head))]
+fn push_head(text: &mut Vec<u8>, fact: &Fact, item: &Item) -> Result<(), NoMemory>
+    ensures { OnOk result (text.new.items ≡ text.old.items ++ item_head fact.now item.now) }
+{
+    text.extend_from_slice(b"log ")?;
+    push_name(text, &fact.name)?;
+    text.extend_from_slice(b" t=")?;
+    push_number(text, fact.seconds)?;
+    text.extend_from_slice(b" class=")?;
+    text.extend_from_slice(class_word(item.class))?;
+    text.extend_from_slice(b" weight=")?;
+    push_number(text, u64::from(item.weight))
 }

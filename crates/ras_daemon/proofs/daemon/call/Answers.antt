@@ -1,6 +1,6 @@
 -- Words of no listed form: what the last line says of them.
-use Rattle.ras_run.specs.StopLine.{stop_line}
-use Rattle.ras_run.specs.declared.exit.Exit.TheVariants.{Usage}
+use Rattle.ras_exit.specs.StopLine.{stop_line}
+use Rattle.ras_exit.specs.declared.exit.Exit.TheVariants.{Usage}
 use Rattle.ras_daemon.specs.Task.{task_of}
 use Rattle.ras_daemon.proofs.UsageLemmas.{if-none, only-prints, usage-said}
 use Rattle.ras_daemon.proofs.daemon.call.Goals as goal

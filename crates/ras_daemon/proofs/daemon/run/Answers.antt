@@ -3,17 +3,19 @@ use Rattle.board_core.specs.Clock.{Adds}
 use Rattle.board_core.specs.ClockLemmas.{adds_both}
 use Rattle.ras_account.specs.Account.{account_of}
 use Rattle.ras_account.specs.Accounts.{IsAccount}
-use Rattle.ras_run.specs.declared.exit.Exit.TheVariants.{SourceFault}
-use Rattle.ras_run.specs.Device.{LeavesDevice}
+use Rattle.ras_exit.specs.declared.exit.Exit.TheVariants.{SourceFault}
+use Rattle.ras_exit.specs.Device.{LeavesDevice}
 use Rattle.board_core.specs.Told.{Relates}
-use Rattle.ras_run.specs.Taking.{KeepsFiles, Prints}
+use Rattle.ras_run.specs.Files.{KeepsFiles}
+use Rattle.ras_run.specs.Taking.{Prints}
 use Rattle.ras_daemon.specs.RunStatus.{start_of}
 use Rattle.ras_daemon.specs.Running.{RunAhead, RunEnds, RunMoment}
 use Rattle.ras_recover.specs.DiskCalls.{IsBeginning, Makes}
 use Rattle.ras_daemon.specs.RunCalls.{AreRunCalls}
 use Rattle.ras_daemon.proofs.AlongLemmas.{calls_opened, calls_refused, calls_unopened, ends_calls}
 use Rattle.ras_daemon.proofs.AheadLemmas.{ahead_opened}
-use Rattle.ras_daemon.proofs.MomentLemmas.{device_goes_on, store_later}
+use Rattle.ras_exit.proofs.DeviceLemmas.{device_goes_on}
+use Rattle.ras_daemon.proofs.MomentLemmas.{store_later}
 use Rattle.ras_daemon.proofs.RunLemmas.{cut_is, cut_opening, cut_runs, ends_cut, files_refused, if_told, opened_moments, opened_runs, opening_moments, over_files, over_run, start_opened, told_on}
 use Rattle.ras_daemon.proofs.daemon.run.Goals as goal
 

@@ -1,15 +1,15 @@
 use Rattle.std.proofs.Common.{◌≡◌, ℕ, List, ◌+◌, false, Ok, Err, Some, ap, refl, subst, true, ◌∙◌, arith}
 use Rattle.std.proofs.lemmas.Result.{err_from_is_err_and}
 use Rattle.board_core.specs.ClockLemmas.{adds_none}
-use Rattle.ras_events.specs.declared.reason.Reason.TheVariants.{LongLine}
+use Rattle.ras_exit.specs.declared.reason.Reason.TheVariants.{LongLine}
 use Rattle.ras_script.specs.declared.reader.NextRefused.TheVariants as refused
 use Rattle.ras_script.specs.Lines.{line_too_long, script_ended, script_too_long}
-use Rattle.ras_run.specs.declared.exit.Exit.TheVariants.{BadLine, TooLong}
-use Rattle.ras_run.specs.Device.{LeavesDevice}
+use Rattle.ras_exit.specs.declared.exit.Exit.TheVariants.{BadLine, TooLong}
+use Rattle.ras_exit.specs.Device.{LeavesDevice}
 use Rattle.ras_run.specs.LaterKinds.{taken_line}
 use Rattle.ras_run.specs.Taking.{LineMoment}
 use Rattle.ras_daemon.specs.Script.{reads_in}
-use Rattle.ras_daemon.proofs.MomentLemmas.{device_goes_on, device_stays}
+use Rattle.ras_exit.proofs.DeviceLemmas.{device_goes_on, device_stays}
 use Rattle.ras_daemon.proofs.LinesLemmas.{after_all, all_taken, gave_as, given, if_more, lines_end, moments_on, moved_as, moved_tells, none_given, still_tells, stopped, tells_same, took_line, took_none, took_now}
 use Rattle.ras_daemon.proofs.LineEndLemmas.{not_fault, ahead_given, ahead_none, calls_given, calls_none, line_text, text_grows}
 use Rattle.ras_daemon.proofs.lines.take_lines.Goals as goal
@@ -60,7 +60,6 @@ returns-in_err-take_line-in-Ok-true-clause-takes g c = λ start script t after l
     (stopped start script t (reads_in taking.done) (c.loop-number.number + 1, taken_line c.line.result.now) _ _
     (given start script t _ c.loop-number.reader c.advance.new.self (g.S.Source.left c.loop-number.source) (g.S.Source.left c.advance.new.source) _ _ c.line.result.now c.line.ensures taking (gave_as _ (Ok true) c.loop-number.reader c.advance.new.self (g.S.Source.left c.loop-number.source) (g.S.Source.left c.advance.new.source) (ap Ok c.in-Ok-true.field-0-test) c.in-Ok-true.ensures.lines) (moved_as _ (Ok true) c.loop-number.reader c.advance.new.self (g.S.Source.left c.loop-number.source) (g.S.Source.left c.advance.new.source) (ap Ok c.in-Ok-true.field-0-test) c.in-Ok-true.ensures.moves))
     c.loop-number.run.ledger _ taking.after.account c.in_err-take_line-in-Ok-true.field-0.0 c.take_line.new.run
-    c.in_err-take_line-in-Ok-true.ensures.stop
     (still_tells _ _ _ _ taking.here taking.is c.in_err-take_line-in-Ok-true.ensures.device)
     c.in_err-take_line-in-Ok-true.ensures.rests
     (c.in_err-take_line-in-Ok-true.ensures.takes start (reads_in taking.done) taking.after taking.here taking.is))

@@ -8,8 +8,8 @@ use Rattle.ras_journal.specs.View.{JournalView}
 use Rattle.ras_texts.specs.Orders.{order_lines}
 use Rattle.ras_run.specs.Taking.{CanBeKept}
 use Rattle.ras_events.specs.Preparing.{CanTake, orders_along_entries}
-use Rattle.ras_run.proofs.DeviceLemmas.{device_stays}
-use Rattle.ras_run.proofs.FaultLemmas.{raised, same_faults}
+use Rattle.ras_exit.proofs.DeviceLemmas.{device_stays}
+use Rattle.ras_exit.proofs.FaultLemmas.{raised, same_faults}
 use Rattle.ras_run.proofs.KeepLemmas.{device_kept, device_not_kept, keep_moments, news_links, prints_kept, room_left, room_of, stands_kept, standing_of_news}
 use Rattle.ras_run.proofs.StandsLemmas.{prints_same, stands_same}
 use Rattle.ras_run.proofs.TakingCallsLemmas.{news_begun, news_made, no_news_begun}
@@ -20,7 +20,11 @@ returns-in-Err-Full-clause-takes g c =
     let can : CanBeKept c.in-Some.news = rw c.in-Some.is at c.requires.can_keep in
     let same = rw c.in-Err-Full.field-0-is at c.in-Err-Full.ensures.nothing_called in
     let full = rw c.in-Err-Full.field-0-is at c.in-Err-Full.ensures.full in
-    rw (c.in-Some.is, same) (room_of c.args.ledger.now.journal.standing c.args.ledger.now.account.state c.in-Some.news.entries.items _ can.can.payload.some can.bytes ∙ full, prints_same _)
+    rw (c.in-Some.is, same) (record {
+      exit_is = refl;
+      lacks_is = room_of c.args.ledger.now.journal.standing c.args.ledger.now.account.state c.in-Some.news.entries.items _ can.can.payload.some can.bytes ∙ full;
+      none = prints_same _;
+    })
 
 pub returns-in-Err-Full-clause-moments : goal.returns-in-Err-Full-clause-moments
 returns-in-Err-Full-clause-moments g c = λ t is.

@@ -4,8 +4,8 @@ use Rattle.board_core.specs.ClockLemmas.{adds_none}
 use Rattle.ras_events.specs.Preparing.{news_entries}
 use Rattle.ras_run.specs.Taking.{MadeMoment}
 use Rattle.ras_run.proofs.CountLemmas.{adds_made, adds_news, full_made, made_printed, news_refused, text_told}
-use Rattle.ras_run.proofs.DeviceLemmas.{device_goes_on, device_stays}
-use Rattle.ras_run.proofs.FaultLemmas.{causes_after}
+use Rattle.ras_exit.proofs.DeviceLemmas.{device_goes_on, device_stays}
+use Rattle.ras_exit.proofs.FaultLemmas.{causes_after}
 use Rattle.ras_run.proofs.KeepLemmas.{can_keep}
 use Rattle.ras_run.proofs.StandsLemmas.{no_refusal, on_any, on_both, print_stop, prints_same, rests_same, stands_printed, stands_same}
 use Rattle.ras_run.proofs.TakingCallsLemmas.{made_begun, made_begun_still, made_whole, unmade}

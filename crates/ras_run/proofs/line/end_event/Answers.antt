@@ -2,7 +2,7 @@ use Rattle.std.proofs.Common.{◌++◌}
 use Rattle.board_core.specs.ClockLemmas.{adds_none}
 use Rattle.board_core.specs.Stop.{Begins, InOut}
 use Rattle.ras_texts.specs.Text.{done_line}
-use Rattle.ras_run.proofs.DeviceLemmas.{device_stays}
+use Rattle.ras_exit.proofs.DeviceLemmas.{device_stays}
 use Rattle.ras_run.proofs.StandsLemmas.{no_memory_fault, print_exit}
 use Rattle.ras_run.proofs.line.end_event.Goals as goal
 

@@ -1,7 +1,7 @@
 use Rattle.std.proofs.Common.{◌∙◌}
 use Rattle.std.proofs.lemmas.Result.{err_from_is_err_and}
-use Rattle.ras_run.proofs.DeviceLemmas.{device_goes_on}
-use Rattle.ras_run.proofs.FaultLemmas.{causes_after}
+use Rattle.ras_exit.proofs.DeviceLemmas.{device_goes_on}
+use Rattle.ras_exit.proofs.FaultLemmas.{causes_after}
 use Rattle.ras_run.proofs.OpenLemmas.{account_same, adds_opening, adds_reopening, reopen_printed, reopen_refused, standing_same}
 use Rattle.ras_run.proofs.StandsLemmas.{any_refusal, no_refusal, on_any, on_both, print_stop, stands_printed}
 use Rattle.ras_run.proofs.TakingCallsLemmas.{recovered_still, recovered_whole, recovery_begun, recovery_made}
@@ -10,7 +10,7 @@ use Rattle.ras_run.proofs.line.reopen.Goals as goal
 pub returns-in_err-ledger-clause-takes : goal.returns-in_err-ledger-clause-takes
 returns-in_err-ledger-clause-takes g c = λ t is.
     let p = err_from_is_err_and c.from_residual.result c.from_residual.ensures.1 in
-    rw (p.1, p.2) (reopen_refused c.args.number c.args.ledger.now _ _ _ _ t c.requires.stands is c.in_err-ledger.ensures.prints _ c.in_err-ledger.ensures.opens)
+    rw (p.1, p.2) (reopen_refused c.args.number c.args.ledger.now c.args.ledger.now _ _ _ t c.requires.stands is c.in_err-ledger.ensures.prints _ c.in_err-ledger.ensures.opens)
 
 pub returns-in_err-ledger-clause-moments : goal.returns-in_err-ledger-clause-moments
 returns-in_err-ledger-clause-moments g c = λ t is. adds_opening c.args.number c.args.ledger.now _ _ _ t c.requires.stands is c.in_err-ledger.ensures.stops

@@ -12,16 +12,16 @@ use Rattle.ras_run.proofs.line.take_line.Goals as goal
 
 pub returns-in-Err-clause-takes : goal.returns-in-Err-clause-takes
 returns-in-Err-clause-takes g c = λ start before is t at.
-    rw c.unread_exit.ensures (unread start before c.args.number _ c.in-Err.refused c.args.run.now _ c.in-Err.ensures.read)
+    rw c.of_unread.ensures (unread start before c.args.number _ c.in-Err.refused c.args.run.now _ c.in-Err.ensures.read)
 
 pub returns-in-Err-clause-rests : goal.returns-in-Err-clause-rests
-returns-in-Err-clause-rests g c = any_refusal {T = Unit {0}} _ (Err c.unread_exit.result) c.requires.stands
+returns-in-Err-clause-rests g c = any_refusal {T = Unit {0}} _ (Err c.of_unread.result) c.requires.stands
 
 pub returns-in-Err-clause-stop : goal.returns-in-Err-clause-stop
-returns-in-Err-clause-stop g c = rw c.unread_exit.ensures (unread_stop c.args.number c.in-Err.refused)
+returns-in-Err-clause-stop g c = rw c.of_unread.ensures (unread_stop c.args.number c.in-Err.refused)
 
 pub returns-in-Err-clause-faults : goal.returns-in-Err-clause-faults
-returns-in-Err-clause-faults g c = rw c.unread_exit.ensures (unread_cause c.args.number c.in-Err.refused _)
+returns-in-Err-clause-faults g c = rw c.of_unread.ensures (unread_cause c.args.number c.in-Err.refused _)
 
 pub returns-in-Some-clause-takes : goal.returns-in-Some-clause-takes
 returns-in-Some-clause-takes g c = λ start before is t at.

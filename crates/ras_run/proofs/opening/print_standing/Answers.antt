@@ -1,7 +1,7 @@
 use Rattle.board_core.specs.ClockLemmas.{adds_none}
 use Rattle.board_core.specs.Stop.{Begins, InOut}
 use Rattle.ras_texts.specs.Orders.{standing_lines}
-use Rattle.ras_run.proofs.DeviceLemmas.{device_stays}
+use Rattle.ras_exit.proofs.DeviceLemmas.{device_stays}
 use Rattle.ras_run.proofs.StandsLemmas.{no_memory_fault, print_exit}
 use Rattle.ras_run.proofs.opening.print_standing.Goals as goal
 

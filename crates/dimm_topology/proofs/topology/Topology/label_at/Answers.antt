@@ -12,4 +12,4 @@ returns-in_err-row_at c =
 
 pub returns : goal.returns
 returns c =
-    c.label.ensures ∙ ap (option_and_then label_in) c.in_ok-row_at.ensures ∙ sym (first_at c.args.location c.args.self.now)
+    c.label.ensures.label ∙ ap (option_and_then label_in) c.in_ok-row_at.ensures ∙ sym (first_at c.args.location c.args.self.now)

@@ -12,4 +12,4 @@ returns-in_err-range_over c =
 
 pub returns : goal.returns
 returns c =
-    c.label.ensures ∙ ap (option_and_then label_in) c.in_ok-range_over.ensures.row ∙ sym (address_owner c.args.address c.args.self.now c.range_over.ensures.apart)
+    c.label.ensures.label ∙ ap (option_and_then label_in) c.in_ok-range_over.ensures.row ∙ sym (address_owner c.args.address c.args.self.now c.range_over.ensures.apart)

@@ -6,8 +6,8 @@ use Rattle.ras_facts.specs.Facts.{status_in}
 use Rattle.ras_facts.proofs.ItemLemmas.{ok_is}
 use Rattle.ras_facts.proofs.bank.BankReport.label.Goals as goal
 
-pub returns-in-Some : goal.returns-in-Some
-returns-in-Some c =
+pub returns-in-Some-clause-label : goal.returns-in-Some-clause-label
+returns-in-Some-clause-label c =
     let code : c.code_of-code.result ≡ code_of_rows (error_code (status_in c.args.self.now)) = c.code_of-code.ensures.rows ∙ ap code_of_rows c.error_code.ensures.code in
     ok_is c.copy.result _ _ c.copy.ensures
     (ap (λ owner. unwrap_or owner [])

@@ -1,0 +1,113 @@
+-- That calls of the disk and prints leave the device alone.
+use Rattle.std.proofs.Common.{◌≡◌, ℕ, List, Option, None, Some, length, ap, refl, ◌∙◌, inl, inr}
+use Rattle.board_core.specs.Clock.{Clock, LeftNow, Passes, Adds}
+use Rattle.board_core.specs.ClockLemmas.{adds_after, adds_both, adds_none, adds_weaker}
+use Rattle.board_core.specs.declared.board.DiskCall.{DiskCall}
+use Rattle.board_core.specs.declared.board.DiskCall.TheVariants.{WriteAt, Sync}
+use Rattle.board_core.specs.declared.board.FileNo.{FileNo}
+use Rattle.board_core.specs.declared.board.FileNo.TheVariants.{Zero, One}
+use Rattle.board_core.specs.Stop.{Left, InOut}
+use Rattle.board_core.specs.Told.{Told, Relates, Steps, MayList, FailsWrite, FailsThrough, FailsPrint, with_call, with_file, after_write, after_write_through, after_print}
+use Rattle.ras_exit.specs.Device.{KeepsDevice, LeavesDevice}
+
+-- ---- what is told
+
+pub same_device : (t : Told) → KeepsDevice t t
+same_device t = record { store = refl; volatile = refl; accesses = refl }
+
+device_then : (a b c : Told) → KeepsDevice a b → KeepsDevice b c → KeepsDevice a c
+device_then a b c one two = record {
+  store = two.store ∙ one.store;
+  volatile = two.volatile ∙ one.volatile;
+  accesses = two.accesses ∙ one.accesses;
+}
+
+-- the printed text and the device are as they were
+pub record Beside (old new : Told) : Type 0 where
+  pub out : new.here.out ≡ old.here.out
+  pub device : KeepsDevice old new
+
+pub beside_then : (a b c : Told) → Beside a b → Beside b c → Beside a c
+beside_then a b c one two = record { out = two.out ∙ one.out; device = device_then a b c one.device two.device }
+
+pub beside_same : (t : Told) → Beside t t
+beside_same t = record { out = refl; device = same_device t }
+
+beside_is : (u v w : Told) → v ≡ w → Beside u w → Beside u v
+beside_is u v w is beside = rw is beside
+
+-- ---- calls of the disk
+
+listed_beside : (call : DiskCall) (u v : Told) → MayList call u v → Beside u v
+listed_beside call u v (inl same) = beside_is u v u same (beside_same u)
+listed_beside call u v (inr listed) = beside_is u v (with_call call u) listed (record { out = refl; device = record { store = refl; volatile = refl; accesses = refl } })
+
+file_beside : (file : FileNo) (bytes : List ℕ) (t : Told) → Beside t (with_file file bytes t)
+file_beside Zero bytes t = record { out = refl; device = record { store = refl; volatile = refl; accesses = refl } }
+file_beside One bytes t = record { out = refl; device = record { store = refl; volatile = refl; accesses = refl } }
+
+write_beside : (file : FileNo) (place : ℕ) (bytes : List ℕ) (t : Told) → Beside t (after_write file place bytes t)
+write_beside Zero place bytes t = record { out = refl; device = record { store = refl; volatile = refl; accesses = refl } }
+write_beside One place bytes t = record { out = refl; device = record { store = refl; volatile = refl; accesses = refl } }
+
+pub through_beside : (file : FileNo) (place : ℕ) (bytes : List ℕ) (t : Told) → Beside t (after_write_through file place bytes t)
+through_beside Zero place bytes t = record { out = refl; device = record { store = refl; volatile = refl; accesses = refl } }
+through_beside One place bytes t = record { out = refl; device = record { store = refl; volatile = refl; accesses = refl } }
+
+write_failed : (file : FileNo) (place n : ℕ) (u v : Told) → FailsWrite file place n u v → Beside u v
+write_failed file place n u v fails =
+    beside_then u (with_file file fails.0 u) v (file_beside file fails.0 u) (listed_beside (WriteAt file place n) (with_file file fails.0 u) v fails.2)
+
+pub through_failed : (file : FileNo) (place : ℕ) (bytes : List ℕ) (u v : Told) → FailsThrough file place bytes u v → Beside u v
+through_failed file place bytes u v (inl torn) = write_failed file place (length bytes) u v torn
+through_failed file place bytes u v (inr unsynced) =
+    beside_then u (after_write file place bytes u) v (write_beside file place bytes u) (listed_beside (Sync file) (after_write file place bytes u) v unsynced)
+
+-- ---- calls one after another
+
+pub device_stays : (told : Option Told) (clock : Clock) → LeavesDevice told told clock clock
+device_stays None clock = tt
+device_stays (Some t) clock = (same_device t, adds_none (λ left. left.store ≡ t.here.store) clock)
+
+pub device_goes_on : (first mid last : Option Told) (a b c : Clock) → LeavesDevice first mid a b → LeavesDevice mid last b c → LeavesDevice first last a c
+device_goes_on None mid last a b c one two = tt
+device_goes_on (Some t) None last a b c one two = absurd one.0
+device_goes_on (Some t) (Some m) None a b c one two = absurd two.0
+device_goes_on (Some t) (Some m) (Some n) a b c one two = (
+  device_then t m n one.0 two.0,
+  adds_both (λ left. left.store ≡ t.here.store) a b c one.1
+      (adds_weaker (λ left. left.store ≡ m.here.store) (λ left. left.store ≡ t.here.store) b c two.1 (λ left is. is ∙ one.0.store)),
+)
+
+-- what is told by a step is so related
+pub steps_relate : (step : Told → Told) (told new : Option Told) → Steps step told new → Relates (λ old now. now ≡ step old) told new
+steps_relate step None new steps = steps
+steps_relate step (Some t) new steps = rw steps refl
+
+-- calls of which is known what they tell, and that stops leave the store
+pub device_by : (P : Told → Told → Type 0) (told new : Option Told) (a b : Clock) → ((u v : Told) → P u v → KeepsDevice u v) → Relates P told new
+    → ((t : Told) → told ≡ Some t → Adds (λ left. left.store ≡ t.here.store) a b) → LeavesDevice told new a b
+device_by P None new a b keeps told adds = tt
+device_by P (Some t) None a b keeps told adds = absurd told
+device_by P (Some t) (Some n) a b keeps told adds = (keeps t n told, adds t refl)
+
+-- ---- a print
+
+-- Between calls a stop leaves the store that is told.
+abbrev pub StoreIsLeft : Option Told → Clock → Type 0
+StoreIsLeft told clock = (t : Told) (left : Left) → told ≡ Some t → LeftNow clock left → left.store ≡ t.here.store
+
+out_kept : (piece : List ℕ → List ℕ → Type 0) (told : Option Told) (a b : Clock) → StoreIsLeft told a → Passes (InOut piece) a b → (t : Told) → told ≡ Some t → Adds (λ left. left.store ≡ t.here.store) a b
+out_kept piece told a b law passes t is =
+    adds_after (InOut piece) (λ left. left.store ≡ t.here.store) a b passes (λ left after. ap (λ (l : Left). l.store) after.by.rest ∙ law t after.from is after.was)
+
+print_keeps : (bytes : List ℕ) (u v : Told) → v ≡ after_print bytes u → KeepsDevice u v
+print_keeps bytes u v is = rw is (record { store = refl; volatile = refl; accesses = refl })
+
+pub device_printed : (bytes : List ℕ) (piece : List ℕ → List ℕ → Type 0) (told new : Option Told) (a b : Clock) → StoreIsLeft told a → Steps (after_print bytes) told new → Passes (InOut piece) a b → LeavesDevice told new a b
+device_printed bytes piece told new a b law steps passes =
+    device_by (λ old now. now ≡ after_print bytes old) told new a b (print_keeps bytes) (steps_relate (after_print bytes) told new steps) (out_kept piece told a b law passes)
+
+pub device_not_printed : (bytes : List ℕ) (piece : List ℕ → List ℕ → Type 0) (told new : Option Told) (a b : Clock) → StoreIsLeft told a → Relates (FailsPrint bytes) told new → Passes (InOut piece) a b → LeavesDevice told new a b
+device_not_printed bytes piece told new a b law fails passes =
+    device_by (FailsPrint bytes) told new a b (λ u v failed. print_keeps failed.0 u v failed.3) fails (out_kept piece told a b law passes)

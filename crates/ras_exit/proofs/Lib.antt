@@ -1,0 +1,4 @@
+pub mod FaultLemmas
+pub mod DeviceLemmas
+pub mod EndingLemmas
+pub mod PrintLemmas

@@ -1,0 +1,8 @@
+pub mod Reasons
+pub mod Endings
+pub mod ExitStatus
+pub mod StopLine
+pub mod Causes
+pub mod Device
+pub mod Telling
+pub mod ScriptEnd

@@ -1,0 +1,32 @@
+-- The word and the number by which it is printed why a line is refused.
+use Rattle.std.specs.Prelude.{ℕ, List, [], ◌++◌, Option, None, Some, codes, decimal}
+use Rattle.std.specs.Option.{option_map_or}
+use Rattle.apei_sources.specs.Refusals.{block_number, table_number}
+use Rattle.dimm_topology.specs.Refusals.{topology_number}
+use Rattle.ras_script.specs.Refusals.{line_number}
+use Rattle.ras_exit.specs.declared.reason.Reason.{Reason}
+use Rattle.ras_exit.specs.declared.reason.Reason.TheVariants.{Line, LongLine, Topology, Hest, Bert, Block, Source}
+
+-- which reader refuses
+abbrev pub reason_word : Reason → List ℕ
+reason_word (Line why) = codes "line"
+reason_word LongLine = codes "line"
+reason_word (Topology why) = codes "topology"
+reason_word (Hest why) = codes "hest"
+reason_word (Bert why) = codes "bert"
+reason_word (Block why) = codes "block"
+reason_word Source = codes "source"
+
+-- the number that the reader gives its refusal, if it gives one
+abbrev pub reason_number : Reason → Option ℕ
+reason_number (Line why) = line_number why
+reason_number LongLine = Some 5
+reason_number (Topology why) = topology_number why
+reason_number (Hest why) = table_number why
+reason_number (Bert why) = table_number why
+reason_number (Block why) = Some (block_number why)
+reason_number Source = None
+
+-- the word, and the number after a point
+abbrev pub reason_text : Reason → List ℕ
+reason_text why = reason_word why ++ option_map_or (λ number. codes "." ++ decimal number) (reason_number why) []

@@ -1,0 +1,21 @@
+-- The line that a refused run ends with.
+use Rattle.std.specs.Prelude.{ℕ, List, [], ◌++◌, codes, decimal}
+use Rattle.ras_texts.specs.Text.{line_with}
+use Rattle.ras_exit.specs.Reasons.{reason_text}
+use Rattle.ras_exit.specs.declared.exit.Exit.{Exit}
+use Rattle.ras_exit.specs.declared.exit.Exit.TheVariants.{Done, Usage, BadLine, SourceFault, DiskFault, PrintFault, Damaged, Full, NoMemory, TooLong}
+
+-- the line that a refused run ends with; an exit that is no refusal has none
+abbrev pub stop_line : Exit → List ℕ
+stop_line Done = []
+stop_line Usage = codes "stop 1 usage\n"
+stop_line (BadLine line why) =
+    line_with (codes "stop 2 line=" ++ decimal line ++ codes " reason=" ++ reason_text why)
+stop_line SourceFault = []
+stop_line DiskFault = []
+stop_line PrintFault = []
+stop_line (Damaged file place) =
+    line_with (codes "stop 7 file=" ++ decimal file ++ codes " place=" ++ decimal place)
+stop_line Full = codes "stop 8 full\n"
+stop_line NoMemory = []
+stop_line TooLong = codes "stop 13 too-long\n"

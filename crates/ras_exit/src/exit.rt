@@ -1,0 +1,89 @@
+//! How a call of the daemon ends.
+
+ghost use Rattle.std.specs.Prelude.{◌≡◌};
+
+use crate::Reason;
+use ras_base::NoMemory;
+use ras_script::LineRefused;
+
+/// How a call ends.
+#[derive(Clone, Copy, Debug, PartialEq, Eq)]
+pub enum Exit {
+    /// The script was read to its end.
+    Done,
+    /// The words are no form of a call.
+    Usage,
+    /// A line is refused: its number, from 1, and why.
+    BadLine { line: u64, reason: Reason },
+    /// Reading the source failed.
+    SourceFault,
+    /// A disk call failed.
+    DiskFault,
+    /// Printing failed.
+    PrintFault,
+    /// A file isn't as it should be: which file, and from which place in bytes.
+    Damaged { file: u8, place: u64 },
+    /// There is no room in the account.
+    Full,
+    /// Memory ran out.
+    NoMemory,
+    /// The script is too long.
+    TooLong,
+}
+
+impl From<NoMemory> for Exit {
+    ghost use Rattle.ras_exit.specs.declared.exit.Exit.TheVariants as ExitFor;
+
+    ghost from_gives = { λ _ exit. exit ≡ ExitFor.NoMemory };
+
+    fn from(_: NoMemory) -> Self {
+        Exit::NoMemory
+    }
+}
+
+impl Exit {
+    ghost use Rattle.ras_exit.specs.Endings.{is_answer, unread_exit};
+    ghost use Rattle.ras_exit.specs.ExitStatus.{exit_number};
+
+    /// The process's exit status.
+    pub fn status(&self) -> u8
+        ensures { result ≡ exit_number self.now }
+    {
+        match self {
+            Exit::Done => 0,
+            Exit::Usage => 1,
+            Exit::BadLine { .. } => 2,
+            Exit::SourceFault => 3,
+            Exit::DiskFault => 4,
+            Exit::PrintFault => 6,
+            Exit::Damaged { .. } => 7,
+            Exit::Full => 8,
+            Exit::NoMemory => 12,
+            Exit::TooLong => 13,
+        }
+    }
+
+    /// Whether a call that ends so came to its end or to a refusal. If it didn't, a fault cut it
+    /// short, or memory ran out.
+    pub fn is_answer(self) -> bool
+        ensures { result ≡ is_answer self }
+    {
+        !matches!(
+            self,
+            Exit::SourceFault | Exit::DiskFault | Exit::PrintFault | Exit::NoMemory
+        )
+    }
+
+    /// How a run ends if its line of this number can't be read.
+    pub fn of_unread(line: u64, refused: LineRefused) -> Exit
+        ensures { result ≡ unread_exit line refused }
+    {
+        match refused {
+            LineRefused::NoMemory => Exit::NoMemory,
+            refused => Exit::BadLine {
+                line,
+                reason: Reason::Line(refused),
+            },
+        }
+    }
+}

@@ -1,0 +1,13 @@
+//! How a call of the daemon ends: its exits with their numbers and last lines, why a line of a
+//! script is refused, and the print that tells of it.
+#![tactic(auto)]
+
+mod exit;
+mod printing;
+mod reason;
+mod stop;
+
+pub use exit::Exit;
+pub use printing::print;
+pub use reason::Reason;
+pub use stop::stop_line;

@@ -1,0 +1,66 @@
+//! Why a line of a script is refused.
+
+ghost use Rattle.std.specs.Prelude.{◌≡◌};
+ghost use Rattle.ras_exit.specs.Reasons.{reason_number, reason_word};
+
+use apei_sources::{BlockRefused, TableRefused};
+use dimm_topology::TopologyRefused;
+use ras_script::LineRefused;
+use thiserror::Error;
+
+/// Why a line of a script is refused: by its reader, or by what it asks for. That memory ran out
+/// is no such reason.
+#[derive(Clone, Copy, Debug, Error, PartialEq, Eq)]
+pub enum Reason {
+    /// The line itself doesn't read.
+    #[error("the line can't be read: {0}")]
+    Line(LineRefused),
+    /// The line has more bytes than a line may have, so it isn't read.
+    #[error("the line has more than 40,000 bytes")]
+    LongLine,
+    /// The rows of the machine don't take the line's row.
+    #[error("the machine doesn't take the row: {0}")]
+    Topology(TopologyRefused),
+    /// The line's table of error sources doesn't read.
+    #[error("the table of error sources can't be read: {0}")]
+    Hest(TableRefused),
+    /// The line's table of boot errors doesn't read.
+    #[error("the table of boot errors can't be read: {0}")]
+    Bert(TableRefused),
+    /// The line's status block doesn't read.
+    #[error("the status block can't be read: {0}")]
+    Block(BlockRefused),
+    /// No table of error sources was read, or it has no source of the line's identifier.
+    #[error("no such error source is known")]
+    Source,
+}
+
+impl Reason {
+    /// The word by which it is printed: which reader refuses.
+    pub fn word(self) -> &'static [u8]
+        ensures { result.now ≡ reason_word self }
+    {
+        match self {
+            Reason::Line(_) | Reason::LongLine => b"line",
+            Reason::Topology(_) => b"topology",
+            Reason::Hest(_) => b"hest",
+            Reason::Bert(_) => b"bert",
+            Reason::Block(_) => b"block",
+            Reason::Source => b"source",
+        }
+    }
+
+    /// The number that the reader gives its refusal, if it gives one.
+    pub fn number(self) -> Option<u8>
+        ensures { result ≡ reason_number self }
+    {
+        match self {
+            Reason::Line(refused) => refused.number(),
+            Reason::LongLine => Some(5),
+            Reason::Topology(refused) => refused.number(),
+            Reason::Hest(refused) | Reason::Bert(refused) => refused.number(),
+            Reason::Block(refused) => Some(refused.number()),
+            Reason::Source => None,
+        }
+    }
+}
