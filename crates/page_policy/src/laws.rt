@@ -6,12 +6,14 @@ ghost use Rattle.std.specs.Map.{keys_of};
 ghost use Rattle.page_policy.specs.declared.buckets.Limit.{Limit};
 ghost use Rattle.page_policy.specs.declared.buckets.Bucket.{Bucket};
 ghost use Rattle.page_policy.specs.declared.rows.Order.{Order};
-ghost use Rattle.page_policy.specs.Buckets.{IsLimit, aged_bucket};
+ghost use Rattle.page_policy.specs.Buckets.{IsLimit, aged_bucket, most_count};
 ghost use Rattle.page_policy.specs.Rows.{PageReport};
 ghost use Rattle.page_policy.specs.Histories.{page_rows_of, pages_named, orders_of, order_behind, state_in, state_under, AreOnceInOrder, AreSingle};
 ghost use Rattle.page_policy.specs.Pages.{AreReservedFor};
 ghost use Rattle.page_policy.specs.declared.rows.PageRow.{PageRow};
 ghost use Rattle.row_tables.specs.Held.{Held, is_ready};
+
+use crate::{MOST_CAPACITY, MOST_PERIOD};
 
 /// The laws of the rows and the orders of a history. The function does nothing: its clauses are
 /// what it is for.
@@ -46,4 +48,12 @@ pub fn page_laws()
     // Where the pages of a list of reports wait, a report of the first can be taken.
     ensures ready { (pages : Held ℕ PageRow) (first : ℕ) (more : List ℕ)
         → AreReservedFor pages (first ∷ more) → IsTrue (is_ready nat_eq pages first) }
+{}
+
+/// The numbers that the definitions cite by name. The function does nothing: its clauses are what
+/// it is for.
+pub fn numbers_in_digits()
+    ensures capacity { MOST_CAPACITY ≡ 1_000_000 }
+    ensures period { MOST_PERIOD ≡ 10_000_000 }
+    ensures count { most_count ≡ 999_999 }
 {}

@@ -20,7 +20,7 @@ use std::marker::Model;
 /// The pages that were reported, in the order in which they were first seen, each with its row.
 ///
 /// Pages can wait behind those that are held, so that their reports can be taken with no memory.
-/// Only `reserve` and `account` concern pages that wait.
+/// Only `reserve`, `give_up` and `account` concern pages that wait.
 #[derive(Drop)]
 pub struct Pages {
     table: RowTable<u64, PageRow>,
@@ -59,6 +59,14 @@ impl Pages {
         ensures err { OnErr result (self.new.waiting ≡ []) }
     {
         self.table.reserve(pages, PageRow::new(0))
+    }
+
+    /// Lets no page wait any longer.
+    pub fn give_up(&mut self)
+        ensures rows { self.new.rows ≡ self.old.rows }
+        ensures waiting { self.new.waiting ≡ [] }
+    {
+        self.table.give_up();
     }
 
     /// Takes a report of a page: an item's class and weight, with the time of the report in seconds
