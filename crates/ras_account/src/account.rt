@@ -108,12 +108,12 @@ impl Account {
     }
 
     /// Whether the account knows a name: it holds it, or the name's boot is retired. A fact is
-    /// fresh exactly where its name isn't known.
+    /// fresh exactly if its name isn't known.
     pub fn knows(&self, name: &Name) -> bool
         ensures known { result ≡ knows self.now.state name.now }
         ensures account { IsAccount self.now.state }
     {
-        self.names.holds(name) || self.in_force.retires(name)
+        self.names.holds(name) || name.is_retired(self.in_force.floor)
     }
 
     // Whether an entry is a fact whose name is held.

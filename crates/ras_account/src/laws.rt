@@ -1,6 +1,6 @@
 //! What an account is, in other words than its definitions.
 
-ghost use Rattle.std.specs.Prelude.{◌≡◌, ◌≤◌, ◌+◌, ◌==◌, ◌&&◌, not, ◌↔◌, ℕ, max, List, [], ◌∷◌, ◌++◌, if◌then◌else◌, IsTrue, All, Contains, Some, None, map, nat_eq, nat_le, length};
+ghost use Rattle.std.specs.Prelude.{◌≡◌, ◌≤◌, ◌+◌, ◌==◌, ◌&&◌, ◌||◌, ◌^◌, not, ◌↔◌, ℕ, max, List, [], ◌∷◌, ◌++◌, if◌then◌else◌, IsTrue, All, Contains, Some, None, map, nat_eq, nat_le, length};
 ghost use Rattle.std.specs.Bool.{IsFalse};
 ghost use Rattle.std.specs.List.{IsDistinct};
 ghost use Rattle.std.specs.Map.{keys_of, lookup};
@@ -16,18 +16,20 @@ ghost use Rattle.ras_facts.specs.declared.name.Name.{Name};
 ghost use Rattle.ras_facts.specs.declared.entry.Entry.{Entry};
 ghost use Rattle.ras_facts.specs.Names.{same_name};
 ghost use Rattle.ras_facts.specs.Entries.{IsValidEntry};
-ghost use Rattle.ras_account.specs.History.{History, empty, with_entry, with_mark, with_entries, with_retire, history_of, followed_by, IsUnmarked, floor_after, is_retired};
-ghost use Rattle.ras_account.specs.Fresh.{is_fresh_behind, fresh_entries};
+ghost use Rattle.ras_account.specs.History.{History, empty, with_entry, with_mark, with_entries, with_retire, history_of, followed_by, IsUnmarked, names_in, floor_after, is_retired};
+ghost use Rattle.ras_account.specs.Fresh.{is_among, is_fresh_behind, fresh_entries};
 ghost use Rattle.ras_account.specs.Sightings.{Sighting, sightings, reports_of};
 ghost use Rattle.ras_account.specs.Modules.{has_tripped, bucket_with, trips_at, AreSingleErrors, IsLate};
 ghost use Rattle.ras_account.specs.Account.{State, account_of, module_errors, weight_in, is_seen, module_of, AreSame, ChangesNothing, IsKeptAfter};
-ghost use Rattle.ras_account.specs.Continued.{is_fresh_in, account_after, account_after_all, account_after_history, account_after_mark};
+ghost use Rattle.ras_account.specs.Continued.{knows, is_fresh_in, account_after, account_after_all, account_after_history, account_after_mark};
 ghost use Rattle.ras_account.specs.Orders.{orders_at, orders_behind, orders};
 ghost use Rattle.ras_account.specs.Asked.{orders_for_page, replace_order, replace_orders, replace_orders_at, trips_with, HasRow};
 ghost use Rattle.ras_account.specs.Numbers.{are_past, IsWithin, StaysWithin, HasRoomFor, numbers_of, numbers_with};
 ghost use Rattle.ras_account.specs.Rows.{account_from_rows};
 ghost use Rattle.ras_account.specs.View.{View, WaitsFirst, IsReservedFor, then_waits, added_by};
 ghost use Rattle.ras_account.specs.Accounts.{IsAccount};
+
+use crate::{FIRST_LIMIT, FIRST_MODULE_LIMIT, MOST_ENTRIES, MOST_NAMES, MOST_TOTAL};
 
 /// The laws of the account of a history. The function does nothing: its clauses are what it is for.
 pub fn account_laws()
@@ -77,6 +79,27 @@ pub fn account_laws()
         ≡ (if is_seen history label then Some (module_of history label) else None) }
     ensures total { (history : History)
         → weight_in (account_of history).modules ≡ (account_of history).total }
+{}
+
+/// The laws of the names that an account knows. The function does nothing: its clauses are what it is
+/// for.
+pub fn known_laws()
+    // The account of a history knows the names of its facts, and all names of retired boots.
+    ensures known { (history : History) (name : Name)
+        → knows (account_of history) name
+        ≡ (is_among (names_in history) name || is_retired (floor_after history) name) }
+
+    // What is known stays known, whatever follows.
+    ensures known_after { (history more : History) (name : Name)
+        → IsTrue (knows (account_of history) name)
+        → IsTrue (knows (account_of (followed_by history more)) name) }
+    ensures known_after_entries { (a : State) (entries : List Entry) (name : Name)
+        → IsTrue (knows a name) → IsTrue (knows (account_after_all a entries) name) }
+
+    // Each fact among entries is known after them, whether it was fresh or not.
+    ensures counted { (a : State) (entries : List Entry) (fact : Fact)
+        → Contains entries (Entry.Fact fact)
+        → IsTrue (knows (account_after_all a entries) fact.name) }
 {}
 
 /// The laws of retired boots. The function does nothing: its clauses are what it is for.
@@ -199,4 +222,14 @@ pub fn reserve_laws()
         → HasRoomFor a (front ++ more) → IsWithin (account_after_all a front) }
     ensures others { (a : State) (entry : Entry) (entries : List Entry)
         → HasRoomFor a (entry ∷ entries) → HasRoomFor (account_after a entry) entries }
+{}
+
+/// The numbers that the definitions cite by name. The function does nothing: its clauses are what it
+/// is for.
+pub fn numbers_in_digits()
+    ensures names { MOST_NAMES ≡ 200_000 }
+    ensures entries { MOST_ENTRIES ≡ 2 ^ 62 }
+    ensures total { MOST_TOTAL ≡ 2 ^ 62 }
+    ensures limit { FIRST_LIMIT ≡ record { capacity = 10; period = 86_400 } }
+    ensures module_limit { FIRST_MODULE_LIMIT ≡ record { capacity = 100; period = 86_400 } }
 {}

@@ -43,10 +43,7 @@ impl KeyTest<Name> for NotRetired {
     ghost passes = { λ test name. not (is_retired test.floor name) };
 
     fn passes(&self, name: &Name) -> bool {
-        match name.boot() {
-            Some(boot) => boot >= self.floor,
-            None => true,
-        }
+        !name.is_retired(self.floor)
     }
 }
 

@@ -70,8 +70,7 @@ impl Account {
     {
         self.names.give_up();
         self.modules.give_up();
-        // Neither answer leaves a page that waits.
-        let _ = self.pages.reserve(&[]);
+        self.pages.give_up();
     }
 
     // Lets what these entries add wait, where nothing waits.
