@@ -1,5 +1,5 @@
 //! Entries as bytes.
-ghost use Rattle.std.specs.Prelude.{◌≡◌, ◌++◌, ◌≤◌, length, IfOk, OnOk};
+ghost use Rattle.std.specs.Prelude.{◌≡◌, ◌++◌, ◌≤◌, length, OnOk};
 ghost use Rattle.std.specs.List.{flat_map};
 ghost use Rattle.ras_facts.specs.Entries.{items_in};
 ghost use Rattle.entry_format.specs.Spelling.{name_bytes, label_bytes, page_bytes, item_bytes, fact_bytes, limit_bytes, entry_bytes};
@@ -11,7 +11,6 @@ use page_policy::Limit;
 use ras_base::NoMemory;
 use ras_base::little_endian::{push_u16, push_u64};
 use ras_facts::{Entry, Fact, Item, MOST_ITEMS, Name};
-use std::alloc::Global;
 
 /// Adds the spelling of the name of a report. Where memory runs out, some of its bytes may have
 /// been added.
@@ -150,14 +149,4 @@ pub fn push_entry(bytes: &mut Vec<u8>, entry: &Entry) -> Result<(), NoMemory>
             push_limit(bytes, *limit)
         }
     }
-}
-
-/// The spelling of an entry, alone. It has at most 65,535 items.
-pub fn entry_bytes(alloc: Global, entry: &Entry) -> Result<Vec<u8>, NoMemory>
-    requires { length (items_in entry.now) ≤ MOST_ITEMS }
-    ensures { IfOk result (λ bytes. bytes.items ≡ entry_bytes entry.now) }
-{
-    let mut bytes = Vec::new(alloc);
-    push_entry(&mut bytes, entry)?;
-    Ok(bytes)
 }

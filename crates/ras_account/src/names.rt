@@ -128,9 +128,8 @@ impl Names {
     pub(crate) fn any_retired(&self, floor: u64) -> bool
         ensures { result ≡ has_retired floor self.now.held }
     {
-        let kept = NotRetired { floor };
         for place in 0..self.table.len() {
-            if !kept.passes(self.table.key(place)) {
+            if self.table.key(place).is_retired(floor) {
                 return true;
             }
         }
