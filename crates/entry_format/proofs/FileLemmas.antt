@@ -24,6 +24,13 @@ use Rattle.entry_format.proofs.EntryLemmas.{entry_read, entry_not_empty}
 pub of_two : (entry : Entry) → IsValidEntry entry → IsEntryOf Two entry
 of_two entry valid = record { valid = valid; held = tt }
 
+pub all_of_two : (entries : List Entry) → All IsValidEntry entries → All (IsEntryOf Two) entries
+all_of_two entries valid = All-from_recursion (IsEntryOf Two) entries (each_of_two entries (recursion_from_All IsValidEntry entries valid))
+  where
+    each_of_two : (entries : List Entry) → AllByRecursion IsValidEntry entries → AllByRecursion (IsEntryOf Two) entries
+    each_of_two [] v = tt
+    each_of_two (entry ∷ entries) v = (of_two entry v.0, each_of_two entries v.1)
+
 pub same_front : (f g : Entry) (x y : List ℕ) → IsValidEntry f → IsValidEntry g → entry_bytes f ++ x ≡ entry_bytes g ++ y → (f ≡ g) × (x ≡ y)
 same_front f g x y v w e =
     let one = sym ((entry_read Two).again f x (of_two f v)) ∙ ap (entry_at Two) e ∙ (entry_read Two).again g y (of_two g w) in
