@@ -10,9 +10,9 @@ ghost use Rattle.cper_records.specs.Laid.{IsRecord, IsNoRecord};
 ghost use Rattle.cper_records.specs.Readable.{filled, read_under};
 ghost use Rattle.cper_records.specs.Records.{record_of};
 
-/// A record reads exactly where it is signed, its length, its descriptors and its sections lie
+/// A record reads exactly if it is signed, its length, its descriptors and its sections lie
 /// inside the bytes, and each section reads; it is those of the first bytes that its length says.
-/// Each refusal comes exactly where it is the first that applies.
+/// Each refusal comes exactly if it is the first that applies.
 pub fn records_are_laid_out()
     ensures read { (bytes own : List ℕ)
         → (record_of bytes ≡ Ok own) ↔ (IsPrefixOf own bytes × IsRecord own) }

@@ -51,8 +51,8 @@ pub fn store_laws()
         → bytes_under other (with_record id bytes records) ≡ bytes_under other records }
 {}
 
-/// The numbers that bound a store and its device. The function does nothing: its clauses are what it
-/// is for.
+/// The numbers that bound a store and its device. The function does nothing: its clauses are what
+/// it is for.
 pub fn numbers_in_digits()
     ensures records { MOST_RECORDS ≡ 1_024 }
     ensures bytes { MOST_BYTES ≡ 16_384 }

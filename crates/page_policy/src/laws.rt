@@ -33,7 +33,7 @@ pub fn page_laws()
     ensures stands { (history : List PageReport) (page : ℕ)
         → state_in (page_rows_of history) page ≡ state_under (orders_of history page) }
 
-    // Single corrected errors of a page within one period give an order exactly where their number
+    // Single corrected errors of a page within one period give an order exactly if their number
     // reaches the capacity.
     ensures capacity { (limit : Limit) (page : ℕ) (earlier : List PageReport) (last : PageReport)
         → IsLimit limit → AreSingle limit (earlier ++ last ∷ [])
@@ -45,7 +45,7 @@ pub fn page_laws()
         → bucket.count ≤ limit.capacity → bucket.stamp + limit.period ≤ now
         → (aged_bucket limit now bucket).count ≡ 0 }
 
-    // Where the pages of a list of reports wait, a report of the first can be taken.
+    // If the pages of a list of reports wait, a report of the first can be taken.
     ensures ready { (pages : Held ℕ PageRow) (first : ℕ) (more : List ℕ)
         → AreReservedFor pages (first ∷ more) → IsTrue (is_ready nat_eq pages first) }
 {}

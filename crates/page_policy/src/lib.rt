@@ -1,5 +1,5 @@
 //! When memory pages are taken out of use: a leaky bucket of corrected errors for each page, the
-//! states of pages, and the orders that follow where a state rises.
+//! states of pages, and the orders that follow when a state rises.
 //!
 //! `Pages` holds a row for each page, in the order in which pages were first seen. What a page's
 //! row says is a function of the reports of that page alone. The definitions in `specs/` say which
