@@ -19,8 +19,8 @@ pub(crate) fn u16_at(bytes: &[u8]) -> Result<(u16, &[u8]), EntryRefused>
     Ok((little_endian::u16_at(bytes, 0), &bytes[2..]))
 }
 
-/// A number of 4 bytes at the front, and the bytes after it. `Bad` comes exactly if fewer are there,
-/// and `NoMemory` never.
+/// A number of 4 bytes at the front, and the bytes after it. `Bad` comes exactly if fewer are
+/// there, and `NoMemory` never.
 #[tactic(auto, unfolding(crate::specs::Reading::u32_at))]
 pub fn u32_at(bytes: &[u8]) -> Result<(u32, &[u8]), EntryRefused>
     ensures { Tells (λ x. (x.0, x.1.now)) result (u32_at bytes.now) }
@@ -31,8 +31,8 @@ pub fn u32_at(bytes: &[u8]) -> Result<(u32, &[u8]), EntryRefused>
     Ok((little_endian::u32_at(bytes, 0), &bytes[4..]))
 }
 
-/// A number of 8 bytes at the front, and the bytes after it. `Bad` comes exactly if fewer are there,
-/// and `NoMemory` never.
+/// A number of 8 bytes at the front, and the bytes after it. `Bad` comes exactly if fewer are
+/// there, and `NoMemory` never.
 #[tactic(auto, unfolding(crate::specs::Reading::u64_at))]
 pub fn u64_at(bytes: &[u8]) -> Result<(u64, &[u8]), EntryRefused>
     ensures { Tells (λ x. (x.0, x.1.now)) result (u64_at bytes.now) }
@@ -55,7 +55,7 @@ pub fn byte_at(bytes: &[u8]) -> Result<(u8, &[u8]), EntryRefused>
     }
 }
 
-// So many bytes.
+// This many bytes.
 #[tactic(auto, unfolding(crate::specs::Reading::bytes_at))]
 pub(crate) fn bytes_at(count: usize, bytes: &[u8]) -> Result<(&[u8], &[u8]), EntryRefused>
     ensures { Tells (λ x. (x.0.now, x.1.now)) result (bytes_at count bytes.now) }

@@ -57,7 +57,7 @@ fn label_of(alloc: Global, text: &[u8]) -> Result<Label, EntryRefused>
 }
 
 /// The label or none at the front, after the number of its bytes, and the bytes after it. `Bad`
-/// comes exactly where none stands there, and `NoMemory` where memory runs out.
+/// comes exactly if none stands there, and `NoMemory` if memory runs out.
 #[tactic(auto, unfolding(crate::specs::Reading::label_at))]
 pub fn label_at(alloc: Global, bytes: &[u8]) -> Result<(Label, &[u8]), EntryRefused>
     ensures { Gives (λ x. (x.0, x.1.now)) result (label_at bytes.now) }
@@ -132,7 +132,7 @@ fn item_at(alloc: Global, bytes: &[u8]) -> Result<(Item, &[u8]), EntryRefused>
     Ok((item, rest))
 }
 
-// So many items.
+// This many items.
 fn many_items_at(alloc: Global, count: u16, bytes: &[u8]) -> Result<(Items, &[u8]), EntryRefused>
     ensures { Gives (λ x. (x.0, x.1.now)) result (many_at item_at count bytes.now) }
 {

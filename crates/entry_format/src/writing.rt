@@ -12,7 +12,7 @@ use ras_base::NoMemory;
 use ras_base::little_endian::{push_u16, push_u64};
 use ras_facts::{Entry, Fact, Item, MOST_ITEMS, Name};
 
-/// Adds the spelling of the name of a report. Where memory runs out, some of its bytes may have
+/// Adds the spelling of the name of a report. If memory runs out, some of its bytes may have
 /// been added.
 #[tactic(auto, unfolding(crate::specs::Spelling::name_bytes))]
 pub fn push_name(bytes: &mut Vec<u8>, name: &Name) -> Result<(), NoMemory>
@@ -52,7 +52,7 @@ pub fn push_name(bytes: &mut Vec<u8>, name: &Name) -> Result<(), NoMemory>
     }
 }
 
-/// Adds a label behind the number of its bytes. Where memory runs out, some of its bytes may have
+/// Adds a label after the number of its bytes. If memory runs out, some of its bytes may have
 /// been added.
 #[tactic(auto, unfolding(crate::specs::Spelling::label_bytes))]
 pub fn push_label(bytes: &mut Vec<u8>, label: &Label) -> Result<(), NoMemory>
@@ -115,7 +115,7 @@ fn push_fact(bytes: &mut Vec<u8>, fact: &Fact) -> Result<(), NoMemory>
     push_items(bytes, items)
 }
 
-/// Adds the spelling of a limit. Where memory runs out, some of its bytes may have been added.
+/// Adds the spelling of a limit. If memory runs out, some of its bytes may have been added.
 #[tactic(auto, unfolding(crate::specs::Spelling::limit_bytes))]
 pub fn push_limit(bytes: &mut Vec<u8>, limit: Limit) -> Result<(), NoMemory>
     ensures { OnOk result (bytes.new.items ≡ bytes.old.items ++ limit_bytes limit) }
@@ -125,7 +125,7 @@ pub fn push_limit(bytes: &mut Vec<u8>, limit: Limit) -> Result<(), NoMemory>
 }
 
 /// Adds the spelling of an entry. It has at most 65,535 items, which is the most that a spelling
-/// can tell. Where memory runs out, some of its bytes may have been added.
+/// can tell. If memory runs out, some of its bytes may have been added.
 #[tactic(auto, unfolding(crate::specs::Spelling::entry_bytes))]
 pub fn push_entry(bytes: &mut Vec<u8>, entry: &Entry) -> Result<(), NoMemory>
     requires { length (items_in entry.now) ≤ MOST_ITEMS }

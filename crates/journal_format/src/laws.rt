@@ -68,8 +68,8 @@ pub fn checkpoint_laws()
         → InBothVersions (checkpoint_bytes Version.One a) (checkpoint_bytes Version.Two a) a }
 {}
 
-/// The numbers that the definitions cite by name. The function does nothing: its clauses are what it
-/// is for.
+/// The numbers that the definitions cite by name. The function does nothing: its clauses are what
+/// it is for.
 pub fn numbers_in_digits()
     ensures entries { MOST_LINK_ENTRIES ≡ 2_000 }
     ensures payload { MOST_PAYLOAD ≡ 67_108_864 }

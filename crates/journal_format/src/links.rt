@@ -121,9 +121,9 @@ fn read_payload(alloc: Global, version: Version, bytes: &[u8]) -> Result<Vec<Ent
 /// The entries of the link at the front of the bytes, and the link's length. Each byte is read
 /// once, and none after the link.
 ///
-/// It is refused as `Cut` exactly where the bytes end before the link does: within the length of
-/// its payload, or within so many bytes after it. It is refused as `Bad` exactly where the payload
-/// isn't that of 1 to 2,000 valid entries of the version, and as `NoMemory` where memory runs out.
+/// It is refused as `Cut` exactly if the bytes end before the link does: within the length of
+/// its payload, or within that many bytes after it. It is refused as `Bad` exactly if the payload
+/// isn't that of 1 to 2,000 valid entries of the version, and as `NoMemory` if memory runs out.
 pub fn read_link(
     alloc: Global,
     version: Version,

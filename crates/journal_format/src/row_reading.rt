@@ -1,5 +1,5 @@
-//! The parts of a checkpoint from bytes, each at the front. `Bad` comes exactly if none stands there;
-//! only the row of a module takes memory, for its label.
+//! The parts of a checkpoint from bytes, each at the front. `Bad` comes exactly if none stands
+//! there; only the row of a module takes memory, for its label.
 ghost use Rattle.std.specs.Prelude.{◌≡◌, ◌≤◌, IfOk};
 ghost use Rattle.page_policy.specs.Buckets.{IsLimit, most_count};
 ghost use Rattle.ras_facts.specs.Valid.{IsPage};
@@ -224,7 +224,8 @@ pub(crate) fn front_at(
     read_front(version, bytes)
 }
 
-/// The floor, where these bytes are left behind the rows, and this one stood at the front.
+/// The floor of a checkpoint of which these bytes are left after the rows, if this one stood at its
+/// front.
 #[tactic(auto, unfolding(crate::specs::CheckpointReading::floor_in, crate::specs::CheckpointReading::end_floor_at))]
 pub(crate) fn floor_in(version: Version, floor: u64, bytes: &[u8]) -> Result<u64, EntryRefused>
     ensures { Tells (λ x. x) result (floor_in version floor bytes.now) }

@@ -78,8 +78,8 @@ fn modules_len(account: &Account) -> u128
     total
 }
 
-/// How many bytes the checkpoint of an account has in version 2: the greatest number of 64 bits,
-/// where they are more.
+/// How many bytes the checkpoint of an account has in version 2: the greatest number of 64 bits
+/// if they are more.
 #[tactic(auto, using(crate::proofs::SizeLemmas::checkpoint_size))]
 pub fn checkpoint_len(account: &Account) -> u64
     ensures { result ≡ min u64.MAX (length (checkpoint_bytes Two account.now.state)) }

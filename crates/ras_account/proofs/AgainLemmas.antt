@@ -1,21 +1,17 @@
 -- How an entry is taken that was reserved alone.
-use Rattle.std.proofs.Common.{◌≡◌, ℕ, ◌+◌, Bool, true, false, if◌then◌else◌, List, [], ◌∷◌, ◌++◌, length, refl, sym, ap, subst, ◌∙◌, append_assoc, append-nil, length-append, true≢false, arith}
-use Rattle.std.specs.List.{AllByRecursion, sum_by}
+use Rattle.std.proofs.Common.{◌≡◌, ◌+◌, Bool, true, false, if◌then◌else◌, [], ◌∷◌, ◌++◌, length, sym, ap, ◌∙◌, append-nil, length-append, true≢false, arith}
+use Rattle.std.specs.List.{sum_by}
 use Rattle.ras_facts.specs.declared.items.Item.{Item}
 use Rattle.ras_facts.specs.declared.entry.Entry.{Entry}
 use Rattle.ras_facts.specs.declared.entry.Entry.TheVariants.{Fact, Limit as PageLimit, Retire, ModuleLimit}
-use Rattle.ras_facts.specs.Entries.{IsValidEntry}
-use Rattle.ras_account.specs.History.{empty, history_of}
 use Rattle.ras_account.specs.Sightings.{sightings_in}
-use Rattle.ras_account.specs.Account.{State, account_of}
-use Rattle.ras_account.specs.Continued.{is_fresh_in, account_after_fresh, account_with_count, account_after, account_after_all}
-use Rattle.ras_account.specs.Numbers.{AreWithin, are_past, IsWithin, StaysWithin, numbers_with}
-use Rattle.ras_account.specs.View.{View, Waiting, WaitsFirst, nothing, then_waits}
-use Rattle.ras_account.proofs.AccountLemmas.{account_of-entries}
+use Rattle.ras_account.specs.Account.{State}
+use Rattle.ras_account.specs.Continued.{is_fresh_in, account_after_fresh, account_with_count, account_after}
+use Rattle.ras_account.specs.Numbers.{AreWithin, are_past, IsWithin, numbers_with}
+use Rattle.ras_account.specs.View.{Waiting, WaitsFirst, nothing, then_waits}
 use Rattle.ras_account.proofs.EntryLemmas.{left_waits}
 use Rattle.ras_account.proofs.ItemLemmas.{names-items, entries-items, total-items}
 use Rattle.ras_account.proofs.NumberLemmas.{past-within, stays-within, with_fresh_ones}
-use Rattle.ras_account.proofs.ReserveLemmas.{after-snoc}
 
 -- an account within its numbers, also after an entry, is within them with that entry
 fresh-within : (a : State) (e : Entry) → IsWithin a → IsWithin (account_after_fresh (account_with_count a) e) → AreWithin (with_fresh_ones a (e ∷ []))

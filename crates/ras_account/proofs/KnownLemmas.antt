@@ -1,6 +1,5 @@
 -- What an account knows, it goes on knowing.
-use Rattle.std.proofs.Common.{◌≡◌, ◌+◌, ℕ, Bool, true, false, not, nat_lt, if◌then◌else◌, ◌||◌, Option, Some, None, List, [], ◌∷◌, ◌++◌, All, Contains, refl, sym, ap, subst, ◌∙◌, true≢false, arith}
-use Rattle.std.specs.List.{list_any}
+use Rattle.std.proofs.Common.{◌≡◌, ◌+◌, ℕ, Bool, true, false, nat_lt, if◌then◌else◌, ◌||◌, Option, Some, None, List, [], ◌∷◌, ◌++◌, All, Contains, refl, ap, ◌∙◌, arith}
 use Rattle.std.specs.Option.{option_map_or}
 use Rattle.std.proofs.lemmas.Bool.Decides.{nat_tests}
 use Rattle.std.proofs.lemmas.List.Elements.{All-nil, All-cons, All-contains}
@@ -14,8 +13,8 @@ use Rattle.ras_facts.specs.NameLemmas.{same_name-refl}
 use Rattle.ras_account.specs.History.{History, empty, with_entry, with_mark, followed_by, names_in, floor_after, is_retired}
 use Rattle.ras_account.specs.Fresh.{is_among, fresh_entries}
 use Rattle.ras_account.specs.Sightings.{sightings_in}
-use Rattle.ras_account.specs.Account.{State, account_of, names_of, kept_names}
-use Rattle.ras_account.specs.Continued.{knows, is_fresh_in, account_after_fresh, account_with_count, account_after, account_after_all, account_after_mark, account_after_history}
+use Rattle.ras_account.specs.Account.{State, account_of, names_of}
+use Rattle.ras_account.specs.Continued.{knows, is_fresh_in, account_after_fresh, account_with_count, account_after, account_after_all, account_after_history}
 use Rattle.ras_account.proofs.FreshLemmas.{among_kept, among_fresh, not_false}
 use Rattle.ras_account.proofs.AccountLemmas.{account_of-followed}
 use Rattle.ras_account.proofs.ItemLemmas.{names-items, floor-items}

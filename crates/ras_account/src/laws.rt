@@ -33,7 +33,7 @@ use crate::{FIRST_LIMIT, FIRST_MODULE_LIMIT, MOST_ENTRIES, MOST_NAMES, MOST_TOTA
 
 /// The laws of the account of a history. The function does nothing: its clauses are what it is for.
 pub fn account_laws()
-    // The account of a history with an entry or a mark behind it is that of the history, continued
+    // The account of a history with an entry or a mark after it is that of the history, continued
     // by it.
     ensures entry { (history : History) (entry : Entry)
         → account_of (with_entry history entry) ≡ account_after (account_of history) entry }
@@ -58,7 +58,7 @@ pub fn account_laws()
     ensures stale_orders { (history : History) (entry : Entry)
         → IsFalse (is_fresh_behind history entry) → orders_behind history entry ≡ [] }
 
-    // The fresh entries alone give the account again, as where they are all that was kept.
+    // The fresh entries alone give the account again, as if they were all that was kept.
     ensures refreshed { (history : History) → IsUnmarked history
         → AreSame (history_of (fresh_entries history)) history }
     ensures unmarked { (entries : List Entry) → IsUnmarked (history_of entries) }
@@ -81,8 +81,8 @@ pub fn account_laws()
         → weight_in (account_of history).modules ≡ (account_of history).total }
 {}
 
-/// The laws of the names that an account knows. The function does nothing: its clauses are what it is
-/// for.
+/// The laws of the names that an account knows. The function does nothing: its clauses are what it
+/// is for.
 pub fn known_laws()
     // The account of a history knows the names of its facts, and all names of retired boots.
     ensures known { (history : History) (name : Name)
@@ -133,7 +133,7 @@ pub fn retire_laws()
 
 /// The laws of the orders of a history. The function does nothing: its clauses are what it is for.
 pub fn order_laws()
-    // The orders that an entry gives behind a history are those by which its account is continued.
+    // The orders that an entry gives after a history are those by which its account is continued.
     ensures ordered { (history : History) (entry : Entry)
         → orders_behind history entry ≡ orders_at (account_of history) entry }
 
@@ -145,14 +145,14 @@ pub fn order_laws()
     ensures page_once { (history : History) (page : ℕ)
         → AreOnceInOrder page (orders_for_page page (orders history)) }
 
-    // Since the last mark a module was asked to be replaced once where its own corrected errors
+    // Since the last mark a module was asked to be replaced once if its own corrected errors
     // have made its bucket trip, and else not at all, whatever other modules do.
     ensures module { (history : History) (label : Bytes) → HasRow history label
         → replace_orders history label
         ≡ (if has_tripped (module_errors history label)
         then replace_order history label ∷ [] else []) }
 
-    // An entry asks for a module exactly where, with the entry's items, the module's own corrected
+    // An entry asks for a module exactly if, with the entry's items, the module's own corrected
     // errors make its bucket trip the first time since the last mark.
     ensures module_at { (history : History) (entry : Entry) (label : Bytes)
         → HasRow (with_entry history entry) label
@@ -204,7 +204,7 @@ pub fn reserve_laws()
         → added_by a (entry ∷ entries)
         ≡ then_waits (added_by a (entry ∷ [])) (added_by (account_after a entry) entries) }
 
-    // Where what a list adds waits, what its first entry adds waits first.
+    // If what a list adds waits, what its first entry adds waits first.
     ensures first { (account : View) (entry : Entry) (entries : List Entry)
         → IsReservedFor account (entry ∷ entries)
         → WaitsFirst (added_by account.state (entry ∷ [])) account.waiting }
@@ -214,7 +214,7 @@ pub fn reserve_laws()
         → IsFalse (are_past (numbers_with a entries)) ↔ HasRoomFor a entries }
     ensures now_past { (a : State) → IsFalse (are_past (numbers_of a)) ↔ IsWithin a }
 
-    // Where there is room for all that a list adds, the account stays within its numbers at every
+    // If there is room for all that a list adds, the account stays within its numbers at every
     // front of the list, and then there is room for what the others add.
     ensures stays { (a : State) (entries : List Entry)
         → HasRoomFor a entries → StaysWithin a entries }
@@ -224,8 +224,8 @@ pub fn reserve_laws()
         → HasRoomFor a (entry ∷ entries) → HasRoomFor (account_after a entry) entries }
 {}
 
-/// The numbers that the definitions cite by name. The function does nothing: its clauses are what it
-/// is for.
+/// The numbers that the definitions cite by name. The function does nothing: its clauses are what
+/// it is for.
 pub fn numbers_in_digits()
     ensures names { MOST_NAMES ≡ 200_000 }
     ensures entries { MOST_ENTRIES ≡ 2 ^ 62 }

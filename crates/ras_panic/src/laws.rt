@@ -29,7 +29,7 @@ pub fn reports_are_read_back()
         → Some (stored_fact rows seconds (panic_bytes id bank)) ≡ bank_fact bank rows }
 {}
 
-/// A record gives a report exactly where it holds one. Its fact is then the bank's own, with the
+/// A record gives a report exactly if it holds one. Its fact is then the bank's own, with the
 /// seconds of the report; every other record's is that of its sections.
 pub fn reports_are_held()
     ensures report { (own : List ℕ) (bank : BankReport) → AreBytes own → FitsFields bank
@@ -48,8 +48,8 @@ pub fn panic_records_tell_their_length()
     ensures told { (id : ℕ) (bank : BankReport) → number_at 20 4 (panic_bytes id bank) ≡ 456 }
 {}
 
-/// The fact of a record of the store has the record's name, whatever the rows of the machine and the
-/// time are.
+/// The fact of a record of the store has the record's name, whatever the rows of the machine and
+/// the time are.
 pub fn stored_facts_are_named()
     ensures { (rows : List Row) (seconds : ℕ) (own : List ℕ)
         → (stored_fact rows seconds own).name ≡ stored_name own }
