@@ -4,13 +4,15 @@ ghost use Rattle.std.specs.Prelude.{◌≡◌, ◌≤◌, ◌↔◌, ℕ, List, 
 ghost use Rattle.ras_base.specs.Prefix.{IsPrefixOf};
 ghost use Rattle.cper_records.specs.declared.records.TheConstants.{HEADER_LENGTH};
 ghost use Rattle.cper_records.specs.declared.refusals.RecordRefused.{RecordRefused};
-ghost use Rattle.cper_records.specs.Header.{record_length};
+ghost use Rattle.cper_records.specs.declared.walk.TheConstants.{DESCRIPTOR_LENGTH};
+ghost use Rattle.cper_records.specs.Header.{record_id, record_length};
 ghost use Rattle.cper_records.specs.Laid.{IsRecord, IsNoRecord};
+ghost use Rattle.cper_records.specs.Readable.{filled, read_under};
 ghost use Rattle.cper_records.specs.Records.{record_of};
 
-/// A record reads exactly where it is signed, its length, its descriptors and its sections lie
+/// A record reads exactly if it is signed, its length, its descriptors and its sections lie
 /// inside the bytes, and each section reads; it is those of the first bytes that its length says.
-/// Each refusal comes exactly where it is the first that applies.
+/// Each refusal comes exactly if it is the first that applies.
 pub fn records_are_laid_out()
     ensures read { (bytes own : List ℕ)
         → (record_of bytes ≡ Ok own) ↔ (IsPrefixOf own bytes × IsRecord own) }
@@ -24,4 +26,21 @@ pub fn only_own_bytes()
     ensures { (bytes : List ℕ) → HEADER_LENGTH ≤ record_length bytes
         → record_length bytes ≤ length bytes
         → record_of (take (record_length bytes) bytes) ≡ record_of bytes }
+{}
+
+/// The bytes under an identifier read exactly if they begin with a record of that identifier. A
+/// record that is read from its own bytes is read from them with zeros after them too.
+pub fn stored_records_are_read()
+    ensures read { (id : ℕ) (buffer own : List ℕ)
+        → (read_under id buffer ≡ Ok own)
+        ↔ (IsPrefixOf own buffer × IsRecord own × (record_id own ≡ id)) }
+    ensures filled { (bytes own : List ℕ) → record_of bytes ≡ Ok own
+        → record_of (filled bytes) ≡ Ok own }
+{}
+
+/// The numbers that the definitions cite by name. The function does nothing: its clauses are what
+/// it is for.
+pub fn numbers_in_digits()
+    ensures header { HEADER_LENGTH ≡ 128 }
+    ensures descriptor { DESCRIPTOR_LENGTH ≡ 72 }
 {}

@@ -5,8 +5,10 @@
 mod laws;
 mod records;
 mod refusals;
+mod stored;
 mod walk;
 
-pub use laws::{only_own_bytes, records_are_laid_out};
+pub use laws::{numbers_in_digits, only_own_bytes, records_are_laid_out, stored_records_are_read};
 pub use records::{Record, read_record};
-pub use refusals::RecordRefused;
+pub use refusals::{RecordRefused, Unreadable};
+pub use stored::read_stored;

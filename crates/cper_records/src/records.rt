@@ -37,9 +37,9 @@ pub const HEADER_LENGTH: usize = 128;
 /// Reads the record at the front of bytes. (UEFI, appendix N, "Record Header".)
 ///
 /// It is refused with the first that applies of: `Short` below 128 bytes, `Signature` without the
-/// two signatures, `Length` where the record's length is below 128 or above the number of bytes,
-/// `DescriptorOut` where the descriptors pass that length, `SectionOut` where some section does,
-/// and `Section` where `read_section` refuses some section.
+/// two signatures, `Length` if the record's length is below 128 or above the number of bytes,
+/// `DescriptorOut` if the descriptors pass that length, `SectionOut` if some section does,
+/// and `Section` if `read_section` refuses some section.
 #[tactic(auto, unfolding(crate::specs::Records::record_of))]
 pub fn read_record(bytes: &[u8]) -> Result<Record<'_>, RecordRefused>
     ensures answer { result ≡ record_of bytes.now }

@@ -24,3 +24,14 @@ pub enum RecordRefused {
     #[error("a section of the record can't be read")]
     Section,
 }
+
+/// Why the bytes that a record store gave under an identifier can't be read.
+#[derive(Clone, Copy, Debug, PartialEq, Eq, Error)]
+pub enum Unreadable {
+    /// They are no record.
+    #[error("{0}")]
+    NoRecord(RecordRefused),
+    /// They are a record of another identifier.
+    #[error("the record has another identifier")]
+    OtherId,
+}

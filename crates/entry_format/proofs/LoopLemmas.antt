@@ -3,7 +3,16 @@ use Rattle.std.proofs.Common.{◌≡◌, ℕ, suc, ◌-◌, ◌+◌, ◌≤◌, 
 use Rattle.ras_base.specs.Chaining.{◌>>=◌}
 use Rattle.entry_format.specs.declared.refused.EntryRefused.{EntryRefused}
 use Rattle.entry_format.specs.declared.refused.EntryRefused.TheVariants.{Bad, NoMemory}
-use Rattle.entry_format.specs.Reading.{Reader, Fails, many_at}
+use Rattle.entry_format.specs.Reading.{Reader, Fails, Gives, Refuses, Tells, many_at}
+
+-- what a function that takes no memory returned, in the words for those that may
+pub is_failed : {Y : Type 0} (e : EntryRefused) (read : Result Y EntryRefused) → Refuses e read → Fails e read
+is_failed NoMemory read refused = tt
+is_failed Bad read refused = refused
+
+pub is_given : {X Y : Type 0} (view : X → Y) (result : Result X EntryRefused) (read : Result Y EntryRefused) → Tells view result read → Gives view result read
+is_given view (Ok x) read told = told
+is_given view (Err e) read told = is_failed e read told
 
 abbrev ok : {A : Type 0} → A → Result A EntryRefused
 ok x = Ok x
@@ -34,6 +43,11 @@ ends r NoMemory front count i bytes total lt h so_far = tt
 ends r Bad front count i bytes total lt h so_far =
     let k : count - i ≡ suc (count - (i + 1)) = omega arith in
     sym so_far ∙ rw k (fails r front (count - (i + 1)) bytes h)
+
+pub refuses : {A : Type 0} (r : Reader A) (e : EntryRefused) (front : List A) (count i : ℕ) (bytes : List ℕ) (total : Result (List A × List ℕ) EntryRefused) → i < count → Refuses e (r bytes)
+    → with_front front (many_at r (count - i) bytes) ≡ total → Refuses e total
+refuses r NoMemory front count i bytes total lt h so_far = h
+refuses r Bad front count i bytes total lt h so_far = ends r Bad front count i bytes total lt h so_far
 
 pub is_done : {A : Type 0} (r : Reader A) (front : List A) (count i : ℕ) (bytes : List ℕ) (total : Result (List A × List ℕ) EntryRefused) → count ≤ i → with_front front (many_at r (count - i) bytes) ≡ total → total ≡ Ok (front, bytes)
 unfolding many_at

@@ -1,5 +1,5 @@
 -- How many bytes an entry has at most.
-use Rattle.std.proofs.Common.{◌≡◌, ℕ, ◌*◌, ◌≤◌, true, subst, List, [], ◌∷◌, ◌++◌, length, Option, Some, None, ap, ◌∙◌, arith, length-append, append-nil}
+use Rattle.std.proofs.Common.{◌≡◌, ℕ, ◌+◌, ◌*◌, ◌≤◌, true, List, [], ◌∷◌, ◌++◌, length, Option, Some, None, arith, length-append}
 use Rattle.std.specs.List.{flat_map, AllByRecursion}
 use Rattle.std.proofs.lemmas.Bool.Decides.{nat_tests}
 use Rattle.std.proofs.lemmas.List.Elements.{recursion_from_All}
@@ -38,30 +38,6 @@ unfolding item_bytes label_bytes
 item_most item valid =
     simp (length-append, length-u16_bytes) (omega (arith, page_most item.page, label_short item.label valid.label))
 
--- the one item of a fact
-only_item : (fact : Fact) (item : Item) → fact.items ≡ item ∷ [] → IsValidFact fact → IsValidItem item
-only_item fact item one valid =
-    (subst (λ (items : List Item). AllByRecursion IsValidItem items) one (recursion_from_All IsValidItem fact.items valid.items)).0
-
-pub one_item_most : (fact : Fact) (item : Item) → IsValidFact fact → fact.items ≡ item ∷ [] → length (entry_bytes (entry.Fact fact)) ≤ 76
-unfolding entry_bytes fact_bytes
-one_item_most fact item valid one =
-    let name = name_bytes fact.name in
-    let seconds = u64_bytes fact.seconds in
-    let count = u16_bytes (length fact.items) in
-    let items : length (flat_map item_bytes fact.items) ≡ length (item_bytes item) = ap (λ (xs : List Item). length (flat_map item_bytes xs)) one ∙ ap length (append-nil (item_bytes item)) in
-    omega (
-      arith,
-      length-append (name ++ seconds ++ count) (flat_map item_bytes fact.items),
-      length-append (name ++ seconds) count,
-      length-append name seconds,
-      name_most fact.name,
-      length-u64_bytes fact.seconds,
-      length-u16_bytes (length fact.items),
-      items,
-      item_most item (only_item fact item one valid),
-    )
-
 pub limit_size : (limit : Limit) → length (entry_bytes (entry.Limit limit)) ≡ 17
 unfolding entry_bytes limit_bytes
 limit_size limit = omega (arith, length-append (u64_bytes limit.capacity) (u64_bytes limit.period), length-u64_bytes limit.capacity, length-u64_bytes limit.period)
@@ -71,9 +47,9 @@ items_most [] all = omega arith
 items_most (item ∷ items) all =
     omega (arith, length-append (item_bytes item) (flat_map item_bytes items), item_most item all.0, items_most items all.1)
 
-fact_most : (fact : Fact) → IsValidFact fact → length (fact_bytes fact) ≤ 3000000
-unfolding fact_bytes
-fact_most fact valid =
+pub fact_entry_most : (fact : Fact) → IsValidFact fact → length (entry_bytes (entry.Fact fact)) ≤ 31 + 45 * length fact.items
+unfolding entry_bytes fact_bytes
+fact_entry_most fact valid =
     let name = name_bytes fact.name in
     let seconds = u64_bytes fact.seconds in
     let count = u16_bytes (length fact.items) in
@@ -85,14 +61,13 @@ fact_most fact valid =
       name_most fact.name,
       length-u64_bytes fact.seconds,
       length-u16_bytes (length fact.items),
-      valid.count,
       items_most fact.items (recursion_from_All IsValidItem fact.items valid.items),
     )
 
 -- an entry is far shorter than a link may be
 pub entry_most : (e : Entry) → IsValidEntry e → length (entry_bytes e) ≤ 3000001
 unfolding entry_bytes limit_bytes
-entry_most (entry.Fact fact) valid = omega (arith, fact_most fact valid)
+entry_most (entry.Fact fact) valid = omega (arith, fact_entry_most fact valid, valid.count)
 entry_most (entry.Limit limit) valid = omega (arith, length-append (u64_bytes limit.capacity) (u64_bytes limit.period), length-u64_bytes limit.capacity, length-u64_bytes limit.period)
 entry_most (entry.Retire boot) valid = omega (arith, length-u64_bytes boot)
 entry_most (entry.ModuleLimit limit) valid = omega (arith, length-append (u64_bytes limit.capacity) (u64_bytes limit.period), length-u64_bytes limit.capacity, length-u64_bytes limit.period)

@@ -34,6 +34,15 @@ abbrev pub Gives : {X Y : Type 0} → (X → Y) → Result X EntryRefused → Re
 Gives view (Ok x) read = read ≡ Ok (view x)
 Gives view (Err e) read = Fails e read
 
+-- the same of a function that takes no memory: it refuses exactly what isn't there to be read
+abbrev pub Refuses : {Y : Type 0} → EntryRefused → Result Y EntryRefused → Type 0
+Refuses NoMemory read = ⊥
+Refuses Bad read = read ≡ Err Bad
+
+abbrev pub Tells : {X Y : Type 0} → (X → Y) → Result X EntryRefused → Result Y EntryRefused → Type 0
+Tells view (Ok x) read = read ≡ Ok (view x)
+Tells view (Err e) read = Refuses e read
+
 -- ---- how readers are put together
 
 -- two fields, one after the other

@@ -1,7 +1,7 @@
 //! Items from bytes.
 ghost use Rattle.std.specs.Prelude.{◌≡◌};
 ghost use Rattle.dimm_topology.specs.Labels.{is_label_or_none};
-ghost use Rattle.entry_format.specs.Reading.{Gives, some_or_bad, if_passes, class_of, class_at, label_at, page_number_at, page_at, weight_at, item_at, many_at, items_at};
+ghost use Rattle.entry_format.specs.Reading.{Gives, Tells, some_or_bad, if_passes, class_of, class_at, label_at, page_number_at, page_at, weight_at, item_at, many_at, items_at};
 
 use crate::EntryRefused;
 use crate::fields::{byte_at, bytes_at, u16_at, u64_at};
@@ -33,7 +33,7 @@ fn class_of(number: u8) -> Option<ItemClass>
 // A class.
 #[tactic(auto, unfolding(crate::specs::Reading::class_at))]
 fn class_at(bytes: &[u8]) -> Result<(ItemClass, &[u8]), EntryRefused>
-    ensures { Gives (λ x. (x.0, x.1.now)) result (class_at bytes.now) }
+    ensures { Tells (λ x. (x.0, x.1.now)) result (class_at bytes.now) }
 {
     let (number, rest) = byte_at(bytes)?;
     match class_of(number) {
@@ -57,7 +57,7 @@ fn label_of(alloc: Global, text: &[u8]) -> Result<Label, EntryRefused>
 }
 
 /// The label or none at the front, after the number of its bytes, and the bytes after it. `Bad`
-/// comes exactly where none stands there, and `NoMemory` where memory runs out.
+/// comes exactly if none stands there, and `NoMemory` if memory runs out.
 #[tactic(auto, unfolding(crate::specs::Reading::label_at))]
 pub fn label_at(alloc: Global, bytes: &[u8]) -> Result<(Label, &[u8]), EntryRefused>
     ensures { Gives (λ x. (x.0, x.1.now)) result (label_at bytes.now) }
@@ -68,11 +68,11 @@ pub fn label_at(alloc: Global, bytes: &[u8]) -> Result<(Label, &[u8]), EntryRefu
     Ok((label, rest))
 }
 
-/// The number of a page at the front, and the bytes after it. `Bad` comes exactly where none
-/// stands there.
+/// The number of a page at the front, and the bytes after it. `Bad` comes exactly if none stands
+/// there, and `NoMemory` never.
 #[tactic(auto, unfolding(crate::specs::Reading::page_number_at))]
 pub fn page_number_at(bytes: &[u8]) -> Result<(u64, &[u8]), EntryRefused>
-    ensures { Gives (λ x. (x.0, x.1.now)) result (page_number_at bytes.now) }
+    ensures { Tells (λ x. (x.0, x.1.now)) result (page_number_at bytes.now) }
 {
     let (page, rest) = u64_at(bytes)?;
     if page < PAGES {
@@ -85,7 +85,7 @@ pub fn page_number_at(bytes: &[u8]) -> Result<(u64, &[u8]), EntryRefused>
 // A page after its flag.
 #[tactic(auto, unfolding(crate::specs::Reading::page_at, crate::specs::Reading::some_page_at))]
 fn page_at(bytes: &[u8]) -> Result<(Option<u64>, &[u8]), EntryRefused>
-    ensures { Gives (λ x. (x.0, x.1.now)) result (page_at bytes.now) }
+    ensures { Tells (λ x. (x.0, x.1.now)) result (page_at bytes.now) }
 {
     let (flag, rest) = byte_at(bytes)?;
     match flag {
@@ -101,7 +101,7 @@ fn page_at(bytes: &[u8]) -> Result<(Option<u64>, &[u8]), EntryRefused>
 // A weight.
 #[tactic(auto, unfolding(crate::specs::Reading::weight_at))]
 fn weight_at(bytes: &[u8]) -> Result<(u16, &[u8]), EntryRefused>
-    ensures { Gives (λ x. (x.0, x.1.now)) result (weight_at bytes.now) }
+    ensures { Tells (λ x. (x.0, x.1.now)) result (weight_at bytes.now) }
 {
     let (weight, rest) = u16_at(bytes)?;
     if 1 <= weight && weight <= MOST_WEIGHT {
@@ -132,7 +132,7 @@ fn item_at(alloc: Global, bytes: &[u8]) -> Result<(Item, &[u8]), EntryRefused>
     Ok((item, rest))
 }
 
-// So many items.
+// This many items.
 fn many_items_at(alloc: Global, count: u16, bytes: &[u8]) -> Result<(Items, &[u8]), EntryRefused>
     ensures { Gives (λ x. (x.0, x.1.now)) result (many_at item_at count bytes.now) }
 {

@@ -5,7 +5,6 @@
 #![tactic(auto)]
 
 mod fields;
-mod file;
 mod items;
 mod laws;
 mod list;
@@ -17,13 +16,12 @@ mod version;
 mod writing;
 
 pub use fields::{byte_at, u32_at, u64_at};
-pub use file::read_entries;
 pub use items::{label_at, page_number_at};
 pub use laws::format_laws;
 pub use list::read_list;
 pub use names::name_at;
 pub use reading::limit_at;
-pub use refused::{EntriesRefused, EntryRefused};
+pub use refused::EntryRefused;
 pub use sizes::{entry_len, name_len};
 pub use version::Version;
-pub use writing::{entry_bytes, push_entry, push_label, push_limit, push_name};
+pub use writing::{push_entry, push_label, push_limit, push_name};

@@ -1,4 +1,4 @@
-//! So many entries from bytes.
+//! A list of entries from bytes.
 ghost use Rattle.std.specs.Prelude.{◌≡◌, ◌≢◌, ℕ, List, length, IfOk, IsOkAnd};
 ghost use Rattle.entry_format.specs.File.{AreEntriesOf};
 ghost use Rattle.entry_format.specs.Reading.{Gives, many_at, whole_at, entry_at};
@@ -8,7 +8,7 @@ use crate::{EntryRefused, Version};
 use ras_facts::Entry;
 use std::alloc::Global;
 
-// So many entries at the front of the bytes, and the bytes after them.
+// This many entries at the front of the bytes, and the bytes after them.
 fn many_entries_at(
     alloc: Global,
     version: Version,
@@ -27,7 +27,7 @@ fn many_entries_at(
     Ok((entries, rest))
 }
 
-// So many entries that are all of the bytes.
+// This many entries, which are all of the bytes.
 fn whole_list(
     alloc: Global,
     version: Version,
@@ -44,11 +44,11 @@ fn whole_list(
     }
 }
 
-/// The entries whose spelling the bytes are, where there are so many of them. Each byte is read
-/// once, and no byte after the last of so many entries.
+/// The entries whose spelling the bytes are, if they are `count` entries. Each byte is read once,
+/// and no byte after the last of that many entries.
 ///
-/// It is refused as `Bad` exactly where the bytes aren't the spelling of so many valid entries of
-/// the version, and as `NoMemory` where memory runs out.
+/// It is refused as `Bad` exactly if the bytes aren't the spelling of that many valid entries of
+/// the version, and as `NoMemory` if memory runs out.
 pub fn read_list(
     alloc: Global,
     version: Version,

@@ -1,6 +1,6 @@
 //! One entry from bytes.
 ghost use Rattle.std.specs.Prelude.{◌≡◌};
-ghost use Rattle.entry_format.specs.Reading.{Gives, fact_at, limit_at, module_limit_entry_at, entry_at};
+ghost use Rattle.entry_format.specs.Reading.{Gives, Tells, fact_at, limit_at, module_limit_entry_at, entry_at};
 
 use crate::fields::{byte_at, u64_at};
 use crate::items::items_at;
@@ -35,11 +35,11 @@ fn fact_at(alloc: Global, bytes: &[u8]) -> Result<(Fact, &[u8]), EntryRefused>
     Ok((fact, rest))
 }
 
-/// A limit at the front, and the bytes after it. `Bad` comes exactly where none in its ranges
-/// stands there.
+/// A limit at the front, and the bytes after it. `Bad` comes exactly if none in its ranges stands
+/// there, and `NoMemory` never.
 #[tactic(auto, unfolding(crate::specs::Reading::limit_at))]
 pub fn limit_at(bytes: &[u8]) -> Result<(Limit, &[u8]), EntryRefused>
-    ensures { Gives (λ x. (x.0, x.1.now)) result (limit_at bytes.now) }
+    ensures { Tells (λ x. (x.0, x.1.now)) result (limit_at bytes.now) }
 {
     let (capacity, rest) = u64_at(bytes)?;
     let (period, rest) = u64_at(rest)?;
@@ -52,7 +52,7 @@ pub fn limit_at(bytes: &[u8]) -> Result<(Limit, &[u8]), EntryRefused>
 // A limit of modules, which only version 2 has.
 #[tactic(auto, unfolding(crate::specs::Reading::module_limit_entry_at))]
 fn module_limit_entry_at(version: Version, bytes: &[u8]) -> Result<(Entry, &[u8]), EntryRefused>
-    ensures { Gives (λ x. (x.0, x.1.now)) result (module_limit_entry_at version bytes.now) }
+    ensures { Tells (λ x. (x.0, x.1.now)) result (module_limit_entry_at version bytes.now) }
 {
     match version {
         Version::One => Err(EntryRefused::Bad),

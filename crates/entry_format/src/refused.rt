@@ -1,7 +1,6 @@
 //! Why bytes could not be read.
 ghost use Rattle.std.specs.Prelude.{◌≡◌};
 ghost use Rattle.entry_format.specs.declared.refused.EntryRefused.TheVariants.{Bad as NoEntry, NoMemory as NoMemoryForEntry};
-ghost use Rattle.entry_format.specs.declared.refused.EntriesRefused.TheVariants.{NoMemory as NoMemoryForEntries};
 
 use dimm_topology::LabelRefused;
 use ras_base::NoMemory;
@@ -32,27 +31,5 @@ impl<T: Drop> From<AllocFailed<T>> for EntryRefused {
 
     fn from(_: AllocFailed<T>) -> Self {
         EntryRefused::NoMemory
-    }
-}
-
-/// Why the bytes of a file were not read as entries.
-#[derive(Clone, Copy, Debug, PartialEq, Eq, Drop, Error)]
-pub enum EntriesRefused {
-    /// From a place on the bytes are no entry.
-    #[error("no entry stands at byte {place}")]
-    Bad {
-        /// The place of the first byte where an entry should begin and none stands, from 0.
-        place: u64,
-    },
-    /// Memory ran out.
-    #[error("memory ran out")]
-    NoMemory,
-}
-
-impl<T: Drop> From<AllocFailed<T>> for EntriesRefused {
-    ghost from_gives = { λ _ e. e ≡ NoMemoryForEntries };
-
-    fn from(_: AllocFailed<T>) -> Self {
-        EntriesRefused::NoMemory
     }
 }

@@ -1,5 +1,5 @@
 //! Entries as bytes.
-ghost use Rattle.std.specs.Prelude.{◌≡◌, ◌++◌, ◌≤◌, length, IfOk, OnOk};
+ghost use Rattle.std.specs.Prelude.{◌≡◌, ◌++◌, ◌≤◌, length, OnOk};
 ghost use Rattle.std.specs.List.{flat_map};
 ghost use Rattle.ras_facts.specs.Entries.{items_in};
 ghost use Rattle.entry_format.specs.Spelling.{name_bytes, label_bytes, page_bytes, item_bytes, fact_bytes, limit_bytes, entry_bytes};
@@ -11,9 +11,8 @@ use page_policy::Limit;
 use ras_base::NoMemory;
 use ras_base::little_endian::{push_u16, push_u64};
 use ras_facts::{Entry, Fact, Item, MOST_ITEMS, Name};
-use std::alloc::Global;
 
-/// Adds the spelling of the name of a report. Where memory runs out, some of its bytes may have
+/// Adds the spelling of the name of a report. If memory runs out, some of its bytes may have
 /// been added.
 #[tactic(auto, unfolding(crate::specs::Spelling::name_bytes))]
 pub fn push_name(bytes: &mut Vec<u8>, name: &Name) -> Result<(), NoMemory>
@@ -53,7 +52,7 @@ pub fn push_name(bytes: &mut Vec<u8>, name: &Name) -> Result<(), NoMemory>
     }
 }
 
-/// Adds a label behind the number of its bytes. Where memory runs out, some of its bytes may have
+/// Adds a label after the number of its bytes. If memory runs out, some of its bytes may have
 /// been added.
 #[tactic(auto, unfolding(crate::specs::Spelling::label_bytes))]
 pub fn push_label(bytes: &mut Vec<u8>, label: &Label) -> Result<(), NoMemory>
@@ -116,7 +115,7 @@ fn push_fact(bytes: &mut Vec<u8>, fact: &Fact) -> Result<(), NoMemory>
     push_items(bytes, items)
 }
 
-/// Adds the spelling of a limit. Where memory runs out, some of its bytes may have been added.
+/// Adds the spelling of a limit. If memory runs out, some of its bytes may have been added.
 #[tactic(auto, unfolding(crate::specs::Spelling::limit_bytes))]
 pub fn push_limit(bytes: &mut Vec<u8>, limit: Limit) -> Result<(), NoMemory>
     ensures { OnOk result (bytes.new.items ≡ bytes.old.items ++ limit_bytes limit) }
@@ -126,7 +125,7 @@ pub fn push_limit(bytes: &mut Vec<u8>, limit: Limit) -> Result<(), NoMemory>
 }
 
 /// Adds the spelling of an entry. It has at most 65,535 items, which is the most that a spelling
-/// can tell. Where memory runs out, some of its bytes may have been added.
+/// can tell. If memory runs out, some of its bytes may have been added.
 #[tactic(auto, unfolding(crate::specs::Spelling::entry_bytes))]
 pub fn push_entry(bytes: &mut Vec<u8>, entry: &Entry) -> Result<(), NoMemory>
     requires { length (items_in entry.now) ≤ MOST_ITEMS }
@@ -150,14 +149,4 @@ pub fn push_entry(bytes: &mut Vec<u8>, entry: &Entry) -> Result<(), NoMemory>
             push_limit(bytes, *limit)
         }
     }
-}
-
-/// The spelling of an entry, alone. It has at most 65,535 items.
-pub fn entry_bytes(alloc: Global, entry: &Entry) -> Result<Vec<u8>, NoMemory>
-    requires { length (items_in entry.now) ≤ MOST_ITEMS }
-    ensures { IfOk result (λ bytes. bytes.items ≡ entry_bytes entry.now) }
-{
-    let mut bytes = Vec::new(alloc);
-    push_entry(&mut bytes, entry)?;
-    Ok(bytes)
 }

@@ -381,3 +381,29 @@ without-absent id (r ∷ rs) new = by (nat_eq id r.id) refl new (without-absent 
     by : (b : Bool) → nat_eq id r.id ≡ b → (b || holds id rs) ≡ false → (holds id rs ≡ false → rs ≡ without id rs) → r ∷ rs ≡ picked id (nat_eq r.id id) r (without id rs)
     by true is not_there ih = absurd (true≢false not_there)
     by false is not_there ih = ap (λ (qs : List Stored). r ∷ qs) (ih not_there) ∙ sym (ap (λ c. picked id c r (without id rs)) (flip_test r.id id ∙ is))
+
+-- ---- a put leaves what stands under other identifiers
+
+module _ (id k : ℕ) (bytes : List ℕ) (apart : nat_eq id k ≡ false) where
+  under_map : (rs : List Stored) → bytes_under k (map (record_after_put id bytes) rs) ≡ bytes_under k rs
+  under_map [] = refl
+  under_map (r ∷ rs) = by (nat_eq r.id id) refl (under_map rs)
+    where
+      by : (b : Bool) → nat_eq r.id id ≡ b → bytes_under k (map (record_after_put id bytes) rs) ≡ bytes_under k rs
+          → bytes_under k ((if b then record { id = r.id; bytes = bytes } else r) ∷ map (record_after_put id bytes) rs) ≡ bytes_under k (r ∷ rs)
+      by true is ih =
+          let other : nat_eq r.id k ≡ false = grind (arith, nat_tests) in
+          ap (λ c. if c then Some bytes else bytes_under k (map (record_after_put id bytes) rs)) other
+          ∙ (ih ∙ sym (ap (λ c. if c then Some r.bytes else bytes_under k rs) other))
+      by false is ih = ap (λ o. if nat_eq r.id k then Some r.bytes else o) ih
+
+  under_push : (rs : List Stored) → bytes_under k (rs ++ record { id = id; bytes = bytes } ∷ []) ≡ bytes_under k rs
+  under_push [] = ap (λ c. if c then Some bytes else None) apart
+  under_push (r ∷ rs) = ap (λ o. if nat_eq r.id k then Some r.bytes else o) (under_push rs)
+
+  pub under-with_record : (rs : List Stored) → bytes_under k (with_record id bytes rs) ≡ bytes_under k rs
+  under-with_record rs = by (holds id rs)
+    where
+      by : (b : Bool) → bytes_under k (if b then map (record_after_put id bytes) rs else rs ++ record { id = id; bytes = bytes } ∷ []) ≡ bytes_under k rs
+      by true = under_map rs
+      by false = under_push rs

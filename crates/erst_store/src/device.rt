@@ -355,7 +355,7 @@ impl Dev {
         }
     }
 
-    // Copies the record under the identifier into the range, with zeros behind it.
+    // Copies the record under the identifier into the range, with zeros after it.
     fn read_record(&mut self) -> CommandStatus
         ensures { record self.new { status = result } ≡ after_read self.old }
     {
@@ -388,7 +388,7 @@ impl Dev {
     }
 }
 
-// Copies bytes into the range from a place on, and fills it with zeros behind them.
+// Copies bytes into the range from a place on, and fills it with zeros after them.
 fn fill_range(range: &mut [u8], start: usize, bytes: &[u8])
     requires range { length range.old ≡ range_length }
     requires room { start + length bytes.now ≤ range_length }

@@ -1,10 +1,12 @@
 //! What the device's actions keep, in other words.
-ghost use Rattle.std.specs.Prelude.{◌≡◌, ℕ, ◌+◌, ◌^◌, ◌<◌, ◌≤◌, ◌++◌, [], ◌∷◌, List, false, length, drop, None};
+ghost use Rattle.std.specs.Prelude.{◌≡◌, ◌≢◌, ℕ, ◌+◌, ◌^◌, ◌<◌, ◌≤◌, ◌++◌, [], ◌∷◌, List, false, length, drop, None, Some};
 ghost use Rattle.ras_base.specs.LittleEndian.{AreBytes, number_at};
 ghost use Rattle.erst_store.specs.Actions.{execute_operation, check_busy_status, get_command_status, get_record_identifier, get_record_count, range_length};
-ghost use Rattle.erst_store.specs.Store.{Stored, SameBut, IsStore, all_ones, ids, refusal_of, with_record};
+ghost use Rattle.erst_store.specs.Store.{Stored, SameBut, IsStore, all_ones, ids, bytes_under, refusal_of, with_record};
 ghost use Rattle.erst_store.specs.Device.{Device, act, with_put, range_with, new_device, id_at, length_at, record_at, is_record_out, id_place, length_place};
 ghost use Rattle.erst_store.specs.DeviceLaws.{IsDevice, MayChange, id_changed, listing, after_listings, left_to_list, listed_to_end};
+
+use crate::{MOST_BYTES, MOST_RECORDS, RANGE_LENGTH};
 
 /// The laws of the device's actions. The function does nothing: its clauses are what it is for.
 pub fn action_laws()
@@ -38,6 +40,23 @@ pub fn action_laws()
         → number_at id_place 8 (record_at range offset) ≡ id_at range offset }
     ensures size { (range : List ℕ) (offset : ℕ) → is_record_out range offset ≡ false
         → number_at length_place 4 (record_at range offset) ≡ length_at range offset }
+{}
+
+/// The laws of a store after a put. The function does nothing: its clauses are what it is for.
+pub fn store_laws()
+    // The bytes that were put stand under their identifier, and under every other what stood there.
+    ensures own { (id : ℕ) (bytes : List ℕ) (records : List Stored)
+        → bytes_under id (with_record id bytes records) ≡ Some bytes }
+    ensures others { (id other : ℕ) (bytes : List ℕ) (records : List Stored) → id ≢ other
+        → bytes_under other (with_record id bytes records) ≡ bytes_under other records }
+{}
+
+/// The numbers that bound a store and its device. The function does nothing: its clauses are what
+/// it is for.
+pub fn numbers_in_digits()
+    ensures records { MOST_RECORDS ≡ 1_024 }
+    ensures bytes { MOST_BYTES ≡ 16_384 }
+    ensures range { RANGE_LENGTH ≡ 16_384 }
 {}
 
 /// What is done to a device leaves it a device. The function does nothing: its clauses are what it

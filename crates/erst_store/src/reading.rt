@@ -41,7 +41,7 @@ impl Store {
 
     /// The store whose file these bytes are.
     ///
-    /// `Malformed` comes exactly where the bytes are no store file, and nothing but memory keeps a
+    /// `Malformed` comes exactly if the bytes are no store file, and nothing but memory keeps a
     /// store file from being read.
     pub fn from_bytes(alloc: Global, bytes: &[u8]) -> Result<Store, StoreRefused>
         ensures read { Reads bytes.now result }
@@ -51,7 +51,7 @@ impl Store {
         read_all(alloc, bytes)
     }
 
-    // Puts a record after all others, where it may stand there.
+    // Puts a record after all others, if it may stand there.
     fn append(&mut self, id: u64, bytes: &[u8]) -> Result<(), StoreRefused>
         ensures { Gives (λ _. self.new) result (with_next (record { id = id; bytes = bytes.now })
             self.old) }
@@ -127,7 +127,7 @@ fn front_record(bytes: &[u8]) -> Result<(u64, &[u8], &[u8]), StoreRefused>
     Ok((id, content, rest))
 }
 
-// A store of so many records, which are all of these bytes.
+// A store of this many records, which are all of these bytes.
 fn records_of(alloc: Global, count: u32, bytes: &[u8]) -> Result<Store, StoreRefused>
     ensures { Gives (λ s. s) result (records_at count [] bytes.now) }
 {

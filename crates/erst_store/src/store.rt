@@ -85,7 +85,7 @@ impl Store {
     /// Puts a record under an identifier: in the place of the record that is there under it, or
     /// else after all others.
     ///
-    /// Each refusal comes exactly where it is the first that applies, and leaves the store as it
+    /// Each refusal comes exactly if it is the first that applies, and leaves the store as it
     /// was.
     pub fn put(&mut self, id: u64, bytes: &[u8]) -> Result<(), PutRefused>
         ensures ok { OnOk result (self.new ≡ with_record id bytes.now self.old) }

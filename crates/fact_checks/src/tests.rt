@@ -12,4 +12,5 @@ mod reports;
 mod sections;
 mod sources;
 mod status;
+mod stored;
 mod topology;

@@ -19,7 +19,7 @@ use Rattle.ras_account.specs.Fresh.{is_among}
 use Rattle.journal_format.specs.Decoding.{AreNames, AreModules, ArePages}
 use Rattle.ras_base.specs.Chaining.{◌>>=◌}
 use Rattle.entry_format.specs.declared.refused.EntryRefused.{EntryRefused}
-use Rattle.entry_format.specs.Reading.{Reader, Gives, Fails, many_at, u64_at}
+use Rattle.entry_format.specs.Reading.{Reader, Gives, Fails, Refuses, many_at, u64_at}
 use Rattle.entry_format.specs.declared.refused.EntryRefused.TheVariants.{Bad, NoMemory}
 use Rattle.ras_account.specs.Account.{State, weight_in}
 use Rattle.ras_account.specs.Rows.{with_name, with_module, with_page}
@@ -131,7 +131,7 @@ pub listed : {A : Type 0} (r : Reader A) (bytes : List ℕ) (count : ℕ) (rest 
 unfolding list_at
 listed r bytes count rest read = ap (λ n. n >>= λ m. many_at r m.0 m.1) read
 
-pub unlisted : {A : Type 0} (r : Reader A) (bytes : List ℕ) (refused : EntryRefused) → Fails refused (u64_at bytes) → Fails refused (list_at r bytes)
+pub unlisted : {A : Type 0} (r : Reader A) (bytes : List ℕ) (refused : EntryRefused) → Refuses refused (u64_at bytes) → Fails refused (list_at r bytes)
 unfolding list_at
 unlisted r bytes NoMemory fails = tt
 unlisted r bytes Bad fails = ap (λ n. n >>= λ m. many_at r m.0 m.1) fails

@@ -23,7 +23,7 @@ use ras_account::{Account, ModuleRow, PushRefused};
 use ras_facts::Name;
 use std::alloc::Global;
 
-// Puts a name behind those of an account that has no floor. `Bad` comes exactly where it is there
+// Puts a name after those of an account that has no floor. `Bad` comes exactly if it is there
 // or the account is full.
 fn put_name(account: &mut Account, name: Name) -> Result<(), EntryRefused>
     requires waiting { account.old.waiting ≡ nothing }
@@ -41,7 +41,7 @@ fn put_name(account: &mut Account, name: Name) -> Result<(), EntryRefused>
     }
 }
 
-// Puts so many names at the front of the bytes into an account that has none and no floor. The
+// Puts this many names at the front of the bytes into an account that has none and no floor. The
 // answer is the bytes after them.
 fn many_names_at<'a>(
     account: &mut Account,
@@ -93,7 +93,7 @@ fn names_at<'a>(account: &mut Account, bytes: &'a [u8]) -> Result<&'a [u8], Entr
     }
 }
 
-// Puts a module's row behind those of an account. `Bad` comes exactly where its label has a row or
+// Puts a module's row after those of an account. `Bad` comes exactly if its label has a row or
 // the account is full.
 fn put_module(account: &mut Account, row: ModuleRow) -> Result<(), EntryRefused>
     requires waiting { account.old.waiting ≡ nothing }
@@ -112,8 +112,8 @@ fn put_module(account: &mut Account, row: ModuleRow) -> Result<(), EntryRefused>
     }
 }
 
-// Puts so many rows of modules at the front of the bytes into an account that has none. The answer
-// is the bytes after them.
+// Puts this many rows of modules at the front of the bytes into an account that has none. The
+// answer is the bytes after them.
 fn many_modules_at<'a>(
     alloc: Global,
     version: Version,
@@ -169,7 +169,7 @@ fn modules_at<'a>(
     }
 }
 
-// Puts a page's row behind those of an account. `Bad` comes exactly where the page has a row.
+// Puts a page's row after those of an account. `Bad` comes exactly if the page has a row.
 fn put_page(
     account: &mut Account,
     page: u64,
@@ -193,8 +193,8 @@ fn put_page(
     }
 }
 
-// Puts so many rows of pages at the front of the bytes into an account that has none. The answer is
-// the bytes after them.
+// Puts this many rows of pages at the front of the bytes into an account that has none. The answer
+// is the bytes after them.
 fn many_pages_at<'a>(
     account: &mut Account,
     count: u64,
@@ -243,7 +243,7 @@ fn pages_at<'a>(account: &mut Account, bytes: &'a [u8]) -> Result<&'a [u8], Entr
     }
 }
 
-// Puts what stands behind the numbers at the front into an account that has no names, no rows and
+// Puts what stands after the numbers at the front into an account that has no names, no rows and
 // no floor.
 fn fill(
     alloc: Global,
@@ -298,8 +298,8 @@ fn account_at(alloc: Global, version: Version, bytes: &[u8]) -> Result<Account, 
 /// The account whose checkpoint the bytes are, in the version that is given. Nothing waits in it.
 /// Each byte is read once.
 ///
-/// It is refused as `Bad` exactly where the bytes aren't all of a checkpoint of that version, and
-/// as `NoMemory` where memory runs out.
+/// It is refused as `Bad` exactly if the bytes aren't all of a checkpoint of that version, and
+/// as `NoMemory` if memory runs out.
 pub fn read_checkpoint(
     alloc: Global,
     version: Version,

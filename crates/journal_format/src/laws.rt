@@ -12,7 +12,7 @@ ghost use Rattle.journal_format.specs.Checkpoints.{checkpoint_bytes, HasNoBucket
 ghost use Rattle.journal_format.specs.CheckpointReading.{checkpoint_of};
 ghost use Rattle.journal_format.specs.Versions.{InBothVersions};
 
-use crate::{MOST_LINK_ENTRIES, MOST_PAYLOAD};
+use crate::{CHECKPOINT_PLACE, MOST_LINK_ENTRIES, MOST_PAYLOAD};
 use entry_format::Version;
 use ras_facts::Entry;
 
@@ -66,4 +66,12 @@ pub fn checkpoint_laws()
     // Version 1 is version 2 without the limit for modules and the buckets of modules.
     ensures versions { (a : State) → HasNoBuckets a
         → InBothVersions (checkpoint_bytes Version.One a) (checkpoint_bytes Version.Two a) a }
+{}
+
+/// The numbers that the definitions cite by name. The function does nothing: its clauses are what
+/// it is for.
+pub fn numbers_in_digits()
+    ensures entries { MOST_LINK_ENTRIES ≡ 2_000 }
+    ensures payload { MOST_PAYLOAD ≡ 67_108_864 }
+    ensures checkpoint { CHECKPOINT_PLACE ≡ 25 }
 {}

@@ -17,8 +17,8 @@ mod sizes;
 
 pub use decoding::read_checkpoint;
 pub use encoding::encode_checkpoint;
-pub use laws::{checkpoint_laws, link_laws};
+pub use laws::{checkpoint_laws, link_laws, numbers_in_digits};
 pub use link::{Link, MOST_LINK_ENTRIES, MOST_PAYLOAD};
 pub use links::{encode_link, read_link};
 pub use refused::{CheckpointRefused, LinkRefused};
-pub use sizes::checkpoint_len;
+pub use sizes::{CHECKPOINT_PLACE, checkpoint_len};

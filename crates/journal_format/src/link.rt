@@ -31,7 +31,7 @@ impl Model for Link {
 }
 
 impl Link {
-    // The link of these bytes. It needs memory where they fill their vector.
+    // The link of these bytes. It needs memory if they fill their vector.
     pub(crate) fn of_bytes(bytes: Vec<u8>) -> Result<Link, NoMemory>
         ensures { IfOk result (λ link. link ≡ bytes.items) }
     {

@@ -4,7 +4,7 @@ ghost use Rattle.std.specs.Bool.{IsFalse};
 ghost use Rattle.std.specs.List.{flat_map};
 ghost use Rattle.ras_facts.specs.Entries.{IsValidEntry};
 ghost use Rattle.entry_format.specs.Spelling.{entry_bytes};
-ghost use Rattle.entry_format.specs.Reading.{Gives};
+ghost use Rattle.entry_format.specs.Reading.{Tells};
 ghost use Rattle.journal_format.specs.PayloadReading.{count_at};
 ghost use Rattle.journal_format.specs.Links.{payload_bytes, link_bytes, IsPayload, CanLink, link_length, ends_early, payload_in};
 
@@ -96,7 +96,7 @@ fn payload_in(bytes: &[u8]) -> &[u8]
 // The number of a link's entries.
 #[tactic(auto, unfolding(crate::specs::PayloadReading::count_at))]
 fn count_at(bytes: &[u8]) -> Result<(u32, &[u8]), EntryRefused>
-    ensures { Gives (λ x. (x.0, x.1.now)) result (count_at bytes.now) }
+    ensures { Tells (λ x. (x.0, x.1.now)) result (count_at bytes.now) }
 {
     let (count, rest) = u32_at(bytes)?;
     if 1 <= count && count <= MOST_LINK_ENTRIES as u32 {
@@ -121,9 +121,9 @@ fn read_payload(alloc: Global, version: Version, bytes: &[u8]) -> Result<Vec<Ent
 /// The entries of the link at the front of the bytes, and the link's length. Each byte is read
 /// once, and none after the link.
 ///
-/// It is refused as `Cut` exactly where the bytes end before the link does: within the length of
-/// its payload, or within so many bytes after it. It is refused as `Bad` exactly where the payload
-/// isn't that of 1 to 2,000 valid entries of the version, and as `NoMemory` where memory runs out.
+/// It is refused as `Cut` exactly if the bytes end before the link does: within the length of
+/// its payload, or within that many bytes after it. It is refused as `Bad` exactly if the payload
+/// isn't that of 1 to 2,000 valid entries of the version, and as `NoMemory` if memory runs out.
 pub fn read_link(
     alloc: Global,
     version: Version,

@@ -17,14 +17,14 @@ pub const MOST_COUNT: u32 = MOST_CAPACITY - 1;
 pub struct Limit {
     /// The number of errors at which a bucket trips, from 1 to 1,000,000.
     pub capacity: u32,
-    /// The time in which so many errors leak out of a bucket, from 1 to 10,000,000 seconds.
+    /// The time in which that many errors leak out of a bucket, from 1 to 10,000,000 seconds.
     pub period: u32,
 }
 
 impl Limit {
     ghost use Rattle.page_policy.specs.Buckets.{limit_of};
 
-    /// The limit of these two numbers. It is None exactly where one of them is out of its range.
+    /// The limit of these two numbers. It is None exactly if one of them is out of its range.
     pub fn of(capacity: u64, period: u64) -> Option<Limit>
         ensures { result ≡ limit_of capacity period }
     {

@@ -6,12 +6,14 @@ ghost use Rattle.std.specs.Map.{keys_of};
 ghost use Rattle.page_policy.specs.declared.buckets.Limit.{Limit};
 ghost use Rattle.page_policy.specs.declared.buckets.Bucket.{Bucket};
 ghost use Rattle.page_policy.specs.declared.rows.Order.{Order};
-ghost use Rattle.page_policy.specs.Buckets.{IsLimit, aged_bucket};
+ghost use Rattle.page_policy.specs.Buckets.{IsLimit, aged_bucket, most_count};
 ghost use Rattle.page_policy.specs.Rows.{PageReport};
 ghost use Rattle.page_policy.specs.Histories.{page_rows_of, pages_named, orders_of, order_behind, state_in, state_under, AreOnceInOrder, AreSingle};
 ghost use Rattle.page_policy.specs.Pages.{AreReservedFor};
 ghost use Rattle.page_policy.specs.declared.rows.PageRow.{PageRow};
 ghost use Rattle.row_tables.specs.Held.{Held, is_ready};
+
+use crate::{MOST_CAPACITY, MOST_PERIOD};
 
 /// The laws of the rows and the orders of a history. The function does nothing: its clauses are
 /// what it is for.
@@ -31,7 +33,7 @@ pub fn page_laws()
     ensures stands { (history : List PageReport) (page : ℕ)
         → state_in (page_rows_of history) page ≡ state_under (orders_of history page) }
 
-    // Single corrected errors of a page within one period give an order exactly where their number
+    // Single corrected errors of a page within one period give an order exactly if their number
     // reaches the capacity.
     ensures capacity { (limit : Limit) (page : ℕ) (earlier : List PageReport) (last : PageReport)
         → IsLimit limit → AreSingle limit (earlier ++ last ∷ [])
@@ -43,7 +45,15 @@ pub fn page_laws()
         → bucket.count ≤ limit.capacity → bucket.stamp + limit.period ≤ now
         → (aged_bucket limit now bucket).count ≡ 0 }
 
-    // Where the pages of a list of reports wait, a report of the first can be taken.
+    // If the pages of a list of reports wait, a report of the first can be taken.
     ensures ready { (pages : Held ℕ PageRow) (first : ℕ) (more : List ℕ)
         → AreReservedFor pages (first ∷ more) → IsTrue (is_ready nat_eq pages first) }
+{}
+
+/// The numbers that the definitions cite by name. The function does nothing: its clauses are what
+/// it is for.
+pub fn numbers_in_digits()
+    ensures capacity { MOST_CAPACITY ≡ 1_000_000 }
+    ensures period { MOST_PERIOD ≡ 10_000_000 }
+    ensures count { most_count ≡ 999_999 }
 {}

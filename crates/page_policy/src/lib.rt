@@ -1,5 +1,5 @@
 //! When memory pages are taken out of use: a leaky bucket of corrected errors for each page, the
-//! states of pages, and the orders that follow where a state rises.
+//! states of pages, and the orders that follow when a state rises.
 //!
 //! `Pages` holds a row for each page, in the order in which pages were first seen. What a page's
 //! row says is a function of the reports of that page alone. The definitions in `specs/` say which
@@ -12,7 +12,7 @@ mod pages;
 mod rows;
 
 pub use buckets::{Bucket, Limit, MOST_CAPACITY, MOST_PERIOD};
-pub use laws::page_laws;
+pub use laws::{numbers_in_digits, page_laws};
 pub use pages::Pages;
 pub use row_tables::RowRefused;
 pub use rows::{Order, PageRow, PageState, is_corrected};

@@ -19,8 +19,8 @@ use std::marker::Model;
 
 /// The pages that were reported, in the order in which they were first seen, each with its row.
 ///
-/// Pages can wait behind those that are held, so that their reports can be taken with no memory.
-/// Only `reserve` and `account` concern pages that wait.
+/// Pages can wait after those that are held, so that their reports can be taken with no memory.
+/// Only `reserve`, `give_up` and `account` concern pages that wait.
 #[derive(Drop)]
 pub struct Pages {
     table: RowTable<u64, PageRow>,
@@ -61,14 +61,22 @@ impl Pages {
         self.table.reserve(pages, PageRow::new(0))
     }
 
+    /// Lets no page wait any longer.
+    pub fn give_up(&mut self)
+        ensures rows { self.new.rows ≡ self.old.rows }
+        ensures waiting { self.new.waiting ≡ [] }
+    {
+        self.table.give_up();
+    }
+
     /// Takes a report of a page: an item's class and weight, with the time of the report in seconds
     /// and the limit in force. The answer is the order that follows, if any.
     ///
-    /// The page has to be held, or to be the first that waits; it is then held, behind the others.
+    /// The page has to be held, or to be the first that waits; it is then held, after the others.
     /// A new page starts Kept, with an empty bucket of that time. Ce and Corrected fill the page's
-    /// bucket, and lead to Soft where it trips. Ucna leads to Soft; Srao, Srar, Uc, Recoverable and
+    /// bucket, and lead to Soft if it trips. Ucna leads to Soft; Srao, Srar, Uc, Recoverable and
     /// Fatal lead to Hard; Odd and Informational lead to nothing. A state only rises, and an order
-    /// comes exactly where it rose: a bucket that trips at a page that is Soft or Hard is emptied,
+    /// comes exactly if it rose: a bucket that trips at a page that is Soft or Hard is emptied,
     /// and no order comes.
     pub fn account(
         &mut self,
@@ -83,7 +91,7 @@ impl Pages {
         ensures pages { self.new ≡ pages_after self.old (report page class seconds weight limit) }
         ensures order { result ≡ order_at page self.old.rows self.new.rows }
 
-        // Soft is ordered of a page that is Kept alone, and Hard only where the class calls for it,
+        // Soft is ordered of a page that is Kept alone, and Hard only if the class calls for it,
         // whatever the bucket says.
         ensures soft { result ≡ Some (Order.Soft page) → state_in self.old.rows page ≡ Kept }
         ensures hard { result ≡ Some (Order.Hard page) → CallsForHard class }
@@ -92,7 +100,7 @@ impl Pages {
         ensures never_falls { NeverFalls self.old.rows self.new.rows }
         ensures others { OthersStay page self.old.rows self.new.rows }
 
-        // Where the pages of a list of reports wait, the reports can be taken in turn.
+        // If the pages of a list of reports wait, the reports can be taken in turn.
         ensures in_turn { (pages : List ℕ) → AreReservedFor self.old (page ∷ pages)
             → AreReservedFor self.new pages }
 
@@ -135,9 +143,9 @@ impl Pages {
         (*self.table.key(i), row.bucket, row.state)
     }
 
-    /// Puts the row of a page behind the others. After a refusal all stays as it was.
+    /// Puts the row of a page after the others. After a refusal all stays as it was.
     ///
-    /// `Repeated` comes exactly where the page is held.
+    /// `Repeated` comes exactly if the page is held.
     pub fn push_row(
         &mut self,
         page: u64,

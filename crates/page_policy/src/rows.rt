@@ -108,7 +108,7 @@ fn calls_for(class: ItemClass, trips: bool) -> PageState
     }
 }
 
-// The order where a page's state rises.
+// The order when a page's state rises.
 pub(crate) fn order_for(page: u64, before: PageState, after: PageState) -> Option<Order>
     ensures { result ≡ order_between page before after }
 {

@@ -18,3 +18,4 @@ pub mod NotingLemmas
 pub mod AgainLemmas
 pub mod ModuleRowLemmas
 pub mod BucketLemmas
+pub mod KnownLemmas

@@ -1,11 +1,10 @@
 -- What an account was given, in order, and what is in force after it.
-use Rattle.std.specs.Prelude.{ℕ, Bool, false, nat_lt, max, List, [], ◌∷◌, ◌++◌, fold}
-use Rattle.std.specs.Option.{option_map_or}
+use Rattle.std.specs.Prelude.{ℕ, max, List, [], ◌∷◌, ◌++◌, fold}
 use Rattle.page_policy.specs.declared.buckets.Limit.{Limit}
 use Rattle.ras_facts.specs.declared.name.Name.{Name}
 use Rattle.ras_facts.specs.declared.entry.Entry.{Entry}
 use Rattle.ras_facts.specs.declared.entry.Entry.TheVariants.{Fact, Limit as PageLimit, Retire, ModuleLimit}
-use Rattle.ras_facts.specs.Names.{boot_of}
+pub use Rattle.ras_facts.specs.Names.{is_retired}
 use Rattle.ras_account.specs.declared.limits.TheConstants.{FIRST_LIMIT, FIRST_MODULE_LIMIT}
 
 -- a list of entries and marks, the latest last. A mark stands where an account was taken over from
@@ -67,7 +66,3 @@ floor_after empty = 0
 floor_after (with_entry history (Retire boot)) = max (floor_after history) boot
 floor_after (with_entry history other) = floor_after history
 floor_after (with_mark history) = floor_after history
-
--- whether a name's boot is below a floor; a name without a boot is never retired
-abbrev pub is_retired : ℕ → Name → Bool
-is_retired floor name = option_map_or (λ boot. nat_lt boot floor) (boot_of name) false

@@ -29,7 +29,7 @@ use std::marker::Model;
 /// What was counted so far: the names of the reports in the order in which they came, what they say
 /// of memory modules and of pages, and what is in force.
 ///
-/// Names, labels and pages can wait behind those that are counted, so that their entries can be
+/// Names, labels and pages can wait after those that are counted, so that their entries can be
 /// taken with no memory. No call tells of what waits.
 #[derive(Drop)]
 pub struct Account {
@@ -108,12 +108,12 @@ impl Account {
     }
 
     /// Whether the account knows a name: it holds it, or the name's boot is retired. A fact is
-    /// fresh exactly where its name isn't known.
+    /// fresh exactly if its name isn't known.
     pub fn knows(&self, name: &Name) -> bool
         ensures known { result ≡ knows self.now.state name.now }
         ensures account { IsAccount self.now.state }
     {
-        self.names.holds(name) || self.in_force.retires(name)
+        self.names.holds(name) || name.is_retired(self.in_force.floor)
     }
 
     // Whether an entry is a fact whose name is held.
@@ -126,7 +126,7 @@ impl Account {
         }
     }
 
-    /// Counts the entry, if it is fresh, and puts the orders that it gives behind `orders`.
+    /// Counts the entry, if it is fresh, and puts the orders that it gives after those in `orders`.
     ///
     /// The entry has to be valid. What it adds has to wait, before all else that waits, and it then
     /// waits no longer; the orders need room for `Entry::most_orders`; and with the entry the
@@ -142,11 +142,11 @@ impl Account {
         ensures orders { orders.new.orders ≡ orders.old.orders ++ orders_at self.old.state entry }
         ensures room { orders.new.room + length (orders_at self.old.state entry) ≡ orders.old.room }
 
-        // Where what a list of entries adds waits, the entries can be taken in turn.
+        // If what a list of entries adds waits, the entries can be taken in turn.
         ensures in_turn { (entries : List Entry) → IsReservedFor self.old (entry ∷ entries)
             → IsReservedFor self.new entries }
 
-        // The account of a history becomes that of the history with the entry behind it, and the
+        // The account of a history becomes that of the history with the entry after it, and the
         // orders are those of the history.
         ensures history { (history : History) → IsAccountOf history self.old.state
             → IsAccountOf (with_entry history entry) self.new.state }
@@ -174,7 +174,7 @@ impl Account {
         }
     }
 
-    // Whether an entry is fresh, where what it adds waits first. A name that is held never waits,
+    // Whether an entry is fresh, if what it adds waits first. A name that is held never waits,
     // so that no name needs to be hashed.
     fn is_next(&self, entry: &Entry) -> bool
         requires { WaitsFirst (added_by self.now.state (entry.now ∷ [])) self.now.waiting }

@@ -1,11 +1,10 @@
 //! What is in force: the floor, and the limits for pages and modules.
 ghost use Rattle.std.specs.Prelude.{◌≡◌};
-ghost use Rattle.ras_account.specs.History.{is_retired};
 ghost use Rattle.ras_account.specs.Taking.{is_news};
 ghost use Rattle.ras_account.specs.Reserving.{in_force_after};
 
 use page_policy::Limit;
-use ras_facts::{Entry, Name};
+use ras_facts::Entry;
 
 // What is in force.
 #[derive(Clone, Copy)]
@@ -25,7 +24,7 @@ impl InForce {
         ensures { result ≡ is_news self.now.floor self.now.limit self.now.module_limit entry.now }
     {
         match entry {
-            Entry::Fact(fact) => !self.retires(&fact.name),
+            Entry::Fact(fact) => !fact.name.is_retired(self.floor),
             Entry::Limit(limit) => *limit != self.limit,
             Entry::Retire(boot) => self.floor < *boot,
             Entry::ModuleLimit(limit) => *limit != self.module_limit,
@@ -41,16 +40,6 @@ impl InForce {
             Entry::Limit(limit) => self.limit = *limit,
             Entry::Retire(boot) => self.floor = *boot,
             Entry::ModuleLimit(limit) => self.module_limit = *limit,
-        }
-    }
-
-    // Whether a name's boot is retired.
-    pub(crate) fn retires(&self, name: &Name) -> bool
-        ensures { result ≡ is_retired self.now.floor name.now }
-    {
-        match name.boot() {
-            Some(boot) => boot < self.floor,
-            None => false,
         }
     }
 }

@@ -1,6 +1,6 @@
 //! What an account is, in other words than its definitions.
 
-ghost use Rattle.std.specs.Prelude.{◌≡◌, ◌≤◌, ◌+◌, ◌==◌, ◌&&◌, not, ◌↔◌, ℕ, max, List, [], ◌∷◌, ◌++◌, if◌then◌else◌, IsTrue, All, Contains, Some, None, map, nat_eq, nat_le, length};
+ghost use Rattle.std.specs.Prelude.{◌≡◌, ◌≤◌, ◌+◌, ◌==◌, ◌&&◌, ◌||◌, ◌^◌, not, ◌↔◌, ℕ, max, List, [], ◌∷◌, ◌++◌, if◌then◌else◌, IsTrue, All, Contains, Some, None, map, nat_eq, nat_le, length};
 ghost use Rattle.std.specs.Bool.{IsFalse};
 ghost use Rattle.std.specs.List.{IsDistinct};
 ghost use Rattle.std.specs.Map.{keys_of, lookup};
@@ -16,12 +16,12 @@ ghost use Rattle.ras_facts.specs.declared.name.Name.{Name};
 ghost use Rattle.ras_facts.specs.declared.entry.Entry.{Entry};
 ghost use Rattle.ras_facts.specs.Names.{same_name};
 ghost use Rattle.ras_facts.specs.Entries.{IsValidEntry};
-ghost use Rattle.ras_account.specs.History.{History, empty, with_entry, with_mark, with_entries, with_retire, history_of, followed_by, IsUnmarked, floor_after, is_retired};
-ghost use Rattle.ras_account.specs.Fresh.{is_fresh_behind, fresh_entries};
+ghost use Rattle.ras_account.specs.History.{History, empty, with_entry, with_mark, with_entries, with_retire, history_of, followed_by, IsUnmarked, names_in, floor_after, is_retired};
+ghost use Rattle.ras_account.specs.Fresh.{is_among, is_fresh_behind, fresh_entries};
 ghost use Rattle.ras_account.specs.Sightings.{Sighting, sightings, reports_of};
 ghost use Rattle.ras_account.specs.Modules.{has_tripped, bucket_with, trips_at, AreSingleErrors, IsLate};
 ghost use Rattle.ras_account.specs.Account.{State, account_of, module_errors, weight_in, is_seen, module_of, AreSame, ChangesNothing, IsKeptAfter};
-ghost use Rattle.ras_account.specs.Continued.{is_fresh_in, account_after, account_after_all, account_after_history, account_after_mark};
+ghost use Rattle.ras_account.specs.Continued.{knows, is_fresh_in, account_after, account_after_all, account_after_history, account_after_mark};
 ghost use Rattle.ras_account.specs.Orders.{orders_at, orders_behind, orders};
 ghost use Rattle.ras_account.specs.Asked.{orders_for_page, replace_order, replace_orders, replace_orders_at, trips_with, HasRow};
 ghost use Rattle.ras_account.specs.Numbers.{are_past, IsWithin, StaysWithin, HasRoomFor, numbers_of, numbers_with};
@@ -29,9 +29,11 @@ ghost use Rattle.ras_account.specs.Rows.{account_from_rows};
 ghost use Rattle.ras_account.specs.View.{View, WaitsFirst, IsReservedFor, then_waits, added_by};
 ghost use Rattle.ras_account.specs.Accounts.{IsAccount};
 
+use crate::{FIRST_LIMIT, FIRST_MODULE_LIMIT, MOST_ENTRIES, MOST_NAMES, MOST_TOTAL};
+
 /// The laws of the account of a history. The function does nothing: its clauses are what it is for.
 pub fn account_laws()
-    // The account of a history with an entry or a mark behind it is that of the history, continued
+    // The account of a history with an entry or a mark after it is that of the history, continued
     // by it.
     ensures entry { (history : History) (entry : Entry)
         → account_of (with_entry history entry) ≡ account_after (account_of history) entry }
@@ -56,7 +58,7 @@ pub fn account_laws()
     ensures stale_orders { (history : History) (entry : Entry)
         → IsFalse (is_fresh_behind history entry) → orders_behind history entry ≡ [] }
 
-    // The fresh entries alone give the account again, as where they are all that was kept.
+    // The fresh entries alone give the account again, as if they were all that was kept.
     ensures refreshed { (history : History) → IsUnmarked history
         → AreSame (history_of (fresh_entries history)) history }
     ensures unmarked { (entries : List Entry) → IsUnmarked (history_of entries) }
@@ -77,6 +79,27 @@ pub fn account_laws()
         ≡ (if is_seen history label then Some (module_of history label) else None) }
     ensures total { (history : History)
         → weight_in (account_of history).modules ≡ (account_of history).total }
+{}
+
+/// The laws of the names that an account knows. The function does nothing: its clauses are what it
+/// is for.
+pub fn known_laws()
+    // The account of a history knows the names of its facts, and all names of retired boots.
+    ensures known { (history : History) (name : Name)
+        → knows (account_of history) name
+        ≡ (is_among (names_in history) name || is_retired (floor_after history) name) }
+
+    // What is known stays known, whatever follows.
+    ensures known_after { (history more : History) (name : Name)
+        → IsTrue (knows (account_of history) name)
+        → IsTrue (knows (account_of (followed_by history more)) name) }
+    ensures known_after_entries { (a : State) (entries : List Entry) (name : Name)
+        → IsTrue (knows a name) → IsTrue (knows (account_after_all a entries) name) }
+
+    // Each fact among entries is known after them, whether it was fresh or not.
+    ensures counted { (a : State) (entries : List Entry) (fact : Fact)
+        → Contains entries (Entry.Fact fact)
+        → IsTrue (knows (account_after_all a entries) fact.name) }
 {}
 
 /// The laws of retired boots. The function does nothing: its clauses are what it is for.
@@ -110,7 +133,7 @@ pub fn retire_laws()
 
 /// The laws of the orders of a history. The function does nothing: its clauses are what it is for.
 pub fn order_laws()
-    // The orders that an entry gives behind a history are those by which its account is continued.
+    // The orders that an entry gives after a history are those by which its account is continued.
     ensures ordered { (history : History) (entry : Entry)
         → orders_behind history entry ≡ orders_at (account_of history) entry }
 
@@ -122,14 +145,14 @@ pub fn order_laws()
     ensures page_once { (history : History) (page : ℕ)
         → AreOnceInOrder page (orders_for_page page (orders history)) }
 
-    // Since the last mark a module was asked to be replaced once where its own corrected errors
+    // Since the last mark a module was asked to be replaced once if its own corrected errors
     // have made its bucket trip, and else not at all, whatever other modules do.
     ensures module { (history : History) (label : Bytes) → HasRow history label
         → replace_orders history label
         ≡ (if has_tripped (module_errors history label)
         then replace_order history label ∷ [] else []) }
 
-    // An entry asks for a module exactly where, with the entry's items, the module's own corrected
+    // An entry asks for a module exactly if, with the entry's items, the module's own corrected
     // errors make its bucket trip the first time since the last mark.
     ensures module_at { (history : History) (entry : Entry) (label : Bytes)
         → HasRow (with_entry history entry) label
@@ -181,7 +204,7 @@ pub fn reserve_laws()
         → added_by a (entry ∷ entries)
         ≡ then_waits (added_by a (entry ∷ [])) (added_by (account_after a entry) entries) }
 
-    // Where what a list adds waits, what its first entry adds waits first.
+    // If what a list adds waits, what its first entry adds waits first.
     ensures first { (account : View) (entry : Entry) (entries : List Entry)
         → IsReservedFor account (entry ∷ entries)
         → WaitsFirst (added_by account.state (entry ∷ [])) account.waiting }
@@ -191,7 +214,7 @@ pub fn reserve_laws()
         → IsFalse (are_past (numbers_with a entries)) ↔ HasRoomFor a entries }
     ensures now_past { (a : State) → IsFalse (are_past (numbers_of a)) ↔ IsWithin a }
 
-    // Where there is room for all that a list adds, the account stays within its numbers at every
+    // If there is room for all that a list adds, the account stays within its numbers at every
     // front of the list, and then there is room for what the others add.
     ensures stays { (a : State) (entries : List Entry)
         → HasRoomFor a entries → StaysWithin a entries }
@@ -199,4 +222,14 @@ pub fn reserve_laws()
         → HasRoomFor a (front ++ more) → IsWithin (account_after_all a front) }
     ensures others { (a : State) (entry : Entry) (entries : List Entry)
         → HasRoomFor a (entry ∷ entries) → HasRoomFor (account_after a entry) entries }
+{}
+
+/// The numbers that the definitions cite by name. The function does nothing: its clauses are what
+/// it is for.
+pub fn numbers_in_digits()
+    ensures names { MOST_NAMES ≡ 200_000 }
+    ensures entries { MOST_ENTRIES ≡ 2 ^ 62 }
+    ensures total { MOST_TOTAL ≡ 2 ^ 62 }
+    ensures limit { FIRST_LIMIT ≡ record { capacity = 10; period = 86_400 } }
+    ensures module_limit { FIRST_MODULE_LIMIT ≡ record { capacity = 100; period = 86_400 } }
 {}

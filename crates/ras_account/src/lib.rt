@@ -6,7 +6,6 @@
 #![tactic(auto)]
 
 mod account;
-mod again;
 mod in_force;
 mod laws;
 mod limits;
@@ -17,7 +16,10 @@ mod rebuilding;
 mod reserve;
 
 pub use account::Account;
-pub use laws::{account_laws, kept_laws, module_laws, order_laws, reserve_laws, retire_laws};
+pub use laws::{
+    account_laws, kept_laws, known_laws, module_laws, numbers_in_digits, order_laws, reserve_laws,
+    retire_laws,
+};
 pub use limits::{FIRST_LIMIT, FIRST_MODULE_LIMIT, MOST_ENTRIES, MOST_NAMES, MOST_TOTAL};
 pub use modules::ModuleRow;
 pub use orders::Orders;

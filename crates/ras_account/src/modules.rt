@@ -1,4 +1,4 @@
-//! The rows of memory modules, the held ones first and behind them those of labels that wait.
+//! The rows of memory modules, the held ones first and after them those of labels that wait.
 ghost use Rattle.std.specs.Prelude.{◌≡◌, ◌↔◌, ◌+◌, ◌<◌, ◌≤◌, ◌++◌, [], ◌∷◌, IsTrue, None, Some, Err, OnOk, OnErr, ◌&&◌, not, false, if◌then◌else◌, length, map, sum, slice_get};
 ghost use Rattle.std.specs.List.{list_any};
 ghost use Rattle.std.specs.Map.{keys_of};
@@ -51,7 +51,7 @@ impl ModuleRow {
         }
     }
 
-    // The row after an item of the module that came at this time, where this limit is in force for
+    // The row after an item of the module that came at this time, while this limit is in force for
     // modules.
     fn after(self, item: &Item, seconds: u64, limit: Limit) -> ModuleRow
         requires counting { IsCounting self }
@@ -106,7 +106,7 @@ fn fills_bucket(item: &Item) -> bool
     is_corrected(item.class) && Label::none() != item.label
 }
 
-// The order to replace the module at a place, where nothing asked for it before.
+// The order to replace the module at a place, if nothing asked for it before.
 fn order_for(place: usize, before: bool, after: bool) -> Option<Order>
     ensures { result ≡ (if not before && after then Some (Order.Module place) else None) }
 {
@@ -116,7 +116,7 @@ fn order_for(place: usize, before: bool, after: bool) -> Option<Order>
     None
 }
 
-// The modules that items named, in first-seen order, each with its row. Labels can wait behind
+// The modules that items named, in first-seen order, each with its row. Labels can wait after
 // them, so that their items can be counted with no memory.
 #[derive(Drop)]
 pub(crate) struct Modules {
@@ -145,8 +145,8 @@ impl Modules {
         }
     }
 
-    // Counts an item that came at this time, where this limit is in force for modules. The answer
-    // is the order to replace its module, where the item is the one that asks for it.
+    // Counts an item that came at this time, while this limit is in force for modules. The answer
+    // is the order to replace its module, if the item is the one that asks for it.
     pub(crate) fn count(&mut self, item: &Item, seconds: u64, limit: Limit) -> Option<Order>
         requires next { IsTrue (is_next_label self.old item.now.label) }
         requires limit { IsLimit limit }
@@ -196,7 +196,7 @@ impl Modules {
         }
     }
 
-    // Puts a row behind the others, where no label waits. After a refusal the rows stay.
+    // Puts a row after the others. No label waits. After a refusal the rows stay.
     pub(crate) fn push(&mut self, row: ModuleRow) -> Result<(), RowRefused>
         requires waiting { self.old.waiting ≡ [] }
         requires counting { IsCounting row }

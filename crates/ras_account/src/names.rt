@@ -1,4 +1,4 @@
-//! The names that are counted, and behind them those that wait.
+//! The names that are counted, and after them those that wait.
 ghost use Rattle.std.specs.Prelude.{◌≡◌, ◌↔◌, ◌<◌, ◌++◌, [], ◌∷◌, not, IsTrue, Some, Err, IfOk, OnOk, OnErr, length, take, drop, slice_get};
 ghost use Rattle.std.specs.Bool.{IsFalse, OnTrue};
 ghost use Rattle.std.specs.List.{list_any};
@@ -17,7 +17,7 @@ use row_tables::{KeyTest, RowTable};
 use std::alloc::Global;
 use std::marker::Model;
 
-// Names in the order in which they came. Names can wait behind those that are counted, so that they
+// Names in the order in which they came. Names can wait after those that are counted, so that they
 // can be counted with no memory.
 #[derive(Drop)]
 pub(crate) struct Names {
@@ -43,10 +43,7 @@ impl KeyTest<Name> for NotRetired {
     ghost passes = { λ test name. not (is_retired test.floor name) };
 
     fn passes(&self, name: &Name) -> bool {
-        match name.boot() {
-            Some(boot) => boot >= self.floor,
-            None => true,
-        }
+        !name.is_retired(self.floor)
     }
 }
 
@@ -115,8 +112,7 @@ impl Names {
         self.table.give_up();
     }
 
-    // Lets a name wait that is neither counted nor waits yet. The answer is whether it is such a
-    // name.
+    // Lets a name wait that is neither counted nor waits yet: then the answer is true.
     pub(crate) fn let_wait(&mut self, name: Name) -> Result<bool, NoMemory>
         ensures held { self.new.held ≡ self.old.held }
         ensures ok { OnOk result (self.new.waiting
@@ -131,9 +127,8 @@ impl Names {
     pub(crate) fn any_retired(&self, floor: u64) -> bool
         ensures { result ≡ has_retired floor self.now.held }
     {
-        let kept = NotRetired { floor };
         for place in 0..self.table.len() {
-            if !kept.passes(self.table.key(place)) {
+            if self.table.key(place).is_retired(floor) {
                 return true;
             }
         }
@@ -148,7 +143,7 @@ impl Names {
         self.table.retain(&NotRetired { floor });
     }
 
-    // Counts a name behind the others, where none waits. After a refusal the names stay.
+    // Counts a name after the others. None waits. After a refusal the names stay.
     pub(crate) fn push(&mut self, name: Name) -> Result<(), RowRefused>
         requires { self.old.waiting ≡ [] }
         ensures ok { OnOk result (self.new.held ≡ self.old.held ++ name ∷ []) }

@@ -62,7 +62,7 @@ impl Orders {
         self.places[i]
     }
 
-    // Puts an order behind the others.
+    // Puts an order after the others.
     pub(crate) fn push(&mut self, order: Order)
         requires { 0 < self.old.room }
         ensures orders { self.new.orders ≡ self.old.orders ++ order ∷ [] }
@@ -72,7 +72,7 @@ impl Orders {
         self.given += 1;
     }
 
-    // Puts an order behind the others, if there is one.
+    // Puts an order after the others, if there is one.
     pub(crate) fn push_some(&mut self, order: Option<Order>)
         requires { length (option_to_list order) ≤ self.old.room }
         ensures { Gives self.old self.new (option_to_list order) }

@@ -21,7 +21,7 @@ use ras_facts::Name;
 use row_tables::RowRefused;
 use thiserror::Error;
 
-/// Why a name or a module's row can't be put behind the others.
+/// Why a name or a module's row can't be put after the others.
 #[derive(Clone, Copy, Debug, PartialEq, Eq, Drop, Error)]
 pub enum PushRefused {
     /// The name is held, or the label has a row.
@@ -73,8 +73,8 @@ impl Account {
         self.in_force.module_limit = limit;
     }
 
-    /// Sets the floor, where no name is held that it retires. The answer is whether it was set;
-    /// else all stays. Nothing may wait.
+    /// Sets the floor unless a name is held that it retires: then all stays, and the answer is
+    /// false. Nothing may wait.
     pub fn set_floor(&mut self, floor: u64) -> bool
         requires { self.old.waiting ≡ nothing }
         ensures exact { result ≡ not (has_retired floor self.old.state.names) }
@@ -89,10 +89,10 @@ impl Account {
         true
     }
 
-    /// Puts a name behind the others, whose boot isn't retired. Nothing may wait, and after a
+    /// Puts a name after the others, whose boot isn't retired. Nothing may wait, and after a
     /// refusal all stays.
     ///
-    /// `Repeated` comes exactly where the name is held, and else `Full` exactly where `MOST_NAMES`
+    /// `Repeated` comes exactly if the name is held, and else `Full` exactly if `MOST_NAMES`
     /// names are.
     pub fn push_name(&mut self, name: Name) -> Result<(), PushRefused>
         requires waiting { self.old.waiting ≡ nothing }
@@ -116,11 +116,11 @@ impl Account {
         }
     }
 
-    /// Puts the row of a module behind the others, and adds its ten sums to the total weight. The
+    /// Puts the row of a module after the others, and adds its ten sums to the total weight. The
     /// bucket has to hold at most 999,999 errors; a row without a bucket can't be to be replaced,
     /// and a row without a label has no bucket. Nothing may wait, and after a refusal all stays.
     ///
-    /// `Repeated` comes exactly where the label has a row, and else `Full` exactly where the total
+    /// `Repeated` comes exactly if the label has a row, and else `Full` exactly if the total
     /// weight would pass `MOST_TOTAL`.
     pub fn push_module(&mut self, row: ModuleRow) -> Result<(), PushRefused>
         requires waiting { self.old.waiting ≡ nothing }
@@ -147,10 +147,10 @@ impl Account {
         }
     }
 
-    /// Puts the row of a page behind the others: a page below 2^52, with a bucket of at most
+    /// Puts the row of a page after the others: a page below 2^52, with a bucket of at most
     /// 999,999 errors. Nothing may wait, and after a refusal all stays.
     ///
-    /// `Repeated` comes exactly where the page has a row.
+    /// `Repeated` comes exactly if the page has a row.
     pub fn push_page(
         &mut self,
         page: u64,
@@ -222,7 +222,7 @@ fn tell_valid_row(row: &ModuleRow)
     }
 }
 
-// The total weight with ten sums more; None where it passes `MOST_TOTAL`.
+// The total weight with ten sums more; None if it passes `MOST_TOTAL`.
 fn weight_with(total: u64, sums: &[u64; CLASS_COUNT]) -> Option<u64>
     requires { total ≤ MOST_TOTAL }
     ensures some { IfSome result (λ more. more ≡ total + sum sums.now) }

@@ -43,7 +43,7 @@ impl Account {
     /// the names, the labels and the pages that they bring first. What waited before is given up.
     /// What is counted stays, and after a refusal nothing waits.
     ///
-    /// `Full` comes exactly where the names held, the entries or the total weight, with all that is
+    /// `Full` comes exactly if the names held, the entries or the total weight, with all that is
     /// fresh of the list, pass `MOST_NAMES`, `MOST_ENTRIES` or `MOST_TOTAL`, unless memory runs
     /// out first.
     pub fn reserve(&mut self, entries: &[Entry]) -> Result<(), ReserveRefused>
@@ -70,11 +70,10 @@ impl Account {
     {
         self.names.give_up();
         self.modules.give_up();
-        // Neither answer leaves a page that waits.
-        let _ = self.pages.reserve(&[]);
+        self.pages.give_up();
     }
 
-    // Lets what these entries add wait, where nothing waits.
+    // Lets what these entries add wait. Nothing waits yet.
     fn let_wait(&mut self, entries: &[Entry]) -> Result<(), ReserveRefused>
         requires { self.old.waiting ≡ nothing }
         ensures state { self.new.state ≡ self.old.state }
@@ -124,7 +123,7 @@ pub(crate) struct Tally {
 }
 
 impl Tally {
-    // Notes an entry where it is fresh. Its name and its labels then wait.
+    // Notes an entry if it is fresh. Its name and its labels then wait.
     fn note(
         &mut self,
         names: &mut Names,
@@ -151,7 +150,7 @@ impl Tally {
         }
     }
 
-    // Notes a fact whose boot isn't retired, where its name is new.
+    // Notes a fact whose boot isn't retired, if its name is new.
     fn note_fact(
         &mut self,
         names: &mut Names,

@@ -1,5 +1,6 @@
--- When two names are the same, and the boot that a name tells.
-use Rattle.std.specs.Prelude.{ℕ, ◌==◌, Bool, false, ◌&&◌, Option, Some, None}
+-- When two names are the same, the boot that a name tells, and whether that is retired.
+use Rattle.std.specs.Prelude.{ℕ, ◌==◌, nat_lt, Bool, false, ◌&&◌, Option, Some, None}
+use Rattle.std.specs.Option.{option_map_or}
 use Rattle.ras_facts.specs.declared.name.Name.{Name}
 use Rattle.ras_facts.specs.declared.name.Name.TheVariants.{Bank, Record, Block, Boot}
 
@@ -19,3 +20,7 @@ boot_of (Bank boot cpu bank tsc) = Some boot
 boot_of (Record id) = None
 boot_of (Block boot source number) = Some boot
 boot_of (Boot boot) = Some boot
+
+-- whether a name's boot is below a floor; a name without a boot is never retired
+abbrev pub is_retired : ℕ → Name → Bool
+is_retired floor name = option_map_or (λ boot. nat_lt boot floor) (boot_of name) false

@@ -1,5 +1,5 @@
 //! What an account takes.
-ghost use Rattle.std.specs.Prelude.{◌≡◌, length};
+ghost use Rattle.std.specs.Prelude.{◌≡◌};
 
 use crate::Fact;
 use page_policy::Limit;
@@ -19,17 +19,7 @@ pub enum Entry {
 }
 
 impl Entry {
-    ghost use Rattle.ras_facts.specs.Entries.{IsValidEntry, items_in, most_orders};
-
-    /// How many items the entry has. Only a fact has some.
-    pub fn item_count(&self) -> usize
-        ensures { result ≡ length (items_in self.now) }
-    {
-        match self {
-            Entry::Fact(fact) => fact.items.as_slice().len(),
-            Entry::Limit(_) | Entry::Retire(_) | Entry::ModuleLimit(_) => 0,
-        }
-    }
+    ghost use Rattle.ras_facts.specs.Entries.{IsValidEntry, most_orders};
 
     /// How many orders the entry gives at most: two an item, one of its page and one of its module.
     pub fn most_orders(&self) -> usize

@@ -1,6 +1,6 @@
 //! What names a report.
 ghost use Rattle.std.specs.Prelude.{◌≡◌};
-ghost use Rattle.ras_facts.specs.Names.{boot_of};
+ghost use Rattle.ras_facts.specs.Names.{boot_of, is_retired};
 
 /// The name of a report. Two reports with one name tell of one error, which is counted once.
 #[derive(Clone, Copy, Debug, PartialEq, Eq, Hash)]
@@ -38,6 +38,17 @@ impl Name {
         match self {
             Name::Bank { boot, .. } | Name::Block { boot, .. } | Name::Boot { boot } => Some(*boot),
             Name::Record { .. } => None,
+        }
+    }
+
+    /// Whether the report's boot is retired by this floor: it is below it. A record has no boot, so
+    /// that it never is.
+    pub fn is_retired(&self, floor: u64) -> bool
+        ensures { result ≡ is_retired floor self.now }
+    {
+        match self.boot() {
+            Some(boot) => boot < floor,
+            None => false,
         }
     }
 }

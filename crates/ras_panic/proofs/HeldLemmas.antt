@@ -1,7 +1,7 @@
 -- A record gives a report exactly where it holds one.
 use Rattle.std.proofs.Common.{◌≡◌, ◌∙◌, ℕ, ◌==◌, Bool, true, false, ◌&&◌, if◌then◌else◌, List, length, drop, [], ◌∷◌, Option, Some, None, IsSome, unwrap_or, refl, sym, ap, subst, eqb-true}
 use Rattle.std.specs.List.{list_all}
-use Rattle.std.specs.Option.{option_map, option_and_then}
+use Rattle.std.specs.Option.{option_map, option_map_or, option_and_then}
 use Rattle.std.specs.Str.{bytes_eq}
 use Rattle.std.proofs.lemmas.Slice.Eq.{bytes_eq-Decides}
 use Rattle.ras_base.specs.LittleEndian.{AreBytes}
@@ -13,14 +13,15 @@ use Rattle.mca_status.specs.declared.classes.Class.{Class}
 use Rattle.mca_status.specs.declared.registers.Cap.{Cap}
 use Rattle.mca_status.specs.declared.registers.Status.{Status}
 use Rattle.cper_sections.specs.Guids.{guid_of, x64_guid}
-use Rattle.cper_records.specs.Header.{section_count}
+use Rattle.cper_records.specs.Header.{record_id, section_count}
 use Rattle.cper_records.specs.Descriptors.{section_guid, section_bytes, section_length, section_offset}
 use Rattle.dimm_topology.specs.declared.row.Row.{Row}
 use Rattle.ras_facts.specs.declared.bank.BankReport.{BankReport}
 use Rattle.ras_facts.specs.Facts.{bank_fact, bank_item, bank_name, cap_in, status_in}
 use Rattle.ras_facts.specs.Reported.{record_fact}
+use Rattle.ras_facts.specs.declared.name.Name.TheVariants.{Record}
 use Rattle.ras_panic.specs.Panics.{report_type, saved_bytes}
-use Rattle.ras_panic.specs.Reading.{report_in, is_report, is_panic, panic_report, stored_fact}
+use Rattle.ras_panic.specs.Reading.{report_in, is_report, is_panic, panic_report, stored_fact, stored_name}
 use Rattle.ras_panic.specs.Reports.{FitsFields, HoldsReport}
 use Rattle.ras_panic.proofs.ReportLemmas.{report_back, section_passes, section_back, report_fits}
 
@@ -132,3 +133,29 @@ fact_of_ordinary rows seconds own fits none = by (panic_report own) (gives own f
         → unwrap_or (option_and_then (λ (told : BankReport). bank_fact told rows) given) (record_fact rows seconds own) ≡ record_fact rows seconds own
     by (Some bank) held = absurd (none bank held.0 held.1)
     by None held = refl
+
+-- the fact of a record of the store has its name
+panic_valid : (own : List ℕ) → is_panic own ≡ true → valid (status_in (report_in (section_bytes own 0))) ≡ true
+unfolding is_panic
+panic_valid own passes =
+    let four = both _ (bytes_eq (section_bytes own 1) (saved_bytes (report_in (section_bytes own 0)))) passes in
+    let three = both _ (bytes_eq (section_guid own 1) x64_guid) four.0 in
+    let two = both _ (is_report (section_bytes own 0)) three.0 in
+    (both _ (valid (status_in (report_in (section_bytes own 0)))) two.1).1
+
+pub fact_is_named : (rows : List Row) (seconds : ℕ) (own : List ℕ) → (stored_fact rows seconds own).name ≡ stored_name own
+fact_is_named rows seconds own = by (is_panic own) refl
+  where
+    bank : BankReport
+    bank = report_in (section_bytes own 0)
+
+    named : (class : Option Class) → IsSome class
+        → (unwrap_or (option_map (λ (c : Class). record { name = bank_name bank; seconds = bank.seconds; items = bank_item bank rows c ∷ [] }) class) (record_fact rows seconds own)).name ≡ bank_name bank
+    named (Some class) is = refl
+    named None is = cc
+
+    by : (test : Bool) → is_panic own ≡ test
+        → (unwrap_or (option_and_then (λ (told : BankReport). bank_fact told rows) (if test then Some bank else None)) (record_fact rows seconds own)).name
+        ≡ option_map_or bank_name (if test then Some bank else None) (Record (record_id own))
+    by true is = named (class_of_rows (cap_in bank) (status_in bank)) (class_known (cap_in bank) (status_in bank) (panic_valid own is))
+    by false is = refl

@@ -1,5 +1,5 @@
 -- A panic record is a record that holds its report.
-use Rattle.std.proofs.Common.{◌≡◌, ◌<◌, ◌^◌, ℕ, IsTrue, List, [], ◌++◌, Ok, refl, subst}
+use Rattle.std.proofs.Common.{◌≡◌, ◌<◌, ◌^◌, ℕ, IsTrue, List, [], ◌++◌, length, Ok, refl, subst}
 use Rattle.ras_base.specs.LittleEndian.{u16_bytes, u32_bytes, u64_bytes, number_at}
 use Rattle.ras_base.specs.LittleEndianLemmas.{number_at-u64_bytes}
 use Rattle.cper_sections.specs.Guids.{memory_guid, processor_guid, x64_guid, section_type_of}
@@ -36,3 +36,12 @@ is_named id bank fits = number_at-u64_bytes id [] fits
 pub is_held : (id : ℕ) (bank : BankReport) → IsTrue (valid (status_in bank)) → HoldsReport (panic_bytes id bank) bank
 unfolding number_at u16_bytes u32_bytes u64_bytes with_run panic_bytes report_bytes saved_bytes report_type x64_type x64_guid
 is_held id bank held = record { two = refl; report_type = refl; report = refl; valid = held; saved_type = refl; saved = refl }
+
+-- it has as many bytes as it tells
+pub has_length : (id : ℕ) (bank : BankReport) → length (panic_bytes id bank) ≡ 456
+unfolding u16_bytes u32_bytes u64_bytes with_run panic_bytes report_bytes saved_bytes report_type x64_type
+has_length id bank = refl
+
+pub tells_length : (id : ℕ) (bank : BankReport) → number_at 20 4 (panic_bytes id bank) ≡ 456
+unfolding number_at u16_bytes u32_bytes u64_bytes with_run panic_bytes report_bytes saved_bytes report_type x64_type
+tells_length id bank = refl

@@ -1,18 +1,20 @@
 -- Which records are panic records, and whose report they hold.
 use Rattle.std.specs.Prelude.{ℕ, ◌==◌, ◌&&◌, Bool, List, length, drop, slice_index, unwrap_or, Option, Some, None, if◌then◌else◌}
 use Rattle.std.specs.List.{list_all}
-use Rattle.std.specs.Option.{option_and_then}
+use Rattle.std.specs.Option.{option_and_then, option_map_or}
 use Rattle.std.specs.Str.{bytes_eq}
 use Rattle.ras_base.specs.LittleEndian.{number_at}
 use Rattle.mca_status.specs.Registers.{valid}
 use Rattle.cper_sections.specs.Guids.{guid_of, x64_guid}
-use Rattle.cper_records.specs.Header.{section_count}
+use Rattle.cper_records.specs.Header.{record_id, section_count}
 use Rattle.cper_records.specs.Descriptors.{section_guid, section_bytes}
 use Rattle.dimm_topology.specs.declared.row.Row.{Row}
-use Rattle.ras_facts.specs.Facts.{status_in, bank_fact}
+use Rattle.ras_facts.specs.Facts.{status_in, bank_fact, bank_name}
 use Rattle.ras_facts.specs.Reported.{record_fact}
 use Rattle.ras_facts.specs.declared.bank.BankReport.{BankReport}
 use Rattle.ras_facts.specs.declared.fact.Fact.{Fact}
+use Rattle.ras_facts.specs.declared.name.Name.{Name}
+use Rattle.ras_facts.specs.declared.name.Name.TheVariants.{Record}
 use Rattle.ras_panic.specs.Panics.{report_type, saved_bytes}
 
 -- the report that a section of 72 bytes holds
@@ -53,3 +55,8 @@ panic_report own = if is_panic own then Some (report_in (section_bytes own 0)) e
 abbrev pub stored_fact : List Row → ℕ → List ℕ → Fact
 stored_fact rows seconds own =
     unwrap_or (option_and_then (λ report. bank_fact report rows) (panic_report own)) (record_fact rows seconds own)
+
+-- the name under which the error of a record of the store counts: a panic record's is the bank's
+-- own
+abbrev pub stored_name : List ℕ → Name
+stored_name own = option_map_or bank_name (panic_report own) (Record (record_id own))

@@ -1,8 +1,8 @@
 //! What is said of panic records, for every report and every record.
 
-ghost use Rattle.std.specs.Prelude.{◌≡◌, ◌<◌, ◌^◌, ◌↔◌, ◌++◌, ℕ, List, IsTrue, Ok, Some};
+ghost use Rattle.std.specs.Prelude.{◌≡◌, ◌<◌, ◌^◌, ◌↔◌, ◌++◌, ℕ, List, length, IsTrue, Ok, Some};
 ghost use Rattle.mca_status.specs.Registers.{valid};
-ghost use Rattle.ras_base.specs.LittleEndian.{AreBytes};
+ghost use Rattle.ras_base.specs.LittleEndian.{AreBytes, number_at};
 ghost use Rattle.cper_records.specs.Header.{record_id};
 ghost use Rattle.cper_records.specs.Records.{record_of};
 ghost use Rattle.dimm_topology.specs.declared.row.Row.{Row};
@@ -10,7 +10,7 @@ ghost use Rattle.ras_facts.specs.Facts.{bank_fact, status_in};
 ghost use Rattle.ras_facts.specs.Reported.{record_fact};
 ghost use Rattle.ras_facts.specs.declared.bank.BankReport.{BankReport};
 ghost use Rattle.ras_panic.specs.Panics.{panic_bytes};
-ghost use Rattle.ras_panic.specs.Reading.{panic_report, stored_fact};
+ghost use Rattle.ras_panic.specs.Reading.{panic_report, stored_fact, stored_name};
 ghost use Rattle.ras_panic.specs.Reports.{FitsFields, HoldsReport};
 
 /// The panic record of a report reads as a record of its identifier, whatever bytes stand after it,
@@ -29,7 +29,7 @@ pub fn reports_are_read_back()
         → Some (stored_fact rows seconds (panic_bytes id bank)) ≡ bank_fact bank rows }
 {}
 
-/// A record gives a report exactly where it holds one. Its fact is then the bank's own, with the
+/// A record gives a report exactly if it holds one. Its fact is then the bank's own, with the
 /// seconds of the report; every other record's is that of its sections.
 pub fn reports_are_held()
     ensures report { (own : List ℕ) (bank : BankReport) → AreBytes own → FitsFields bank
@@ -40,4 +40,17 @@ pub fn reports_are_held()
     ensures ordinary { (rows : List Row) (seconds : ℕ) (own : List ℕ) → AreBytes own
         → ((bank : BankReport) → FitsFields bank → ¬ HoldsReport own bank)
         → stored_fact rows seconds own ≡ record_fact rows seconds own }
+{}
+
+/// A panic record has 456 bytes, and tells so.
+pub fn panic_records_tell_their_length()
+    ensures length { (id : ℕ) (bank : BankReport) → length (panic_bytes id bank) ≡ 456 }
+    ensures told { (id : ℕ) (bank : BankReport) → number_at 20 4 (panic_bytes id bank) ≡ 456 }
+{}
+
+/// The fact of a record of the store has the record's name, whatever the rows of the machine and
+/// the time are.
+pub fn stored_facts_are_named()
+    ensures { (rows : List Row) (seconds : ℕ) (own : List ℕ)
+        → (stored_fact rows seconds own).name ≡ stored_name own }
 {}

@@ -11,7 +11,10 @@ mod places;
 mod reading;
 mod stored;
 
-pub use laws::{reports_are_held, reports_are_read_back};
+pub use laws::{
+    panic_records_tell_their_length, reports_are_held, reports_are_read_back,
+    stored_facts_are_named,
+};
 pub use making::{PanicRefused, panic_record};
 pub use reading::panic_of;
 pub use stored::fact_of_stored;

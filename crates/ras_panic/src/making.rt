@@ -44,7 +44,7 @@ pub enum PanicRefused {
 /// The panic record of a bank's report under an identifier: its header, two descriptors, the report
 /// and the bank's registers. It takes no memory.
 ///
-/// `ReservedId` comes exactly where the identifier is 0 or all ones, else `NotValid` exactly where
+/// `ReservedId` comes exactly if the identifier is 0 or all ones, else `NotValid` exactly if
 /// VAL is 0.
 #[tactic(auto, unfolding(crate::specs::Panics::panic_bytes, crate::specs::Panics::report_type, crate::specs::Panics::x64_type))]
 pub fn panic_record(id: u64, bank: &BankReport) -> Result<[u8; PANIC_LENGTH], PanicRefused>

@@ -26,7 +26,7 @@ const X64_GUID: [u8; 16] = [
 
 /// The report that a panic record holds. It takes no memory.
 ///
-/// It is Some exactly where the record has two sections, the first is a report of 72 bytes whose
+/// It is Some exactly if the record has two sections, the first is a report of 72 bytes whose
 /// last five are 0 and whose VAL is 1, and the second is an IA32/X64 section with the registers of
 /// that report and nothing else. Every other record is an ordinary one.
 #[tactic(auto, unfolding(crate::specs::Reading::is_panic))]

@@ -1,7 +1,8 @@
 //! What is said of every report.
 
-ghost use Rattle.std.specs.Prelude.{◌≡◌, ℕ, List, IfSome};
+ghost use Rattle.std.specs.Prelude.{◌≡◌, ◌≤◌, ℕ, List, length, IfSome};
 ghost use Rattle.apei_sources.specs.Blocks.{BlockParts};
+ghost use Rattle.cper_records.specs.Laid.{IsRecord};
 ghost use Rattle.dimm_topology.specs.declared.row.Row.{Row};
 ghost use Rattle.ras_facts.specs.declared.bank.BankReport.{BankReport};
 ghost use Rattle.ras_facts.specs.declared.name.Name.{Name};
@@ -31,4 +32,12 @@ pub fn items_have_their_own_labels()
         → OwnLabels rows (record_report rows seconds own) }
     ensures block { (rows : List Row) (name : Name) (seconds : ℕ) (block : BlockParts)
         → IfSome (block_report rows name seconds block) (OwnLabels rows) }
+{}
+
+/// A record of at most 16,384 bytes, the most that a store holds of one, reports at most 225 items:
+/// each section takes a descriptor of 72 bytes beside the header's 128.
+pub fn stored_reports_are_short()
+    ensures { (rows : List Row) (seconds : ℕ) (own : List ℕ) → IsRecord own
+        → length own ≤ 16_384
+        → length (stored_report rows seconds own).fact.items ≤ 225 }
 {}

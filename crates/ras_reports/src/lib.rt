@@ -15,6 +15,6 @@ mod stored;
 pub use bank::report_of_bank;
 pub use block::report_of_block;
 pub use details::{Detail, Details, Report};
-pub use laws::{items_have_their_own_labels, reports_tell_of_each_item};
+pub use laws::{items_have_their_own_labels, reports_tell_of_each_item, stored_reports_are_short};
 pub use record::report_of_record;
 pub use stored::report_of_stored;

@@ -41,21 +41,11 @@ pub fn push_known(text: &mut Vec<u8>, account: &Account, name: &Name) -> Result<
     ensures { OnOk result
         (text.new.items ≡ text.old.items ++ known_line account.now.state name.now) }
 {
-    let is_stale = is_retired(account.floor(), name);
+    let is_stale = name.is_retired(account.floor());
     text.extend_from_slice(if is_stale { b"stale " } else { b"repeat " })?;
     push_name(text, name)?;
     text.push(b'\n')?;
     Ok(())
-}
-
-// Whether a name's boot is below a floor.
-fn is_retired(floor: u64, name: &Name) -> bool
-    ensures { result ≡ is_retired floor name.now }
-{
-    match name.boot() {
-        Some(boot) => boot < floor,
-        None => false,
-    }
 }
 
 // How many names an account holds of boots below one.
@@ -64,7 +54,7 @@ fn retired_names(account: &Account, boot: u64) -> u64
 {
     let mut count = 0;
     for i in 0..account.names_len() {
-        if is_retired(boot, account.name(i)) {
+        if account.name(i).is_retired(boot) {
             count += 1;
         }
     }

@@ -24,7 +24,7 @@ pub trait KeyTest<K> {
         ensures { result ≡ passes self.now key.now };
 }
 
-/// Why a row can't be put behind the others.
+/// Why a row can't be put after the others.
 #[derive(Clone, Copy, Debug, PartialEq, Eq)]
 pub enum RowRefused {
     /// The key has a row.
@@ -33,7 +33,7 @@ pub enum RowRefused {
     NoMemory,
 }
 
-/// Keys in the order in which they came, each with its row, and behind them keys that wait to be
+/// Keys in the order in which they came, each with its row, and after them keys that wait to be
 /// held.
 ///
 /// A key waits so that its row can begin later with no memory. Each key is there once.
@@ -125,7 +125,7 @@ impl<K: Hash + ExactEq + Copy, R: Copy> RowTable<K, R> {
         self.held < self.table.len() && *key == self.table.keys().as_slice()[self.held]
     }
 
-    /// The place of a key that is held or waits first, and its row where it is held.
+    /// The place of a key that is held or waits first, and its row if it is held.
     pub fn find(&self, key: &K) -> (usize, Option<R>)
         requires { IsTrue (is_ready K.eq self.now key.now) }
         ensures place { IsPlace K.eq key.now (all_keys self.now) result.0 }
@@ -158,7 +158,7 @@ impl<K: Hash + ExactEq + Copy, R: Copy> RowTable<K, R> {
         self.table[place] = row;
     }
 
-    /// Begins the row of the first key that waits, which is held now behind the others.
+    /// Begins the row of the first key that waits, which is held now after the others.
     pub fn begin_next(&mut self, row: R)
         requires { 0 < length self.old.waiting }
         ensures rows { self.new.rows ≡ self.old.rows ++ waiting_rows row (take 1 self.old.waiting) }
@@ -169,9 +169,9 @@ impl<K: Hash + ExactEq + Copy, R: Copy> RowTable<K, R> {
         self.held += 1;
     }
 
-    /// Puts the row of a key behind the others. After a refusal all stays as it was.
+    /// Puts the row of a key after the others. After a refusal all stays as it was.
     ///
-    /// `Repeated` comes exactly where the key is held.
+    /// `Repeated` comes exactly if the key is held.
     pub fn push_row(&mut self, key: K, row: R) -> Result<(), RowRefused>
         requires { self.old.waiting ≡ [] }
         ensures ok { OnOk result (self.new.rows ≡ self.old.rows ++ (key, row) ∷ []) }
@@ -207,8 +207,8 @@ impl<K: Hash + ExactEq + Copy, R: Copy> RowTable<K, R> {
         self.held = self.table.len() - waiting;
     }
 
-    /// Lets a key wait behind the others that do, where it is neither held nor waits yet. The
-    /// answer is whether it is such a key. Nothing reads `row` while the key waits.
+    /// Lets a key wait after the others that do, if it is neither held nor waits yet: then the
+    /// answer is true. Nothing reads `row` while the key waits.
     pub fn let_wait(&mut self, key: K, row: R) -> Result<bool, NoMemory>
         ensures rows { self.new.rows ≡ self.old.rows }
         ensures ok { OnOk result (self.new.waiting ≡ waiting_with K.eq self.old (key ∷ [])) }
@@ -263,7 +263,7 @@ fn row_at<K: Hash + ExactEq + Copy, R: Copy>(
     }
 }
 
-// Inserts a key behind the others, where it isn't there. The answer is whether it wasn't.
+// Inserts a key after the others, unless it is there: then the answer is false.
 fn insert_last<K: Hash + ExactEq + Copy, R: Copy>(
     table: &mut IndexMap<K, R>,
     key: K,

@@ -21,8 +21,8 @@ const RUNS: [(usize, &[u8]); 12] = [
     (344, &[2]),
 ];
 
-// That record with bytes behind it, and with other bytes at these places.
-fn two_sections(changes: &[(usize, &[u8])]) -> [u8; 400] {
+/// The two-section record with bytes after it, and with other bytes at these places.
+pub fn two_sections(changes: &[(usize, &[u8])]) -> [u8; 400] {
     let mut bytes = [0u8; 400];
     lay(&mut bytes, &RUNS);
     lay(&mut bytes, changes);

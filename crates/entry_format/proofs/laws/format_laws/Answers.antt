@@ -1,5 +1,5 @@
-use Rattle.entry_format.proofs.FileLemmas.{same_front, one_reading, one_place, whole_or_broken}
-use Rattle.entry_format.proofs.SizeLemmas.{one_item_most, limit_size}
+use Rattle.entry_format.proofs.FileLemmas.{same_front, one_reading}
+use Rattle.entry_format.proofs.SizeLemmas.{fact_entry_most, limit_size}
 use Rattle.entry_format.proofs.laws.format_laws.Goals as goal
 
 pub returns-clause-none_begins_another : goal.returns-clause-none_begins_another
@@ -8,14 +8,8 @@ returns-clause-none_begins_another c = same_front
 pub returns-clause-one_reading : goal.returns-clause-one_reading
 returns-clause-one_reading c = one_reading
 
-pub returns-clause-one_place : goal.returns-clause-one_place
-returns-clause-one_place c = one_place
-
-pub returns-clause-whole_or_broken : goal.returns-clause-whole_or_broken
-returns-clause-whole_or_broken c = whole_or_broken
-
 pub returns-clause-most : goal.returns-clause-most
-returns-clause-most c = one_item_most
+returns-clause-most c = fact_entry_most
 
 pub returns-clause-limit_size : goal.returns-clause-limit_size
 returns-clause-limit_size c = limit_size

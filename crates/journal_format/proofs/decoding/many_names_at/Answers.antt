@@ -3,7 +3,7 @@ use Rattle.ras_facts.specs.declared.name.Name.{Name}
 use Rattle.ras_account.specs.Account.{State}
 use Rattle.entry_format.specs.declared.refused.EntryRefused.TheVariants.{Bad}
 use Rattle.entry_format.specs.Reading.{many_at, name_at}
-use Rattle.entry_format.proofs.LoopLemmas.{goes_on, ends, is_done}
+use Rattle.entry_format.proofs.LoopLemmas.{goes_on, ends, is_done, is_failed}
 use Rattle.journal_format.specs.Decoding.{AreNames}
 use Rattle.journal_format.proofs.DecodingLemmas.{refused_amid, unread_amid, same_row, name_put}
 use Rattle.journal_format.proofs.decoding.many_names_at.Goals as goal
@@ -13,7 +13,7 @@ returns-in-Err-clause-bad c e names rest all are =
     let total = many_at name_at c.args.count c.args.bytes.now in
     let is : c.in-Err.refused ≡ Bad = cc in
     unread_amid total c.in-Err.refused names rest
-    (ends name_at c.in-Err.refused c.loop.account.state.names c.args.count c.loop.counter c.loop.rest.now total c.loop-test.true c.in-Err.ensures c.loop.invariant.so_far) is all
+    (ends name_at c.in-Err.refused c.loop.account.state.names c.args.count c.loop.counter c.loop.rest.now total c.loop-test.true (is_failed c.in-Err.refused (name_at c.loop.rest.now) c.in-Err.ensures) c.loop.invariant.so_far) is all
 
 pub returns-in-Err-put_name-clause-bad : goal.returns-in-Err-put_name-clause-bad
 returns-in-Err-put_name-clause-bad c e names rest all are =

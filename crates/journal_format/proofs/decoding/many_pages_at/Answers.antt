@@ -4,7 +4,7 @@ use Rattle.ras_account.specs.Account.{State}
 use Rattle.entry_format.specs.declared.refused.EntryRefused.TheVariants.{Bad}
 use Rattle.entry_format.specs.Reading.{many_at}
 use Rattle.journal_format.specs.CheckpointReading.{page_row_at}
-use Rattle.entry_format.proofs.LoopLemmas.{goes_on, ends, is_done}
+use Rattle.entry_format.proofs.LoopLemmas.{goes_on, ends, is_done, is_failed}
 use Rattle.journal_format.specs.Decoding.{ArePages}
 use Rattle.journal_format.proofs.DecodingLemmas.{refused_amid, unread_amid, same_row, page_put}
 use Rattle.journal_format.proofs.decoding.many_pages_at.Goals as goal
@@ -14,7 +14,7 @@ returns-in-Err-clause-bad c e rows rest all are =
     let total = many_at page_row_at c.args.count c.args.bytes.now in
     let is : c.in-Err.refused ≡ Bad = cc in
     unread_amid total c.in-Err.refused rows rest
-    (ends page_row_at c.in-Err.refused c.loop.account.state.pages c.args.count c.loop.counter c.loop.rest.now total c.loop-test.true c.in-Err.ensures.read c.loop.invariant.so_far) is all
+    (ends page_row_at c.in-Err.refused c.loop.account.state.pages c.args.count c.loop.counter c.loop.rest.now total c.loop-test.true (is_failed c.in-Err.refused (page_row_at c.loop.rest.now) c.in-Err.ensures.read) c.loop.invariant.so_far) is all
 
 pub returns-in-Err-put_page-clause-bad : goal.returns-in-Err-put_page-clause-bad
 returns-in-Err-put_page-clause-bad c e rows rest all are =

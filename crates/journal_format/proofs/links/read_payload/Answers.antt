@@ -12,4 +12,4 @@ returns-in-Ok-clause-entries c =
 
 pub returns-in-Err-clause-entries : goal.returns-in-Err-clause-entries
 returns-in-Err-clause-entries c entries is enough =
-    payload_is_counted c.args.version c.args.bytes.now entries c.in-Err.refused is c.in-Err.ensures enough
+    payload_is_counted c.args.version c.args.bytes.now entries c.in-Err.refused is c.in-Err.ensures

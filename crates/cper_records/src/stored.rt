@@ -1,0 +1,21 @@
+//! The records of a record store.
+
+ghost use Rattle.std.specs.Prelude.{◌≡◌};
+ghost use Rattle.cper_records.specs.Readable.{read_under};
+
+use crate::{Record, Unreadable, read_record};
+
+/// The record at the front of the bytes that a store gave under an identifier. Bytes after the
+/// record's own count for nothing.
+///
+/// It is refused as `NoRecord` with the refusal of `read_record`, and else as `OtherId` exactly if
+/// the record has another identifier.
+pub fn read_stored(id: u64, buffer: &[u8]) -> Result<Record<'_>, Unreadable>
+    ensures { result ≡ read_under id buffer.now }
+{
+    match read_record(buffer) {
+        Ok(rec) if rec.id() == id => Ok(rec),
+        Ok(_) => Err(Unreadable::OtherId),
+        Err(why) => Err(Unreadable::NoRecord(why)),
+    }
+}
