@@ -1,0 +1,79 @@
+//! The journal's files, `rasd.0` and `rasd.1`.
+ghost use Rattle.std.specs.Io.{ReadsAtMost};
+
+use crate::system::{open, read_at};
+use board_core::FileNo;
+use std::fs::File;
+use std::io;
+use std::io::ErrorKind;
+use std::os::unix::fs::FileExt;
+
+/// What a board is to do with the journal's files.
+#[derive(Clone, Copy, Debug, PartialEq, Eq)]
+pub enum Use {
+    /// Read and write them, as the only program that does. A file that is missing is made.
+    Alone,
+    /// Read them. A file that is missing is empty.
+    Reading,
+}
+
+/// The journal's files, each of which is opened at its first use, file 0 before file 1.
+#[derive(Drop)]
+pub struct Journal {
+    rt: HostRuntime,
+    how: Use,
+    zero: Option<File>,
+    one: Option<File>,
+}
+
+impl Journal {
+    pub fn new(rt: HostRuntime, how: Use) -> Journal {
+        let (zero, one) = (None, None);
+        Journal { rt, how, zero, one }
+    }
+
+    pub fn size(&mut self, file: FileNo) -> io::Result<u64> {
+        match self.opened(file)? {
+            Some(file) => Ok(file.metadata()?.len()),
+            None => Ok(0),
+        }
+    }
+
+    pub fn read_at(&mut self, file: FileNo, place: u64, buf: &mut [u8]) -> io::Result<usize>
+        ensures { ReadsAtMost result buf.new }
+    {
+        match self.opened(file)? {
+            Some(file) => read_at(file, place, buf),
+            None => Ok(0),
+        }
+    }
+
+    pub fn write_at(&mut self, file: FileNo, place: u64, bytes: &[u8]) -> io::Result<()> {
+        match self.opened(file)? {
+            Some(file) => file.write_all_at(bytes, place),
+            None => Err(io::Error::from(ErrorKind::NotFound)),
+        }
+    }
+
+    pub fn sync(&mut self, file: FileNo) -> io::Result<()> {
+        match self.opened(file)? {
+            Some(file) => file.sync_data(),
+            None => Ok(()),
+        }
+    }
+
+    // The file, or none if it is missing and only to be read.
+    fn opened(&mut self, file: FileNo) -> io::Result<Option<&File>> {
+        let is_writing = self.how == Use::Alone;
+        if self.zero.is_none() {
+            self.zero = open(&self.rt, "rasd.0", is_writing)?;
+        }
+        if file == FileNo::One && self.one.is_none() {
+            self.one = open(&self.rt, "rasd.1", is_writing)?;
+        }
+        match file {
+            FileNo::Zero => Ok(self.zero.as_ref()),
+            FileNo::One => Ok(self.one.as_ref()),
+        }
+    }
+}
