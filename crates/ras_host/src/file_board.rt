@@ -137,22 +137,30 @@ impl Board for FileBoard {
 
     ghost counts_earlier = { λ _ s t left within may. may };
 
-    fn size(&mut self, file: FileNo) -> Result<u64, Failed> {
+    fn size(&mut self, file: FileNo) -> Result<u64, Failed>
+        ensures device { self.new.kept ≡ self.old.kept }
+    {
         let size = self.journal.size(file);
         counted(size, &mut self.disk_faults)
     }
 
-    fn read_at(&mut self, file: FileNo, place: u64, buf: &mut [u8]) -> Result<usize, Failed> {
+    fn read_at(&mut self, file: FileNo, place: u64, buf: &mut [u8]) -> Result<usize, Failed>
+        ensures device { self.new.kept ≡ self.old.kept }
+    {
         let read = self.journal.read_at(file, place, buf);
         counted(read, &mut self.disk_faults)
     }
 
-    fn write_at(&mut self, file: FileNo, place: u64, bytes: &[u8]) -> Result<(), Failed> {
+    fn write_at(&mut self, file: FileNo, place: u64, bytes: &[u8]) -> Result<(), Failed>
+        ensures device { self.new.kept ≡ self.old.kept }
+    {
         let done = self.journal.write_at(file, place, bytes);
         counted(done, &mut self.disk_faults)
     }
 
-    fn sync(&mut self, file: FileNo) -> Result<(), Failed> {
+    fn sync(&mut self, file: FileNo) -> Result<(), Failed>
+        ensures device { self.new.kept ≡ self.old.kept }
+    {
         let done = self.journal.sync(file);
         counted(done, &mut self.disk_faults)
     }
@@ -160,7 +168,6 @@ impl Board for FileBoard {
     fn reg_read(&mut self, reg: Reg) -> Result<u64, Failed>
         ensures same { OnOk result (Does (λ d. d) self.old.kept self.new.kept) }
         ensures value { IfOk result (λ n. (d : Device) → IsHere self.new.kept d → n ≡ register_in reg d) }
-        ensures cause { FailsAs device_call self.old.faults self.new.faults result }
     {
         let (device, file) = self.take()?;
         let number = match reg {
@@ -173,7 +180,6 @@ impl Board for FileBoard {
 
     fn reg_write(&mut self, reg: Reg, value: u64) -> Result<(), Failed>
         ensures does { OnOk result (Does (after_reg_write reg value) self.old.kept self.new.kept) }
-        ensures cause { FailsAs device_call self.old.faults self.new.faults result }
     {
         let (mut device, file) = self.take()?;
         match reg {
@@ -191,7 +197,6 @@ impl Board for FileBoard {
         ensures same { OnOk result (Does (λ d. d) self.old.kept self.new.kept) }
         ensures read { OnOk result ((d : Device) → IsHere self.new.kept d
             → buf.new ≡ take (length buf.old) (drop place d.range)) }
-        ensures cause { FailsAs device_call self.old.faults self.new.faults result }
     {
         let (device, file) = self.take()?;
         device.range_read(place, buf);
@@ -203,7 +208,6 @@ impl Board for FileBoard {
         requires { place + length bytes.now ≤ range_length }
         ensures does { OnOk result (Does (after_range_write place bytes.now)
             self.old.kept self.new.kept) }
-        ensures cause { FailsAs device_call self.old.faults self.new.faults result }
     {
         let (mut device, file) = self.take()?;
         device.range_write(place, bytes);
@@ -214,7 +218,6 @@ impl Board for FileBoard {
     fn put(&mut self, id: u64, bytes: &[u8]) -> Result<(), BoardPut>
         ensures put { OnOk (put_failure result)
             (Puts id bytes.now result self.old.kept self.new.kept) }
-        ensures cause { FailsAs device_call self.old.faults self.new.faults (put_failure result) }
     {
         let Ok((mut device, file)) = self.take() else {
             return Err(BoardPut::Failed);
@@ -231,7 +234,9 @@ impl Board for FileBoard {
         }
     }
 
-    fn print(&mut self, bytes: &[u8]) -> Result<(), Failed> {
+    fn print(&mut self, bytes: &[u8]) -> Result<(), Failed>
+        ensures device { self.new.kept ≡ self.old.kept }
+    {
         let done = self.rt.stdout().write_all(bytes);
         counted(done, &mut self.print_faults)
     }

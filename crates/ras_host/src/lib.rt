@@ -12,6 +12,6 @@ mod file_source;
 mod journal;
 mod system;
 
-pub use file_board::{FileBoard, Kept};
+pub use file_board::FileBoard;
 pub use file_source::FileSource;
 pub use journal::Use;
