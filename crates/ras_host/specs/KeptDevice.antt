@@ -4,19 +4,24 @@ use Rattle.board_core.specs.Told.{AnswersPut}
 use Rattle.board_core.specs.declared.board.BoardPut.{BoardPut}
 use Rattle.erst_store.specs.Device.{Device, new_device, with_put}
 use Rattle.erst_store.specs.Store.{refusal_of}
-use Rattle.ras_host.specs.declared.file_board.Kept.{Kept}
-use Rattle.ras_host.specs.declared.file_board.Kept.TheVariants.{Unread, Here, Lost}
+use Rattle.ras_host.specs.declared.kept.Kept.{Kept}
+use Rattle.ras_host.specs.declared.kept.Kept.TheVariants.{Unread, Here, Lost}
 
 -- The device that a call acts on: the one that is kept, or at the first use a new one.
 abbrev pub IsUsed : Kept → Device → Type 0
 IsUsed Unread d = d ≡ new_device d.store 0
-IsUsed (Here kept file) d = d ≡ kept
+IsUsed (Here saved) d = d ≡ saved.device
 IsUsed Lost d = ⊥
 
 -- The device that is kept is this one.
 abbrev pub IsHere : Kept → Device → Type 0
-IsHere (Here kept file) d = kept ≡ d
+IsHere (Here saved) d = saved.device ≡ d
 IsHere kept d = ⊥
+
+-- A device is kept.
+abbrev pub IsThere : Kept → Type 0
+IsThere (Here saved) = Unit {0}
+IsThere kept = ⊥
 
 -- A call does this to the device, which is kept.
 pub record Does (step : Device → Device) (old new : Kept) : Type 0 where

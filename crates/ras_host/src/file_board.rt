@@ -1,39 +1,23 @@
 //! The working folder's files and standard output as a board.
-ghost use Rattle.std.specs.Prelude.{◌≡◌, ◌+◌, ◌≤◌, [], length, take, drop, None, OnOk, OnErr, IfOk, IfSome, IsNone};
-ghost use Rattle.board_core.specs.Cause.{FailsAs, device_call, put_failure};
+ghost use Rattle.std.specs.Prelude.{◌≡◌, ◌+◌, ◌≤◌, length, take, drop, None, OnOk, IfOk, IsOk};
+ghost use Rattle.board_core.specs.Cause.{FailsAs, device_call, disk_call, print_call, put_failure};
 ghost use Rattle.board_core.specs.Clock.{untold};
 ghost use Rattle.board_core.specs.ClockLemmas.{not_told};
 ghost use Rattle.board_core.specs.Told.{register_in, after_reg_write, after_range_write};
 ghost use Rattle.erst_store.specs.Actions.{range_length};
-ghost use Rattle.erst_store.specs.Device.{Device, act, new_device, with_put};
-ghost use Rattle.erst_store.specs.Store.{Answers, refusal_of};
+ghost use Rattle.erst_store.specs.Device.{Device, act};
 ghost use Rattle.erst_store.specs.StoreFile.{store_bytes};
-ghost use Rattle.ras_host.specs.KeptDevice.{Does, IsHere, IsUsed, Puts};
+ghost use Rattle.ras_host.specs.KeptDevice.{Does, IsHere, IsThere, IsUsed, Puts};
 
 use crate::faults::counted;
 use crate::journal::{Journal, Use};
-use crate::system::{read_store, replace_store};
+use crate::kept::{Kept, Saved, put_and_encode};
+use crate::system::replace_store;
 use board_core::{Board, BoardPut, Failed, FileNo, Reg};
-use erst_store::{Dev, MOST_BYTES, MOST_RECORDS, PutRefused, Store};
-use std::alloc::Global;
+use erst_store::Dev;
 use std::io::Write;
 use std::marker::Model;
 use std::mem::replace;
-
-// The most bytes of the record store's file: letters and the number of records, and for each record
-// its identifier, its length and its bytes.
-const LONGEST_STORE: u64 = 12 + MOST_RECORDS as u64 * (12 + MOST_BYTES as u64);
-
-/// The device that a board keeps.
-#[derive(Drop)]
-pub enum Kept {
-    /// It wasn't used yet.
-    Unread,
-    /// A device, and the bytes that the record store's file has.
-    Here(Dev, Vec<u8>),
-    /// A call on it failed, so it isn't used again: what it held may not be on the disk.
-    Lost,
-}
 
 /// The files `rasd.0`, `rasd.1` and `rasd.store` of the working folder, and standard output. It
 /// tells nothing of what they hold. Each call that fails is counted, by its kind.
@@ -82,26 +66,29 @@ impl FileBoard {
     }
 
     // Takes the device out, which is lost unless the call puts it back.
-    fn take(&mut self) -> Result<(Dev, Vec<u8>), Failed>
-        ensures used { IfOk result (λ it. IsUsed self.old.kept it.0) }
+    fn take(&mut self) -> Result<Saved, Failed>
+        ensures used { IfOk result (λ it. IsUsed self.old.kept it.device) }
+        ensures answers { IsThere self.old.kept → IsOk result }
         ensures cause { FailsAs device_call self.old.faults self.new.faults result }
     {
         match replace(&mut self.kept, Kept::Lost) {
-            Kept::Here(device, file) => Ok((device, file)),
-            Kept::Unread => counted(read_device(&self.rt), &mut self.register_faults),
+            Kept::Here(saved) => Ok(saved),
+            Kept::Unread => counted(Saved::read(&self.rt), &mut self.register_faults),
             Kept::Lost => counted(Err(Failed), &mut self.register_faults),
         }
     }
 
     // Does an action, and brings what it changes in the store into the store's file.
-    fn act(&mut self, mut device: Dev, file: Vec<u8>, action: u64) -> Result<(), Failed>
-        ensures does { OnOk result (IsHere self.new.kept (act action device)) }
+    #[tactic(auto, using(erst_store::specs::ActionLemmas::kept))]
+    fn act(&mut self, saved: Saved, action: u64) -> Result<(), Failed>
+        ensures does { OnOk result (IsHere self.new.kept (act action saved.device)) }
         ensures cause { FailsAs device_call self.old.faults self.new.faults result }
     {
+        let Saved { mut device, file } = saved;
         let may_change = device.may_change(action);
         counted(device.write_action(action), &mut self.register_faults)?;
         if !may_change {
-            self.kept = Kept::Here(device, file);
+            self.kept = Kept::Here(Saved { device, file });
             return Ok(());
         }
         let new = device.store().to_bytes(self.rt.alloc());
@@ -111,13 +98,14 @@ impl FileBoard {
 
     // Puts the device back, and its store's bytes into the file if they aren't those that it has.
     fn save(&mut self, device: Dev, file: &[u8], new: Vec<u8>) -> Result<(), Failed>
-        ensures kept { OnOk result (self.new.kept ≡ Kept.Here device new) }
+        requires { new.items ≡ store_bytes device.store }
+        ensures kept { OnOk result (IsHere self.new.kept device) }
         ensures cause { FailsAs device_call self.old.faults self.new.faults result }
     {
         if new.as_slice() != file {
             counted(replace_store(&self.rt, &new), &mut self.register_faults)?;
         }
-        self.kept = Kept::Here(device, new);
+        self.kept = Kept::Here(Saved { device, file: new });
         Ok(())
     }
 }
@@ -139,6 +127,7 @@ impl Board for FileBoard {
 
     fn size(&mut self, file: FileNo) -> Result<u64, Failed>
         ensures device { self.new.kept ≡ self.old.kept }
+        ensures cause { FailsAs disk_call self.old.faults self.new.faults result }
     {
         let size = self.journal.size(file);
         counted(size, &mut self.disk_faults)
@@ -146,6 +135,8 @@ impl Board for FileBoard {
 
     fn read_at(&mut self, file: FileNo, place: u64, buf: &mut [u8]) -> Result<usize, Failed>
         ensures device { self.new.kept ≡ self.old.kept }
+        ensures within { IfOk result (λ n. n ≤ length buf.old) }
+        ensures cause { FailsAs disk_call self.old.faults self.new.faults result }
     {
         let read = self.journal.read_at(file, place, buf);
         counted(read, &mut self.disk_faults)
@@ -153,6 +144,7 @@ impl Board for FileBoard {
 
     fn write_at(&mut self, file: FileNo, place: u64, bytes: &[u8]) -> Result<(), Failed>
         ensures device { self.new.kept ≡ self.old.kept }
+        ensures cause { FailsAs disk_call self.old.faults self.new.faults result }
     {
         let done = self.journal.write_at(file, place, bytes);
         counted(done, &mut self.disk_faults)
@@ -160,6 +152,7 @@ impl Board for FileBoard {
 
     fn sync(&mut self, file: FileNo) -> Result<(), Failed>
         ensures device { self.new.kept ≡ self.old.kept }
+        ensures cause { FailsAs disk_call self.old.faults self.new.faults result }
     {
         let done = self.journal.sync(file);
         counted(done, &mut self.disk_faults)
@@ -167,26 +160,30 @@ impl Board for FileBoard {
 
     fn reg_read(&mut self, reg: Reg) -> Result<u64, Failed>
         ensures same { OnOk result (Does (λ d. d) self.old.kept self.new.kept) }
-        ensures value { IfOk result (λ n. (d : Device) → IsHere self.new.kept d → n ≡ register_in reg d) }
+        ensures answers { IsThere self.old.kept → IsOk result }
+        ensures value { IfOk result (λ n. (d : Device) → IsHere self.new.kept d
+            → n ≡ register_in reg d) }
+        ensures cause { FailsAs device_call self.old.faults self.new.faults result }
     {
-        let (device, file) = self.take()?;
+        let saved = self.take()?;
         let number = match reg {
-            Reg::Action => device.read_action(),
-            Reg::Value => device.read_value(),
+            Reg::Action => saved.device.read_action(),
+            Reg::Value => saved.device.read_value(),
         };
-        self.kept = Kept::Here(device, file);
+        self.kept = Kept::Here(saved);
         Ok(number)
     }
 
     fn reg_write(&mut self, reg: Reg, value: u64) -> Result<(), Failed>
         ensures does { OnOk result (Does (after_reg_write reg value) self.old.kept self.new.kept) }
+        ensures cause { FailsAs device_call self.old.faults self.new.faults result }
     {
-        let (mut device, file) = self.take()?;
+        let mut saved = self.take()?;
         match reg {
-            Reg::Action => self.act(device, file, value),
+            Reg::Action => self.act(saved, value),
             Reg::Value => {
-                device.write_value(value);
-                self.kept = Kept::Here(device, file);
+                saved.device.write_value(value);
+                self.kept = Kept::Here(saved);
                 Ok(())
             }
         }
@@ -195,12 +192,14 @@ impl Board for FileBoard {
     fn range_read(&mut self, place: u32, buf: &mut [u8]) -> Result<(), Failed>
         requires { place + length buf.old ≤ range_length }
         ensures same { OnOk result (Does (λ d. d) self.old.kept self.new.kept) }
+        ensures answers { IsThere self.old.kept → IsOk result }
         ensures read { OnOk result ((d : Device) → IsHere self.new.kept d
             → buf.new ≡ take (length buf.old) (drop place d.range)) }
+        ensures cause { FailsAs device_call self.old.faults self.new.faults result }
     {
-        let (device, file) = self.take()?;
-        device.range_read(place, buf);
-        self.kept = Kept::Here(device, file);
+        let saved = self.take()?;
+        saved.device.range_read(place, buf);
+        self.kept = Kept::Here(saved);
         Ok(())
     }
 
@@ -208,18 +207,22 @@ impl Board for FileBoard {
         requires { place + length bytes.now ≤ range_length }
         ensures does { OnOk result (Does (after_range_write place bytes.now)
             self.old.kept self.new.kept) }
+        ensures answers { IsThere self.old.kept → IsOk result }
+        ensures cause { FailsAs device_call self.old.faults self.new.faults result }
     {
-        let (mut device, file) = self.take()?;
-        device.range_write(place, bytes);
-        self.kept = Kept::Here(device, file);
+        let mut saved = self.take()?;
+        saved.device.range_write(place, bytes);
+        self.kept = Kept::Here(saved);
         Ok(())
     }
 
     fn put(&mut self, id: u64, bytes: &[u8]) -> Result<(), BoardPut>
         ensures put { OnOk (put_failure result)
             (Puts id bytes.now result self.old.kept self.new.kept) }
+        ensures cause { FailsAs device_call self.old.faults self.new.faults
+            (put_failure result) }
     {
-        let Ok((mut device, file)) = self.take() else {
+        let Ok(Saved { mut device, file }) = self.take() else {
             return Err(BoardPut::Failed);
         };
         match put_and_encode(self.rt.alloc(), &mut device, id, bytes) {
@@ -228,7 +231,7 @@ impl Board for FileBoard {
                 Err(Failed) => Err(BoardPut::Failed),
             },
             Err(refused) => {
-                self.kept = Kept::Here(device, file);
+                self.kept = Kept::Here(Saved { device, file });
                 Err(BoardPut::Refused(refused))
             }
         }
@@ -236,57 +239,9 @@ impl Board for FileBoard {
 
     fn print(&mut self, bytes: &[u8]) -> Result<(), Failed>
         ensures device { self.new.kept ≡ self.old.kept }
+        ensures cause { FailsAs print_call self.old.faults self.new.faults result }
     {
         let done = self.rt.stdout().write_all(bytes);
         counted(done, &mut self.print_faults)
     }
-}
-
-// A new device over the record store of the working folder.
-fn read_device(rt: &HostRuntime) -> Result<(Dev, Vec<u8>), Failed>
-    ensures { IfOk result (λ it. it.0 ≡ new_device it.0.store 0) }
-{
-    let found = read_store(rt, LONGEST_STORE).map_err(|_| Failed)?;
-    device_over(rt.alloc(), found)
-}
-
-// A new device over the store whose file has these bytes, which is empty if there is none, and the
-// bytes of a file of this store.
-fn device_over(alloc: Global, found: Option<Vec<u8>>) -> Result<(Dev, Vec<u8>), Failed>
-    ensures new { IfOk result (λ it. it.0 ≡ new_device it.0.store 0) }
-    ensures missing { IsNone found → IfOk result (λ it. it.0.store ≡ []) }
-    ensures found { IfSome found (λ v. IfOk result (λ it. v.items ≡ store_bytes it.0.store)) }
-    ensures file { IfOk result (λ it. it.1.items ≡ store_bytes it.0.store) }
-{
-    let store = match found {
-        Some(bytes) => Store::from_bytes(alloc, &bytes).map_err(|_| Failed)?,
-        None => Store::new(alloc),
-    };
-    let file = store.to_bytes(alloc).map_err(|_| Failed)?;
-    let device = Dev::new(alloc, store, 0).map_err(|_| Failed)?;
-    Ok((device, file))
-}
-
-// Puts a record, and answers the bytes of the store's file after it. All memory of these is taken
-// before the device is changed.
-#[tactic(auto, unfolding(erst_store::specs::Device::with_put))]
-fn put_and_encode(
-    alloc: Global,
-    device: &mut Dev,
-    id: u64,
-    bytes: &[u8],
-) -> Result<Vec<u8>, PutRefused>
-    ensures ok { OnOk result (device.new ≡ with_put id bytes.now device.old) }
-    ensures err { OnErr result (device.new ≡ device.old) }
-    ensures refused { Answers result (refusal_of id bytes.now device.old.store) }
-    ensures file { IfOk result (λ v. v.items ≡ store_bytes device.new.store) }
-{
-    if let Some(refused) = device.store().refusal(id, bytes) {
-        return Err(refused);
-    }
-    let mut store = device.store().copy(alloc)?;
-    store.put(id, bytes)?;
-    let file = store.to_bytes(alloc)?;
-    device.put(id, bytes)?;
-    Ok(file)
 }

@@ -27,11 +27,13 @@ pub struct Journal {
 }
 
 impl Journal {
+    /// Both files, neither of which is opened yet.
     pub fn new(rt: HostRuntime, how: Use) -> Journal {
         let (zero, one) = (None, None);
         Journal { rt, how, zero, one }
     }
 
+    /// The length in bytes.
     pub fn size(&mut self, file: FileNo) -> io::Result<u64> {
         match self.opened(file)? {
             Some(file) => Ok(file.metadata()?.len()),
@@ -39,6 +41,7 @@ impl Journal {
         }
     }
 
+    /// Reads from `place` on until the buffer is full or the file ends.
     pub fn read_at(&mut self, file: FileNo, place: u64, buf: &mut [u8]) -> io::Result<usize>
         ensures { ReadsAtMost result buf.new }
     {
@@ -48,6 +51,7 @@ impl Journal {
         }
     }
 
+    /// Writes all the bytes at `place`.
     pub fn write_at(&mut self, file: FileNo, place: u64, bytes: &[u8]) -> io::Result<()> {
         match self.opened(file)? {
             Some(file) => file.write_all_at(bytes, place),
@@ -55,6 +59,8 @@ impl Journal {
         }
     }
 
+    /// Makes the file durable. A sync that failed isn't tried again: the system may then say that
+    /// all is well though the bytes are not on the disk.
     pub fn sync(&mut self, file: FileNo) -> io::Result<()> {
         match self.opened(file)? {
             Some(file) => file.sync_data(),

@@ -10,6 +10,7 @@ mod faults;
 mod file_board;
 mod file_source;
 mod journal;
+mod kept;
 mod system;
 
 pub use file_board::FileBoard;

@@ -28,31 +28,25 @@ fn act(board: &mut FileBoard, action: u64) -> bool {
     board.reg_write(Reg::Action, action).is_ok()
 }
 
-fn value(board: &mut FileBoard) -> Option<u64> {
+// Does an action that answers in the register Value.
+fn ask(board: &mut FileBoard, action: u64) -> Option<u64> {
+    if !act(board, action) {
+        return None;
+    }
     board.reg_read(Reg::Value).ok()
 }
 
-fn count(board: &mut FileBoard) -> Option<u64> {
-    if act(board, GET_RECORD_COUNT) {
-        value(board)
-    } else {
-        None
-    }
-}
-
 fn count_anew(rt: HostRuntime) -> Option<u64> {
-    count(&mut board(rt, Use::Alone))
+    ask(&mut board(rt, Use::Alone), GET_RECORD_COUNT)
 }
 
 // Clears the record of an identifier, and answers the status.
 fn clear(board: &mut FileBoard, id: u64) -> Option<u64> {
     let is_set = board.reg_write(Reg::Value, id).is_ok() && act(board, SET_RECORD_IDENTIFIER);
-    let is_done = act(board, BEGIN_CLEAR_OPERATION) && act(board, EXECUTE_OPERATION);
-    if is_set && is_done && act(board, GET_COMMAND_STATUS) {
-        value(board)
-    } else {
-        None
+    if !is_set || !act(board, BEGIN_CLEAR_OPERATION) || !act(board, EXECUTE_OPERATION) {
+        return None;
     }
+    ask(board, GET_COMMAND_STATUS)
 }
 
 // Puts the record (id, 00).
@@ -70,10 +64,9 @@ fn put_anew(rt: HostRuntime) -> Result<(), BoardPut> {
 fn file_follows_the_store(rt: HostRuntime) -> Result<(), Fail> {
     enter(&rt, "changes")?;
     let mut board = board(rt, Use::Alone);
-    assert!(rt; count(&mut board) == Some(0) && clear(&mut board, 6) == Some(4));
-    assert!(rt; is_missing(&rt, STORE));
-    assert!(rt; put(&mut board, 6) == Ok(()) && holds(&rt, STORE, ONE));
-    assert!(rt; count_anew(rt) == Some(1));
+    assert!(rt; ask(&mut board, GET_RECORD_COUNT) == Some(0) && clear(&mut board, 6) == Some(4));
+    assert!(rt; is_missing(&rt, STORE) && put(&mut board, 6) == Ok(()));
+    assert!(rt; holds(&rt, STORE, ONE) && count_anew(rt) == Some(1));
     let _ = chown(&rt, STORE, Some(7), Some(7));
     fs::set_permissions(&rt, STORE, Permissions::from_mode(0o640))?;
     let old = fs::metadata(&rt, STORE)?;
@@ -92,12 +85,7 @@ fn file_follows_the_store(rt: HostRuntime) -> Result<(), Fail> {
 #[test]
 fn stop_leaves_the_old_file(rt: HostRuntime) -> Result<(), Fail> {
     enter(&rt, "stops")?;
-    for left in [
-        &ONE[..0],
-        &ONE[..24],
-        ONE,
-        b"a longer file than the next one is",
-    ] {
+    for left in [b"", &ONE[..24], ONE, b"longer than the next file is"] {
         fs::write(&rt, STORE, NONE)?;
         fs::write(&rt, NEW_STORE, left)?;
         assert!(rt; count_anew(rt) == Some(0) && put_anew(rt) == Ok(()));
@@ -115,7 +103,7 @@ fn failed_change_ends_the_device(rt: HostRuntime) -> Result<(), Fail> {
     let mut board = board(rt, Use::Alone);
     assert!(rt; put(&mut board, 6) == Err(BoardPut::Failed) && holds(&rt, STORE, NONE));
     fs::remove_dir(&rt, NEW_STORE)?;
-    assert!(rt; count(&mut board).is_none() && put(&mut board, 6) == Err(BoardPut::Failed));
+    assert!(rt; !act(&mut board, GET_RECORD_COUNT) && put(&mut board, 6) == Err(BoardPut::Failed));
     leave(&rt, "failed")
 }
 
