@@ -2,6 +2,7 @@
 //!
 //! The library's calls on a whole file, `read_exact_at` and `write_all_at` go on after a short read
 //! or write, and make a call again that a signal interrupted.
+ghost use Rattle.std.specs.Prelude.{IfOk, IsSome, IsTrue};
 ghost use Rattle.std.specs.Io.{ReadsAtMost};
 
 use std::fs::{
@@ -21,7 +22,9 @@ const NEW_STORE: &str = "rasd.new";
 /// Opens a journal file: to be read alone, where it may be missing, or for reads and writes, which
 /// makes it and takes a lock that keeps other runs away. Its name is made durable, since the run
 /// that made it may have ended before it could.
-pub fn open(rt: &HostRuntime, name: &str, is_writing: bool) -> io::Result<Option<File>> {
+pub fn open(rt: &HostRuntime, name: &str, is_writing: bool) -> io::Result<Option<File>>
+    ensures { IsTrue is_writing → IfOk result (λ file. IsSome file) }
+{
     if if_regular(metadata(rt, name))?.is_none() && !is_writing {
         return Ok(None);
     }
