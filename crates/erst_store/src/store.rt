@@ -95,18 +95,30 @@ impl Store {
         ensures others { SameBut id self.old self.new }
         ensures kept { OnOk result (IsStore self.new) }
     {
-        if id == 0 || id == u64::MAX {
-            return Err(PutRefused::ReservedId);
-        }
-        if bytes.len() > MOST_BYTES {
-            return Err(PutRefused::TooLong);
+        if let Some(refused) = self.refusal(id, bytes) {
+            return Err(refused);
         }
         match self.place(id) {
             Some(place) => self.replace(id, place, bytes)?,
-            None if self.len() == MOST_RECORDS => return Err(PutRefused::StoreFull),
             None => self.push(id, bytes)?,
         }
         Ok(())
+    }
+
+    /// Why this put is refused, if it is whatever memory there is.
+    pub fn refusal(&self, id: u64, bytes: &[u8]) -> Option<PutRefused>
+        ensures { result ≡ refusal_of id bytes.now self.now }
+    {
+        if id == 0 || id == u64::MAX {
+            return Some(PutRefused::ReservedId);
+        }
+        if bytes.len() > MOST_BYTES {
+            return Some(PutRefused::TooLong);
+        }
+        if self.len() == MOST_RECORDS && self.place(id).is_none() {
+            return Some(PutRefused::StoreFull);
+        }
+        None
     }
 
     /// The same records once more.

@@ -1,6 +1,65 @@
-//! Which calls of the system are made, and what is made of its answers.
+//! What calls of the board make of files.
 
-mod edge;
-mod input;
-mod scripted;
 mod store;
+
+use board_core::{Board, Failed, FileNo};
+use ras_host::{FileBoard, Use};
+use std::env::Env;
+use std::fs;
+use std::test::Fail;
+
+fn enter(rt: &HostRuntime, name: &str) -> Result<(), Fail> {
+    let _ = fs::remove_dir_all(rt, name);
+    fs::create_dir(rt, name)?;
+    rt.set_current_dir(name)?;
+    Ok(())
+}
+
+fn leave(rt: &HostRuntime, name: &str) -> Result<(), Fail> {
+    rt.set_current_dir("..")?;
+    fs::remove_dir_all(rt, name)?;
+    Ok(())
+}
+
+fn board(rt: HostRuntime, how: Use) -> FileBoard {
+    FileBoard::new(rt, how)
+}
+
+fn is_missing(rt: &HostRuntime, name: &str) -> bool {
+    fs::symlink_metadata(rt, name).is_err()
+}
+
+// Whether a file has these bytes.
+fn holds(rt: &HostRuntime, name: &str, bytes: &[u8]) -> bool {
+    matches!(fs::read(rt, name), Ok(found) if found.as_slice() == bytes)
+}
+
+// How many bytes of file 1 are read at a place, and a buffer that they are read into.
+fn read(board: &mut FileBoard, place: u64) -> (Result<usize, Failed>, [u8; 4]) {
+    let mut buf = [0; 4];
+    (board.read_at(FileNo::One, place, &mut buf), buf)
+}
+
+// Whether bytes are written to file 1, and whether it is synced.
+fn write(board: &mut FileBoard, bytes: &[u8]) -> (bool, bool) {
+    let is_written = board.write_at(FileNo::One, 0, bytes).is_ok();
+    (is_written, board.sync(FileNo::One).is_ok())
+}
+
+// A board that only reads finds a missing file empty, makes none, writes to none, and reads beside
+// one that writes.
+#[test]
+fn reading_board_changes_nothing(rt: HostRuntime) -> Result<(), Fail> {
+    enter(&rt, "reading")?;
+    let mut reader = board(rt, Use::Reading);
+    assert!(rt; reader.size(FileNo::One) == Ok(0) && read(&mut reader, 0) == (Ok(0), [0; 4]));
+    assert!(rt; write(&mut reader, b"x") == (false, true));
+    assert!(rt; is_missing(&rt, "rasd.0") && is_missing(&rt, "rasd.1"));
+    let mut writer = board(rt, Use::Alone);
+    assert!(rt; write(&mut writer, b"abcdef") == (true, true));
+    assert!(rt; reader.size(FileNo::One) == Ok(6) && read(&mut reader, 1) == (Ok(4), *b"bcde"));
+    assert!(rt; read(&mut reader, 4) == (Ok(2), *b"ef\0\0"));
+    assert!(rt; read(&mut reader, 7) == (Ok(0), [0; 4]));
+    assert!(rt; write(&mut reader, b"x") == (false, true) && holds(&rt, "rasd.1", b"abcdef"));
+    leave(&rt, "reading")
+}

@@ -3,7 +3,7 @@
 
 use ras_base::NoMemory;
 use ras_daemon::{Exit, RasWord, Task, rasd, task_of};
-use ras_host::{FileBoard, FileSource, Host, Input, Output};
+use ras_host::{FileBoard, FileSource, Use};
 use std::env::{Env, FillError};
 use std::process::ExitCode;
 
@@ -11,15 +11,15 @@ use std::process::ExitCode;
 const LONGEST_WORD: usize = 64;
 
 fn main(rt: HostRuntime) -> ExitCode {
-    // Both streams are asked before the system's files are.
-    let input = Input::new(rt);
-    let output = Output::new(rt);
     let exit = match words_of(rt) {
         Ok(words) => {
             // A run is to be the only one in its folder.
-            let is_run = task_of(&words) == Some(Task::Run);
-            let mut source = FileSource::new(input, Host::new(rt));
-            let mut board = FileBoard::new(rt, output, Host::new(rt), is_run);
+            let how = match task_of(&words) {
+                Some(Task::Run) => Use::Alone,
+                _ => Use::Reading,
+            };
+            let mut source = FileSource::new(rt);
+            let mut board = FileBoard::new(rt, how);
             rasd(rt.alloc(), &words, &mut source, &mut board)
         }
         Err(NoMemory) => Exit::NoMemory,

@@ -1,49 +1,21 @@
--- What calls on the two journal files show of them.
-use Rattle.std.specs.Prelude.{ℕ, List, codes, IsTrue}
+-- Which of the journal's files are open.
+use Rattle.std.specs.Prelude.{◌≡◌, Option, IsSome}
+use Rattle.std.specs.declared.fs.File.{File}
 use Rattle.board_core.specs.declared.board.FileNo.{FileNo}
 use Rattle.board_core.specs.declared.board.FileNo.TheVariants.{Zero, One}
-use Rattle.ras_host.specs.Shown.{Shown}
+use Rattle.ras_host.specs.declared.journal.Journal.{Journal}
+use Rattle.ras_host.specs.declared.journal.Use.TheVariants.{Alone}
 
--- the file's name in the working folder
-abbrev pub name_of : FileNo → List ℕ
-name_of Zero = codes "rasd.0"
-name_of One = codes "rasd.1"
+-- the file of a number, if it is open
+abbrev pub file_in : FileNo → Journal → Option File
+file_in Zero journal = journal.zero
+file_in One journal = journal.one
 
--- The file of a name has this length.
-pub record HasLength {File : Type 0} (shown : Shown File) (name : List ℕ) (length : ℕ) : Type 0 where
-  pub file : File
-  pub opened : IsTrue (shown.is_opened name file)
-  pub told : IsTrue (shown.has_length file length)
-
--- The file of a name gave these bytes at a place.
-pub record Gave {File : Type 0} (shown : Shown File) (name : List ℕ) (place : ℕ) (bytes : List ℕ) : Type 0 where
-  pub file : File
-  pub opened : IsTrue (shown.is_opened name file)
-  pub given : IsTrue (shown.gave file place bytes)
-
--- The file of a name has no byte from this place on.
-pub record EndsBy {File : Type 0} (shown : Shown File) (name : List ℕ) (place : ℕ) : Type 0 where
-  pub file : File
-  pub opened : IsTrue (shown.is_opened name file)
-  pub ended : IsTrue (shown.ends_by file place)
-
--- The file of a name took these bytes at a place.
-pub record Took {File : Type 0} (shown : Shown File) (name : List ℕ) (place : ℕ) (bytes : List ℕ) : Type 0 where
-  pub file : File
-  pub opened : IsTrue (shown.is_opened name file)
-  pub taken : IsTrue (shown.took file place bytes)
-
--- The file of a name was made durable, and so were the entries of its folder.
-pub record IsDurable {File : Type 0} (shown : Shown File) (name : List ℕ) : Type 0 where
-  pub file : File
-  pub folder : File
-  pub opened : IsTrue (shown.is_opened name file)
-  pub inside : IsTrue (shown.lies_in file folder)
-  pub synced : IsTrue (shown.is_synced file)
-  pub entered : IsTrue (shown.has_entries folder)
-
--- This program has the lock on the file of a name.
-pub record IsLocked {File : Type 0} (shown : Shown File) (name : List ℕ) : Type 0 where
-  pub file : File
-  pub opened : IsTrue (shown.is_opened name file)
-  pub locked : IsTrue (shown.is_locked file)
+-- A call on a file leaves those open that were. Of files that are to be written, this one is open
+-- after it, and file 0, whose lock keeps other runs away.
+pub record Opens (file : FileNo) (old new : Journal) : Type 0 where
+  pub how : new.how ≡ old.how
+  pub zero : IsSome old.zero → new.zero ≡ old.zero
+  pub one : IsSome old.one → new.one ≡ old.one
+  pub first : old.how ≡ Alone → IsSome new.zero
+  pub this : old.how ≡ Alone → IsSome (file_in file new)

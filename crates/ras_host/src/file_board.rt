@@ -1,41 +1,40 @@
 //! The working folder's files and standard output as a board.
-ghost use Rattle.std.specs.Prelude.{◌≡◌, ◌<◌, ◌≤◌, ◌+◌, None, Ok, false, length, take, drop, IfOk, IfErr, OnOk, OnErr, IsOk, IsErr, IsSome, IsSomeAnd, IsTrue, IsFalse};
-ghost use Rattle.board_core.specs.declared.board.FileNo.{FileNo};
-ghost use Rattle.board_core.specs.Cause.{FailsAs, disk_call, device_call, print_call, put_failure};
-ghost use Rattle.board_core.specs.Told.{register_in, after_reg_write, after_range_write};
-ghost use Rattle.erst_store.specs.Actions.{range_length};
+ghost use Rattle.std.specs.Prelude.{◌≡◌, ◌+◌, ◌≤◌, length, take, drop, None, OnOk, IfOk, IsOk};
+ghost use Rattle.board_core.specs.Cause.{FailsAs, device_call, disk_call, print_call, put_failure};
 ghost use Rattle.board_core.specs.Clock.{untold};
 ghost use Rattle.board_core.specs.ClockLemmas.{not_told};
-ghost use Rattle.ras_host.specs.Faults.{SomeError, ReadFault, WriteFault};
-ghost use Rattle.ras_host.specs.JournalFiles.{name_of, HasLength, Gave, EndsBy, Took, IsDurable, IsLocked};
-ghost use Rattle.ras_host.specs.Printing.{OutputFault};
-ghost use Rattle.ras_host.specs.StoredDevice.{Does, DeviceFault, Puts};
+ghost use Rattle.board_core.specs.Told.{register_in, after_reg_write, after_range_write};
+ghost use Rattle.erst_store.specs.Actions.{range_length};
+ghost use Rattle.erst_store.specs.Device.{Device, act};
+ghost use Rattle.erst_store.specs.StoreFile.{store_bytes};
+ghost use Rattle.ras_host.specs.KeptDevice.{Does, IsHere, IsThere, IsUsed, Puts};
 
-use crate::fault_count::with_fault_count;
-use crate::journal_files::JournalFiles;
-use crate::store_file::StoredDevice;
-use crate::streams::Output;
-use crate::system::System;
+use crate::faults::counted;
+use crate::journal::{Journal, Use};
+use crate::kept::{Kept, Saved, put_and_encode};
+use crate::system::replace_store;
 use board_core::{Board, BoardPut, Failed, FileNo, Reg};
-use std::io;
+use erst_store::Dev;
+use std::io::Write;
 use std::marker::Model;
+use std::mem::replace;
 
-/// The files `rasd.0`, `rasd.1` and `rasd.store` of the working folder, and standard output.
+/// The files `rasd.0`, `rasd.1` and `rasd.store` of the working folder, and standard output. It
+/// tells nothing of what they hold. Each call that fails is counted, by its kind.
 ///
-/// It tells nothing of their contents, as a board in memory does: its clauses say what the system
-/// has shown. Each call that fails is a fault of its kind.
+/// The record store is read at the device's first use, and empty if its file is missing. Each
+/// change of it is brought into its file before the call answers.
 #[derive(Drop)]
-pub struct FileBoard<S: System> {
-    system: S,
-    files: JournalFiles<S>,
-    device: StoredDevice,
-    output: Output,
+pub struct FileBoard {
+    rt: HostRuntime,
+    journal: Journal,
+    kept: Kept,
     disk_faults: u64,
     register_faults: u64,
     print_faults: u64,
 }
 
-impl<S: System> Model for FileBoard<S> {
+impl Model for FileBoard {
     ghost use Rattle.ras_host.specs.BoardState.{BoardState};
 
     ghost Value = { BoardState };
@@ -46,35 +45,72 @@ impl<S: System> Model for FileBoard<S> {
         registers = b.register_faults;
         prints = b.print_faults;
       };
-      device = b.device;
-      output = b.output;
-      is_exclusive = b.files.is_exclusive;
+      kept = b.kept;
     } };
 }
 
-impl<S: System> FileBoard<S> {
-    /// The board of the working folder, with no faults. No file is opened yet. An exclusive one
-    /// takes a lock on `rasd.0` before it uses a journal file, so that it fails at its first disk
-    /// call where another program has the lock.
-    pub fn new(rt: HostRuntime, output: Output, system: S, is_exclusive: bool) -> FileBoard<S>
+impl FileBoard {
+    /// The board of the working folder, with no faults. No file is opened yet.
+    pub fn new(rt: HostRuntime, how: Use) -> FileBoard
         ensures faults { result.faults ≡ record { disk = 0; registers = 0; prints = 0 } }
-        ensures device { result.device ≡ record { device = None; is_lost = false } }
-        ensures output { result.output ≡ output }
-        ensures exclusive { result.is_exclusive ≡ is_exclusive }
+        ensures unread { result.kept ≡ Kept.Unread }
     {
         FileBoard {
-            system,
-            files: JournalFiles::new(is_exclusive),
-            device: StoredDevice::new(rt.alloc()),
-            output,
+            rt,
+            journal: Journal::new(rt, how),
+            kept: Kept::Unread,
             disk_faults: 0,
             register_faults: 0,
             print_faults: 0,
         }
     }
+
+    // Takes the device out, which is lost unless the call puts it back.
+    fn take(&mut self) -> Result<Saved, Failed>
+        ensures used { IfOk result (λ it. IsUsed self.old.kept it.device) }
+        ensures answers { IsThere self.old.kept → IsOk result }
+        ensures cause { FailsAs device_call self.old.faults self.new.faults result }
+    {
+        match replace(&mut self.kept, Kept::Lost) {
+            Kept::Here(saved) => Ok(saved),
+            Kept::Unread => counted(Saved::read(&self.rt), &mut self.register_faults),
+            Kept::Lost => counted(Err(Failed), &mut self.register_faults),
+        }
+    }
+
+    // Does an action, and brings what it changes in the store into the store's file.
+    #[tactic(auto, using(erst_store::specs::ActionLemmas::kept))]
+    fn act(&mut self, saved: Saved, action: u64) -> Result<(), Failed>
+        ensures does { OnOk result (IsHere self.new.kept (act action saved.device)) }
+        ensures cause { FailsAs device_call self.old.faults self.new.faults result }
+    {
+        let Saved { mut device, file } = saved;
+        let may_change = device.may_change(action);
+        counted(device.write_action(action), &mut self.register_faults)?;
+        if !may_change {
+            self.kept = Kept::Here(Saved { device, file });
+            return Ok(());
+        }
+        let new = device.store().to_bytes(self.rt.alloc());
+        let new = counted(new, &mut self.register_faults)?;
+        self.save(device, &file, new)
+    }
+
+    // Puts the device back, and its store's bytes into the file if they aren't those that it has.
+    fn save(&mut self, device: Dev, file: &[u8], new: Vec<u8>) -> Result<(), Failed>
+        requires { new.items ≡ store_bytes device.store }
+        ensures kept { OnOk result (IsHere self.new.kept device) }
+        ensures cause { FailsAs device_call self.old.faults self.new.faults result }
+    {
+        if new.as_slice() != file {
+            counted(replace_store(&self.rt, &new), &mut self.register_faults)?;
+        }
+        self.kept = Kept::Here(Saved { device, file: new });
+        Ok(())
+    }
 }
 
-impl<S: System> Board for FileBoard<S> {
+impl Board for FileBoard {
     ghost told = { λ _. None };
 
     ghost clock = { λ _. untold };
@@ -90,174 +126,122 @@ impl<S: System> Board for FileBoard<S> {
     ghost counts_earlier = { λ _ s t left within may. may };
 
     fn size(&mut self, file: FileNo) -> Result<u64, Failed>
-        ensures length { IfOk result (λ n. HasLength S.shown (name_of file) n) }
-        ensures locked { OnOk result (IsTrue self.old.is_exclusive
-            → IsLocked S.shown (name_of FileNo.Zero)) }
-        ensures failed { OnErr result (SomeError (λ error. IsTrue (S.shown.failed error))) }
+        ensures device { self.new.kept ≡ self.old.kept }
         ensures cause { FailsAs disk_call self.old.faults self.new.faults result }
-        ensures others { self.new ≡ record self.old { faults = self.new.faults } }
     {
-        let size = self.files.size(&mut self.system, file);
-        with_fault_count(size, &mut self.disk_faults)
+        let size = self.journal.size(file);
+        counted(size, &mut self.disk_faults)
     }
 
     fn read_at(&mut self, file: FileNo, place: u64, buf: &mut [u8]) -> Result<usize, Failed>
-        ensures within { IfOk result (λ count. count ≤ length buf.old) }
-        ensures gave { IfOk result (λ count. Gave S.shown (name_of file) place
-            (take count buf.new)) }
-        ensures ended { IfOk result (λ count. count < length buf.new
-            → EndsBy S.shown (name_of file) (place + count)) }
-        ensures locked { OnOk result (IsTrue self.old.is_exclusive
-            → IsLocked S.shown (name_of FileNo.Zero)) }
-        ensures failed { OnErr result (SomeError (ReadFault S.shown place (length buf.new))) }
+        ensures device { self.new.kept ≡ self.old.kept }
+        ensures within { IfOk result (λ n. n ≤ length buf.old) }
         ensures cause { FailsAs disk_call self.old.faults self.new.faults result }
-        ensures others { self.new ≡ record self.old { faults = self.new.faults } }
     {
-        let read = self.files.read_at(&mut self.system, file, place, buf);
-        with_fault_count(read, &mut self.disk_faults)
+        let read = self.journal.read_at(file, place, buf);
+        counted(read, &mut self.disk_faults)
     }
 
     fn write_at(&mut self, file: FileNo, place: u64, bytes: &[u8]) -> Result<(), Failed>
-        ensures took { OnOk result (Took S.shown (name_of file) place bytes.now) }
-        ensures locked { OnOk result (IsTrue self.old.is_exclusive
-            → IsLocked S.shown (name_of FileNo.Zero)) }
-        ensures failed { OnErr result (SomeError (WriteFault S.shown place (length bytes.now))) }
+        ensures device { self.new.kept ≡ self.old.kept }
         ensures cause { FailsAs disk_call self.old.faults self.new.faults result }
-        ensures others { self.new ≡ record self.old { faults = self.new.faults } }
     {
-        let done = self.files.write_at(&mut self.system, file, place, bytes);
-        with_fault_count(done, &mut self.disk_faults)
+        let done = self.journal.write_at(file, place, bytes);
+        counted(done, &mut self.disk_faults)
     }
 
     fn sync(&mut self, file: FileNo) -> Result<(), Failed>
-        ensures durable { OnOk result (IsDurable S.shown (name_of file)) }
-        ensures locked { OnOk result (IsTrue self.old.is_exclusive
-            → IsLocked S.shown (name_of FileNo.Zero)) }
-        ensures failed { OnErr result (SomeError (λ error. IsTrue (S.shown.failed error))) }
+        ensures device { self.new.kept ≡ self.old.kept }
         ensures cause { FailsAs disk_call self.old.faults self.new.faults result }
-        ensures others { self.new ≡ record self.old { faults = self.new.faults } }
     {
-        let done = self.files.sync(&mut self.system, file);
-        with_fault_count(done, &mut self.disk_faults)
+        let done = self.journal.sync(file);
+        counted(done, &mut self.disk_faults)
     }
 
     fn reg_read(&mut self, reg: Reg) -> Result<u64, Failed>
-        ensures same { OnOk result (Does S.shown (λ d. d) self.old.device self.new.device) }
-        ensures value { IfOk result (λ n. IsSomeAnd self.new.device.device
-            (λ d. n ≡ register_in reg d)) }
-        ensures failed { OnErr result (SomeError (DeviceFault S.shown self.old.device)) }
+        ensures same { OnOk result (Does (λ d. d) self.old.kept self.new.kept) }
+        ensures answers { IsThere self.old.kept → IsOk result }
+        ensures value { IfOk result (λ n. (d : Device) → IsHere self.new.kept d
+            → n ≡ register_in reg d) }
         ensures cause { FailsAs device_call self.old.faults self.new.faults result }
-        ensures others { self.new ≡ record self.old {
-          faults = self.new.faults;
-          device = self.new.device;
-        } }
     {
-        let read = read_register(&mut self.device, &mut self.system, reg);
-        with_fault_count(read, &mut self.register_faults)
+        let saved = self.take()?;
+        let number = match reg {
+            Reg::Action => saved.device.read_action(),
+            Reg::Value => saved.device.read_value(),
+        };
+        self.kept = Kept::Here(saved);
+        Ok(number)
     }
 
     fn reg_write(&mut self, reg: Reg, value: u64) -> Result<(), Failed>
-        ensures does { OnOk result (Does S.shown (after_reg_write reg value)
-            self.old.device self.new.device) }
-        ensures failed { OnErr result (SomeError (DeviceFault S.shown self.old.device)) }
+        ensures does { OnOk result (Does (after_reg_write reg value) self.old.kept self.new.kept) }
         ensures cause { FailsAs device_call self.old.faults self.new.faults result }
-        ensures others { self.new ≡ record self.old {
-          faults = self.new.faults;
-          device = self.new.device;
-        } }
     {
-        let done = write_register(&mut self.device, &mut self.system, reg, value);
-        with_fault_count(done, &mut self.register_faults)
+        let mut saved = self.take()?;
+        match reg {
+            Reg::Action => self.act(saved, value),
+            Reg::Value => {
+                saved.device.write_value(value);
+                self.kept = Kept::Here(saved);
+                Ok(())
+            }
+        }
     }
 
     fn range_read(&mut self, place: u32, buf: &mut [u8]) -> Result<(), Failed>
         requires { place + length buf.old ≤ range_length }
-        ensures same { OnOk result (Does S.shown (λ d. d) self.old.device self.new.device) }
-        ensures read { OnOk result (IsSomeAnd self.new.device.device
-            (λ d. buf.new ≡ take (length buf.old) (drop place d.range))) }
-        ensures failed { OnErr result (SomeError (DeviceFault S.shown self.old.device)) }
+        ensures same { OnOk result (Does (λ d. d) self.old.kept self.new.kept) }
+        ensures answers { IsThere self.old.kept → IsOk result }
+        ensures read { OnOk result ((d : Device) → IsHere self.new.kept d
+            → buf.new ≡ take (length buf.old) (drop place d.range)) }
         ensures cause { FailsAs device_call self.old.faults self.new.faults result }
-        ensures others { self.new ≡ record self.old {
-          faults = self.new.faults;
-          device = self.new.device;
-        } }
     {
-        let done = self.device.range_read(&mut self.system, place, buf);
-        with_fault_count(done, &mut self.register_faults)
+        let saved = self.take()?;
+        saved.device.range_read(place, buf);
+        self.kept = Kept::Here(saved);
+        Ok(())
     }
 
     fn range_write(&mut self, place: u32, bytes: &[u8]) -> Result<(), Failed>
         requires { place + length bytes.now ≤ range_length }
-        ensures does { OnOk result (Does S.shown (after_range_write place bytes.now)
-            self.old.device self.new.device) }
-        ensures failed { OnErr result (SomeError (DeviceFault S.shown self.old.device)) }
+        ensures does { OnOk result (Does (after_range_write place bytes.now)
+            self.old.kept self.new.kept) }
+        ensures answers { IsThere self.old.kept → IsOk result }
         ensures cause { FailsAs device_call self.old.faults self.new.faults result }
-        ensures others { self.new ≡ record self.old {
-          faults = self.new.faults;
-          device = self.new.device;
-        } }
     {
-        let done = self.device.range_write(&mut self.system, place, bytes);
-        with_fault_count(done, &mut self.register_faults)
+        let mut saved = self.take()?;
+        saved.device.range_write(place, bytes);
+        self.kept = Kept::Here(saved);
+        Ok(())
     }
 
     fn put(&mut self, id: u64, bytes: &[u8]) -> Result<(), BoardPut>
-        ensures put { OnOk result (Puts S.shown id bytes.now (Ok tt)
-            self.old.device self.new.device) }
-        ensures failed { OnErr (put_failure result)
-            (SomeError (DeviceFault S.shown self.old.device)) }
+        ensures put { OnOk (put_failure result)
+            (Puts id bytes.now result self.old.kept self.new.kept) }
         ensures cause { FailsAs device_call self.old.faults self.new.faults
             (put_failure result) }
-        ensures others { self.new ≡ record self.old {
-          faults = self.new.faults;
-          device = self.new.device;
-        } }
     {
-        let put = self.device.put(&mut self.system, id, bytes);
-        match with_fault_count(put, &mut self.register_faults) {
-            Ok(Ok(())) => Ok(()),
-            Ok(Err(refused)) => Err(BoardPut::Refused(refused)),
-            Err(Failed) => Err(BoardPut::Failed),
+        let Ok(Saved { mut device, file }) = self.take() else {
+            return Err(BoardPut::Failed);
+        };
+        match put_and_encode(self.rt.alloc(), &mut device, id, bytes) {
+            Ok(new) => match self.save(device, &file, new) {
+                Ok(()) => Ok(()),
+                Err(Failed) => Err(BoardPut::Failed),
+            },
+            Err(refused) => {
+                self.kept = Kept::Here(Saved { device, file });
+                Err(BoardPut::Refused(refused))
+            }
         }
     }
 
     fn print(&mut self, bytes: &[u8]) -> Result<(), Failed>
-        ensures printed { OnOk result (IsTrue (S.shown.printed bytes.now)) }
-        ensures closed { IsFalse self.old.output.is_open → IsErr result }
-        ensures failed { OnErr result (SomeError (OutputFault S.shown self.old.output)) }
+        ensures device { self.new.kept ≡ self.old.kept }
         ensures cause { FailsAs print_call self.old.faults self.new.faults result }
-        ensures others { self.new ≡ record self.old { faults = self.new.faults } }
     {
-        let done = self.output.write(&mut self.system, bytes);
-        with_fault_count(done, &mut self.print_faults)
-    }
-}
-
-// Reads a register of the device.
-fn read_register<S: System>(device: &mut StoredDevice, system: &mut S, reg: Reg) -> io::Result<u64>
-    ensures same { OnOk result (Does S.shown (λ d. d) device.old device.new) }
-    ensures value { IfOk result (λ n. IsSomeAnd device.new.device (λ d. n ≡ register_in reg d)) }
-    ensures answers { IsSome device.old.device → IsFalse device.old.is_lost → IsOk result }
-    ensures failed { IfErr result (λ error. DeviceFault S.shown device.old error) }
-{
-    match reg {
-        Reg::Action => device.action(system),
-        Reg::Value => device.value(system),
-    }
-}
-
-// Writes a number to a register of the device.
-fn write_register<S: System>(
-    device: &mut StoredDevice,
-    system: &mut S,
-    reg: Reg,
-    value: u64,
-) -> io::Result<()>
-    ensures does { OnOk result (Does S.shown (after_reg_write reg value) device.old device.new) }
-    ensures failed { IfErr result (λ error. DeviceFault S.shown device.old error) }
-{
-    match reg {
-        Reg::Action => device.act(system, value),
-        Reg::Value => device.set_value(system, value),
+        let done = self.rt.stdout().write_all(bytes);
+        counted(done, &mut self.print_faults)
     }
 }

@@ -1,23 +1,18 @@
-//! What a daemon stands on in a real system: the working folder's files, the record store among
-//! them, and the standard streams, as a board and a source.
+//! A real system as a board and a source: the working folder's files, the record store among them,
+//! and the standard streams.
 //!
-//! What the program asks of the system goes through one small trait, so that every function here is
-//! proved over any system, and tests can answer in its place. The system itself is in no model:
-//! `Host` hands each call to the library's of that name.
+//! The board and the source are proved for their counts of faults, and the board for what a call
+//! does to the error record device that it keeps. What the system is asked for is in `system`
+//! alone, and in no clause.
 #![tactic(auto)]
 
-mod fault_count;
+mod faults;
 mod file_board;
 mod file_source;
-mod folder_file;
-mod journal_files;
-mod store_file;
-mod streams;
+mod journal;
+mod kept;
 mod system;
 
 pub use file_board::FileBoard;
 pub use file_source::FileSource;
-pub use folder_file::FolderFile;
-pub use store_file::StoredDevice;
-pub use streams::{Input, Output, read_retrying};
-pub use system::{Host, Opened, System};
+pub use journal::Use;
