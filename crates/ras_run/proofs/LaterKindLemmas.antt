@@ -16,7 +16,7 @@ use Rattle.ras_script.specs.declared.line.Line.{Line}
 use Rattle.ras_script.specs.declared.line.Line.TheVariants as asks
 use Rattle.ras_script.specs.declared.line.LineRefused.{LineRefused}
 use Rattle.ras_script.specs.declared.reader.TheConstants.{LONGEST_LINE}
-use Rattle.ras_script.specs.Fields.{hex_bytes_of, hex_u64_of, label_of, limit_of, number_of, report_of, u16_of, u64_of, u8_of}
+use Rattle.ras_script.specs.Fields.{hex_bytes_of, hex_u64_of, read_label, read_limit, read_number, read_report, u16_of, u64_of, u8_of}
 use Rattle.ras_script.specs.Kinds.{bank_asks, cpu_asks, module_asks, range_asks, place_asks, limit_asks, module_limit_asks, hest_asks, bert_asks, ghes_asks, retire_asks, restart_asks}
 use Rattle.ras_script.specs.Line.{Gives, ReadsLine, kinds, line_named, line_of, line_of_words}
 use Rattle.ras_script.specs.Splitting.{AreHeldWords, words_of}
@@ -91,7 +91,7 @@ module _ (most : ℕ) where
   then_any (Err why) next h = tt
 
   bank-good : (words : List (List ℕ)) → IfOk (bank_asks words) (IsGood most)
-  bank-good words = then_any (report_of words) _ (λ report. (tt, tt))
+  bank-good words = then_any (read_report words) _ (λ report. (tt, tt))
 
   cpu-good : (words : List (List ℕ)) → IfOk (cpu_asks words) (IsGood most)
   cpu-good (cpu ∷ socket ∷ []) =
@@ -102,16 +102,16 @@ module _ (most : ℕ) where
 
   module-good : (words : List (List ℕ)) → IfOk (module_asks words) (IsGood most)
   module-good (label ∷ socket ∷ bank ∷ channel ∷ []) =
-      then_any (label_of label) _ (λ label.
+      then_any (read_label label) _ (λ label.
       then_any (u8_of socket) _ (λ socket.
       then_any (u8_of bank) _ (λ bank.
-      then_any (number_of 14 channel) _ (λ channel.
+      then_any (read_number 14 channel) _ (λ channel.
       (tt, tt)))))
   module-good words = tt
 
   range-good : (words : List (List ℕ)) → IfOk (range_asks words) (IsGood most)
   range-good (label ∷ first ∷ last ∷ []) =
-      then_any (label_of label) _ (λ label.
+      then_any (read_label label) _ (λ label.
       then_any (hex_u64_of first) _ (λ first.
       then_any (hex_u64_of last) _ (λ last.
       upright label first last (nat_le first last))))
@@ -123,7 +123,7 @@ module _ (most : ℕ) where
 
   place-good : (words : List (List ℕ)) → IfOk (place_asks words) (IsGood most)
   place-good (label ∷ node ∷ card ∷ number ∷ []) =
-      then_any (label_of label) _ (λ label.
+      then_any (read_label label) _ (λ label.
       then_any (u16_of node) _ (λ node.
       then_any (u16_of card) _ (λ card.
       then_any (u16_of number) _ (λ number.
@@ -131,10 +131,10 @@ module _ (most : ℕ) where
   place-good words = tt
 
   limit-good : (words : List (List ℕ)) → IfOk (limit_asks words) (IsGood most)
-  limit-good words = then_any (limit_of words) _ (λ limit. (tt, tt))
+  limit-good words = then_any (read_limit words) _ (λ limit. (tt, tt))
 
   module_limit-good : (words : List (List ℕ)) → IfOk (module_limit_asks words) (IsGood most)
-  module_limit-good words = then_any (limit_of words) _ (λ limit. (tt, tt))
+  module_limit-good words = then_any (read_limit words) _ (λ limit. (tt, tt))
 
   hest-good : (words : List (List ℕ)) → IfOk (hest_asks words) (IsGood most)
   hest-good (bytes ∷ []) = then_any (hex_bytes_of bytes) _ (λ bytes. (tt, tt))

@@ -9,7 +9,7 @@ use Rattle.page_policy.specs.Buckets.{IsLimit}
 use Rattle.ras_base.specs.Chaining.{◌>>=◌}
 use Rattle.ras_script.specs.declared.line.LineRefused.{LineRefused}
 use Rattle.ras_script.specs.Bytes.{AreBytes, bytes_of}
-use Rattle.ras_script.specs.Fields.{hex_bytes_of, hex_u64_of, label_of, limit_of, number_of, positive_of, report_of, u16_of, u64_of, u8_of}
+use Rattle.ras_script.specs.Fields.{hex_bytes_of, hex_u64_of, read_label, read_limit, read_number, positive_of, read_report, u16_of, u64_of, u8_of}
 use Rattle.ras_script.specs.LineLaws.{IsBankInRange}
 use Rattle.ras_script.specs.Number.{is_numeral}
 use Rattle.ras_script.proofs.ByteLemmas.{bytes_read}
@@ -24,7 +24,7 @@ number_within most value true true h = grind (arith, nat_tests, h)
 number_within most value true false h = tt
 number_within most value false small h = tt
 
-pub number_in : (most : ℕ) (word : List ℕ) → IfOk (number_of most word) (λ n. n ≤ most)
+pub number_in : (most : ℕ) (word : List ℕ) → IfOk (read_number most word) (λ n. n ≤ most)
 number_in most word =
     number_within most (digits_value 10 word) (is_numeral 10 20 word) (nat_le (digits_value 10 word) most) refl
 
@@ -39,22 +39,22 @@ some_within P (Some bytes) h = h
 pub bytes_in : (word : List ℕ) → IfOk (hex_bytes_of word) AreBytes
 bytes_in word = some_within AreBytes (bytes_of word) (bytes_read word)
 
-pub label_in : (word : List ℕ) → IfOk (label_of word) (λ label. IsTrue (is_label label))
+pub label_in : (word : List ℕ) → IfOk (read_label word) (λ label. IsTrue (is_label label))
 label_in word = by (is_label word) refl
   where
-    by : (b : Bool) → is_label word ≡ b → IfOk (label_of word) (λ label. IsTrue (is_label label))
+    by : (b : Bool) → is_label word ≡ b → IfOk (read_label word) (λ label. IsTrue (is_label label))
     by true is = rw is is
     by false is = rw is tt
 
 positive_in : (most : ℕ) (word : List ℕ) → IfOk (positive_of most word) (λ n. (1 ≤ n) × (n ≤ most))
 positive_in most word =
-    then_within (λ n. n ≤ most) (λ n. (1 ≤ n) × (n ≤ most)) (number_of most word) _ (number_in most word) (λ n small. by n small (n == 0) refl)
+    then_within (λ n. n ≤ most) (λ n. (1 ≤ n) × (n ≤ most)) (read_number most word) _ (number_in most word) (λ n small. by n small (n == 0) refl)
   where
     by : (n : ℕ) → n ≤ most → (b : Bool) → (n == 0) ≡ b → IfOk (cond b (Err LineRefused.Number) (Ok n)) (λ n. (1 ≤ n) × (n ≤ most))
     by n small true zero = tt
     by n small false more = (grind (arith, nat_tests, more), small)
 
-pub limit_in : (words : List (List ℕ)) → IfOk (limit_of words) IsLimit
+pub limit_in : (words : List (List ℕ)) → IfOk (read_limit words) IsLimit
 limit_in (capacity ∷ period ∷ []) =
     then_within (λ n. (1 ≤ n) × (n ≤ 1000000)) IsLimit (positive_of 1000000 capacity) _ (positive_in 1000000 capacity) (λ capacity capacity_is.
     then_within (λ n. (1 ≤ n) × (n ≤ 10000000)) IsLimit (positive_of 10000000 period) _ (positive_in 10000000 period) (λ period period_is.
@@ -62,7 +62,7 @@ limit_in (capacity ∷ period ∷ []) =
 limit_in words = tt
 
 -- the words of a bank
-pub report_in : (words : List (List ℕ)) → IfOk (report_of words) IsBankInRange
+pub report_in : (words : List (List ℕ)) → IfOk (read_report words) IsBankInRange
 report_in (boot ∷ seconds ∷ cpu ∷ bank ∷ tsc ∷ cap ∷ mcg ∷ status ∷ addr ∷ misc ∷ []) =
     then_within (λ n. n ≤ 2 ^ 64 - 1) IsBankInRange (u64_of boot) _ (number_in (2 ^ 64 - 1) boot) (λ boot boot_is.
     then_within (λ n. n ≤ 2 ^ 64 - 1) IsBankInRange (u64_of seconds) _ (number_in (2 ^ 64 - 1) seconds) (λ seconds seconds_are.

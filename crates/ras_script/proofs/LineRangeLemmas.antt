@@ -9,14 +9,14 @@ use Rattle.page_policy.specs.Buckets.{IsLimit}
 use Rattle.ras_script.specs.declared.line.Line.{Line}
 use Rattle.ras_script.specs.declared.line.LineRefused.{LineRefused}
 use Rattle.ras_script.specs.Bytes.{AreBytes}
-use Rattle.ras_script.specs.Fields.{hex_bytes_of, hex_u64_of, label_of, limit_of, number_of, report_of, u16_of, u64_of, u8_of}
+use Rattle.ras_script.specs.Fields.{hex_bytes_of, hex_u64_of, read_label, read_limit, read_number, read_report, u16_of, u64_of, u8_of}
 use Rattle.ras_script.specs.Kinds.{Reading, bank_asks, cpu_asks, module_asks, range_asks, place_asks, limit_asks, module_limit_asks, hest_asks, erst_asks, bert_asks, ghes_asks, put_asks, poll_asks, retire_asks, panic_asks, restart_asks}
 use Rattle.ras_script.specs.Line.{Gives, kinds, line_named, line_of_words}
 use Rattle.ras_script.specs.LineLaws.{IsInRange, IsBankInRange}
 use Rattle.ras_script.proofs.FieldLemmas.{bytes_in, hexadecimal_in, label_in, limit_in, number_in, report_in, then_within}
 
 bank_within : (words : List (List ℕ)) → IfOk (bank_asks words) IsInRange
-bank_within words = then_within IsBankInRange IsInRange (report_of words) _ (report_in words) (λ report report_is. report_is)
+bank_within words = then_within IsBankInRange IsInRange (read_report words) _ (report_in words) (λ report report_is. report_is)
 
 cpu_within : (words : List (List ℕ)) → IfOk (cpu_asks words) IsInRange
 cpu_within (cpu ∷ socket ∷ []) =
@@ -27,16 +27,16 @@ cpu_within words = tt
 
 module_within : (words : List (List ℕ)) → IfOk (module_asks words) IsInRange
 module_within (label ∷ socket ∷ bank ∷ channel ∷ []) =
-    then_within (λ label. IsTrue (is_label label)) IsInRange (label_of label) _ (label_in label) (λ label label_is.
+    then_within (λ label. IsTrue (is_label label)) IsInRange (read_label label) _ (label_in label) (λ label label_is.
     then_within (λ n. n ≤ 255) IsInRange (u8_of socket) _ (number_in 255 socket) (λ socket socket_is.
     then_within (λ n. n ≤ 255) IsInRange (u8_of bank) _ (number_in 255 bank) (λ bank bank_is.
-    then_within (λ n. n ≤ 14) IsInRange (number_of 14 channel) _ (number_in 14 channel) (λ channel channel_is.
+    then_within (λ n. n ≤ 14) IsInRange (read_number 14 channel) _ (number_in 14 channel) (λ channel channel_is.
     (label_is, omega arith, omega arith, channel_is)))))
 module_within words = tt
 
 range_within : (words : List (List ℕ)) → IfOk (range_asks words) IsInRange
 range_within (label ∷ first ∷ last ∷ []) =
-    then_within (λ label. IsTrue (is_label label)) IsInRange (label_of label) _ (label_in label) (λ label label_is.
+    then_within (λ label. IsTrue (is_label label)) IsInRange (read_label label) _ (label_in label) (λ label label_is.
     then_within (λ n. n ≤ 2 ^ 64 - 1) IsInRange (hex_u64_of first) _ (hexadecimal_in first) (λ first first_is.
     then_within (λ n. n ≤ 2 ^ 64 - 1) IsInRange (hex_u64_of last) _ (hexadecimal_in last) (λ last last_is.
     by label first last label_is last_is (nat_le first last) refl)))
@@ -49,7 +49,7 @@ range_within words = tt
 
 place_within : (words : List (List ℕ)) → IfOk (place_asks words) IsInRange
 place_within (label ∷ node ∷ card ∷ number ∷ []) =
-    then_within (λ label. IsTrue (is_label label)) IsInRange (label_of label) _ (label_in label) (λ label label_is.
+    then_within (λ label. IsTrue (is_label label)) IsInRange (read_label label) _ (label_in label) (λ label label_is.
     then_within (λ n. n ≤ 65535) IsInRange (u16_of node) _ (number_in 65535 node) (λ node node_is.
     then_within (λ n. n ≤ 65535) IsInRange (u16_of card) _ (number_in 65535 card) (λ card card_is.
     then_within (λ n. n ≤ 65535) IsInRange (u16_of number) _ (number_in 65535 number) (λ number number_is.
@@ -57,10 +57,10 @@ place_within (label ∷ node ∷ card ∷ number ∷ []) =
 place_within words = tt
 
 limit_within : (words : List (List ℕ)) → IfOk (limit_asks words) IsInRange
-limit_within words = then_within IsLimit IsInRange (limit_of words) _ (limit_in words) (λ limit limit_is. limit_is)
+limit_within words = then_within IsLimit IsInRange (read_limit words) _ (limit_in words) (λ limit limit_is. limit_is)
 
 module_limit_within : (words : List (List ℕ)) → IfOk (module_limit_asks words) IsInRange
-module_limit_within words = then_within IsLimit IsInRange (limit_of words) _ (limit_in words) (λ limit limit_is. limit_is)
+module_limit_within words = then_within IsLimit IsInRange (read_limit words) _ (limit_in words) (λ limit limit_is. limit_is)
 
 hest_within : (words : List (List ℕ)) → IfOk (hest_asks words) IsInRange
 hest_within (bytes ∷ []) = then_within AreBytes IsInRange (hex_bytes_of bytes) _ (bytes_in bytes) (λ bytes bytes_are. bytes_are)
@@ -108,7 +108,7 @@ panic_within : (words : List (List ℕ)) → IfOk (panic_asks words) IsInRange
 panic_within [] = tt
 panic_within (id ∷ words) = if_words (length words == 10) _ (
     then_within (λ n. n ≤ 2 ^ 64 - 1) IsInRange (hex_u64_of id) _ (hexadecimal_in id) (λ id id_is.
-    then_within IsBankInRange IsInRange (report_of words) _ (report_in words) (λ bank bank_is.
+    then_within IsBankInRange IsInRange (read_report words) _ (report_in words) (λ bank bank_is.
     (omega arith, bank_is))))
   where
     if_words : (b : Bool) (read : Result Line LineRefused) → IfOk read IsInRange → IfOk (cond b read (Err LineRefused.Words)) IsInRange

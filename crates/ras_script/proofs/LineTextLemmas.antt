@@ -27,7 +27,7 @@ use Rattle.ras_script.specs.declared.line.ErrorReport.TheVariants.{Bank, Block, 
 use Rattle.ras_script.specs.declared.line.Table.{Table}
 use Rattle.ras_script.specs.declared.line.Table.TheVariants.{Hest, Erst}
 use Rattle.ras_script.specs.Bytes.{AreBytes, bytes_of}
-use Rattle.ras_script.specs.Fields.{label_of, limit_of, report_of}
+use Rattle.ras_script.specs.Fields.{read_label, read_limit, read_report}
 use Rattle.ras_script.specs.Kinds.{range_asks}
 use Rattle.ras_script.specs.Line.{line_of_words, line_of}
 use Rattle.ras_script.specs.LineLaws.{IsInRange, IsBankInRange, IsEntryInRange, IsReportInRange, IsRowInRange, IsTableInRange, hexadecimal, bank_words, entry_words, limit_words, line_text, line_words, report_words, row_words, table_words}
@@ -108,7 +108,7 @@ hexadecimal_is n small is = is ∙ ap (λ o. ok_or o LineRefused.Number) (hexade
 bytes_is : {read : Result (List ℕ) LineRefused} (bytes : List ℕ) → AreBytes bytes → read ≡ ok_or (bytes_of (encode_lower bytes)) LineRefused.Hex → read ≡ Ok bytes
 bytes_is bytes are is = is ∙ ap (λ o. ok_or o LineRefused.Hex) (lower_read bytes are)
 
-label_is : (label : List ℕ) → IsTrue (is_label label) → label_of label ≡ Ok label
+label_is : (label : List ℕ) → IsTrue (is_label label) → read_label label ≡ Ok label
 label_is label is = rw is refl
 
 -- a number from 1 on
@@ -120,7 +120,7 @@ positive_is n more is =
     let zero : (n == 0) ≡ false = not_zero n more in
     then_is n (λ n. if n == 0 then Err LineRefused.Number else Ok n) is (rw zero refl)
 
-limit_is : (limit : LimitOf) → IsLimit limit → limit_of (limit_words limit) ≡ Ok limit
+limit_is : (limit : LimitOf) → IsLimit limit → read_limit (limit_words limit) ≡ Ok limit
 limit_is limit within =
     let low = within.capacity_from in
     let high = within.capacity_to in
@@ -129,7 +129,7 @@ limit_is limit within =
     then_is limit.capacity _ (positive_is limit.capacity low (number_is 1000000 limit.capacity high (omega arith) refl)) (
     then_is limit.period _ (positive_is limit.period from (number_is 10000000 limit.period to (omega arith) refl)) refl)
 
-bank_is : (bank : BankReport) → IsBankInRange bank → report_of (bank_words bank) ≡ Ok bank
+bank_is : (bank : BankReport) → IsBankInRange bank → read_report (bank_words bank) ≡ Ok bank
 bank_is bank within =
     then_is bank.boot _ (number_is (2 ^ 64 - 1) bank.boot (omega arith) (omega arith) refl) (
     then_is bank.seconds _ (number_is (2 ^ 64 - 1) bank.seconds (omega arith) (omega arith) refl) (

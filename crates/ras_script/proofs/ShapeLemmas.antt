@@ -1,7 +1,7 @@
 -- Lists of words by their lengths.
 use Rattle.std.proofs.Common.{◌≡◌, ℕ, ◌<◌, ◌≤◌, List, [], ◌∷◌, length, map, get_or, refl, arith, Bor, Err}
 use Rattle.ras_script.specs.declared.line.LineRefused.{LineRefused}
-use Rattle.ras_script.specs.Fields.{report_of}
+use Rattle.ras_script.specs.Fields.{read_report}
 
 -- the word at a place, as a slice pattern takes it
 abbrev pub at : List (Bor (List ℕ)) → ℕ → List ℕ
@@ -24,10 +24,10 @@ ten (a ∷ b ∷ c ∷ d ∷ e ∷ f ∷ g ∷ h ∷ i ∷ j ∷ []) some few = 
 ten words some few = absurd (omega arith)
 
 -- words that are no bank
-pub too_few : (words : List (Bor (List ℕ))) → length words < 10 → report_of (map (λ word. word.now) words) ≡ Err LineRefused.Words
+pub too_few : (words : List (Bor (List ℕ))) → length words < 10 → read_report (map (λ word. word.now) words) ≡ Err LineRefused.Words
 too_few (a ∷ b ∷ c ∷ d ∷ e ∷ f ∷ g ∷ h ∷ i ∷ j ∷ []) few = absurd (omega arith)
 too_few words few = refl
 
-pub too_many : (words : List (Bor (List ℕ))) → 11 ≤ length words → report_of (map (λ word. word.now) words) ≡ Err LineRefused.Words
+pub too_many : (words : List (Bor (List ℕ))) → 11 ≤ length words → read_report (map (λ word. word.now) words) ≡ Err LineRefused.Words
 too_many (a ∷ b ∷ c ∷ d ∷ e ∷ f ∷ g ∷ h ∷ i ∷ j ∷ []) many = absurd (omega arith)
 too_many words many = refl

@@ -12,22 +12,22 @@ use Rattle.ras_script.specs.Bytes.{bytes_of}
 use Rattle.ras_script.specs.Number.{decimal_of, hexadecimal_of}
 
 -- a decimal number in its range
-abbrev pub number_of : ℕ → List ℕ → Result ℕ LineRefused
-number_of most word = ok_or (decimal_of most word) Number
+abbrev pub read_number : ℕ → List ℕ → Result ℕ LineRefused
+read_number most word = ok_or (decimal_of most word) Number
 
 -- a decimal number of 64, of 16 and of 8 bits
 abbrev pub u64_of : List ℕ → Result ℕ LineRefused
-u64_of word = number_of (2 ^ 64 - 1) word
+u64_of word = read_number (2 ^ 64 - 1) word
 
 abbrev pub u16_of : List ℕ → Result ℕ LineRefused
-u16_of word = number_of 65535 word
+u16_of word = read_number 65535 word
 
 abbrev pub u8_of : List ℕ → Result ℕ LineRefused
-u8_of word = number_of 255 word
+u8_of word = read_number 255 word
 
 -- a decimal number from 1 on
 abbrev pub positive_of : ℕ → List ℕ → Result ℕ LineRefused
-positive_of most word = number_of most word >>= λ n. if n == 0 then Err Number else Ok n
+positive_of most word = read_number most word >>= λ n. if n == 0 then Err Number else Ok n
 
 -- a hexadecimal number
 abbrev pub hex_u64_of : List ℕ → Result ℕ LineRefused
@@ -38,21 +38,21 @@ abbrev pub hex_bytes_of : List ℕ → Result (List ℕ) LineRefused
 hex_bytes_of word = ok_or (bytes_of word) Hex
 
 -- a label
-abbrev pub label_of : List ℕ → Result (List ℕ) LineRefused
-label_of word = if is_label word then Ok word else Err NoLabel
+abbrev pub read_label : List ℕ → Result (List ℕ) LineRefused
+read_label word = if is_label word then Ok word else Err NoLabel
 
 -- a limit: how many corrected errors within how many seconds are too many, in decimal and from 1 on
-abbrev pub limit_of : List (List ℕ) → Result Limit LineRefused
-limit_of (capacity ∷ period ∷ []) = do
+abbrev pub read_limit : List (List ℕ) → Result Limit LineRefused
+read_limit (capacity ∷ period ∷ []) = do
   capacity ← positive_of MOST_CAPACITY capacity
   period ← positive_of MOST_PERIOD period
   Ok (record { capacity = capacity; period = period })
-limit_of words = Err Words
+read_limit words = Err Words
 
 -- The snapshot of a machine-check bank: boot, seconds, cpu, bank and time-stamp counter in decimal,
 -- then IA32_MCG_CAP, IA32_MCG_STATUS and the bank's IA32_MCi_STATUS, ADDR and MISC in hexadecimal.
-abbrev pub report_of : List (List ℕ) → Result BankReport LineRefused
-report_of (boot ∷ seconds ∷ cpu ∷ bank ∷ tsc ∷ cap ∷ mcg ∷ status ∷ addr ∷ misc ∷ []) = do
+abbrev pub read_report : List (List ℕ) → Result BankReport LineRefused
+read_report (boot ∷ seconds ∷ cpu ∷ bank ∷ tsc ∷ cap ∷ mcg ∷ status ∷ addr ∷ misc ∷ []) = do
   boot ← u64_of boot
   seconds ← u64_of seconds
   cpu ← u16_of cpu
@@ -75,4 +75,4 @@ report_of (boot ∷ seconds ∷ cpu ∷ bank ∷ tsc ∷ cap ∷ mcg ∷ status 
     addr = addr;
     misc = misc;
   })
-report_of words = Err Words
+read_report words = Err Words

@@ -11,7 +11,7 @@ use Rattle.ras_script.specs.declared.line.LineRefused.{LineRefused}
 use Rattle.ras_script.specs.declared.line.LineRefused.TheVariants.{Words, Number}
 use Rattle.ras_script.specs.declared.line.ErrorReport.TheVariants.{Bank, Block, Boot}
 use Rattle.ras_script.specs.declared.line.Table.TheVariants.{Hest, Erst}
-use Rattle.ras_script.specs.Fields.{hex_bytes_of, hex_u64_of, label_of, limit_of, number_of, report_of, u16_of, u64_of, u8_of}
+use Rattle.ras_script.specs.Fields.{hex_bytes_of, hex_u64_of, read_label, read_limit, read_number, read_report, u16_of, u64_of, u8_of}
 
 -- what the words after a kind's name ask for
 abbrev pub Reading : Type 0
@@ -20,7 +20,7 @@ Reading = List (List ℕ) → Result Line LineRefused
 -- the snapshot of a machine-check bank
 abbrev pub bank_asks : Reading
 bank_asks words = do
-  report ← report_of words
+  report ← read_report words
   Ok (asks.Report (Bank report))
 
 -- a CPU and its socket
@@ -34,10 +34,10 @@ cpu_asks words = Err Words
 -- a memory module: its label, and the socket, the bank and the memory channel that report it
 abbrev pub module_asks : Reading
 module_asks (label ∷ socket ∷ bank ∷ channel ∷ []) = do
-  label ← label_of label
+  label ← read_label label
   socket ← u8_of socket
   bank ← u8_of bank
-  channel ← number_of LAST_CHANNEL channel
+  channel ← read_number LAST_CHANNEL channel
   Ok (asks.Row (Module label socket bank channel))
 module_asks words = Err Words
 
@@ -45,7 +45,7 @@ module_asks words = Err Words
 -- hexadecimal. The first is not above the last.
 abbrev pub range_asks : Reading
 range_asks (label ∷ first ∷ last ∷ []) = do
-  label ← label_of label
+  label ← read_label label
   first ← hex_u64_of first
   last ← hex_u64_of last
   (if nat_le first last then Ok (asks.Row (Range label first last)) else Err Number)
@@ -54,7 +54,7 @@ range_asks words = Err Words
 -- where firmware finds a module: its label, and its node, its card and its module number
 abbrev pub place_asks : Reading
 place_asks (label ∷ node ∷ card ∷ number ∷ []) = do
-  label ← label_of label
+  label ← read_label label
   node ← u16_of node
   card ← u16_of card
   number ← u16_of number
@@ -64,12 +64,12 @@ place_asks words = Err Words
 -- a limit for pages, and one for modules
 abbrev pub limit_asks : Reading
 limit_asks words = do
-  limit ← limit_of words
+  limit ← read_limit words
   Ok (asks.Entry (Limit limit))
 
 abbrev pub module_limit_asks : Reading
 module_limit_asks words = do
-  limit ← limit_of words
+  limit ← read_limit words
   Ok (asks.Entry (ModuleLimit limit))
 
 -- the bytes of a hardware error source table, and of an error record serialization table
@@ -133,7 +133,7 @@ abbrev pub panic_asks : Reading
 panic_asks [] = Err Words
 panic_asks (id ∷ words) = if length words == BANK_WORDS then (do
   id ← hex_u64_of id
-  bank ← report_of words
+  bank ← read_report words
   Ok (asks.Panic id bank)) else Err Words
 
 -- the account made again from its file: no word stands after `restart`

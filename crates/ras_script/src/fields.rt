@@ -1,8 +1,8 @@
 //! What a word of a line says, and what a few of them say together.
 
 ghost use Rattle.std.specs.Prelude.{◌≡◌, ◌≤◌, map, IfOk};
-ghost use Rattle.ras_script.specs.Fields.{hex_bytes_of, hex_u64_of, label_of, limit_of, number_of};
-ghost use Rattle.ras_script.specs.Fields.{positive_of, report_of, u16_of, u64_of, u8_of};
+ghost use Rattle.ras_script.specs.Fields.{hex_bytes_of, hex_u64_of, read_label, read_limit, read_number};
+ghost use Rattle.ras_script.specs.Fields.{positive_of, read_report, u16_of, u64_of, u8_of};
 ghost use Rattle.ras_script.specs.Line.{Gives};
 
 use crate::LineRefused;
@@ -19,8 +19,8 @@ pub const BANK_WORDS: usize = 10;
 
 // A word as a decimal number of at most `most`.
 #[inline(always)]
-pub(crate) fn number_of(word: &[u8], most: u64) -> Result<u64, LineRefused>
-    ensures value { result ≡ number_of most word.now }
+pub(crate) fn read_number(word: &[u8], most: u64) -> Result<u64, LineRefused>
+    ensures value { result ≡ read_number most word.now }
     ensures within { IfOk result (λ n. n ≤ most) }
 {
     decimal(word, most).ok_or(LineRefused::Number)
@@ -31,7 +31,7 @@ pub(crate) fn number_of(word: &[u8], most: u64) -> Result<u64, LineRefused>
 pub(crate) fn u64_of(word: &[u8]) -> Result<u64, LineRefused>
     ensures { result ≡ u64_of word.now }
 {
-    number_of(word, u64::MAX)
+    read_number(word, u64::MAX)
 }
 
 // A word as a decimal number of 16 bits.
@@ -39,7 +39,7 @@ pub(crate) fn u64_of(word: &[u8]) -> Result<u64, LineRefused>
 pub(crate) fn u16_of(word: &[u8]) -> Result<u16, LineRefused>
     ensures { result ≡ u16_of word.now }
 {
-    Ok(number_of(word, u64::from(u16::MAX))? as u16)
+    Ok(read_number(word, u64::from(u16::MAX))? as u16)
 }
 
 // A word as a decimal number of 8 bits.
@@ -47,7 +47,7 @@ pub(crate) fn u16_of(word: &[u8]) -> Result<u16, LineRefused>
 pub(crate) fn u8_of(word: &[u8]) -> Result<u8, LineRefused>
     ensures { result ≡ u8_of word.now }
 {
-    Ok(number_of(word, u64::from(u8::MAX))? as u8)
+    Ok(read_number(word, u64::from(u8::MAX))? as u8)
 }
 
 // A word as a decimal number from 1 to `most`.
@@ -55,7 +55,7 @@ fn positive_of(word: &[u8], most: u64) -> Result<u64, LineRefused>
     ensures value { result ≡ positive_of most word.now }
     ensures within { IfOk result (λ n. (1 ≤ n) × (n ≤ most)) }
 {
-    let number = number_of(word, most)?;
+    let number = read_number(word, most)?;
     if number == 0 {
         return Err(LineRefused::Number);
     }
@@ -71,8 +71,8 @@ pub(crate) fn hex_u64_of(word: &[u8]) -> Result<u64, LineRefused>
 }
 
 // A word as a label.
-pub(crate) fn label_of(alloc: Global, word: &[u8]) -> Result<Label, LineRefused>
-    ensures { Gives result (label_of word.now) }
+pub(crate) fn read_label(alloc: Global, word: &[u8]) -> Result<Label, LineRefused>
+    ensures { Gives result (read_label word.now) }
 {
     match Label::new(alloc, word) {
         Ok(label) => Ok(label),
@@ -89,8 +89,8 @@ pub(crate) fn hex_bytes_of(alloc: Global, word: &[u8]) -> Result<Text, LineRefus
 }
 
 // Two words as a limit.
-pub(crate) fn limit_of(words: &[&[u8]]) -> Result<Limit, LineRefused>
-    ensures { result ≡ limit_of (map (λ word. word.now) words.now) }
+pub(crate) fn read_limit(words: &[&[u8]]) -> Result<Limit, LineRefused>
+    ensures { result ≡ read_limit (map (λ word. word.now) words.now) }
 {
     let [capacity, period] = words else {
         return Err(LineRefused::Words);
@@ -102,8 +102,8 @@ pub(crate) fn limit_of(words: &[&[u8]]) -> Result<Limit, LineRefused>
 
 // Ten words as the snapshot of a bank.
 #[tactic(auto, using(crate::proofs::ShapeLemmas::ten, crate::proofs::ShapeLemmas::too_few, crate::proofs::ShapeLemmas::too_many))]
-pub(crate) fn report_of(words: &[&[u8]]) -> Result<BankReport, LineRefused>
-    ensures { result ≡ report_of (map (λ word. word.now) words.now) }
+pub(crate) fn read_report(words: &[&[u8]]) -> Result<BankReport, LineRefused>
+    ensures { result ≡ read_report (map (λ word. word.now) words.now) }
 {
     let [boot, seconds, cpu, bank, tsc, cap, mcg, status, addr, misc] = words else {
         return Err(LineRefused::Words);

@@ -8,7 +8,7 @@ ghost use Rattle.ras_script.specs.Kinds.{restart_asks, retire_asks};
 ghost use Rattle.ras_script.specs.Line.{Gives, kinds, line_named};
 
 use crate::fields::{
-    BANK_WORDS, hex_bytes_of, hex_u64_of, label_of, limit_of, number_of, report_of, u8_of, u16_of,
+    BANK_WORDS, hex_bytes_of, hex_u64_of, read_label, read_limit, read_number, read_report, u8_of, u16_of,
     u64_of,
 };
 use crate::{ErrorReport, Line, LineRefused, Table};
@@ -81,7 +81,7 @@ pub(crate) fn event_of(alloc: Global, kind: &[u8], words: &[&[u8]]) -> Result<Li
 fn bank_asks(words: &[&[u8]]) -> Result<Line, LineRefused>
     ensures { result ≡ bank_asks (map (λ word. word.now) words.now) }
 {
-    let report = report_of(words)?;
+    let report = read_report(words)?;
     Ok(Line::Report(ErrorReport::Bank(report)))
 }
 
@@ -105,10 +105,10 @@ fn module_asks(alloc: Global, words: &[&[u8]]) -> Result<Line, LineRefused>
     let [label, socket, bank, channel] = words else {
         return Err(LineRefused::Words);
     };
-    let label = label_of(alloc, label)?;
+    let label = read_label(alloc, label)?;
     let socket = u8_of(socket)?;
     let bank = u8_of(bank)?;
-    let channel = number_of(channel, LAST_CHANNEL)? as u8;
+    let channel = read_number(channel, LAST_CHANNEL)? as u8;
     Ok(Line::Row(Row::Module {
         label,
         socket,
@@ -125,7 +125,7 @@ fn range_asks(alloc: Global, words: &[&[u8]]) -> Result<Line, LineRefused>
     let [label, first, last] = words else {
         return Err(LineRefused::Words);
     };
-    let label = label_of(alloc, label)?;
+    let label = read_label(alloc, label)?;
     let first = hex_u64_of(first)?;
     let last = hex_u64_of(last)?;
     if first > last {
@@ -142,7 +142,7 @@ fn place_asks(alloc: Global, words: &[&[u8]]) -> Result<Line, LineRefused>
     let [label, node, card, module] = words else {
         return Err(LineRefused::Words);
     };
-    let label = label_of(alloc, label)?;
+    let label = read_label(alloc, label)?;
     let node = u16_of(node)?;
     let card = u16_of(card)?;
     let module = u16_of(module)?;
@@ -158,7 +158,7 @@ fn place_asks(alloc: Global, words: &[&[u8]]) -> Result<Line, LineRefused>
 fn limit_asks(words: &[&[u8]]) -> Result<Line, LineRefused>
     ensures { result ≡ limit_asks (map (λ word. word.now) words.now) }
 {
-    let limit = limit_of(words)?;
+    let limit = read_limit(words)?;
     Ok(Line::Entry(Entry::Limit(limit)))
 }
 
@@ -166,7 +166,7 @@ fn limit_asks(words: &[&[u8]]) -> Result<Line, LineRefused>
 fn module_limit_asks(words: &[&[u8]]) -> Result<Line, LineRefused>
     ensures { result ≡ module_limit_asks (map (λ word. word.now) words.now) }
 {
-    let limit = limit_of(words)?;
+    let limit = read_limit(words)?;
     Ok(Line::Entry(Entry::ModuleLimit(limit)))
 }
 
@@ -279,7 +279,7 @@ fn panic_asks(words: &[&[u8]]) -> Result<Line, LineRefused>
         return Err(LineRefused::Words);
     }
     let id = hex_u64_of(id)?;
-    let bank = report_of(words)?;
+    let bank = read_report(words)?;
     Ok(Line::Panic { id, bank })
 }
 
