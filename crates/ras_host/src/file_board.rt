@@ -129,8 +129,7 @@ impl Board for FileBoard {
         ensures device { self.new.kept ≡ self.old.kept }
         ensures cause { FailsAs disk_call self.old.faults self.new.faults result }
     {
-        let size = self.journal.size(file);
-        counted(size, &mut self.disk_faults)
+        counted(self.journal.size(file), &mut self.disk_faults)
     }
 
     fn read_at(&mut self, file: FileNo, place: u64, buf: &mut [u8]) -> Result<usize, Failed>
@@ -154,8 +153,7 @@ impl Board for FileBoard {
         ensures device { self.new.kept ≡ self.old.kept }
         ensures cause { FailsAs disk_call self.old.faults self.new.faults result }
     {
-        let done = self.journal.sync(file);
-        counted(done, &mut self.disk_faults)
+        counted(self.journal.sync(file), &mut self.disk_faults)
     }
 
     fn reg_read(&mut self, reg: Reg) -> Result<u64, Failed>
@@ -222,14 +220,9 @@ impl Board for FileBoard {
         ensures cause { FailsAs device_call self.old.faults self.new.faults
             (put_failure result) }
     {
-        let Ok(Saved { mut device, file }) = self.take() else {
-            return Err(BoardPut::Failed);
-        };
+        let Saved { mut device, file } = self.take().map_err(|_| BoardPut::Failed)?;
         match put_and_encode(self.rt.alloc(), &mut device, id, bytes) {
-            Ok(new) => match self.save(device, &file, new) {
-                Ok(()) => Ok(()),
-                Err(Failed) => Err(BoardPut::Failed),
-            },
+            Ok(new) => self.save(device, &file, new).map_err(|_| BoardPut::Failed),
             Err(refused) => {
                 self.kept = Kept::Here(Saved { device, file });
                 Err(BoardPut::Refused(refused))
@@ -241,7 +234,6 @@ impl Board for FileBoard {
         ensures device { self.new.kept ≡ self.old.kept }
         ensures cause { FailsAs print_call self.old.faults self.new.faults result }
     {
-        let done = self.rt.stdout().write_all(bytes);
-        counted(done, &mut self.print_faults)
+        counted(self.rt.stdout().write_all(bytes), &mut self.print_faults)
     }
 }

@@ -37,7 +37,6 @@ impl Source for FileSource {
     ghost faults = { λ s. s };
 
     fn read(&mut self, buf: &mut [u8]) -> Result<usize, Failed> {
-        let read = read_input(&self.rt, buf);
-        counted(read, &mut self.faults)
+        counted(read_input(&self.rt, buf), &mut self.faults)
     }
 }
