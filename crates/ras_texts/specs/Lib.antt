@@ -4,3 +4,4 @@ pub mod Text
 pub mod Reports
 pub mod Orders
 pub mod OrderRoom
+pub mod Listing

@@ -4,6 +4,7 @@
 
 mod detail;
 mod ends;
+mod listing;
 mod log;
 mod order;
 mod pieces;
@@ -11,6 +12,7 @@ mod report;
 mod section;
 
 pub use ends::{done_line, end_line, push_done};
+pub use listing::{Listing, push_listing};
 pub use log::{push_known, push_repeat};
 pub use order::{ORDER_LENGTH, push_orders, standing_lines};
 pub use pieces::{class_word, push_name, push_number};
