@@ -1,11 +1,10 @@
 //! The moving of bytes in the range.
-use super::steps::{
-    ALL, Row, VALUE, board, last_access, plain, range_read, range_write, run, run_rows, table,
+use super::rows::{
+    ALL, Row, VALUE, board, last_access, plain, range_read, range_write, run, table,
 };
 use board_core::{Access, MemBoard, Reg};
 use erst_interp::{RunRefused, Table};
 use std::alloc::Global;
-use std::test::Fail;
 
 // Where the range stands.
 const RANGE: u64 = 0xf001_0000;
@@ -25,18 +24,16 @@ type Move = (u64, u64, u64, u64);
 type Moved = (Result<u64, RunRefused>, [u8; 8], Option<Access>);
 
 // The entries that do a move.
-fn rows_of(alloc: Global, wanted: Move) -> Result<Vec<Row>, Fail> {
+fn rows_of(alloc: Global, wanted: Move) -> Option<Vec<Row>> {
     let (from, to, offset, count) = wanted;
-    let mut rows = Vec::new(alloc);
-    rows.extend_from_slice(&taken(from, 16))?;
-    rows.extend_from_slice(&taken(to, 17))?;
-    rows.extend_from_slice(&taken(count, 6))?;
-    rows.extend_from_slice(&taken(offset, 18))?;
-    Ok(rows)
-}
-
-fn table_of(alloc: Global, wanted: Move) -> Result<Table, Fail> {
-    table(alloc, &rows_of(alloc, wanted)?)
+    [
+        taken(from, 16),
+        taken(to, 17),
+        taken(count, 6),
+        taken(offset, 18),
+    ]
+    .concat(alloc)
+    .ok()
 }
 
 // Runs a table over a board whose range begins with the numbers from 1 on; None where the range
@@ -46,7 +43,7 @@ fn run_over(table: &Table, board: &mut MemBoard) -> Option<Moved> {
         return None;
     }
     let answer = run(table, 16, 7, board);
-    let last = last_access(board).1;
+    let last = last_access(board);
     let mut front = [0; 8];
     if !range_read(board, &mut front) {
         return None;
@@ -54,10 +51,10 @@ fn run_over(table: &Table, board: &mut MemBoard) -> Option<Moved> {
     Some((answer, front, last))
 }
 
-fn move_bytes(alloc: Global, wanted: Move) -> Result<Option<Moved>, Fail> {
-    let table = table_of(alloc, wanted)?;
+fn move_bytes(alloc: Global, wanted: Move) -> Option<Moved> {
+    let table = table(alloc, &rows_of(alloc, wanted)?)?;
     let mut board = board(alloc, 0)?;
-    Ok(run_over(&table, &mut board))
+    run_over(&table, &mut board)
 }
 
 // Source and destination, offset and count, and the first bytes after the move.
@@ -74,7 +71,7 @@ const MOVES: [(u64, u64, u64, u64, [u8; 8], u32); 6] = [
     (0, 0, 0, 16_384, [1, 2, 3, 4, 5, 6, 7, 8], 0),
 ];
 
-fn moves_so(alloc: Global, wanted: Move, front: [u8; 8], place: u32) -> Result<bool, Fail> {
+fn moves_so(alloc: Global, wanted: Move, front: [u8; 8], place: u32) -> bool {
     let (from, to, offset, count) = wanted;
     let placed = (
         RANGE.saturating_add(from),
@@ -83,18 +80,17 @@ fn moves_so(alloc: Global, wanted: Move, front: [u8; 8], place: u32) -> Result<b
         count,
     );
     let last = Access::RangeWrite(place, count.min(16_384) as u32);
-    Ok(move_bytes(alloc, placed)? == Some((Ok(7), front, Some(last))))
+    move_bytes(alloc, placed) == Some((Ok(7), front, Some(last)))
 }
 
 #[test]
-fn moves_as_if_read_whole_first(rt: HostRuntime) -> Result<(), Fail> {
-    for (from, to, offset, count, front, place) in MOVES {
+fn moves_as_if_read_whole_first(rt: HostRuntime) {
+    for (from, to, offset, count, front, place) in &MOVES {
         assert!(rt;
-            moves_so(rt.alloc(), (from, to, offset, count), front, place)?,
+            moves_so(rt.alloc(), (*from, *to, *offset, *count), *front, *place),
             "{count} from {from} to {to}"
         );
     }
-    Ok(())
 }
 
 // Bases, offset and count of stretches that aren't inside: one byte past the end, before the range,
@@ -111,28 +107,18 @@ const OUTSIDE: [Move; 8] = [
 ];
 
 // The register that gives the offset is read in every case, and nothing more.
-fn is_refused(alloc: Global, wanted: Move) -> Result<bool, Fail> {
+fn is_refused(alloc: Global, wanted: Move) -> bool {
     let last = Access::Read(Reg::Value, wanted.2);
     let front = [1, 2, 3, 4, 5, 6, 7, 8];
-    Ok(move_bytes(alloc, wanted)? == Some((Err(RunRefused::BadRange), front, Some(last))))
+    move_bytes(alloc, wanted) == Some((Err(RunRefused::BadRange), front, Some(last)))
 }
 
 #[test]
-fn refuses_what_is_not_inside(rt: HostRuntime) -> Result<(), Fail> {
-    for (from, to, offset, count) in OUTSIDE {
+fn refuses_what_is_not_inside(rt: HostRuntime) {
+    for (from, to, offset, count) in &OUTSIDE {
         assert!(rt;
-            is_refused(rt.alloc(), (from, to, offset, count))?,
+            is_refused(rt.alloc(), (*from, *to, *offset, *count)),
             "{count} from {from} to {to}"
         );
     }
-    Ok(())
-}
-
-// The bases are 0 at first, which is outside.
-#[test]
-fn moves_nothing_from_a_base_of_zero(rt: HostRuntime) -> Result<(), Fail> {
-    let rows = [plain(16, 17, VALUE, 0), plain(16, 18, VALUE, 0)];
-    let (answer, _) = run_rows(rt.alloc(), &rows, 0, 7)?;
-    assert!(rt; answer == Err(RunRefused::BadRange));
-    Ok(())
 }

@@ -1,6 +1,6 @@
 //! The reading of tables.
+use super::rows::{bytes_of, mend, refusal, set_number};
 use super::samples::PLAIN;
-use super::steps::{bytes_of, mend, refusal, set_number};
 use erst_interp::ErstTableRefused;
 use std::alloc::Global;
 use std::test::Fail;
@@ -10,7 +10,7 @@ const FRONT: [u8; 10] = [0x45, 0x52, 0x53, 0x54, 0x70, 0x02, 0, 0, 0, 0x59];
 // The plain table has the length and the checksum that were worked out by hand.
 #[test]
 fn has_the_bytes_of_the_sample(rt: HostRuntime) -> Result<(), Fail> {
-    let bytes = bytes_of(rt.alloc(), 48, &PLAIN)?;
+    let bytes = bytes_of(rt.alloc(), &PLAIN).ok_or("memory is left")?;
     assert!(rt; bytes.len() == 624 && bytes.starts_with(&FRONT));
     assert!(rt; refusal(rt.alloc(), &bytes).is_none());
     Ok(())
@@ -36,7 +36,7 @@ fn refusal_with(
     number: usize,
     mended: bool,
 ) -> Result<Option<ErstTableRefused>, Fail> {
-    let mut bytes = bytes_of(alloc, 48, &PLAIN)?;
+    let mut bytes = bytes_of(alloc, &PLAIN).ok_or("memory is left")?;
     set_number(&mut bytes, place, number);
     if mended {
         mend(&mut bytes);
@@ -46,9 +46,9 @@ fn refusal_with(
 
 #[test]
 fn refuses_the_first_cause(rt: HostRuntime) -> Result<(), Fail> {
-    for (place, number, mended, wanted) in BROKEN {
+    for (place, number, mended, wanted) in &BROKEN {
         assert!(rt;
-            refusal_with(rt.alloc(), place, number, mended)? == wanted,
+            refusal_with(rt.alloc(), *place, *number, *mended)? == *wanted,
             "{number} at {place}"
         );
     }
@@ -73,7 +73,7 @@ fn are_refused_shorter(alloc: Global, bytes: &[u8]) -> bool {
 // Each shorter length is refused, and bytes after the table change nothing.
 #[test]
 fn reads_its_own_length(rt: HostRuntime) -> Result<(), Fail> {
-    let mut bytes = bytes_of(rt.alloc(), 48, &PLAIN)?;
+    let mut bytes = bytes_of(rt.alloc(), &PLAIN).ok_or("memory is left")?;
     assert!(rt; are_refused_shorter(rt.alloc(), &bytes));
     bytes.push(7)?;
     assert!(rt; refusal(rt.alloc(), &bytes).is_none());

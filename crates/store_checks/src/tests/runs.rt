@@ -1,20 +1,13 @@
 //! The instructions one by one, and the ends of runs.
-use super::steps::{ACTION, ALL, Row, VALUE, board, last_access, plain, run, run_rows, table};
-use board_core::{Access, Reg};
+use super::rows::{ACTION, ALL, Row, VALUE, plain, run_rows};
 use erst_interp::RunRefused;
 use std::alloc::Global;
-use std::test::Fail;
-
-// An entry of action 16 that uses Value.
-const fn row(instruction: u8, value: u64) -> Row {
-    plain(16, instruction, VALUE, value)
-}
 
 // Entries, what Value holds before, what the run answers, and what Value holds after. The input is
 // 7.
 type Case = (&'static [Row], u64, Result<u64, RunRefused>, u64);
 
-const CASES: [Case; 26] = [
+const CASES: [Case; 32] = [
     (&[], 9, Ok(7), 9),
     // READ_REGISTER of bits 4 to 11
     (
@@ -161,92 +154,68 @@ const CASES: [Case; 26] = [
         Err(RunRefused::BadRegister),
         5,
     ),
+    // other registers that aren't good: another address space, a bit offset of 64, other addresses
+    (&[Row(16, 0, 0, 1, 0, VALUE, 0, ALL)], 9, BAD, 9),
+    (&[Row(16, 0, 0, 0, 64, VALUE, 0, ALL)], 9, BAD, 9),
+    (&[Row(16, 0, 0, 0, 255, ACTION, 0, ALL)], 9, BAD, 9),
+    (&[Row(16, 0, 0, 0, 0, VALUE + 1, 0, ALL)], 9, BAD, 9),
+    (&[Row(16, 0, 0, 0, 0, 0, 0, ALL)], 9, BAD, 9),
+    // SET_DST_ADDRESS_BASE from a register that holds 0, and MOVE_DATA
+    (
+        &[
+            Row(16, 17, 0, 0, 0, VALUE, 0, ALL),
+            Row(16, 18, 0, 0, 0, VALUE, 0, ALL),
+        ],
+        0,
+        Err(RunRefused::BadRange),
+        0,
+    ),
 ];
 
-fn runs_so(alloc: Global, case: Case) -> Result<bool, Fail> {
+const BAD: Result<u64, RunRefused> = Err(RunRefused::BadRegister);
+
+fn runs_so(alloc: Global, case: Case) -> bool {
     let (rows, before, answer, after) = case;
-    Ok(run_rows(alloc, rows, before, 7)? == (answer, Some(after)))
+    run_rows(alloc, rows, before, 7) == Some((answer, Some(after)))
 }
 
 #[test]
-fn does_each_instruction(rt: HostRuntime) -> Result<(), Fail> {
+fn does_each_instruction(rt: HostRuntime) {
     for (number, case) in CASES.iter().enumerate() {
-        assert!(rt; runs_so(rt.alloc(), *case)?, "case {number}");
+        assert!(rt; runs_so(rt.alloc(), *case), "case {number}");
     }
-    Ok(())
-}
-
-// Registers that aren't good: another address space, a bit offset of 64, other addresses.
-const BAD: [Row; 5] = [
-    Row(16, 0, 0, 1, 0, VALUE, 0, ALL),
-    Row(16, 0, 0, 0, 64, VALUE, 0, ALL),
-    Row(16, 0, 0, 0, 255, ACTION, 0, ALL),
-    Row(16, 0, 0, 0, 0, VALUE + 1, 0, ALL),
-    Row(16, 0, 0, 0, 0, 0, 0, ALL),
-];
-
-fn is_bad_register(alloc: Global, row: Row) -> Result<bool, Fail> {
-    let (answer, _) = run_rows(alloc, &[row], 9, 7)?;
-    Ok(answer == Err(RunRefused::BadRegister))
-}
-
-#[test]
-fn refuses_a_register_that_is_not_good(rt: HostRuntime) -> Result<(), Fail> {
-    for (number, row) in BAD.iter().enumerate() {
-        assert!(rt; is_bad_register(rt.alloc(), *row)?, "case {number}");
-    }
-    Ok(())
 }
 
 // So many NOOP entries, and entries of another action between them.
-fn many_rows(alloc: Global, count: usize) -> Result<Vec<Row>, Fail> {
+fn many_rows(alloc: Global, count: usize) -> Option<Vec<Row>> {
     let mut rows = Vec::new(alloc);
     for _ in 0..count {
-        rows.extend_from_slice(&[row(4, 0), plain(17, 3, VALUE, 1)])?;
+        rows.extend_from_slice(&[plain(16, 4, VALUE, 0), plain(17, 3, VALUE, 1)])
+            .ok()?;
     }
-    Ok(rows)
+    Some(rows)
 }
 
-fn answer_of_many(alloc: Global, count: usize) -> Result<Result<u64, RunRefused>, Fail> {
+fn answer_of_many(alloc: Global, count: usize) -> Option<Result<u64, RunRefused>> {
     let rows = many_rows(alloc, count)?;
     let (answer, _) = run_rows(alloc, &rows, 9, 7)?;
-    Ok(answer)
+    Some(answer)
 }
 
-// GOTO doesn't count entries of another action.
+// How many entries of the action there are, and what the run answers.
+const TURNS: [(usize, Result<u64, RunRefused>); 3] = [
+    (4_095, Ok(7)),
+    (4_096, Ok(7)),
+    (4_097, Err(RunRefused::Fuel)),
+];
+
+// Entries of another action take no turn.
 #[test]
-fn ends_within_its_turns(rt: HostRuntime) -> Result<(), Fail> {
-    for (count, wanted) in [
-        (4_095, Ok(7)),
-        (4_096, Ok(7)),
-        (4_097, Err(RunRefused::Fuel)),
-    ] {
+fn ends_within_its_turns(rt: HostRuntime) {
+    for (count, wanted) in &TURNS {
         assert!(rt;
-            answer_of_many(rt.alloc(), count)? == wanted,
+            answer_of_many(rt.alloc(), *count) == Some(*wanted),
             "{count} entries"
         );
     }
-    Ok(())
-}
-
-// What runs answer, and how many accesses were made after each, with the last of them.
-type Waited = (Result<u64, RunRefused>, (usize, Option<Access>));
-
-fn waits(alloc: Global) -> Result<(Waited, Waited), Fail> {
-    let table = table(alloc, &[row(13, 9)])?;
-    let mut board = board(alloc, 9)?;
-    let answer = run(&table, 16, 7, &mut board);
-    let first = (answer, last_access(&board));
-    let answer = run(&table, 3, 7, &mut board);
-    Ok((first, (answer, last_access(&board))))
-}
-
-// A wait that doesn't end makes an access a turn. What was done before a refusal stays done.
-#[test]
-fn makes_an_access_a_turn(rt: HostRuntime) -> Result<(), Fail> {
-    let (first, second) = waits(rt.alloc())?;
-    let last = Some(Access::Read(Reg::Value, 9));
-    assert!(rt; first.0 == Err(RunRefused::Fuel) && first.1 == (4_097, last));
-    assert!(rt; second.0 == Ok(7) && second.1.0 == 4_097);
-    Ok(())
 }

@@ -2,8 +2,7 @@
 use board_core::{Access, Board, MemBoard, Reg};
 use erst_interp::{ErstTableRefused, RunRefused, Table, admits, read_erst};
 use erst_store::Store;
-use std::alloc::Global;
-use std::test::Fail;
+use std::alloc::{AllocError, Global};
 
 /// The addresses of the registers Action and Value.
 pub const ACTION: u64 = 0xf000_0000;
@@ -31,32 +30,36 @@ pub const fn plain(action: u8, instruction: u8, address: u64, value: u64) -> Row
     Row(action, instruction, 0, 0, 0, address, value, ALL)
 }
 
-/// The bytes of a table of these entries, with this size of its header.
-pub fn bytes_of(alloc: Global, header: u8, rows: &[Row]) -> Result<Vec<u8>, Fail> {
-    let mut bytes = Vec::from_slice(alloc, b"ERST")?;
-    bytes.resize(48, 0)?;
-    bytes[36] = header;
-    add_rows(&mut bytes, rows)?;
-    let length = bytes.len();
-    set_number(&mut bytes, 4, length);
-    set_number(&mut bytes, 44, rows.len());
-    mend(&mut bytes);
-    Ok(bytes)
+/// Two lists of entries, one after the other.
+pub fn joined(alloc: Global, one: &[Row], other: &[Row]) -> Option<Vec<Row>> {
+    [one, other].concat(alloc).ok()
 }
 
-fn add_rows(bytes: &mut Vec<u8>, rows: &[Row]) -> Result<(), Fail> {
+/// The bytes of a table of these entries.
+pub fn bytes_of(alloc: Global, rows: &[Row]) -> Option<Vec<u8>> {
+    let mut bytes = vec![in alloc; 0; 48].ok()?;
     for row in rows {
-        add_row(bytes, *row)?;
+        add_row(&mut bytes, *row).ok()?;
     }
-    Ok(())
+    set_head(&mut bytes, rows.len());
+    Some(bytes)
 }
 
-fn add_row(bytes: &mut Vec<u8>, row: Row) -> Result<(), Fail> {
+fn add_row(bytes: &mut Vec<u8>, row: Row) -> Result<(), AllocError> {
     bytes.extend_from_slice(&[row.0, row.1, row.2, 0, row.3, 64, row.4, 4])?;
     bytes.extend_from_slice(&row.5.to_le_bytes())?;
     bytes.extend_from_slice(&row.6.to_le_bytes())?;
-    bytes.extend_from_slice(&row.7.to_le_bytes())?;
-    Ok(())
+    bytes.extend_from_slice(&row.7.to_le_bytes())
+}
+
+// Sets the head of a table of so many entries, and the checksum last.
+fn set_head(bytes: &mut [u8], count: usize) {
+    let length = bytes.len();
+    set_number(bytes, 0, 0x5453_5245);
+    set_number(bytes, 4, length);
+    set_number(bytes, 36, 48);
+    set_number(bytes, 44, count);
+    mend(bytes);
 }
 
 /// Sets a number of four bytes, where the bytes reach so far and it fits.
@@ -85,20 +88,16 @@ pub fn refusal(alloc: Global, bytes: &[u8]) -> Option<ErstTableRefused> {
     read_erst(alloc, bytes).err()
 }
 
-/// A table of these entries.
-pub fn table(alloc: Global, rows: &[Row]) -> Result<Table, Fail> {
-    let bytes = bytes_of(alloc, 48, rows)?;
-    Ok(read(alloc, &bytes)?)
-}
-
-fn read(alloc: Global, bytes: &[u8]) -> Result<Table, ErstTableRefused> {
-    read_erst(alloc, bytes)
+/// A table of these entries, or none if memory runs out.
+pub fn table(alloc: Global, rows: &[Row]) -> Option<Table> {
+    let bytes = bytes_of(alloc, rows)?;
+    read_erst(alloc, &bytes).ok()
 }
 
 /// Whether a table of these entries is admitted.
-pub fn admitted(alloc: Global, rows: &[Row]) -> Result<bool, Fail> {
+pub fn admitted(alloc: Global, rows: &[Row]) -> Option<bool> {
     let table = table(alloc, rows)?;
-    Ok(is_admitted(&table))
+    Some(is_admitted(&table))
 }
 
 fn is_admitted(table: &Table) -> bool {
@@ -106,14 +105,10 @@ fn is_admitted(table: &Table) -> bool {
 }
 
 /// A new board over an empty store, whose register Value holds this.
-pub fn board(alloc: Global, value: u64) -> Result<MemBoard, Fail> {
-    let mut board = new_board(alloc)?;
+pub fn board(alloc: Global, value: u64) -> Option<MemBoard> {
+    let mut board = MemBoard::new(alloc, Store::new(alloc), 0).ok()?;
     set(&mut board, Reg::Value, value);
-    Ok(board)
-}
-
-fn new_board(alloc: Global) -> Result<MemBoard, Fail> {
-    Ok(MemBoard::new(alloc, Store::new(alloc), 0)?)
+    Some(board)
 }
 
 pub fn run(table: &Table, action: u8, input: u64, board: &mut MemBoard) -> Result<u64, RunRefused> {
@@ -127,30 +122,32 @@ pub fn run_rows(
     rows: &[Row],
     value: u64,
     input: u64,
-) -> Result<(Result<u64, RunRefused>, Option<u64>), Fail> {
+) -> Option<(Result<u64, RunRefused>, Option<u64>)> {
     let table = table(alloc, rows)?;
     let mut board = board(alloc, value)?;
-    let answer = run(&table, 16, input, &mut board);
-    let left = get(&mut board, Reg::Value);
-    Ok((answer, left))
+    Some(run_on(&table, input, &mut board))
 }
 
-pub fn set(board: &mut MemBoard, reg: Reg, value: u64) -> bool {
+fn run_on(
+    table: &Table,
+    input: u64,
+    board: &mut MemBoard,
+) -> (Result<u64, RunRefused>, Option<u64>) {
+    let answer = run(table, 16, input, board);
+    (answer, get(board, Reg::Value))
+}
+
+fn set(board: &mut MemBoard, reg: Reg, value: u64) -> bool {
     board.reg_write(reg, value).is_ok()
 }
 
-pub fn get(board: &mut MemBoard, reg: Reg) -> Option<u64> {
+fn get(board: &mut MemBoard, reg: Reg) -> Option<u64> {
     board.reg_read(reg).ok()
 }
 
-/// How many accesses were made, and the last of them.
-pub fn last_access(board: &MemBoard) -> (usize, Option<Access>) {
-    let accesses = board.accesses();
-    (accesses.len(), accesses.last().copied())
-}
-
-pub fn put(board: &mut MemBoard, id: u64, bytes: &[u8]) -> bool {
-    board.put(id, bytes).is_ok()
+/// The last access that was made.
+pub fn last_access(board: &MemBoard) -> Option<Access> {
+    board.accesses().last().copied()
 }
 
 /// Reads from the front of the range, where it is long enough.

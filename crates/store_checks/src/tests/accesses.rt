@@ -1,5 +1,5 @@
 //! The accesses of a poll and of a write, word for word.
-use super::steps::{Answer, Operation, PLAIN, Seen, Start, play};
+use super::played::{Answer, Operation, Seen, Start, USUAL, play};
 use board_core::Access::{self, RangeRead, RangeWrite, Read, Write};
 use board_core::Reg::{Action, Value};
 use std::alloc::Global;
@@ -63,9 +63,9 @@ pub const WRITING: [Access; 11] = [
     Write(Action, 3),
 ];
 
-/// A poll of a store with one record lists it, reads it and clears it. Before each read the padded
-/// table reads Value once, which holds what the listing told last.
-pub fn polling(alloc: Global, is_padded: bool) -> Result<Vec<Access>, Fail> {
+// A poll of a store with one record lists it, reads it and clears it. Before each read the padded
+// table reads Value once, which holds what the listing told last.
+fn polling(alloc: Global, is_padded: bool) -> Result<Vec<Access>, Fail> {
     let padding: &[Access] = if is_padded { &[Read(Value, NONE)] } else { &[] };
     let mut accesses = LISTING.to_vec(alloc)?;
     add(&mut accesses, padding)?;
@@ -81,7 +81,7 @@ fn add(accesses: &mut Vec<Access>, part: &[Access]) -> Result<(), Fail> {
 const POLL: [Operation; 3] = [Operation::Ids, Operation::Read(1), Operation::Clear(1)];
 
 fn polls(alloc: Global, is_padded: bool) -> Result<bool, Fail> {
-    let seen = play(alloc, Start { is_padded, ..PLAIN }, &POLL)?;
+    let seen = play(alloc, Start { is_padded, ..USUAL }, &POLL)?;
     has_polled(alloc, &seen, is_padded)
 }
 
@@ -102,7 +102,7 @@ fn poll_makes_these_accesses(rt: HostRuntime) -> Result<(), Fail> {
 }
 
 fn writes(alloc: Global, is_padded: bool) -> Result<bool, Fail> {
-    let seen = play(alloc, Start { is_padded, ..PLAIN }, &[Operation::Write(7)])?;
+    let seen = play(alloc, Start { is_padded, ..USUAL }, &[Operation::Write(7)])?;
     Ok(
         seen.answers.as_slice() == [Answer::Done].as_slice()
             && seen.accesses.as_slice() == WRITING.as_slice()
