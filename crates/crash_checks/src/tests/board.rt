@@ -23,7 +23,7 @@ pub struct TestBoard {
     print_faults: u64,
 }
 
-// The two disks, apart from the counts, which so stay as they are where a disk is used.
+// The two disks, apart from the counts, which so stay as they are when a disk is used.
 #[derive(Drop)]
 struct Disks {
     first: MemBoard,
@@ -33,33 +33,23 @@ struct Disks {
 }
 
 impl TestBoard {
-    /// A board whose disk has these bytes in file 0, and whose call of this number fails, from 1,
-    /// and none where it is 0. Its second disk, if it is to be exchanged, has those in file 0.
-    pub fn new(
-        alloc: Global,
-        file0: &[u8],
-        fails: u64,
-        second: Option<&[u8]>,
-    ) -> Result<TestBoard, Fail> {
-        let mut first = disk_with(alloc, file0)?;
-        first.fail_at(fails)?;
-        let is_to_be_exchanged = second.is_some();
-        Ok(TestBoard {
-            disks: Disks {
-                first,
-                second: disk_with(alloc, second.unwrap_or(&[]))?,
-                is_to_be_exchanged,
-                syncs_of_one: 0,
-            },
-            disk_faults: 0,
-            device_faults: 0,
-            print_faults: 0,
-        })
+    /// A board whose disk has these files.
+    pub fn new(alloc: Global, zero: Vec<u8>, one: Vec<u8>) -> Result<TestBoard, Fail> {
+        let first = disk_with(alloc, zero, one)?;
+        Ok(over(first, disk_with(alloc, Vec::new(alloc), Vec::new(alloc))?))
     }
 
-    /// A file of the first disk.
-    pub fn file(&self, file: FileNo) -> &[u8] {
-        self.disks.first.file(file)
+    /// A board whose disk is empty, and is to be exchanged for one that has this file 0.
+    pub fn exchanging(alloc: Global, zero: Vec<u8>) -> Result<TestBoard, Fail> {
+        let first = disk_with(alloc, Vec::new(alloc), Vec::new(alloc))?;
+        let mut board = over(first, disk_with(alloc, zero, Vec::new(alloc))?);
+        board.disks.is_to_be_exchanged = true;
+        Ok(board)
+    }
+
+    /// The call of this number fails, from 1, as long as memory is left.
+    pub fn fail_at(&mut self, call: u64) {
+        let _ = self.disks.first.fail_at(call);
     }
 
     /// Every call after so many fails.
@@ -71,17 +61,7 @@ impl TestBoard {
     pub fn left(self, alloc: Global, pick: Pick) -> Result<TestBoard, Fail> {
         let TestBoard { disks, .. } = self;
         let Disks { first, second, .. } = disks;
-        Ok(TestBoard {
-            disks: Disks {
-                first: first.left(alloc, pick)?,
-                second,
-                is_to_be_exchanged: false,
-                syncs_of_one: 0,
-            },
-            disk_faults: 0,
-            device_faults: 0,
-            print_faults: 0,
-        })
+        Ok(over(first.left(alloc, pick)?, second))
     }
 
     /// What was printed.
@@ -93,6 +73,27 @@ impl TestBoard {
     pub fn disk_calls(&self) -> &[DiskCall] {
         self.disks.first.disk_calls()
     }
+}
+
+fn over(first: MemBoard, second: MemBoard) -> TestBoard {
+    TestBoard {
+        disks: Disks {
+            first,
+            second,
+            is_to_be_exchanged: false,
+            syncs_of_one: 0,
+        },
+        disk_faults: 0,
+        device_faults: 0,
+        print_faults: 0,
+    }
+}
+
+fn disk_with(alloc: Global, zero: Vec<u8>, one: Vec<u8>) -> Result<MemBoard, Fail> {
+    let mut disk = MemBoard::new(alloc, Store::new(alloc), 0)?;
+    disk.set_file(FileNo::Zero, zero);
+    disk.set_file(FileNo::One, one);
+    Ok(disk)
 }
 
 impl Disks {
@@ -111,14 +112,6 @@ impl Disks {
         }
         self.disk().sync(file)
     }
-}
-
-// A disk in memory with these bytes in file 0.
-fn disk_with(alloc: Global, file0: &[u8]) -> Result<MemBoard, Fail> {
-    let mut disk = MemBoard::new(alloc, Store::new(alloc), 0)?;
-    let bytes = file0.to_vec(alloc)?;
-    disk.set_file(FileNo::Zero, bytes);
-    Ok(disk)
 }
 
 impl Board for TestBoard {
