@@ -28,8 +28,8 @@ fn busy_device_is_asked_1000_times(rt: HostRuntime) -> Result<(), Fail> {
     Ok(())
 }
 
-// The records of a store, an operation, and how it ends. A full store has no room for a record more,
-// and has it for one in another's place.
+// The records of a store, an operation, and how it ends. A full store has no room for a record
+// more, and has it for one in another's place.
 const ANSWERS: [(u64, Operation, Answer); 14] = [
     (0, Operation::Read(1), EMPTY),
     (0, Operation::Clear(1), EMPTY),
