@@ -1,8 +1,8 @@
 use Rattle.std.proofs.Common.{◌≡◌, refl, Ok}
-use Rattle.journal_checks.proofs.LifeLemmas.{if-told, told-here}
+use Rattle.ras_recover.proofs.LiveLemmas.{if-told, told-here}
 use Rattle.ras_journal.specs.Recovered.{recovered}
 use Rattle.ras_recover.specs.Recovering.{Tells}
-use Rattle.journal_checks.proofs.life.live_opening.Goals as goal
+use Rattle.ras_recover.proofs.life.live_opening.Goals as goal
 
 pub returns-clause-works : goal.returns-clause-works
 returns-clause-works g c = λ journal t tells. (record { there = t; tells = tells }, c.open_journal.ensures.stops t tells)
