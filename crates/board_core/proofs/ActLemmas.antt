@@ -35,7 +35,7 @@ calls_by_acts (act ∷ acts) t =
     calls_by_acts acts (after_act act t)
     ∙ (ap (λ (l : List DiskCall). l ++ calls_of acts) (calls_by_act act t) ∙ append_assoc t.disk_calls (disk_calls_by act) (calls_of acts))
 
--- of acts of which one failed: a beginning of them
+-- if an act failed: a beginning of them
 pub record ListsBeginning (whole : List DiskCall) (old new : Told) : Type 0 where
   pub made : List DiskCall
   pub listed : new.disk_calls ≡ old.disk_calls ++ made

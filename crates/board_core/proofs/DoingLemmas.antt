@@ -102,7 +102,7 @@ does_then see xs ys (broke kind) a b c first made second = record {
 }
 does_then see xs ys gave_up a b c first made second = absurd made
 
--- acts of which the first ones didn't go well
+-- acts whose first ones didn't go well
 pub does_first : {X : Type 0} (see : X → Seen) (xs ys : List Act) (ended : Ended) (a b : X) → IsBad ended → Does see xs ended a b → Does see (xs ++ ys) ended a b
 does_first see xs ys went_well a b bad first = absurd bad
 does_first see xs ys (broke kind) a b bad first = record {
@@ -185,7 +185,7 @@ does_access see call result a b still same told failed passes cause =
     (λ t rests. adds_at_rest Same (TornDevice call t) t (see a).told (see a).clock (see b).clock rests passes (same t))
     (on_ok result told (λ steps t rests. rests_on (after_device call) Same t (see a).told (see b).told (see a).clock (see b).clock rests steps passes.ends (λ left is. is ∙ sym (still t)))) cause
 
--- one that may change the store, of which a stop between calls leaves what is told
+-- one that may change the store: a stop between calls leaves the store that is told
 pub does_store : {X T E : Type 0} (see : X → Seen) (call : DeviceCall) (step : Device → Device) (result : Result T E) (a b : X)
     → ((t : Told) → (after_device call t).here ≡ record t.here { store = (step (device_of t)).store }) → ((t : Told) (left : Left) → InStore (Becomes (step (device_of t)).store) t.here left → TornDevice call t left)
     → OnOk result (Steps (after_device call) (see a).told (see b).told) → OnErr result (Relates (FailsDevice call) (see a).told (see b).told) → Passes (InStore (StoreBy step (see a).told)) (see a).clock (see b).clock

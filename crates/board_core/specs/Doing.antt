@@ -26,8 +26,8 @@ looks told clock faults x = record { told = told x; clock = clock x; faults = fa
 
 -- ---- acts
 
--- a call of the device: a register read or written, bytes of its range read (from a place, so many)
--- or written, a record put
+-- a call of the device: a register read or written, bytes of its range read (from a place, and their
+-- number) or written, a record put
 pub data DeviceCall : Type 0 where
   reg_read : Reg → DeviceCall
   reg_write : Reg → ℕ → DeviceCall
@@ -132,7 +132,7 @@ abbrev pub calls_of : List Act → List DiskCall
 calls_of [] = []
 calls_of (act ∷ acts) = disk_calls_by act ++ calls_of acts
 
--- the accesses that are listed of them, where this is told at first
+-- the accesses that are listed of them, if this is told at first
 abbrev pub accesses_of : List Act → Told → List Access
 accesses_of [] t = []
 accesses_of (device call ∷ acts) t = accesses_by call (device_of t) ++ accesses_of acts (after_device call t)
@@ -146,7 +146,7 @@ pub data Ended : Type 0 where
   broke : Kind → Ended
   gave_up : Ended
 
--- a result ends so, where each error does
+-- how a result ends, if each error ends so
 abbrev pub ended_by : {T E : Type 0} → (E → Ended) → Result T E → Ended
 ended_by why (Ok x) = went_well
 ended_by why (Err e) = why e

@@ -25,7 +25,7 @@ pub fn write_through<B: Board>(
     requires { IfSome (B.told board.old) (λ told. place ≤ length (file_of file told)) }
     ensures does { Does (looks B.told B.clock B.faults) (through file place bytes.now ∷ [])
         (one_end disk_call result) board.old board.new }
-    // Also where a stop before might have left something else than the board tells.
+    // Also if a stop before might have left something else than the board tells.
     ensures stops { Adds (After (B.clock board.old) (InFile file (Torn place (length bytes.now))))
         (B.clock board.old) (B.clock board.new) }
 {
@@ -35,7 +35,7 @@ pub fn write_through<B: Board>(
 
 /// Prints `bytes` by one call.
 ///
-/// `Failed` comes only where the print failed; then a beginning of them, maybe nothing, is printed.
+/// `Failed` comes only if the print failed; then a beginning of them, maybe nothing, is printed.
 pub fn print<B: Board>(bytes: &[u8], board: &mut B) -> Result<(), Failed>
     ensures does { Does (looks B.told B.clock B.faults) (prints bytes.now ∷ [])
         (one_end print_call result) board.old board.new }

@@ -30,7 +30,7 @@ standing_with standing link = record standing {
   links = min (standing.links + 1) (2 ^ 64 - 1);
 }
 
--- An append: the link with the next closed gate is written behind the closed gate and synced, and
+-- An append: the link with the next closed gate is written after the closed gate and synced, and
 -- then that gate is opened and synced.
 abbrev pub append_acts : Standing → List ℕ → List Act
 append_acts standing link =
@@ -41,7 +41,7 @@ append_acts standing link =
 abbrev pub after_append : Standing → List ℕ → Told → Told
 after_append standing link t = after_acts (append_acts standing link) t
 
--- Full comes before any call, and Disk where a disk call failed.
+-- Full comes before any call, and Disk if a disk call failed.
 abbrev pub refusal_end : AppendRefused → Ended
 refusal_end Full = gave_up
 refusal_end Disk = broke disk_call
@@ -49,7 +49,7 @@ refusal_end Disk = broke disk_call
 abbrev pub append_end : Result (Unit {0}) AppendRefused → Ended
 append_end result = ended_by refusal_end result
 
--- What becomes of a journal that is appended to, this being its next standing: where a disk call
+-- What becomes of a journal that is appended to, this being its next standing: if a disk call
 -- failed it has failed.
 abbrev pub MovesOn : Result (Unit {0}) AppendRefused → Standing → JournalView → JournalView → Type 0
 MovesOn (Ok done) next old new = new ≡ record { standing = next; failed = false }

@@ -33,7 +33,7 @@ standing_kept standing account link = standing_with (standing_roomy standing acc
 abbrev pub lacks_room : Standing → State → List ℕ → Bool
 lacks_room standing account link = needs_switch standing link && has_no_room standing account link
 
--- Keeping a link: the acts of the switch, where one is due, and then those of the append.
+-- Keeping a link: the acts of the switch, if one is due, and then those of the append.
 abbrev pub room_acts : Standing → State → List ℕ → List Act
 room_acts standing account link = if needs_switch standing link then switch_acts standing account else []
 
@@ -45,7 +45,7 @@ keeping_acts standing account link =
 abbrev pub after_keeping : Standing → State → List ℕ → Told → Told
 after_keeping standing account link t = after_acts (keeping_acts standing account link) t
 
--- Full and NoMemory come before any call, and Disk where a disk call failed.
+-- Full and NoMemory come before any call, and Disk if a disk call failed.
 abbrev pub refusal_end : KeepRefused → Ended
 refusal_end Full = gave_up
 refusal_end Disk = broke disk_call
@@ -58,8 +58,8 @@ keep_end result = ended_by refusal_end result
 abbrev pub CanMake : Standing → State → List ℕ → Type 0
 CanMake standing account link = IsTrue (needs_switch standing link) → CanSwitch standing account
 
--- What becomes of the ledger, this being the journal's next standing: the account stays, and where
--- a disk call failed the journal has failed.
+-- What becomes of the ledger, this being the journal's next standing: the account stays, and if a
+-- disk call failed the journal has failed.
 abbrev pub Keeps : Result (Unit {0}) KeepRefused → Standing → Ledger → Ledger → Type 0
 Keeps (Ok done) next old new =
     (new.account ≡ old.account) × (new.journal ≡ record { standing = next; failed = false })

@@ -13,7 +13,7 @@ ghost use Rattle.ras_ledger.specs.Keeping.{CanMake, Keeping, after_keeping};
 ghost use Rattle.ras_ledger.specs.Keeping.{keeping_acts, lacks_room, standing_kept};
 ghost use Rattle.ras_ledger.specs.KeepingCalls.{IsKeeping};
 
-/// What keeping a link comes to: laws of its acts, where a switch that is due can be made and has
+/// What keeping a link comes to: laws of its acts, if a switch that is due can be made and has
 /// room.
 pub fn keeping_laws()
     // Whatever a stop leaves at any moment of it recovers the account without the link or with it,

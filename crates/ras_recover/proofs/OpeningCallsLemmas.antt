@@ -195,7 +195,7 @@ told_opened a b after = relates_weaker AfterRecovery AfterOpening opening_told a
 abbrev pub Reads : Told → Told → Type 0
 Reads old new = Calls (IsRecoveryOf old.here) old new
 
--- where a file stands, an opening is a recovery
+-- if a file stands, an opening is a recovery
 pub opens_standing : (standing : Standing) (a b : Option Told) → IfSome a (λ t. position_of t.here.file0 t.here.file1 ≡ Some standing) → Relates Reads a b → Relates Opens a b
 opens_standing standing a b stands reads =
     relates_weaker (λ x y. (position_of x.here.file0 x.here.file1 ≡ Some standing) × Reads x y) Opens
@@ -276,7 +276,7 @@ refusal_cause T see acts TooLong f a b is same = no_faults f (see b).faults tt (
 refusal_cause T see acts (Damaged file place) f a b is same = no_faults f (see b).faults tt (ap (λ x. (see x).faults) same ∙ is)
 refusal_cause T see acts NoMemory f a b is same = no_faults f (see b).faults tt (ap (λ x. (see x).faults) same ∙ is)
 
--- where memory ran out nothing was called
+-- if memory ran out nothing was called
 pub none_called : {X : Type 0} (see : X → Seen) (acts : List Act) (why : OpenRefused) (a b : X) → why ≡ NoMemory → Does see acts (refusal_end why) a b → b ≡ a
 none_called see acts why a b is does = subst (λ (w : OpenRefused). Does see acts (refusal_end w) a b) is does
 
@@ -298,7 +298,7 @@ recovers_alone : (here : Left) (calls : List DiskCall) → opening_acts here ≡
 recovers_alone here calls none opening =
     subst (IsRecoveryOf here) (sym (opening.is ∙ (ap (λ (acts : List Act). opening.recovery ++ calls_of acts) none ∙ append-nil opening.recovery))) opening.recovers
 
--- where a file stands these are those of a recovery
+-- if a file stands these are those of a recovery
 pub standing_recovers : (standing : Standing) (here : Left) (calls : List DiskCall) → position_of here.file0 here.file1 ≡ Some standing → IsOpening here calls → IsRecoveryOf here calls
 standing_recovers standing here calls stands opening = recovers_alone here calls (no_acts here standing stands) opening
 

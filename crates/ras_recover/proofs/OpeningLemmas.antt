@@ -130,7 +130,7 @@ bytes_length account =
     let n = u64_bytes (length c) in
     omega (arith, length-u64_bytes 1, length-u64_bytes (length c), length-append g (n ++ c), length-append n c, length-append (g ++ (n ++ c)) (0 ∷ []))
 
--- the acts of the formatting, of a file of which it is known whether it is shut
+-- the acts of the formatting, for a file that is known to be shut or not
 abbrev pub first_acts : Bool → State → List Act
 first_acts shut account = formatting_acts Zero shut (behind_gate 1 (checkpoint_bytes Two account))
 
@@ -208,7 +208,7 @@ pub zero_is_shut : (one two : Bool) (told : Option Told) → IfSome told (λ t. 
 zero_is_shut one two None is = tt
 zero_is_shut one two (Some t) is = is.0
 
--- what format_first gives, behind a recovery that found nothing
+-- what format_first gives, after a recovery that found nothing
 module _ {X : Type 0} (see : X → Seen) (account : State) (one two : Bool) (old a b : X) (t : Told) (told : (see old).told ≡ Some t) (holds : Holds account (see old).told) (none : HasPosition None (see old).told)
     (shut : IfSome (see old).told (λ u. (one ≡ is_shut u.here.file0) × (two ≡ is_shut u.here.file1))) (r : RestsHere t.here (see a).told (see a).clock) where
   there_none : HoldsNone account r.there.here
@@ -270,14 +270,14 @@ nothing_stands account here is none =
     by (Some journal) e none = absurd cc
     by None e none = e
 
--- where nothing stands, file 0 is formatted with the empty account
+-- if nothing stands, file 0 is formatted with the empty account
 pub acts_are : (account : State) (here : Left) (shut : Bool) → HoldsNone account here → shut ≡ is_shut here.file0 → first_acts shut account ≡ opening_acts here
 acts_are account here shut holds is =
     ap (λ (s : Bool). first_acts s account) is
     ∙ (ap (λ (a : State). first_acts (is_shut here.file0) a) (none_of account here holds.recovers holds.none).account_is
     ∙ sym (ap (acts_behind here) (nothing_stands account here holds.recovers holds.none)))
 
--- and where a file stands, nothing is written
+-- and if a file stands, nothing is written
 pub no_acts : (here : Left) (standing : Standing) → position_of here.file0 here.file1 ≡ Some standing → opening_acts here ≡ []
 unfolding position_of
 no_acts here standing is = by (journal_of here.file0 here.file1) is
@@ -287,7 +287,7 @@ no_acts here standing is = by (journal_of here.file0 here.file1) is
     by (Ok (Some journal)) is = refl
     by (Err why) is = refl
 
--- nor where the files are refused
+-- nor if the files are refused
 pub refused_acts : (here : Left) (why : Refusal) → recovered here.file0 here.file1 ≡ Err why → opening_acts here ≡ []
 unfolding recovered
 refused_acts here why is = by (journal_of here.file0 here.file1) is

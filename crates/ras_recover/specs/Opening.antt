@@ -38,8 +38,8 @@ pub record HoldsNone (account : State) (here : Left) : Type 0 where
 
 -- ---- what is written
 
--- Behind its recovery an opening formats file 0 with the empty account as generation 1, where no
--- file stands; and else it writes nothing.
+-- After its recovery an opening formats file 0 with the empty account as generation 1, if no file
+-- stands; else it writes nothing.
 abbrev pub acts_behind : Left → Result (Option JournalFile) Refusal → List Act
 acts_behind here (Ok None) =
     formatting_acts Zero (is_shut here.file0) (behind_gate 1 (checkpoint_bytes Two (account_of empty)))

@@ -40,7 +40,7 @@ pub record IsRecoveryOf (here : Left) (calls : List DiskCall) : Type 0 where
   pub recovery : IsRecovery calls
   pub reads : ReadsBoth here calls
 
--- A whole opening: such a recovery, and then the calls of the formatting, where no file stands.
+-- A whole opening: such a recovery, and then the calls of the formatting, if no file stands.
 pub record IsOpening (here : Left) (calls : List DiskCall) : Type 0 where
   pub recovery : List DiskCall
   pub recovers : IsRecoveryOf here recovery

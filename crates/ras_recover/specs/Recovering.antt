@@ -63,7 +63,7 @@ open_failure (Err TooLong) = Ok tt
 open_failure (Err (Damaged file place)) = Ok tt
 open_failure (Err NoMemory) = Ok tt
 
--- Disk comes where a disk call failed. Each other refusal is of a call that goes on no further.
+-- Disk comes if a disk call failed. Each other refusal comes from a call that goes no further.
 abbrev pub refusal_end : OpenRefused → Ended
 refusal_end Disk = broke disk_call
 refusal_end TooLong = gave_up

@@ -51,7 +51,7 @@ abbrev pub IsFullBy : Result (Unit {0}) SwitchRefused → Bool → Type 0
 IsFullBy (Err Full) lacks = IsTrue lacks
 IsFullBy result lacks = ¬ IsTrue lacks
 
--- Full and NoMemory come before any call, and Disk where a disk call failed.
+-- Full and NoMemory come before any call, and Disk if a disk call failed.
 abbrev pub refusal_end : SwitchRefused → Ended
 refusal_end Full = gave_up
 refusal_end Disk = broke disk_call
@@ -60,7 +60,7 @@ refusal_end NoMemory = gave_up
 abbrev pub switch_end : Result (Unit {0}) SwitchRefused → Ended
 switch_end result = ended_by refusal_end result
 
--- What becomes of a journal that is switched, this being its next standing: where a disk call
+-- What becomes of a journal that is switched, this being its next standing: if a disk call
 -- failed it has failed.
 abbrev pub MovesOver : Result (Unit {0}) SwitchRefused → Standing → JournalView → JournalView → Type 0
 MovesOver (Ok done) next old new = new ≡ record { standing = next; failed = false }

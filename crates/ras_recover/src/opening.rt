@@ -93,7 +93,7 @@ pub fn open_journal<B: Board>(
 
     // Whatever it answers, all is told as before, but for file 0 where no file stands; and its disk
     // calls are those of an opening or a beginning of them. Once it has answered `Ok`, all that
-    // counts of the files was read, and where no file stands generation 1 was written to file 0 and
+    // counts of the files was read, and if no file stands generation 1 was written to file 0 and
     // nothing else.
     ensures told { Relates AfterOpening (B.told board.old) (B.told board.new) }
     ensures opens { OnOk result (Relates Opens (B.told board.old) (B.told board.new)) }
