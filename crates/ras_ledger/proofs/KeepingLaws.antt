@@ -1,5 +1,7 @@
 -- What follows of keeping a link, in the words of the callers.
-use Rattle.std.proofs.Common.{ℕ, Bool, List, Result, Ok, Err, OnOk, IsTrue, ap}
+use Rattle.std.proofs.Common.{ℕ, Bool, List, Result, Ok, Err, OnOk, IsTrue, ap, ◌+◌, ◌++◌, [], length, inl, refl}
+use Rattle.board_core.specs.declared.board.DiskCall.{DiskCall}
+use Rattle.board_core.specs.declared.board.FileNo.TheVariants.{Zero}
 use Rattle.board_core.specs.Clock.{Adds}
 use Rattle.board_core.specs.Doing.{Does, IsMade, Seen}
 use Rattle.board_core.specs.Told.{Relates, Told}
@@ -15,7 +17,7 @@ use Rattle.ras_ledger.specs.declared.ledger.Ledger.{Ledger}
 use Rattle.ras_ledger.specs.declared.refused.KeepRefused.{KeepRefused}
 use Rattle.ras_ledger.specs.declared.refused.KeepRefused.TheVariants.{Full, Disk, NoMemory}
 use Rattle.ras_ledger.specs.Keeping.{CanMake, IsFullBy, Keeping, Keeps, after_keeping, keep_end, keeping_acts, lacks_room, standing_kept}
-use Rattle.ras_ledger.specs.KeepingCalls.{IsKeeping}
+use Rattle.ras_ledger.specs.KeepingCalls.{IsKeeping, write_through_calls}
 use Rattle.ras_ledger.proofs.KeepingLemmas.{is_keeping, keeping_ends, keeping_leaves}
 
 not_full : (result : Result (Unit {0}) KeepRefused) → {lacks : Bool} → IsFullBy result lacks → IsMade (keep_end result) → ¬ IsTrue lacks
@@ -50,3 +52,17 @@ module _ {X : Type 0} (see : X → Seen) (standing : Standing) (account : State)
   pub whole : (result : Result (Unit {0}) KeepRefused) → DoesKeep result → OnOk result (Relates (Makes (IsKeeping link)) (see a).told (see b).told)
   whole (Err why) does = tt
   whole (Ok done) does = does_whole (IsKeeping link) (keeping_acts standing account link) (is_keeping standing account link) (see a).told (see b).told does.told
+
+-- some calls that keep a link
+abbrev pub some_keeping : List ℕ → List DiskCall
+some_keeping link = write_through_calls Zero 1 (length link + 1) ++ write_through_calls Zero 0 1
+
+pub is_some_keeping : (link : List ℕ) → IsKeeping link (some_keeping link)
+is_some_keeping link = record {
+  file = Zero;
+  switch = [];
+  append = some_keeping link;
+  is = refl;
+  at_most_one = inl refl;
+  appends = record { gate = 0; is = refl };
+}
