@@ -7,11 +7,11 @@ use Rattle.erst_store.specs.Device.{Device}
 use Rattle.board_core.specs.declared.board.Reg.{Reg}
 use Rattle.board_core.specs.declared.board.Access.{Access}
 use Rattle.board_core.specs.declared.board.Access.TheVariants.{Read, Write, RangeRead, RangeWrite}
-use Rattle.board_core.specs.Told.{Told, Relates, device_of, on_device, with_access, register_in, after_reg_write, after_range_write, MayListAccess, FailsAccess}
+use Rattle.board_core.specs.Told.{Told, Relates, device_of, with_access, register_in, after_reg_write, after_range_write, MayListAccess, FailsAccess}
 use Rattle.erst_interp.specs.declared.entries.Entry.{Entry}
 use Rattle.erst_interp.specs.declared.entries.Instruction.{Instruction}
 use Rattle.erst_interp.specs.declared.machine.Variables.{Variables}
-use Rattle.erst_interp.specs.declared.machine.Use.TheVariants.{Reads, Writes, Changes, Moves}
+use Rattle.erst_interp.specs.declared.machine.Use.TheVariants.{Writes, Changes, Moves}
 use Rattle.erst_interp.specs.declared.refusals.RunRefused.{RunRefused}
 use Rattle.erst_interp.specs.declared.refusals.RunRefused.TheVariants.{Register, Fuel, BadInstruction, BadRegister, BadRange}
 use Rattle.erst_interp.specs.Machine.{State, Outcome, goes, stops, new_variables, with_variables, next, after_register_read, after_register_write, after_field, after_move, with_field, alone, field_in, field_of, moved, is_inside}

@@ -1,14 +1,17 @@
 pub mod ShiftLemmas
 pub mod ListLemmas
+pub mod SlowLemmas
 pub mod TouchLemmas
 pub mod FieldLemmas
 pub mod TurnLemmas
 pub mod RunLemmas
+pub mod ReachLemmas
 pub mod LeadLemmas
 pub mod RoleLemmas
 pub mod FaithfulLemmas
 pub mod AdmittedRunLemmas
 pub mod WalkLemmas
+pub mod AdmitsLemmas
 pub mod ShiftedLemmas
 pub mod BreakLemmas
 pub mod StraightLemmas

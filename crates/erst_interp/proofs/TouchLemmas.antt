@@ -15,6 +15,7 @@ keeps_both : (a b c : Told) → Keeps a b → Keeps b c → Keeps a c
 keeps_both a b c first second = record {
   here = second.here ∙ ap (λ (left : Left). record left { store = c.here.store }) first.here;
   disk_calls = second.disk_calls ∙ first.disk_calls;
+  slow = second.slow ∙ first.slow;
 }
 
 kept_both : (a b c : Option Told) → Relates Keeps a b → Relates Keeps b c → Relates Keeps a c
@@ -25,7 +26,7 @@ kept_both (Some a) (Some b) (Some c) first second = keeps_both a b c first secon
 
 kept_none : (a : Option Told) → Relates Keeps a a
 kept_none None = refl
-kept_none (Some a) = record { here = refl; disk_calls = refl }
+kept_none (Some a) = record { here = refl; disk_calls = refl; slow = refl }
 
 -- ---- what stops leave
 

@@ -40,10 +40,12 @@ abbrev pub IsRun : Result ℕ RunRefused → End → Told → Option Told → Ty
 IsRun (Err Register) end old new = IsCutShort (told_after end.state old).accesses old new
 IsRun answer end old new = (answer ≡ end.answer) × (new ≡ Some (told_after end.state old))
 
--- Of what is told, the record store, the rest of the device and the accesses alone change.
+-- Of what is told, the record store, the rest of the device and the accesses alone change, and the
+-- device stays as slow as it was.
 pub record Keeps (old new : Told) : Type 0 where
   pub here : new.here ≡ record old.here { store = new.here.store }
   pub disk_calls : new.disk_calls ≡ old.disk_calls
+  pub slow : new.volatile.slow ≡ old.volatile.slow
 
 -- The count of device calls that failed rose, and no other.
 pub record Raises (before now : Faults) : Type 0 where

@@ -1,10 +1,9 @@
 -- Only for proofs: what private functions of a run say of what a board tells, keeps and counts.
-use Rattle.std.specs.Prelude.{◌≡◌, ℕ, ◌+◌, ◌-◌, ◌≤◌, ◌⊎◌, true, false, List, [], ◌++◌, Option, Some, None, Result, Ok, Err, IfSome}
+use Rattle.std.specs.Prelude.{◌≡◌, ℕ, ◌+◌, ◌-◌, ◌≤◌, ◌⊎◌, true, false, List, [], Option, Some, None, Result, Ok, Err, IfSome}
 use Rattle.std.specs.Option.{option_map}
 use Rattle.erst_store.specs.Store.{Stored}
 use Rattle.erst_store.specs.Actions.{range_address, range_length}
 use Rattle.board_core.specs.declared.board.Reg.{Reg}
-use Rattle.board_core.specs.declared.board.Access.{Access}
 use Rattle.board_core.specs.declared.board.Access.TheVariants.{Read}
 use Rattle.board_core.specs.Told.{Told, device_of, with_device, register_in, with_access, Relates, StoreBy}
 use Rattle.board_core.specs.Stop.{InStore, Becomes}

@@ -1,7 +1,7 @@
 //! Runs of an action's list.
 
-ghost use Rattle.std.specs.Prelude.{◌≡◌, ◌<◌, ◌≤◌, ◌+◌, ◌^◌, ◌⊎◌, length, IfSome, IfOk, OnOk, IsTrue};
-ghost use Rattle.std.specs.List.{list_all};
+ghost use Rattle.std.specs.Prelude.{◌≡◌, ◌<◌, ◌≤◌, ◌+◌, ◌^◌, ◌⊎◌, length, IfSome, IfOk, OnOk, IsTrue, Err};
+ghost use Rattle.std.specs.List.{list_all, list_any};
 ghost use Rattle.board_core.specs.Clock.{Passes};
 ghost use Rattle.board_core.specs.Stop.{InStore};
 ghost use Rattle.board_core.specs.Told.{Relates, StoreBy, device_of};
@@ -9,7 +9,7 @@ ghost use Rattle.erst_store.specs.DeviceLaws.{IsDevice};
 ghost use Rattle.erst_interp.specs.Admission.{IsAdmitted};
 ghost use Rattle.erst_interp.specs.Faithful.{input_limit, device_after, DoesRun, IsRegisterAlone};
 ghost use Rattle.erst_interp.specs.Machine.{turn, end_of};
-ghost use Rattle.erst_interp.specs.Parts.{use_of, is_straight, is_straight_use, GoesOn};
+ghost use Rattle.erst_interp.specs.Parts.{use_of, is_straight, is_straight_use, GoesOn, uses_register};
 ghost use Rattle.erst_interp.specs.Run.{IsRun, Keeps, RunCause, StoreInRun};
 ghost use Rattle.erst_interp.specs.Steps.{seen, end_over, end_within, RunsOver, StoreOver, StoreWithin, Turns, TouchesAs, StoreInTurn, state_in};
 ghost use Rattle.erst_interp.specs.Table.{list_of};
@@ -50,6 +50,8 @@ impl Table {
             → IfSome (B.told board.old) (λ t. DoesRun action input result t (B.told board.new)) }
         ensures only_register { IsAdmitted action (list_of action self.now)
             → IsRegisterAlone result }
+        ensures device { IsAdmitted action (list_of action self.now)
+            → IfSome (B.told board.old) (λ t. IsDevice (device_of t)) }
         ensures stores { IsAdmitted action (list_of action self.now) → input < input_limit action
             → Passes (InStore (StoreBy (device_after action input) (B.told board.old)))
             (B.clock board.old) (B.clock board.new) }
@@ -69,6 +71,9 @@ fn run_list<B: Board>(list: &[Entry], input: u64, board: &mut B) -> Result<u64, 
         ⊎ IfSome (B.told board.old) (λ t. IsDevice (device_of t)) }
     ensures straight { IsTrue (list_all is_straight list.now) → length list.now ≤ MOST_TURNS
         → IsRegisterAlone result }
+    ensures reached { IsTrue (list_all is_straight list.now) → length list.now ≤ MOST_TURNS
+        → IsTrue (list_any uses_register list.now)
+        → IfSome (B.told board.old) (λ t. IsDevice (device_of t)) }
 {
     run_turns(list, MOST_TURNS, input, board)
 }
@@ -89,6 +94,9 @@ fn run_turns<B: Board>(
         ⊎ IfSome (B.told board.old) (λ t. IsDevice (device_of t)) }
     ensures straight { IsTrue (list_all is_straight list.now) → length list.now ≤ turns
         → IsRegisterAlone result }
+    ensures reached { IsTrue (list_all is_straight list.now) → length list.now ≤ turns
+        → IsTrue (list_any uses_register list.now)
+        → IfSome (B.told board.old) (λ t. IsDevice (device_of t)) }
 {
     let mut variables = Variables::new(input);
     for _ in 0..turns {
@@ -122,6 +130,10 @@ fn turn<B: Board>(
     ensures device { (B.told board.new ≡ B.told board.old)
         ⊎ IfSome (B.told board.old) (λ t. IsDevice (device_of t)) }
     ensures straight { IsTrue (is_straight entry.now) → GoesOn variables result }
+    ensures reached { IsTrue (uses_register entry.now)
+        → IfSome (B.told board.old) (λ t. IsDevice (device_of t)) }
+    ensures failed { result ≡ Err RunRefused.Register
+        → IfSome (B.told board.old) (λ t. IsDevice (device_of t)) }
 {
     match entry.instruction.work() {
         Work::Unknown => Err(RunRefused::BadInstruction),

@@ -7,6 +7,7 @@ use Rattle.board_core.specs.Told.{device_of}
 use Rattle.erst_store.specs.DeviceLaws.{IsDevice}
 use Rattle.erst_interp.specs.Steps.{GoesWell, StoreWithin}
 use Rattle.erst_interp.proofs.RunLemmas.{Way}
+use Rattle.erst_interp.proofs.ReachLemmas.{Reaches}
 use Rattle.erst_interp.proofs.run.run_turns.Given as goal
 
 abbrev pub invariant-loop : goal.invariant-loop
@@ -17,4 +18,5 @@ invariant-loop g l = record {
       (record { told = g.B.Board.told l.board; clock = g.B.Board.clock l.board; faults = g.B.Board.faults l.board });
   device : (g.B.Board.told l.board ≡ g.B.Board.told l.fn.board) ⊎ IfSome (g.B.Board.told l.fn.board) (λ t. IsDevice (device_of t));
   straight : IsTrue (list_all is_straight l.list) → l.variables.index ≡ l.counter;
+  reached : IsTrue (list_all is_straight l.list) → Reaches l.list l.variables.index (g.B.Board.told l.fn.board) (g.B.Board.told l.board);
 }

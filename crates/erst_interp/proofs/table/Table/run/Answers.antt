@@ -10,6 +10,7 @@ use Rattle.erst_interp.specs.Run.{StoreInRun, IsRun}
 use Rattle.erst_interp.specs.Steps.{StoreOver}
 use Rattle.erst_interp.proofs.AdmittedRunLemmas.{does_run, stores_run}
 use Rattle.erst_interp.proofs.ShiftedLemmas.{runs_alone, store_alone}
+use Rattle.erst_interp.proofs.ReachLemmas.{admitted_uses}
 use Rattle.erst_interp.proofs.StraightLemmas.{admitted_straight}
 use Rattle.erst_interp.proofs.TouchLemmas.{passes_more}
 use Rattle.erst_interp.proofs.TurnLemmas.{stops_of}
@@ -51,3 +52,9 @@ returns-clause-only_register g c = λ is.
     let list = c.list.result.now in
     let admitted : IsAdmitted c.args.action list = rw c.list.ensures is in
     c.run_list.ensures.straight (admitted_straight c.args.action list admitted) admitted.short
+
+pub returns-clause-device : goal.returns-clause-device
+returns-clause-device g c = λ is.
+    let list = c.list.result.now in
+    let admitted : IsAdmitted c.args.action list = rw c.list.ensures is in
+    c.run_list.ensures.reached (admitted_straight c.args.action list admitted) admitted.short (admitted_uses c.args.action list admitted)
