@@ -1,6 +1,6 @@
 -- One action by the run of its list.
-use Rattle.std.proofs.Common.{◌≡◌, ◌∙◌, ℕ, ◌≤◌, ◌<◌, ◌^◌, Bool, true, false, nat_eq, List, [], ◌∷◌, Option, Some, None, refl, sym, ap, subst, inl, inr, arith, if◌then◌else◌}
-use Rattle.std.specs.Prelude.{◌⊎◌, Result, Ok, Err, IfSome}
+use Rattle.std.proofs.Common.{◌≡◌, ◌∙◌, ℕ, ◌<◌, ◌^◌, Bool, true, false, nat_eq, List, [], ◌∷◌, Option, Some, None, sym, ap, subst, inl, inr, arith, if◌then◌else◌}
+use Rattle.std.specs.Prelude.{Ok, Err, IfSome}
 use Rattle.erst_store.specs.Actions.{set_record_offset}
 use Rattle.erst_store.specs.Store.{Stored}
 use Rattle.erst_store.specs.Device.{Device}
@@ -15,13 +15,13 @@ use Rattle.erst_interp.specs.declared.refusals.RunRefused.TheVariants.{Register,
 use Rattle.erst_interp.specs.Admission.{takes_input, IsAdmitted, IsAdmittedTable}
 use Rattle.erst_interp.specs.Faithful.{input_limit, with_input, device_after, answer_after, ActsOn, DoesRun, IsRegisterAlone}
 use Rattle.erst_interp.specs.Machine.{end_of}
-use Rattle.erst_interp.specs.Run.{told_after, IsRun, Keeps, RunCause}
-use Rattle.erst_interp.specs.Steps.{Seen, GoesWell, Fails}
+use Rattle.erst_interp.specs.Run.{IsRun, Keeps, RunCause}
+use Rattle.erst_interp.specs.Steps.{Seen, GoesWell}
 use Rattle.erst_interp.specs.Table.{list_of}
 use Rattle.erst_interp.proofs.TouchLemmas.{well_more, fails_more}
 use Rattle.erst_driver.specs.declared.step.Step.{Step}
-use Rattle.erst_driver.specs.Operations.{Over, after_step, after_steps, told_by_step, told_by}
-use Rattle.erst_driver.specs.Steps.{Plan, Inside, ComesThrough, StoreIn, Tells, Done, CutIn, FailsIn, Acted}
+use Rattle.erst_driver.specs.Operations.{Inside, after_step, after_steps, told_by_step, told_by}
+use Rattle.erst_driver.specs.Steps.{Over, Plan, ComesThrough, StoreIn, Tells, CutIn, FailsIn, Acted}
 
 some_is : (x y : Told) → Some x ≡ Some y → x ≡ y
 some_is x y e = cc
@@ -40,7 +40,7 @@ input_fits action input inside = by (nat_eq action set_record_offset) inside
     by true small = omega (arith, small)
     by false small = small
 
-is_device_after : (s : Step) (d : Device) → Inside s → IsDevice d → IsDevice (after_step s d)
+pub is_device_after : (s : Step) (d : Device) → Inside s → IsDevice d → IsDevice (after_step s d)
 is_device_after s d inside device =
     IsDevice-act s.action (with_input s.action s.input d) (by (takes_input s.action)) (omega (arith, inside.action))
   where

@@ -1,5 +1,7 @@
+pub mod DeviceLemmas
 pub mod PlanLemmas
 pub mod ActLemmas
+pub mod ToldLemmas
 pub mod WaitLemmas
 pub mod FinishLemmas
 pub mod OperationLemmas

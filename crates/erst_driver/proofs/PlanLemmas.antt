@@ -1,7 +1,7 @@
 -- Actions one after another.
-use Rattle.std.proofs.Common.{◌≡◌, ◌∙◌, ℕ, zero, suc, ◌+◌, ◌<◌, ◌≤◌, List, [], ◌∷◌, ◌++◌, length, take, drop, get_or, Option, Some, None, refl, sym, ap, subst, inl, inr, arith, append_assoc, append-nil}
+use Rattle.std.proofs.Common.{◌≡◌, ◌∙◌, ℕ, zero, suc, ◌+◌, ◌<◌, List, [], ◌∷◌, ◌++◌, length, take, drop, get_or, Option, Some, None, refl, sym, ap, subst, inl, inr, arith, append_assoc, append-nil}
 use Rattle.std.proofs.lemmas.List.{take-append-drop}
-use Rattle.std.specs.Prelude.{◌⊎◌, Result, Ok, Err}
+use Rattle.std.specs.Prelude.{◌⊎◌, Result, Err}
 use Rattle.erst_store.specs.Store.{Stored}
 use Rattle.erst_store.specs.Device.{Device}
 use Rattle.erst_store.specs.DeviceLaws.{IsDevice}
@@ -11,14 +11,15 @@ use Rattle.erst_interp.specs.declared.entries.Entry.{Entry}
 use Rattle.erst_interp.specs.Machine.{end_of}
 use Rattle.erst_interp.specs.Run.{IsCutShort}
 use Rattle.erst_interp.specs.Table.{list_of}
-use Rattle.erst_interp.specs.Steps.{Seen, GoesWell, Fails}
+use Rattle.erst_interp.specs.Steps.{Seen, GoesWell}
 use Rattle.erst_interp.proofs.BreakLemmas.{off_as, off_more, off_after}
 use Rattle.erst_interp.proofs.TouchLemmas.{well_both, well_fails, well_more, fails_more, none_made}
 use Rattle.erst_driver.specs.declared.refusals.DriverRefused.{DriverRefused}
 use Rattle.erst_driver.specs.declared.refusals.DriverRefused.TheVariants.{Register, Busy, Status, NoMemory}
 use Rattle.erst_driver.specs.declared.step.Step.{Step}
-use Rattle.erst_driver.specs.Operations.{Over, after_step, after_steps, told_by_step, told_by}
-use Rattle.erst_driver.specs.Steps.{Plan, ComesThrough, StoreIn, Tells, Done, CutIn, FailsIn, IsBeginning, Acted, Acts, Runs, Answered, Operates}
+use Rattle.erst_driver.specs.Operations.{after_step, after_steps, told_by_step, told_by}
+use Rattle.erst_driver.specs.Answers.{IsBegun}
+use Rattle.erst_driver.specs.Steps.{Over, Plan, ComesThrough, StoreIn, Tells, Done, CutIn, FailsIn, IsBeginning, Acted, Acts, Runs, Operates}
 
 -- one plan, and then another over the device after it
 abbrev pub both_plans : Plan → Plan → Plan
@@ -109,6 +110,31 @@ cut_more lists some all t new begins cut =
     (sym later.1 ∙ ap (λ (v : Told). v.accesses) (sym (told_both lists some begins.0 t)) ∙ ap (λ (steps : List Step). (told_by lists steps t).accesses) begins.1)
     (off_more (told_by lists some t).accesses later.0 t new cut)
 
+-- some actions of a list were done
+begun_some : (lists : List (List Entry)) (some all : List Step) (t : Told) (new : Option Told) → IsBeginning some all → new ≡ Some (told_by lists some t)
+    → IsBegun (told_by lists all t).accesses t new
+begun_some lists some all t new begins is =
+    let u = told_by lists some t in
+    let one = told_made lists some t in
+    let two = told_made lists begins.0 u in
+    subst (λ (o : Option Told). IsBegun (told_by lists all t).accesses t o) (sym is) (record {
+      done = one.0;
+      later = two.0;
+      splits = ap (λ (steps : List Step). (told_by lists steps t).accesses) (sym begins.1) ∙ ap (λ (v : Told). v.accesses) (told_both lists some begins.0 t)
+          ∙ two.1 ∙ ap (λ (xs : List Access). xs ++ two.0) one.1 ∙ append_assoc t.accesses one.0 two.0;
+      made = one.1;
+    })
+
+begun_after : (all made : List Access) (t u : Told) (new : Option Told) → u.accesses ≡ t.accesses ++ made → IsBegun all u new → IsBegun all t new
+begun_after all made t u None is begun = begun
+begun_after all made t u (Some n) is begun = record {
+  done = made ++ begun.done;
+  later = begun.later;
+  splits = begun.splits ∙ ap (λ (xs : List Access). xs ++ (begun.done ++ begun.later)) is
+      ∙ append_assoc t.accesses made (begun.done ++ begun.later) ∙ ap (λ (xs : List Access). t.accesses ++ xs) (sym (append_assoc made begun.done begun.later));
+  made = begun.made ∙ ap (λ (xs : List Access). xs ++ begun.done) is ∙ append_assoc t.accesses made begun.done;
+}
+
 -- ---- two plans
 
 module _ (lists : List (List Entry)) (p q : Plan) (told mid : Option Told) (first : Over (λ t. Tells lists (p (device_of t)) t mid) told) where
@@ -146,6 +172,24 @@ module _ (lists : List (List Entry)) (p q : Plan) (a b c : Seen) (one : Done lis
       by : (o : Option Told) → Over (λ t. Tells lists (p (device_of t)) t b.told) o → CutIn lists (both_plans p q) o told
       by None first = tt
       by (Some t) first = λ device. cut_both lists (p (device_of t)) q t b.told told (first device) cut
+
+  pub begun_then : (told : Option Told) → Over (λ t. IsBegun (told_by lists (q (device_of t)) t).accesses t told) b.told
+      → Over (λ t. IsBegun (told_by lists (both_plans p q (device_of t)) t).accesses t told) a.told
+  begun_then told begun = by a.told one.tells
+    where
+      by : (o : Option Told) → Over (λ t. Tells lists (p (device_of t)) t b.told) o → Over (λ t. IsBegun (told_by lists (both_plans p q (device_of t)) t).accesses t told) o
+      by None first = tt
+      by (Some t) first = λ device.
+          (let tells : Tells lists (p (device_of t)) t b.told = first device in
+          let u = told_by lists (p (device_of t)) t in
+          let two = q (after_steps (p (device_of t)) (device_of t)) in
+          let made = told_made lists (p (device_of t)) t in
+          let there : IsDevice (device_of u) = subst IsDevice (sym tells.device) tells.is in
+          let second : IsBegun (told_by lists two u).accesses u told =
+          subst (λ (d : Device). IsBegun (told_by lists (q d) u).accesses u told) tells.device
+          (over_at (λ v. IsBegun (told_by lists (q (device_of v)) v).accesses v told) b.told u begun tells.told there) in
+          subst (λ (v : Told). IsBegun v.accesses t told) (sym (told_both lists (p (device_of t)) two t))
+          (begun_after (told_by lists two u).accesses made.0 t u told made.1 second))
 
   pub fails_then : FailsIn lists q b c → FailsIn lists (both_plans p q) a c
   fails_then two = record {
@@ -234,6 +278,12 @@ over_device P R (Some t) p more = λ device. more t device (p device)
 pub over_both_device : (P Q R : Told → Type 0) (o : Option Told) → Over P o → Over Q o → ((t : Told) → IsDevice (device_of t) → P t → Q t → R t) → Over R o
 over_both_device P Q R None p q both = tt
 over_both_device P Q R (Some t) p q both = λ device. both t device (p device) (q device)
+
+-- a plan was done that is a beginning of another
+pub begun_of : (lists : List (List Entry)) (p q : Plan) (a b : Seen) → Over (λ t. IsBeginning (p (device_of t)) (q (device_of t))) a.told → Done lists p a b
+    → Over (λ t. IsBegun (told_by lists (q (device_of t)) t).accesses t b.told) a.told
+begun_of lists p q a b begins done = over_both (λ t. IsBeginning (p (device_of t)) (q (device_of t))) (λ t. Tells lists (p (device_of t)) t b.told) _ a.told begins done.tells
+    (λ t begins tells. begun_some lists (p (device_of t)) (q (device_of t)) t b.told begins tells.told)
 
 -- what holds of the device after a plan
 pub over_after : (lists : List (List Entry)) (p : Plan) (a b : Seen) → Done lists p a b → (Q : Device → Type 0) → Over (λ t. Q (device_of t)) b.told

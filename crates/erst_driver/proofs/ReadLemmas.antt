@@ -1,7 +1,7 @@
 -- What the actions of a read come to.
 use Rattle.std.proofs.Common.{◌≡◌, ◌∙◌, ℕ, ◌+◌, ◌-◌, ◌≤◌, Bool, true, false, ◌||◌, nat_eq, nat_lt, List, [], ◌∷◌, ◌++◌, length, Option, Some, None, refl, sym, ap, subst, inl, inr, arith, if◌then◌else◌}
 use Rattle.std.proofs.lemmas.Bool.Decides.{nat_tests}
-use Rattle.std.specs.Prelude.{◌⊎◌, replicate, is_some, Result, Ok, Err, OnOk, IfSome}
+use Rattle.std.specs.Prelude.{◌⊎◌, replicate, is_some, Ok, Err, OnOk, IfSome}
 use Rattle.std.specs.List.{AllByRecursion}
 use Rattle.erst_store.specs.declared.device.Command.TheVariants.{Read}
 use Rattle.erst_store.specs.declared.device.CommandStatus.{CommandStatus}
@@ -12,7 +12,6 @@ use Rattle.erst_store.specs.Device.{Device, act, busy_device, range_with_record,
 use Rattle.erst_store.specs.DeviceLaws.{IsDevice}
 use Rattle.board_core.specs.Clock.{Passes, LeftNow}
 use Rattle.board_core.specs.Stop.{Left, InStore}
-use Rattle.board_core.specs.declared.board.Access.{Access}
 use Rattle.board_core.specs.declared.board.Access.TheVariants.{RangeRead}
 use Rattle.board_core.specs.Told.{Told, device_of, with_access, Relates}
 use Rattle.erst_interp.specs.declared.entries.Entry.{Entry}
@@ -24,10 +23,11 @@ use Rattle.erst_interp.proofs.TouchLemmas.{well_fails}
 use Rattle.erst_driver.specs.declared.step.Step.{Step}
 use Rattle.erst_driver.specs.declared.refusals.DriverRefused.{DriverRefused}
 use Rattle.erst_driver.specs.declared.refusals.DriverRefused.TheVariants.{Register, Busy, NoMemory, Status as EndedWith}
-use Rattle.erst_driver.specs.Operations.{Over, is_free_in_time, actions_of, read_steps, after_steps, told_by, fetched_by, told_by_read}
+use Rattle.erst_driver.specs.Operations.{is_free_in_time, actions_of, read_steps, after_steps, told_by, fetched_by, told_by_read}
 use Rattle.erst_driver.specs.Answers.{Answer, by_status, found_status, answer_of, answer_on_found, Gives, Leaves, LeavesStore, IsStoreIn, HasCauseIn, Stays, HoldsRecord}
-use Rattle.erst_driver.specs.Steps.{StoreIn, ComesThrough, Done, FailsIn, FailsFetch, Answered, Operates, Reads, Fetched}
+use Rattle.erst_driver.specs.Steps.{Over, HasDevice, StoreIn, ComesThrough, Done, FailsFetch, Answered, Operates, Reads, Fetched}
 use Rattle.erst_driver.proofs.PlanLemmas.{told_made, over_device, over_both_device, over_both, over_more, everywhere}
+use Rattle.erst_driver.proofs.DeviceLemmas.{over_told}
 use Rattle.erst_driver.proofs.OperationLemmas.{Carries, through_operation, store_after, range_after, answer_is, passes_at}
 
 -- ---- the record that is found
@@ -129,10 +129,10 @@ read_carries id d device =
 read_answers : (id : ℕ) (d : Device) → IsDevice d → answer_of (read_steps id) d ≡ answer_on_found id d
 read_answers id d device = answer_is (read_steps id) d (found_status id d.store) d.store (read_carries id d device)
 
-pub read_stops : (id : ℕ) (told : Option Told) (old new : List Stored) → ((t : Told) → told ≡ Some t → old ≡ t.here.store)
+pub read_stops : (id : ℕ) (told : Option Told) (old new : List Stored) → HasDevice told → ((t : Told) → told ≡ Some t → old ≡ t.here.store)
     → StoreIn (actions_of (read_steps id)) told old new → Stays told old new
-read_stops id None old new law is = tt
-read_stops id (Some t) old new law is = λ device. elim (is device) [
+read_stops id None old new device law is = tt
+read_stops id (Some t) old new device law is = elim (is device) [
   | inl same ↦ same
   | inr through ↦
       elim (through_operation (read_steps id) (device_of t) (found_status id t.here.store) t.here.store (read_carries id (device_of t) device) new through) [
@@ -246,9 +246,9 @@ module _ (lists : List (List Entry)) (id : ℕ) (buffer : List ℕ) (a b : Seen)
   read_holds fetched = over_both_device _ _ _ a.told fetched.answers fetched.bytes
       (λ t device answer bytes. holds_record id (device_of t) buffer device answer bytes)
 
-  pub read_found : (result : Answer) → Reads lists (read_steps id) buffer result a b → OnOk result (Over (λ t. HoldsRecord id t.here.store buffer) a.told)
-  read_found (Ok tt) reads = read_holds reads
-  read_found (Err why) reads = tt
+  pub read_found : (result : Answer) → HasDevice a.told → Reads lists (read_steps id) buffer result a b → OnOk result (IfSome a.told (λ t. HoldsRecord id t.here.store buffer))
+  read_found (Ok tt) device reads = over_told _ a.told device (read_holds reads)
+  read_found (Err why) device reads = tt
 
   kept_store : Done lists (actions_of (read_steps id)) a b → Over (λ t. IsStoreIn b.told t.here.store) a.told
   kept_store done = over_device _ _ a.told done.tells (λ t device tells. subst (λ (o : Option Told). IsStoreIn o t.here.store) (sym tells.told)
@@ -270,6 +270,7 @@ module _ (lists : List (List Entry)) (id : ℕ) (buffer : List ℕ) (a b : Seen)
   read_passes (Err (EndedWith code)) reads = reads.done.well.stops
   read_passes (Err NoMemory) reads = absurd reads
 
-  pub read_stays : (result : Answer) → Reads lists (read_steps id) buffer result a b → ((t : Told) (left : Left) → a.told ≡ Some t → LeftNow a.clock left → left.store ≡ t.here.store)
+  pub read_stays : (result : Answer) → HasDevice a.told → Reads lists (read_steps id) buffer result a b → ((t : Told) (left : Left) → a.told ≡ Some t → LeftNow a.clock left → left.store ≡ t.here.store)
       → Passes (InStore (Stays a.told)) a.clock b.clock
-  read_stays result reads law = passes_at (StoreIn (actions_of (read_steps id)) a.told) (Stays a.told) a.told a.clock b.clock law (read_stops id a.told) (read_passes result reads)
+  read_stays result device reads law = passes_at (StoreIn (actions_of (read_steps id)) a.told) (Stays a.told) a.told a.clock b.clock law
+      (λ x y. read_stops id a.told x y device) (read_passes result reads)

@@ -1,8 +1,8 @@
 -- What a write comes to.
-use Rattle.std.proofs.Common.{◌≡◌, ◌∙◌, ℕ, ◌+◌, ◌≤◌, Bool, true, false, ◌||◌, nat_lt, List, [], ◌∷◌, ◌++◌, length, take, drop, Option, Some, None, refl, sym, ap, subst, inl, inr, arith, if◌then◌else◌}
+use Rattle.std.proofs.Common.{◌≡◌, ◌∙◌, ℕ, ◌+◌, ◌≤◌, Bool, true, false, ◌||◌, List, [], ◌∷◌, ◌++◌, length, take, drop, Option, Some, None, refl, sym, ap, subst, inl, inr, arith, if◌then◌else◌}
 use Rattle.std.proofs.Math.Seq.{take-append_seam}
 use Rattle.std.proofs.lemmas.Bool.Decides.{nat_tests}
-use Rattle.std.specs.Prelude.{◌⊎◌, Result, Ok, Err, IfSome}
+use Rattle.std.specs.Prelude.{◌⊎◌, Ok, Err, IfSome}
 use Rattle.ras_base.specs.LittleEndian.{AreBytes, number_at}
 use Rattle.ras_base.specs.LittleEndianLemmas.{number_at-append}
 use Rattle.erst_store.specs.declared.device.Command.TheVariants.{Write}
@@ -11,7 +11,6 @@ use Rattle.erst_store.specs.declared.device.CommandStatus.TheVariants.{Success, 
 use Rattle.erst_store.specs.Actions.{execute_operation, set_record_offset, range_length}
 use Rattle.erst_store.specs.Store.{Stored, with_record, is_reserved, is_full_for}
 use Rattle.erst_store.specs.Device.{Device, act, busy_device, range_with, header_length, length_place, length_at, id_at, record_at, is_record_out, is_write_refused}
-use Rattle.erst_store.specs.DeviceLaws.{IsDevice}
 use Rattle.erst_store.specs.KeptLemmas.{IsDevice-range}
 use Rattle.board_core.specs.Clock.{Passes, LeftNow}
 use Rattle.board_core.specs.Stop.{Left, InStore}
@@ -22,12 +21,11 @@ use Rattle.erst_interp.specs.Run.{Keeps, IsCutShort}
 use Rattle.erst_interp.specs.Steps.{Seen, GoesWell, Fails, Stays}
 use Rattle.erst_interp.proofs.BreakLemmas.{off_as, off_more, off_after}
 use Rattle.erst_interp.proofs.TouchLemmas.{well_both, well_fails, fails_more}
-use Rattle.erst_driver.specs.declared.refusals.DriverRefused.{DriverRefused}
 use Rattle.erst_driver.specs.declared.refusals.DriverRefused.TheVariants.{Register, Busy, NoMemory, Status as EndedWith}
-use Rattle.erst_driver.specs.Operations.{Over, is_free_in_time, actions_of, write_steps, after_steps, told_by, put_in_range, told_by_write}
-use Rattle.erst_driver.specs.Answers.{Answer, by_status, answer_of, written_id, is_put_refused, put_status, store_after_write, answer_on_put, Gives, Leaves, LeavesStore, IsStoreIn, HasCauseIn, Puts}
-use Rattle.erst_driver.specs.Steps.{StoreIn, ComesThrough, Tells, Done, Operates, StoreInWrite, Written, FailsIn, FailsWrite, Writes}
-use Rattle.erst_driver.proofs.PlanLemmas.{told_made, over_at, over_device, over_more, everywhere}
+use Rattle.erst_driver.specs.Operations.{actions_of, write_steps, after_steps, told_by, put_in_range, told_by_write}
+use Rattle.erst_driver.specs.Answers.{Answer, answer_of, written_id, is_put_refused, put_status, store_after_write, answer_on_put, Gives, Leaves, LeavesStore, IsStoreIn, HasCauseIn, Puts}
+use Rattle.erst_driver.specs.Steps.{Over, HasDevice, StoreIn, ComesThrough, Tells, Done, Operates, StoreInWrite, Written, FailsWrite, Writes}
+use Rattle.erst_driver.proofs.PlanLemmas.{told_made, over_at, over_more, everywhere}
 use Rattle.erst_driver.proofs.OperationLemmas.{Carries, through_operation, store_after, answer_is, passes_at}
 
 -- ---- the record in the range
@@ -111,9 +109,9 @@ module _ (bytes : List ℕ) (long : header_length ≤ length bytes) (short : len
 
   -- ---- what is said of a write
 
-  write_stops : (o : Option Told) (x y : List Stored) → ((t : Told) → o ≡ Some t → x ≡ t.here.store) → StoreInWrite bytes o x y → Puts bytes o x y
-  write_stops None x y law is = tt
-  write_stops (Some t) x y law is = λ device. elim (is device) [
+  write_stops : (o : Option Told) (x y : List Stored) → HasDevice o → ((t : Told) → o ≡ Some t → x ≡ t.here.store) → StoreInWrite bytes o x y → Puts bytes o x y
+  write_stops None x y device law is = tt
+  write_stops (Some t) x y device law is = elim (is device) [
     | inl same ↦ inl same
     | inr through ↦
         elim (through_operation write_steps (device_of (put_in_range bytes t)) (put_status (written_id bytes) t.here.store) (store_after_write bytes t.here.store) (write_carries t) y through) [
@@ -153,9 +151,10 @@ module _ (bytes : List ℕ) (long : header_length ≤ length bytes) (short : len
     passes (Err (EndedWith code)) writes = writes.well.stops
     passes (Err NoMemory) writes = absurd writes
 
-    pub write_puts : (result : Answer) → Writes lists bytes result a b → ((t : Told) (left : Left) → a.told ≡ Some t → LeftNow a.clock left → left.store ≡ t.here.store)
+    pub write_puts : (result : Answer) → HasDevice a.told → Writes lists bytes result a b → ((t : Told) (left : Left) → a.told ≡ Some t → LeftNow a.clock left → left.store ≡ t.here.store)
         → Passes (InStore (Puts bytes a.told)) a.clock b.clock
-    write_puts result writes law = passes_at (StoreInWrite bytes a.told) (Puts bytes a.told) a.told a.clock b.clock law (write_stops a.told) (passes result writes)
+    write_puts result device writes law = passes_at (StoreInWrite bytes a.told) (Puts bytes a.told) a.told a.clock b.clock law
+        (λ x y. write_stops a.told x y device) (passes result writes)
 
 module _ (bytes : List ℕ) (lists : List (List Entry)) (a b : Seen) where
   pub write_told : (result : Answer) → Writes lists bytes result a b → Over (λ t. Leaves result t b.told (told_by_write lists bytes t)) a.told

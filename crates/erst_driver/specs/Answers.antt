@@ -1,15 +1,15 @@
 -- What an operation answers, and what it leaves.
-use Rattle.std.specs.Prelude.{◌≡◌, ℕ, ◌-◌, Bool, ◌||◌, nat_eq, List, ◌++◌, length, replicate, Option, Some, None, Result, Ok, Err, if◌then◌else◌}
+use Rattle.std.specs.Prelude.{◌≡◌, ◌≢◌, ℕ, ◌-◌, Bool, ◌||◌, nat_eq, List, ◌++◌, length, replicate, Option, Some, None, Result, Ok, Err, if◌then◌else◌}
 use Rattle.ras_base.specs.LittleEndian.{number_at}
 use Rattle.erst_store.specs.declared.device.CommandStatus.{CommandStatus}
 use Rattle.erst_store.specs.declared.device.CommandStatus.TheVariants.{Success, NotEnoughSpace, StoreEmpty, NotFound}
 use Rattle.erst_store.specs.Actions.{range_length}
 use Rattle.erst_store.specs.Store.{Stored, holds, bytes_under, with_record, without, is_reserved, is_full_for}
 use Rattle.erst_store.specs.Device.{Device, status_number, id_place}
-use Rattle.erst_store.specs.DeviceLaws.{IsDevice}
 use Rattle.board_core.specs.Cause.{Faults}
 use Rattle.board_core.specs.Stop.{Becomes}
-use Rattle.board_core.specs.Told.{Told, device_of}
+use Rattle.board_core.specs.declared.board.Access.{Access}
+use Rattle.board_core.specs.Told.{Told}
 use Rattle.erst_interp.specs.Run.{Raises, IsCutShort}
 use Rattle.erst_driver.specs.declared.refusals.DriverRefused.{DriverRefused}
 use Rattle.erst_driver.specs.declared.refusals.DriverRefused.TheVariants.{Register, Busy, NoMemory, Status as EndedWith}
@@ -75,11 +75,22 @@ abbrev pub Gives : Answer → Answer → Type 0
 Gives (Err Register) answer = Unit {0}
 Gives result answer = result ≡ answer
 
+-- Of a list of accesses those before were made, and some more.
+pub record Begins (all before now : List Access) : Type 0 where
+  pub done : List Access
+  pub later : List Access
+  pub splits : all ≡ before ++ (done ++ later)
+  pub made : now ≡ before ++ done
+
+abbrev pub IsBegun : List Access → Told → Option Told → Type 0
+IsBegun all old None = ⊥
+IsBegun all old (Some new) = Begins all old.accesses new.accesses
+
 -- A board that told this tells that. Where a call failed, the accesses are those that would have
--- come to that, up to this call. Where memory ran out nothing is said.
+-- come to that, up to this call, and where memory ran out some of them.
 abbrev pub Leaves : {T : Type 0} → Result T DriverRefused → Told → Option Told → Told → Type 0
 Leaves (Err Register) before new after = IsCutShort after.accesses before new
-Leaves (Err NoMemory) before new after = Unit {0}
+Leaves (Err NoMemory) before new after = IsBegun after.accesses before new
 Leaves result before new after = new ≡ Some after
 
 -- The record store is this one.
@@ -97,7 +108,13 @@ abbrev pub HasCauseIn : {T : Type 0} → Result T DriverRefused → Faults → F
 HasCauseIn (Err Register) before now = Raises before now
 HasCauseIn result before now = now ≡ before
 
--- A call that takes memory may also answer its want, and nothing else.
+-- A call that takes no memory doesn't lack any, and a status that it tells isn't 0.
+abbrev pub IsAnswered : {T : Type 0} → Result T DriverRefused → Type 0
+IsAnswered (Err NoMemory) = ⊥
+IsAnswered (Err (EndedWith status)) = status ≢ 0
+IsAnswered result = Unit {0}
+
+-- A call that takes memory may lack it, and is refused in no other way.
 abbrev pub IsMemoryOnly : {T : Type 0} → Result T DriverRefused → Type 0
 IsMemoryOnly (Ok x) = Unit {0}
 IsMemoryOnly (Err Register) = Unit {0}
@@ -109,18 +126,17 @@ IsMemoryOnly (Err why) = ⊥
 -- It is as before, or without the record of this identifier.
 abbrev pub Clears : ℕ → Option Told → List Stored → List Stored → Type 0
 Clears id None old new = Unit {0}
-Clears id (Some t) old new = IsDevice (device_of t) → Becomes (without id t.here.store) old new
+Clears id (Some t) old new = Becomes (without id t.here.store) old new
 
 -- It is as before, or with this record put.
 abbrev pub Puts : List ℕ → Option Told → List Stored → List Stored → Type 0
 Puts bytes None old new = Unit {0}
-Puts bytes (Some t) old new =
-    IsDevice (device_of t) → Becomes (store_after_write bytes t.here.store) old new
+Puts bytes (Some t) old new = Becomes (store_after_write bytes t.here.store) old new
 
 -- It stays.
 abbrev pub Stays : Option Told → List Stored → List Stored → Type 0
 Stays None old new = Unit {0}
-Stays (Some t) old new = IsDevice (device_of t) → new ≡ old
+Stays (Some t) old new = new ≡ old
 
 -- ---- what a read leaves in a buffer of the range's length
 

@@ -1,27 +1,30 @@
 -- The operations on the device, each as the actions that it runs one after another: ACPI 6.5,
 -- section 18.5.2, "Operations". How often a busy device is asked is this project's own.
-use Rattle.std.specs.Prelude.{ℕ, suc, ◌+◌, min, length, Bool, true, false, nat_lt, List, [], ◌∷◌, ◌++◌, replicate, Option, Some, None, Result, Ok, Err, if◌then◌else◌}
-use Rattle.erst_store.specs.Actions.{begin_write_operation, begin_read_operation, begin_clear_operation, end_operation, set_record_offset, execute_operation, check_busy_status, get_command_status, get_record_identifier, set_record_identifier, range_length}
+use Rattle.std.specs.Prelude.{ℕ, ◌+◌, ◌<◌, ◌≤◌, min, length, Bool, nat_lt, List, [], ◌∷◌, ◌++◌, replicate, Result, Ok, Err, if◌then◌else◌}
+use Rattle.std.specs.List.{AllByRecursion}
+use Rattle.erst_store.specs.Actions.{begin_write_operation, begin_read_operation, begin_clear_operation, end_operation, set_record_offset, execute_operation, check_busy_status, get_command_status, get_record_identifier, set_record_identifier, get_record_count, range_length}
 use Rattle.erst_store.specs.Device.{Device}
-use Rattle.erst_store.specs.DeviceLaws.{IsDevice, left_to_list}
+use Rattle.erst_store.specs.DeviceLaws.{left_to_list}
 use Rattle.erst_store.specs.Store.{most_records}
 use Rattle.board_core.specs.declared.board.Access.TheVariants.{RangeRead, RangeWrite}
 use Rattle.board_core.specs.Told.{Told, device_of, on_device, with_access, after_range_write}
 use Rattle.erst_interp.specs.declared.entries.Entry.{Entry}
-use Rattle.erst_interp.specs.Faithful.{device_after}
+use Rattle.erst_interp.specs.Faithful.{device_after, input_limit}
 use Rattle.erst_interp.specs.Machine.{end_of}
 use Rattle.erst_interp.specs.Run.{told_after}
 use Rattle.erst_interp.specs.Table.{list_of}
-use Rattle.erst_driver.specs.declared.driver.TheConstants.{MOST_CHECKS}
 use Rattle.erst_driver.specs.declared.refusals.DriverRefused.{DriverRefused}
 use Rattle.erst_driver.specs.declared.step.Step.{Step}
 
--- where a board tells a device
-abbrev pub Over : (Told → Type 0) → Option Told → Type 0
-Over P None = Unit {0}
-Over P (Some t) = IsDevice (device_of t) → P t
-
 -- ---- the actions of an operation
+
+-- an action that an admitted table does, with an input that it takes
+pub record Inside (s : Step) : Type 0 where
+  pub action : s.action ≤ get_record_count
+  pub input : s.input < input_limit s.action
+
+abbrev pub AreInside : List Step → Type 0
+AreInside steps = AllByRecursion Inside steps
 
 abbrev pub step : ℕ → ℕ → Step
 step action input = record { action = action; input = input }
@@ -44,15 +47,18 @@ write_steps =
     plain begin_write_operation ∷ step set_record_offset 0 ∷ plain execute_operation ∷ []
 
 -- A device that is busy for so many answers is asked once more than that, until it answers 0. After
--- the most checks it isn't asked on.
+-- 1,000 checks it isn't asked on.
 abbrev pub checks : ℕ → List Step
 checks count = replicate count (plain check_busy_status)
 
+abbrev pub most_checks : ℕ
+most_checks = 1000
+
 abbrev pub is_free_in_time : ℕ → Bool
-is_free_in_time busy = nat_lt busy MOST_CHECKS
+is_free_in_time busy = nat_lt busy most_checks
 
 abbrev pub asks : ℕ → List Step
-asks busy = if is_free_in_time busy then checks (busy + 1) else checks MOST_CHECKS
+asks busy = if is_free_in_time busy then checks (busy + 1) else checks most_checks
 
 -- One that is free is asked for its status, and the operation is ended.
 abbrev pub ends : ℕ → List Step

@@ -1,29 +1,38 @@
 -- Only for proofs: what private functions say of the actions that they run.
-use Rattle.std.specs.Prelude.{◌≡◌, ℕ, ◌+◌, ◌<◌, ◌≤◌, ◌⊎◌, nat_lt, if◌then◌else◌, min, length, take, drop, List, [], ◌∷◌, ◌++◌, Option, Some, None, Result, Ok, Err}
-use Rattle.std.specs.List.{AllByRecursion}
-use Rattle.erst_store.specs.Actions.{get_record_count, range_length}
+use Rattle.std.specs.Prelude.{◌≡◌, ℕ, ◌+◌, ◌≤◌, ◌⊎◌, nat_lt, if◌then◌else◌, min, length, take, drop, List, [], ◌∷◌, ◌++◌, Option, Some, None, Result, Ok, Err, IfSome}
+use Rattle.erst_store.specs.Actions.{range_length}
 use Rattle.erst_store.specs.Store.{Stored, most_records, ids}
 use Rattle.erst_store.specs.Device.{Device}
 use Rattle.erst_store.specs.DeviceLaws.{IsDevice, left_to_list}
 use Rattle.board_core.specs.declared.board.Access.TheVariants.{RangeRead}
 use Rattle.board_core.specs.Told.{Told, device_of, with_access}
 use Rattle.erst_interp.specs.declared.entries.Entry.{Entry}
-use Rattle.erst_interp.specs.Faithful.{input_limit, answer_after}
+use Rattle.erst_interp.specs.Faithful.{answer_after}
 use Rattle.erst_interp.specs.Run.{IsCutShort}
 use Rattle.erst_interp.specs.Steps.{Seen, GoesWell, Fails}
 use Rattle.erst_driver.specs.declared.refusals.DriverRefused.{DriverRefused}
 use Rattle.erst_driver.specs.declared.refusals.DriverRefused.TheVariants.{Register, Busy, NoMemory}
 use Rattle.erst_driver.specs.declared.step.Step.{Step}
-use Rattle.erst_driver.specs.Operations.{Over, after_step, after_steps, actions_of, write_steps, checks, listings, ids_steps, told_by, put_in_range, fetched_by, told_by_write}
-use Rattle.erst_driver.specs.Answers.{answer_of}
+use Rattle.erst_driver.specs.Operations.{after_step, after_steps, actions_of, write_steps, checks, listings, ids_steps, told_by, put_in_range, fetched_by, told_by_write}
+use Rattle.erst_driver.specs.Answers.{answer_of, IsBegun}
 
--- an action that an admitted table does, with an input that it takes
-pub record Inside (s : Step) : Type 0 where
-  pub action : s.action ≤ get_record_count
-  pub input : s.input < input_limit s.action
+-- where a board tells a device
+abbrev pub Over : (Told → Type 0) → Option Told → Type 0
+Over P None = Unit {0}
+Over P (Some t) = IsDevice (device_of t) → P t
 
-abbrev pub AreInside : List Step → Type 0
-AreInside steps = AllByRecursion Inside steps
+-- What was told is a device: it is where a call of the device was made.
+abbrev pub HasDevice : Option Told → Type 0
+HasDevice told = IfSome told (λ t. IsDevice (device_of t))
+
+-- so many actions, none of which failed
+abbrev pub Called : ℕ → Option Told → Option Told → Type 0
+Called count old new = ((count ≡ 0) × (new ≡ old)) ⊎ HasDevice old
+
+-- Several actions, maybe none, or up to one that failed.
+abbrev pub CalledAs : {T E : Type 0} → Result T E → Option Told → Option Told → Type 0
+CalledAs (Ok x) old new = (new ≡ old) ⊎ HasDevice old
+CalledAs (Err e) old new = HasDevice old
 
 -- a plan: the actions that are to be run over a device
 abbrev pub Plan : Type 0
@@ -135,6 +144,11 @@ ListsOut lists (Ok done) old new = EndsListing lists old new
 ListsOut lists (Err Register) old new = FailsQuietly lists (λ d. listings (left_to_list d)) old new
 ListsOut lists (Err why) old new = ⊥
 
+-- a listing during which memory ran out
+pub record Starves (lists : List (List Entry)) (plan : Plan) (old new : Seen) : Type 0 where
+  pub well : GoesWell (Quietly old.told) old new
+  pub begun : Over (λ t. IsBegun (told_by lists (plan (device_of t)) t).accesses t new.told) old.told
+
 -- identifiers that were collected
 pub record Collected (lists : List (List Entry)) (found : List ℕ) (old new : Seen) : Type 0 where
   pub done : Done lists (λ d. listings (min (left_to_list d) most_records)) old new
@@ -144,7 +158,7 @@ pub record Collected (lists : List (List Entry)) (found : List ℕ) (old new : S
 abbrev pub Collects : {X : Type 0} → (X → List ℕ) → List (List Entry) → Result X DriverRefused → Seen → Seen → Type 0
 Collects view lists (Ok found) old new = Collected lists (view found) old new
 Collects view lists (Err Register) old new = FailsQuietly lists (λ d. listings (min (left_to_list d) most_records)) old new
-Collects view lists (Err NoMemory) old new = GoesWell (Quietly old.told) old new
+Collects view lists (Err NoMemory) old new = Starves lists (λ d. listings (min (left_to_list d) most_records)) old new
 Collects view lists (Err why) old new = ⊥
 
 -- all identifiers of a store
@@ -156,7 +170,7 @@ pub record ListedAll (lists : List (List Entry)) (found : List ℕ) (old new : S
 abbrev pub ListsAll : {X : Type 0} → (X → List ℕ) → List (List Entry) → Result X DriverRefused → Seen → Seen → Type 0
 ListsAll view lists (Ok found) old new = ListedAll lists (view found) old new
 ListsAll view lists (Err Register) old new = FailsQuietly lists ids_steps old new
-ListsAll view lists (Err NoMemory) old new = GoesWell (Quietly old.told) old new
+ListsAll view lists (Err NoMemory) old new = Starves lists ids_steps old new
 ListsAll view lists (Err why) old new = ⊥
 
 -- ---- writes

@@ -9,12 +9,13 @@ ghost use Rattle.erst_store.specs.Actions.{range_length};
 ghost use Rattle.erst_interp.specs.Steps.{Touches, Stays as Unchanged};
 ghost use Rattle.ras_base.specs.LittleEndian.{AreBytes, number_at};
 ghost use Rattle.erst_store.specs.Device.{header_length, length_place};
+ghost use Rattle.erst_store.specs.DeviceLaws.{IsDevice};
 ghost use Rattle.erst_store.specs.Store.{ids, without, most_records};
 ghost use Rattle.erst_interp.specs.Admission.{IsAdmittedTable};
 ghost use Rattle.erst_interp.specs.Run.{Keeps, IsCutShort};
-ghost use Rattle.erst_driver.specs.Operations.{Over, actions_of, asks, finishes, clear_steps, ids_steps, told_by, told_by_read, told_by_write, put_in_range};
-ghost use Rattle.erst_driver.specs.Answers.{answer_within, answer_at, answer_of, answer_on_found, Gives, Leaves, LeavesStore, HasCauseIn, Clears, Stays, HoldsRecord, IsMemoryOnly, written_id, answer_on_put, store_after_write, Puts};
-ghost use Rattle.erst_driver.specs.Steps.{asks_within, answers_within, Inside, AreInside, Acts, Runs, Operates, Reads, ListsOut, Collects, ListsAll, Writes};
+ghost use Rattle.erst_driver.specs.Operations.{AreInside, Inside, actions_of, asks, finishes, clear_steps, ids_steps, told_by, told_by_read, told_by_write, put_in_range};
+ghost use Rattle.erst_driver.specs.Answers.{answer_within, answer_at, answer_of, answer_on_found, Gives, Leaves, LeavesStore, HasCauseIn, Clears, Stays, HoldsRecord, IsAnswered, IsMemoryOnly, written_id, answer_on_put, store_after_write, Puts};
+ghost use Rattle.erst_driver.specs.Steps.{asks_within, answers_within, HasDevice, CalledAs, Acts, Runs, Operates, Reads, ListsOut, Collects, ListsAll, Writes};
 
 use crate::refusals::DriverRefused;
 use crate::step::{Step, clear_steps, read_steps, write_steps};
@@ -75,16 +76,18 @@ impl Driver {
     /// At each moment a stop leaves the store as it was or without the record, and all else as it
     /// was.
     pub fn clear<B: Board>(&self, id: u64, board: &mut B) -> Result<(), DriverRefused>
-        ensures answers { Over (λ t. Gives result (answer_on_found id (device_of t)))
-            (B.told board.old) }
-        ensures store { Over (λ t. LeavesStore result (B.told board.new) (without id t.here.store))
-            (B.told board.old) }
-        ensures told { Over (λ t. Leaves result t (B.told board.new)
-            (told_by self.now (actions_of (clear_steps id) (device_of t)) t)) (B.told board.old) }
+        ensures answers { IfSome (B.told board.old)
+            (λ t. Gives result (answer_on_found id (device_of t))) }
+        ensures store { IfSome (B.told board.old)
+            (λ t. LeavesStore result (B.told board.new) (without id t.here.store)) }
+        ensures told { IfSome (B.told board.old) (λ t. Leaves result t (B.told board.new)
+            (told_by self.now (actions_of (clear_steps id) (device_of t)) t)) }
         ensures kept { Relates Keeps (B.told board.old) (B.told board.new) }
         ensures stops { Passes (InStore (Clears id (B.told board.old))) (B.clock board.old)
             (B.clock board.new) }
         ensures cause { HasCauseIn result (B.faults board.old) (B.faults board.new) }
+        ensures refused { IsAnswered result }
+        ensures device { IfSome (B.told board.old) (λ t. IsDevice (device_of t)) }
     {
         let steps = clear_steps(id);
         self.operate(&steps, board)
@@ -105,18 +108,20 @@ impl Driver {
         board: &mut B,
     ) -> Result<(), DriverRefused>
         requires { length buf.old ≡ range_length }
-        ensures answers { Over (λ t. Gives result (answer_on_found id (device_of t)))
-            (B.told board.old) }
-        ensures record_read { OnOk result
-            (Over (λ t. HoldsRecord id t.here.store buf.new) (B.told board.old)) }
-        ensures store { Over (λ t. LeavesStore result (B.told board.new) t.here.store)
-            (B.told board.old) }
-        ensures told { Over (λ t. Leaves result t (B.told board.new)
-            (told_by_read self.now id (answer_on_found id (device_of t)) t)) (B.told board.old) }
+        ensures answers { IfSome (B.told board.old)
+            (λ t. Gives result (answer_on_found id (device_of t))) }
+        ensures record_read { OnOk result (IfSome (B.told board.old)
+            (λ t. HoldsRecord id t.here.store buf.new)) }
+        ensures store { IfSome (B.told board.old)
+            (λ t. LeavesStore result (B.told board.new) t.here.store) }
+        ensures told { IfSome (B.told board.old) (λ t. Leaves result t (B.told board.new)
+            (told_by_read self.now id (answer_on_found id (device_of t)) t)) }
         ensures kept { Relates Keeps (B.told board.old) (B.told board.new) }
         ensures stops { Passes (InStore (Stays (B.told board.old))) (B.clock board.old)
             (B.clock board.new) }
         ensures cause { HasCauseIn result (B.faults board.old) (B.faults board.new) }
+        ensures refused { IsAnswered result }
+        ensures device { IfSome (B.told board.old) (λ t. IsDevice (device_of t)) }
     {
         let steps = read_steps(id);
         self.operate_and_fetch(&steps, buf, board)
@@ -137,19 +142,18 @@ impl Driver {
         requires long { header_length ≤ length bytes.now }
         requires short { length bytes.now ≤ range_length }
         requires whole { number_at length_place 4 bytes.now ≡ length bytes.now }
-        ensures answers { Over
-            (λ t. Gives result (answer_on_put (written_id bytes.now) (device_of t)))
-            (B.told board.old) }
-        ensures store { Over
-            (λ t. LeavesStore result (B.told board.new) (store_after_write bytes.now t.here.store))
-            (B.told board.old) }
-        ensures told { Over
-            (λ t. Leaves result t (B.told board.new) (told_by_write self.now bytes.now t))
-            (B.told board.old) }
+        ensures answers { IfSome (B.told board.old)
+            (λ t. Gives result (answer_on_put (written_id bytes.now) (device_of t))) }
+        ensures store { IfSome (B.told board.old)
+            (λ t. LeavesStore result (B.told board.new) (store_after_write bytes.now t.here.store)) }
+        ensures told { IfSome (B.told board.old)
+            (λ t. Leaves result t (B.told board.new) (told_by_write self.now bytes.now t)) }
         ensures kept { Relates Keeps (B.told board.old) (B.told board.new) }
         ensures stops { Passes (InStore (Puts bytes.now (B.told board.old))) (B.clock board.old)
             (B.clock board.new) }
         ensures cause { HasCauseIn result (B.faults board.old) (B.faults board.new) }
+        ensures refused { IsAnswered result }
+        ensures device { IfSome (B.told board.old) (λ t. IsDevice (device_of t)) }
     {
         self.put_and_operate(bytes, board)
     }
@@ -160,6 +164,8 @@ impl Driver {
         ensures writes { Writes self.now bytes.now result
             (record { told = B.told board.old; clock = B.clock board.old; faults = B.faults board.old })
             (record { told = B.told board.new; clock = B.clock board.new; faults = B.faults board.new }) }
+        ensures refused { IsAnswered result }
+        ensures device { HasDevice (B.told board.old) }
     {
         match fill(bytes, board) {
             Ok(()) => {}
@@ -181,6 +187,8 @@ impl Driver {
         ensures reads { Reads self.now steps.now buf.new result
             (record { told = B.told board.old; clock = B.clock board.old; faults = B.faults board.old })
             (record { told = B.told board.new; clock = B.clock board.new; faults = B.faults board.new }) }
+        ensures refused { IsAnswered result }
+        ensures device { HasDevice (B.told board.old) }
     {
         self.operate(steps, board)?;
         match fetch(buf, board) {
@@ -194,19 +202,20 @@ impl Driver {
     /// from the first one on.
     ///
     /// `Register` comes only where a call of the board failed, which is then the last one, and
-    /// `NoMemory` only for want of memory. No other refusal comes. At each moment a stop leaves all
-    /// as it was.
+    /// `NoMemory` only if memory runs out, after some of the actions. No other refusal comes. At
+    /// each moment a stop leaves all as it was.
     pub fn ids<B: Board>(&self, alloc: Global, board: &mut B) -> Result<Vec<u64>, DriverRefused>
-        ensures ids { IfOk result (λ found. Over (λ t. found.items
-            ≡ ids t.here.store) (B.told board.old)) }
+        ensures ids { IfOk result (λ found. IfSome (B.told board.old)
+            (λ t. found.items ≡ ids t.here.store)) }
         ensures few { IfOk result (λ found. length found.items ≤ most_records) }
-        ensures told { Over (λ t. Leaves result t (B.told board.new)
-            (told_by self.now (ids_steps (device_of t)) t)) (B.told board.old) }
+        ensures told { IfSome (B.told board.old) (λ t. Leaves result t (B.told board.new)
+            (told_by self.now (ids_steps (device_of t)) t)) }
         ensures refused { IsMemoryOnly result }
         ensures kept { Relates Keeps (B.told board.old) (B.told board.new) }
         ensures stops { Passes (InStore (Stays (B.told board.old))) (B.clock board.old)
             (B.clock board.new) }
         ensures cause { HasCauseIn result (B.faults board.old) (B.faults board.new) }
+        ensures device { IfSome (B.told board.old) (λ t. IsDevice (device_of t)) }
     {
         self.list_all(alloc, board)
     }
@@ -216,6 +225,7 @@ impl Driver {
         ensures all { ListsAll (λ v. v.items) self.now result
             (record { told = B.told board.old; clock = B.clock board.old; faults = B.faults board.old })
             (record { told = B.told board.new; clock = B.clock board.new; faults = B.faults board.new }) }
+        ensures device { HasDevice (B.told board.old) }
     {
         self.list_to_end(board)?;
         self.collect(alloc, board)
@@ -226,6 +236,7 @@ impl Driver {
         ensures lists { ListsOut self.now result
             (record { told = B.told board.old; clock = B.clock board.old; faults = B.faults board.old })
             (record { told = B.told board.new; clock = B.clock board.new; faults = B.faults board.new }) }
+        ensures device { HasDevice (B.told board.old) }
     {
         for _ in 0..MOST_LISTINGS {
             let list = Step {
@@ -270,6 +281,8 @@ impl Driver {
         ensures acts { Acts self.now step result
             (record { told = B.told board.old; clock = B.clock board.old; faults = B.faults board.old })
             (record { told = B.told board.new; clock = B.clock board.new; faults = B.faults board.new }) }
+        ensures refused { IsAnswered result }
+        ensures device { HasDevice (B.told board.old) }
     {
         match self.table.run(step.action as u8, step.input, board) {
             Ok(value) => Ok(value),
@@ -284,6 +297,8 @@ impl Driver {
         ensures runs { Runs self.now (λ d. steps.now) result
             (record { told = B.told board.old; clock = B.clock board.old; faults = B.faults board.old })
             (record { told = B.told board.new; clock = B.clock board.new; faults = B.faults board.new }) }
+        ensures refused { IsAnswered result }
+        ensures device { CalledAs result (B.told board.old) (B.told board.new) }
     {
         for step in steps {
             self.act(*step, board)?;
@@ -296,6 +311,8 @@ impl Driver {
         ensures waits { Operates self.now (λ d. asks d.busy) (λ d. answer_within d.busy) result
             (record { told = B.told board.old; clock = B.clock board.old; faults = B.faults board.old })
             (record { told = B.told board.new; clock = B.clock board.new; faults = B.faults board.new }) }
+        ensures refused { IsAnswered result }
+        ensures device { HasDevice (B.told board.old) }
     {
         self.check(MOST_CHECKS, board)
     }
@@ -306,6 +323,8 @@ impl Driver {
             (λ d. answers_within most d.busy) result
             (record { told = B.told board.old; clock = B.clock board.old; faults = B.faults board.old })
             (record { told = B.told board.new; clock = B.clock board.new; faults = B.faults board.new }) }
+        ensures refused { IsAnswered result }
+        ensures device { 0 < most → HasDevice (B.told board.old) }
     {
         for _ in 0..most {
             let check = Step {
@@ -325,6 +344,8 @@ impl Driver {
         ensures finishes { Operates self.now (λ d. finishes d.busy) answer_at result
             (record { told = B.told board.old; clock = B.clock board.old; faults = B.faults board.old })
             (record { told = B.told board.new; clock = B.clock board.new; faults = B.faults board.new }) }
+        ensures refused { IsAnswered result }
+        ensures device { HasDevice (B.told board.old) }
     {
         self.wait(board)?;
         let ask = Step {
@@ -350,6 +371,8 @@ impl Driver {
         ensures operates { Operates self.now (actions_of steps.now) (answer_of steps.now) result
             (record { told = B.told board.old; clock = B.clock board.old; faults = B.faults board.old })
             (record { told = B.told board.new; clock = B.clock board.new; faults = B.faults board.new }) }
+        ensures refused { IsAnswered result }
+        ensures device { HasDevice (B.told board.old) }
     {
         self.run_steps(steps, board)?;
         self.finish(board)
@@ -385,6 +408,7 @@ fn fill<B: Board>(bytes: &[u8], board: &mut B) -> Result<(), Failed>
         (record { told = B.told board.old; clock = B.clock board.old; faults = B.faults board.old })
         (record { told = B.told board.new; clock = B.clock board.new; faults = B.faults board.new }) }
     ensures bytes { AreBytes bytes.now }
+    ensures device { HasDevice (B.told board.old) }
 {
     match board.range_write(0, bytes) {
         Ok(()) => Ok(()),
