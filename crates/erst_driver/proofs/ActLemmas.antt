@@ -16,7 +16,8 @@ use Rattle.erst_interp.specs.Admission.{takes_input, IsAdmitted, IsAdmittedTable
 use Rattle.erst_interp.specs.Faithful.{input_limit, with_input, device_after, answer_after, ActsOn, DoesRun, IsRegisterAlone}
 use Rattle.erst_interp.specs.Machine.{end_of}
 use Rattle.erst_interp.specs.Run.{IsRun, Keeps, RunCause}
-use Rattle.erst_interp.specs.Steps.{Seen, GoesWell}
+use Rattle.board_core.specs.Doing.{Seen}
+use Rattle.erst_interp.specs.Steps.{GoesWell}
 use Rattle.erst_interp.specs.Table.{list_of}
 use Rattle.erst_interp.proofs.TouchLemmas.{well_more, fails_more}
 use Rattle.erst_driver.specs.declared.step.Step.{Step}

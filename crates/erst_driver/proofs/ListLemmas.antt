@@ -15,7 +15,8 @@ use Rattle.board_core.specs.Told.{Told, device_of, Relates}
 use Rattle.erst_interp.specs.declared.entries.Entry.{Entry}
 use Rattle.erst_interp.specs.Faithful.{answer_after}
 use Rattle.erst_interp.specs.Run.{Keeps}
-use Rattle.erst_interp.specs.Steps.{Seen, GoesWell}
+use Rattle.board_core.specs.Doing.{Seen}
+use Rattle.erst_interp.specs.Steps.{GoesWell}
 use Rattle.erst_interp.proofs.TouchLemmas.{well_more, fails_more, well_both, well_fails}
 use Rattle.erst_driver.specs.declared.refusals.DriverRefused.{DriverRefused}
 use Rattle.erst_driver.specs.declared.refusals.DriverRefused.TheVariants.{Register, Busy, Status, NoMemory}

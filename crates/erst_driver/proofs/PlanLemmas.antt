@@ -11,7 +11,8 @@ use Rattle.erst_interp.specs.declared.entries.Entry.{Entry}
 use Rattle.erst_interp.specs.Machine.{end_of}
 use Rattle.erst_interp.specs.Run.{IsCutShort}
 use Rattle.erst_interp.specs.Table.{list_of}
-use Rattle.erst_interp.specs.Steps.{Seen, GoesWell}
+use Rattle.board_core.specs.Doing.{Seen}
+use Rattle.erst_interp.specs.Steps.{GoesWell}
 use Rattle.erst_interp.proofs.BreakLemmas.{off_as, off_more, off_after}
 use Rattle.erst_interp.proofs.TouchLemmas.{well_both, well_fails, well_more, fails_more, none_made}
 use Rattle.erst_driver.specs.declared.refusals.DriverRefused.{DriverRefused}

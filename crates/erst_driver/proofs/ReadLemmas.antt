@@ -16,7 +16,8 @@ use Rattle.board_core.specs.declared.board.Access.TheVariants.{RangeRead}
 use Rattle.board_core.specs.Told.{Told, device_of, with_access, Relates}
 use Rattle.erst_interp.specs.declared.entries.Entry.{Entry}
 use Rattle.erst_interp.specs.Run.{Keeps, IsCutShort}
-use Rattle.erst_interp.specs.Steps.{Seen, Fails}
+use Rattle.board_core.specs.Doing.{Seen}
+use Rattle.erst_interp.specs.Steps.{Fails}
 use Rattle.erst_interp.specs.Steps.{Stays as Unchanged}
 use Rattle.erst_interp.proofs.BreakLemmas.{off_more, off_after}
 use Rattle.erst_interp.proofs.TouchLemmas.{well_fails}

@@ -7,7 +7,7 @@ use Rattle.erst_store.specs.Device.{Device, act}
 use Rattle.board_core.specs.Told.{device_of}
 use Rattle.erst_interp.specs.declared.entries.Entry.{Entry}
 use Rattle.erst_interp.specs.Faithful.{answer_after}
-use Rattle.erst_interp.specs.Steps.{Seen}
+use Rattle.board_core.specs.Doing.{Seen}
 use Rattle.erst_driver.specs.declared.refusals.DriverRefused.{DriverRefused}
 use Rattle.erst_driver.specs.declared.refusals.DriverRefused.TheVariants.{Busy}
 use Rattle.erst_driver.specs.declared.step.Step.{Step}

@@ -18,7 +18,8 @@ use Rattle.board_core.specs.declared.board.Access.TheVariants.{RangeWrite}
 use Rattle.board_core.specs.Told.{Told, device_of, Relates, Steps}
 use Rattle.erst_interp.specs.declared.entries.Entry.{Entry}
 use Rattle.erst_interp.specs.Run.{Keeps, IsCutShort}
-use Rattle.erst_interp.specs.Steps.{Seen, GoesWell, Fails, Stays}
+use Rattle.board_core.specs.Doing.{Seen}
+use Rattle.erst_interp.specs.Steps.{GoesWell, Fails, Stays}
 use Rattle.erst_interp.proofs.BreakLemmas.{off_as, off_more, off_after}
 use Rattle.erst_interp.proofs.TouchLemmas.{well_both, well_fails, fails_more}
 use Rattle.erst_driver.specs.declared.refusals.DriverRefused.TheVariants.{Register, Busy, NoMemory, Status as EndedWith}

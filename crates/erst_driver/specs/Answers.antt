@@ -6,11 +6,12 @@ use Rattle.erst_store.specs.declared.device.CommandStatus.TheVariants.{Success, 
 use Rattle.erst_store.specs.Actions.{range_length}
 use Rattle.erst_store.specs.Store.{Stored, holds, bytes_under, with_record, without, is_reserved, is_full_for}
 use Rattle.erst_store.specs.Device.{Device, status_number, id_place}
-use Rattle.board_core.specs.Cause.{Faults}
+use Rattle.board_core.specs.Cause.{Faults, device_call}
+use Rattle.board_core.specs.Doing.{Raises}
 use Rattle.board_core.specs.Stop.{Becomes}
 use Rattle.board_core.specs.declared.board.Access.{Access}
 use Rattle.board_core.specs.Told.{Told}
-use Rattle.erst_interp.specs.Run.{Raises, IsCutShort}
+use Rattle.erst_interp.specs.Run.{IsCutShort}
 use Rattle.erst_driver.specs.declared.refusals.DriverRefused.{DriverRefused}
 use Rattle.erst_driver.specs.declared.refusals.DriverRefused.TheVariants.{Register, Busy, NoMemory, Status as EndedWith}
 use Rattle.erst_driver.specs.declared.step.Step.{Step}
@@ -105,7 +106,7 @@ LeavesStore result new store = IsStoreIn new store
 -- Register comes exactly where the count of device calls that failed rose. With any other answer
 -- all counts are as they were.
 abbrev pub HasCauseIn : {T : Type 0} → Result T DriverRefused → Faults → Faults → Type 0
-HasCauseIn (Err Register) before now = Raises before now
+HasCauseIn (Err Register) before now = Raises device_call before now
 HasCauseIn result before now = now ≡ before
 
 -- A call that takes no memory doesn't lack any, and a status that it tells isn't 0.

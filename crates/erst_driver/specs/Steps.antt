@@ -9,7 +9,8 @@ use Rattle.board_core.specs.Told.{Told, device_of, with_access}
 use Rattle.erst_interp.specs.declared.entries.Entry.{Entry}
 use Rattle.erst_interp.specs.Faithful.{answer_after}
 use Rattle.erst_interp.specs.Run.{IsCutShort}
-use Rattle.erst_interp.specs.Steps.{Seen, GoesWell, Fails}
+use Rattle.board_core.specs.Doing.{Seen}
+use Rattle.erst_interp.specs.Steps.{GoesWell, Fails}
 use Rattle.erst_driver.specs.declared.refusals.DriverRefused.{DriverRefused}
 use Rattle.erst_driver.specs.declared.refusals.DriverRefused.TheVariants.{Register, Busy, NoMemory}
 use Rattle.erst_driver.specs.declared.step.Step.{Step}
@@ -21,11 +22,11 @@ abbrev pub Over : (Told → Type 0) → Option Told → Type 0
 Over P None = Unit {0}
 Over P (Some t) = IsDevice (device_of t) → P t
 
--- What was told is a device: it is where a call of the device was made.
+-- What was told is a device, as it is if a call of the device was made.
 abbrev pub HasDevice : Option Told → Type 0
 HasDevice told = IfSome told (λ t. IsDevice (device_of t))
 
--- so many actions, none of which failed
+-- so many actions, of which none failed
 abbrev pub Called : ℕ → Option Told → Option Told → Type 0
 Called count old new = ((count ≡ 0) × (new ≡ old)) ⊎ HasDevice old
 

@@ -1,6 +1,7 @@
 //! The operations on the record store.
 
 ghost use Rattle.std.specs.Prelude.{◌≡◌, ◌≤◌, ◌<◌, length, take, drop, Some, IfSome, IfOk, OnOk, OnErr};
+ghost use Rattle.board_core.specs.Doing.{looks};
 ghost use Rattle.board_core.specs.Clock.{Passes};
 ghost use Rattle.board_core.specs.Stop.{InStore};
 ghost use Rattle.board_core.specs.Told.{Relates, Steps, device_of, with_access};
@@ -162,8 +163,8 @@ impl Driver {
     fn put_and_operate<B: Board>(&self, bytes: &[u8], board: &mut B) -> Result<(), DriverRefused>
         requires { length bytes.now ≤ range_length }
         ensures writes { Writes self.now bytes.now result
-            (record { told = B.told board.old; clock = B.clock board.old; faults = B.faults board.old })
-            (record { told = B.told board.new; clock = B.clock board.new; faults = B.faults board.new }) }
+            (looks B.told B.clock B.faults board.old)
+            (looks B.told B.clock B.faults board.new) }
         ensures refused { IsAnswered result }
         ensures device { HasDevice (B.told board.old) }
     {
@@ -185,8 +186,8 @@ impl Driver {
         requires inside { AreInside steps.now }
         requires buffer { length buf.old ≡ range_length }
         ensures reads { Reads self.now steps.now buf.new result
-            (record { told = B.told board.old; clock = B.clock board.old; faults = B.faults board.old })
-            (record { told = B.told board.new; clock = B.clock board.new; faults = B.faults board.new }) }
+            (looks B.told B.clock B.faults board.old)
+            (looks B.told B.clock B.faults board.new) }
         ensures refused { IsAnswered result }
         ensures device { HasDevice (B.told board.old) }
     {
@@ -223,8 +224,8 @@ impl Driver {
     // Lists identifiers to the end, and then collects them.
     fn list_all<B: Board>(&self, alloc: Global, board: &mut B) -> Result<Vec<u64>, DriverRefused>
         ensures all { ListsAll (λ v. v.items) self.now result
-            (record { told = B.told board.old; clock = B.clock board.old; faults = B.faults board.old })
-            (record { told = B.told board.new; clock = B.clock board.new; faults = B.faults board.new }) }
+            (looks B.told B.clock B.faults board.old)
+            (looks B.told B.clock B.faults board.new) }
         ensures device { HasDevice (B.told board.old) }
     {
         self.list_to_end(board)?;
@@ -234,8 +235,8 @@ impl Driver {
     // Lists identifiers until the end of the list is told.
     fn list_to_end<B: Board>(&self, board: &mut B) -> Result<(), DriverRefused>
         ensures lists { ListsOut self.now result
-            (record { told = B.told board.old; clock = B.clock board.old; faults = B.faults board.old })
-            (record { told = B.told board.new; clock = B.clock board.new; faults = B.faults board.new }) }
+            (looks B.told B.clock B.faults board.old)
+            (looks B.told B.clock B.faults board.new) }
         ensures device { HasDevice (B.told board.old) }
     {
         for _ in 0..MOST_LISTINGS {
@@ -254,8 +255,8 @@ impl Driver {
     // many as a store can hold.
     fn collect<B: Board>(&self, alloc: Global, board: &mut B) -> Result<Vec<u64>, DriverRefused>
         ensures collects { Collects (λ v. v.items) self.now result
-            (record { told = B.told board.old; clock = B.clock board.old; faults = B.faults board.old })
-            (record { told = B.told board.new; clock = B.clock board.new; faults = B.faults board.new }) }
+            (looks B.told B.clock B.faults board.old)
+            (looks B.told B.clock B.faults board.new) }
     {
         let mut found = Vec::new(alloc);
         for _ in 0..MOST_RECORDS {
@@ -279,8 +280,8 @@ impl Driver {
     fn act<B: Board>(&self, step: Step, board: &mut B) -> Result<u64, DriverRefused>
         requires { Inside step }
         ensures acts { Acts self.now step result
-            (record { told = B.told board.old; clock = B.clock board.old; faults = B.faults board.old })
-            (record { told = B.told board.new; clock = B.clock board.new; faults = B.faults board.new }) }
+            (looks B.told B.clock B.faults board.old)
+            (looks B.told B.clock B.faults board.new) }
         ensures refused { IsAnswered result }
         ensures device { HasDevice (B.told board.old) }
     {
@@ -295,8 +296,8 @@ impl Driver {
     fn run_steps<B: Board>(&self, steps: &[Step], board: &mut B) -> Result<(), DriverRefused>
         requires { AreInside steps.now }
         ensures runs { Runs self.now (λ d. steps.now) result
-            (record { told = B.told board.old; clock = B.clock board.old; faults = B.faults board.old })
-            (record { told = B.told board.new; clock = B.clock board.new; faults = B.faults board.new }) }
+            (looks B.told B.clock B.faults board.old)
+            (looks B.told B.clock B.faults board.new) }
         ensures refused { IsAnswered result }
         ensures device { CalledAs result (B.told board.old) (B.told board.new) }
     {
@@ -309,8 +310,8 @@ impl Driver {
     // Asks the device until it isn't busy.
     fn wait<B: Board>(&self, board: &mut B) -> Result<(), DriverRefused>
         ensures waits { Operates self.now (λ d. asks d.busy) (λ d. answer_within d.busy) result
-            (record { told = B.told board.old; clock = B.clock board.old; faults = B.faults board.old })
-            (record { told = B.told board.new; clock = B.clock board.new; faults = B.faults board.new }) }
+            (looks B.told B.clock B.faults board.old)
+            (looks B.told B.clock B.faults board.new) }
         ensures refused { IsAnswered result }
         ensures device { HasDevice (B.told board.old) }
     {
@@ -321,8 +322,8 @@ impl Driver {
     fn check<B: Board>(&self, most: u32, board: &mut B) -> Result<(), DriverRefused>
         ensures waits { Operates self.now (λ d. asks_within most d.busy)
             (λ d. answers_within most d.busy) result
-            (record { told = B.told board.old; clock = B.clock board.old; faults = B.faults board.old })
-            (record { told = B.told board.new; clock = B.clock board.new; faults = B.faults board.new }) }
+            (looks B.told B.clock B.faults board.old)
+            (looks B.told B.clock B.faults board.new) }
         ensures refused { IsAnswered result }
         ensures device { 0 < most → HasDevice (B.told board.old) }
     {
@@ -342,8 +343,8 @@ impl Driver {
     // ends the operation.
     fn finish<B: Board>(&self, board: &mut B) -> Result<(), DriverRefused>
         ensures finishes { Operates self.now (λ d. finishes d.busy) answer_at result
-            (record { told = B.told board.old; clock = B.clock board.old; faults = B.faults board.old })
-            (record { told = B.told board.new; clock = B.clock board.new; faults = B.faults board.new }) }
+            (looks B.told B.clock B.faults board.old)
+            (looks B.told B.clock B.faults board.new) }
         ensures refused { IsAnswered result }
         ensures device { HasDevice (B.told board.old) }
     {
@@ -369,8 +370,8 @@ impl Driver {
     fn operate<B: Board>(&self, steps: &[Step], board: &mut B) -> Result<(), DriverRefused>
         requires { AreInside steps.now }
         ensures operates { Operates self.now (actions_of steps.now) (answer_of steps.now) result
-            (record { told = B.told board.old; clock = B.clock board.old; faults = B.faults board.old })
-            (record { told = B.told board.new; clock = B.clock board.new; faults = B.faults board.new }) }
+            (looks B.told B.clock B.faults board.old)
+            (looks B.told B.clock B.faults board.new) }
         ensures refused { IsAnswered result }
         ensures device { HasDevice (B.told board.old) }
     {
@@ -389,8 +390,8 @@ fn fetch<B: Board>(buf: &mut [u8], board: &mut B) -> Result<(), Failed>
     ensures breaks { OnErr result (IfSome (B.told board.old)
         (λ t. IsCutShort (with_access (RangeRead 0 range_length) t).accesses t (B.told board.new))) }
     ensures touches { Touches Unchanged result
-        (record { told = B.told board.old; clock = B.clock board.old; faults = B.faults board.old })
-        (record { told = B.told board.new; clock = B.clock board.new; faults = B.faults board.new }) }
+        (looks B.told B.clock B.faults board.old)
+        (looks B.told B.clock B.faults board.new) }
 {
     match board.range_read(0, buf) {
         Ok(()) => Ok(()),
@@ -405,8 +406,8 @@ fn fill<B: Board>(bytes: &[u8], board: &mut B) -> Result<(), Failed>
     ensures breaks { OnErr result (IfSome (B.told board.old)
         (λ t. IsCutShort (put_in_range bytes.now t).accesses t (B.told board.new))) }
     ensures touches { Touches Unchanged result
-        (record { told = B.told board.old; clock = B.clock board.old; faults = B.faults board.old })
-        (record { told = B.told board.new; clock = B.clock board.new; faults = B.faults board.new }) }
+        (looks B.told B.clock B.faults board.old)
+        (looks B.told B.clock B.faults board.new) }
     ensures bytes { AreBytes bytes.now }
     ensures device { HasDevice (B.told board.old) }
 {

@@ -10,7 +10,8 @@ use Rattle.erst_interp.specs.declared.refusals.RunRefused.{RunRefused}
 use Rattle.erst_interp.specs.declared.refusals.RunRefused.TheVariants.{Register, Fuel, BadInstruction, BadRegister, BadRange}
 use Rattle.erst_interp.specs.Machine.{State, Outcome, goes, stops, turn, End, end_from, at_entry, after_turn, new_variables}
 use Rattle.erst_interp.specs.Run.{Keeps, PassesStore, IsCutShort, AtNext, AfterTurn}
-use Rattle.erst_interp.specs.Steps.{start_over, end_within, told_over, RunsOver, StoreWithin, Seen, GoesWell, Fails, TouchesAs, Turns, StoreInTurn, state_in, state_of}
+use Rattle.board_core.specs.Doing.{Seen}
+use Rattle.erst_interp.specs.Steps.{start_over, end_within, told_over, RunsOver, StoreWithin, GoesWell, Fails, TouchesAs, Turns, StoreInTurn, state_in, state_of}
 use Rattle.erst_interp.proofs.BreakLemmas.{off_as, off_more, off_after}
 use Rattle.erst_interp.proofs.ShiftedLemmas.{turn_made, end_made}
 use Rattle.erst_interp.proofs.TouchLemmas.{well_both, well_fails}

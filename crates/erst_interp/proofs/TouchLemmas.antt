@@ -2,12 +2,13 @@
 use Rattle.std.proofs.Common.{◌≡◌, ◌∙◌, ◌≤◌, List, Option, Some, None, refl, sym, ap, subst, inl, inr, arith}
 use Rattle.std.specs.Prelude.{Result, Ok, Err}
 use Rattle.erst_store.specs.Store.{Stored}
-use Rattle.board_core.specs.Cause.{Faults}
+use Rattle.board_core.specs.Cause.{Faults, device_call}
 use Rattle.board_core.specs.Clock.{Clock, After, Passes}
 use Rattle.board_core.specs.Stop.{Left, InStore}
 use Rattle.board_core.specs.Told.{Told, Relates}
-use Rattle.erst_interp.specs.Run.{Keeps, Raises}
-use Rattle.erst_interp.specs.Steps.{Seen, GoesWell, Fails, Stays, Touches}
+use Rattle.erst_interp.specs.Run.{Keeps}
+use Rattle.board_core.specs.Doing.{Raises, Seen}
+use Rattle.erst_interp.specs.Steps.{GoesWell, Fails, Stays, Touches}
 
 -- ---- what is told
 
@@ -93,7 +94,7 @@ module _ (S1 S : List Stored → List Stored → Type 0) (more : (x y : List Sto
     well_fails a b c first second = record {
       kept = kept_both a.told b.told c.told first.kept second.kept;
       stops = passes_both a.clock b.clock c.clock first.stops second.stops;
-      raises = subst (λ (faults : Faults). Raises faults c.faults) first.faults second.raises;
+      raises = subst (λ (faults : Faults). Raises device_call faults c.faults) first.faults second.raises;
     }
 
 -- a call that leaves the store, before another

@@ -3,7 +3,8 @@ use Rattle.std.specs.Prelude.{◌≡◌, ℕ, zero, suc, ◌≤◌, ◌⊎◌, L
 use Rattle.erst_store.specs.Store.{Stored}
 use Rattle.board_core.specs.declared.board.Access.{Access}
 use Rattle.board_core.specs.declared.board.Access.TheVariants.{Read}
-use Rattle.board_core.specs.Cause.{Rose, Faults}
+use Rattle.board_core.specs.Cause.{Faults, device_call}
+use Rattle.board_core.specs.Doing.{Raises}
 use Rattle.board_core.specs.Told.{Told, device_of, with_device}
 use Rattle.erst_interp.specs.declared.entries.Entry.{Entry}
 use Rattle.erst_interp.specs.declared.refusals.RunRefused.{RunRefused}
@@ -47,15 +48,10 @@ pub record Keeps (old new : Told) : Type 0 where
   pub disk_calls : new.disk_calls ≡ old.disk_calls
   pub slow : new.volatile.slow ≡ old.volatile.slow
 
--- The count of device calls that failed rose, and no other.
-pub record Raises (before now : Faults) : Type 0 where
-  pub own : Rose before.registers now.registers
-  pub later : before.registers ≤ now.registers
-  pub others : now ≡ record before { registers = now.registers }
-
--- Register comes exactly where that count rose. With any other answer all counts are as they were.
+-- Register comes exactly if the count of device calls that failed rose. With any other answer all
+-- counts are as they were.
 abbrev pub RunCause : Result ℕ RunRefused → Faults → Faults → Type 0
-RunCause (Err Register) before now = Raises before now
+RunCause (Err Register) before now = Raises device_call before now
 RunCause answer before now = now ≡ before
 
 -- of the entry that is next, and of what its turn comes to

@@ -7,23 +7,15 @@ use Rattle.board_core.specs.declared.board.Reg.{Reg}
 use Rattle.board_core.specs.declared.board.Access.TheVariants.{Read}
 use Rattle.board_core.specs.Told.{Told, device_of, with_device, register_in, with_access, Relates, StoreBy}
 use Rattle.board_core.specs.Stop.{InStore, Becomes}
-use Rattle.board_core.specs.Clock.{Clock, Passes}
-use Rattle.board_core.specs.Cause.{Faults}
+use Rattle.board_core.specs.Clock.{Passes}
+use Rattle.board_core.specs.Cause.{device_call}
+use Rattle.board_core.specs.Doing.{Raises, Seen}
 use Rattle.erst_interp.specs.declared.entries.Entry.{Entry}
 use Rattle.erst_interp.specs.declared.machine.Variables.{Variables}
 use Rattle.erst_interp.specs.declared.refusals.RunRefused.{RunRefused}
 use Rattle.erst_interp.specs.declared.refusals.RunRefused.TheVariants.{Register}
 use Rattle.erst_interp.specs.Machine.{State, Outcome, goes, stops, new_variables, field_of, is_inside, End, end_from, most_turns}
-use Rattle.erst_interp.specs.Run.{Keeps, Raises, PassesStore, IsCutShort}
-
--- what a board tells, what stops leave of it, and its counts
-pub record Seen : Type 1 where
-  pub told : Option Told
-  pub clock : Clock
-  pub faults : Faults
-
-abbrev pub seen : Option Told → Clock → Faults → Seen
-seen told clock faults = record { told = told; clock = clock; faults = faults }
+use Rattle.erst_interp.specs.Run.{Keeps, PassesStore, IsCutShort}
 
 -- Calls went well, or the last of them failed. The record store may have changed so.
 pub record GoesWell (Store : List Stored → List Stored → Type 0) (old new : Seen) : Type 0 where
@@ -34,7 +26,7 @@ pub record GoesWell (Store : List Stored → List Stored → Type 0) (old new : 
 pub record Fails (Store : List Stored → List Stored → Type 0) (old new : Seen) : Type 0 where
   pub kept : Relates Keeps old.told new.told
   pub stops : Passes (InStore Store) old.clock new.clock
-  pub raises : Raises old.faults new.faults
+  pub raises : Raises device_call old.faults new.faults
 
 abbrev pub Touches : {T E : Type 0} → (List Stored → List Stored → Type 0) → Result T E → Seen → Seen → Type 0
 Touches Store (Ok x) old new = GoesWell Store old new

@@ -2,6 +2,7 @@
 
 ghost use Rattle.std.specs.Prelude.{◌≡◌, ◌<◌, ◌≤◌, ◌+◌, ◌^◌, ◌⊎◌, length, IfSome, IfOk, OnOk, IsTrue, Err};
 ghost use Rattle.std.specs.List.{list_all, list_any};
+ghost use Rattle.board_core.specs.Doing.{looks};
 ghost use Rattle.board_core.specs.Clock.{Passes};
 ghost use Rattle.board_core.specs.Stop.{InStore};
 ghost use Rattle.board_core.specs.Told.{Relates, StoreBy, device_of};
@@ -11,7 +12,7 @@ ghost use Rattle.erst_interp.specs.Faithful.{input_limit, device_after, DoesRun,
 ghost use Rattle.erst_interp.specs.Machine.{turn, end_of};
 ghost use Rattle.erst_interp.specs.Parts.{use_of, is_straight, is_straight_use, GoesOn, uses_register};
 ghost use Rattle.erst_interp.specs.Run.{IsRun, Keeps, RunCause, StoreInRun};
-ghost use Rattle.erst_interp.specs.Steps.{seen, end_over, end_within, RunsOver, StoreOver, StoreWithin, Turns, TouchesAs, StoreInTurn, state_in};
+ghost use Rattle.erst_interp.specs.Steps.{end_over, end_within, RunsOver, StoreOver, StoreWithin, Turns, TouchesAs, StoreInTurn, state_in};
 ghost use Rattle.erst_interp.specs.Table.{list_of};
 
 use crate::entries::Entry;
@@ -65,8 +66,8 @@ fn run_list<B: Board>(list: &[Entry], input: u64, board: &mut B) -> Result<u64, 
     ensures runs { IfSome (B.told board.old)
         (λ t. RunsOver result (end_over list.now input t) t (B.told board.new)) }
     ensures touches { TouchesAs (StoreOver list.now input (B.told board.old)) result
-        (seen (B.told board.old) (B.clock board.old) (B.faults board.old))
-        (seen (B.told board.new) (B.clock board.new) (B.faults board.new)) }
+        (looks B.told B.clock B.faults board.old)
+        (looks B.told B.clock B.faults board.new) }
     ensures device { (B.told board.new ≡ B.told board.old)
         ⊎ IfSome (B.told board.old) (λ t. IsDevice (device_of t)) }
     ensures straight { IsTrue (list_all is_straight list.now) → length list.now ≤ MOST_TURNS
@@ -88,8 +89,8 @@ fn run_turns<B: Board>(
     ensures runs { IfSome (B.told board.old)
         (λ t. RunsOver result (end_within turns list.now input t) t (B.told board.new)) }
     ensures touches { TouchesAs (StoreWithin turns list.now input (B.told board.old)) result
-        (seen (B.told board.old) (B.clock board.old) (B.faults board.old))
-        (seen (B.told board.new) (B.clock board.new) (B.faults board.new)) }
+        (looks B.told B.clock B.faults board.old)
+        (looks B.told B.clock B.faults board.new) }
     ensures device { (B.told board.new ≡ B.told board.old)
         ⊎ IfSome (B.told board.old) (λ t. IsDevice (device_of t)) }
     ensures straight { IsTrue (list_all is_straight list.now) → length list.now ≤ turns
@@ -125,8 +126,8 @@ fn turn<B: Board>(
         (λ t. Turns result (turn entry.now (state_in variables t)) t (B.told board.new)) }
     ensures touches { TouchesAs
         (StoreInTurn (λ s. turn entry.now s) variables (B.told board.old)) result
-        (seen (B.told board.old) (B.clock board.old) (B.faults board.old))
-        (seen (B.told board.new) (B.clock board.new) (B.faults board.new)) }
+        (looks B.told B.clock B.faults board.old)
+        (looks B.told B.clock B.faults board.new) }
     ensures device { (B.told board.new ≡ B.told board.old)
         ⊎ IfSome (B.told board.old) (λ t. IsDevice (device_of t)) }
     ensures straight { IsTrue (is_straight entry.now) → GoesOn variables result }
@@ -159,8 +160,8 @@ fn use_register<B: Board>(
         t (B.told board.new)) }
     ensures touches { TouchesAs
         (StoreInTurn (use_of how entry.now variables reg) variables (B.told board.old)) result
-        (seen (B.told board.old) (B.clock board.old) (B.faults board.old))
-        (seen (B.told board.new) (B.clock board.new) (B.faults board.new)) }
+        (looks B.told B.clock B.faults board.old)
+        (looks B.told B.clock B.faults board.new) }
     ensures device { IfSome (B.told board.old) (λ t. IsDevice (device_of t)) }
     ensures straight { IsTrue (is_straight_use how entry.now.instruction)
         → GoesOn variables result }
@@ -186,8 +187,8 @@ fn take_field<B: Board>(
         t (B.told board.new)) }
     ensures touches { TouchesAs
         (StoreInTurn (use_of Use.Reads entry.now variables reg) variables (B.told board.old)) result
-        (seen (B.told board.old) (B.clock board.old) (B.faults board.old))
-        (seen (B.told board.new) (B.clock board.new) (B.faults board.new)) }
+        (looks B.told B.clock B.faults board.old)
+        (looks B.told B.clock B.faults board.new) }
     ensures device { IfSome (B.told board.old) (λ t. IsDevice (device_of t)) }
     ensures straight { IsTrue (is_straight_use Use.Reads entry.now.instruction)
         → GoesOn variables result }
@@ -211,8 +212,8 @@ fn give_field<B: Board>(
         t (B.told board.new)) }
     ensures touches { TouchesAs
         (StoreInTurn (use_of Use.Writes entry.now variables reg) variables (B.told board.old)) result
-        (seen (B.told board.old) (B.clock board.old) (B.faults board.old))
-        (seen (B.told board.new) (B.clock board.new) (B.faults board.new)) }
+        (looks B.told B.clock B.faults board.old)
+        (looks B.told B.clock B.faults board.new) }
     ensures device { IfSome (B.told board.old) (λ t. IsDevice (device_of t)) }
     ensures straight { GoesOn variables result }
 {
@@ -236,8 +237,8 @@ fn change_field<B: Board>(
         t (B.told board.new)) }
     ensures touches { TouchesAs
         (StoreInTurn (use_of Use.Changes entry.now variables reg) variables (B.told board.old)) result
-        (seen (B.told board.old) (B.clock board.old) (B.faults board.old))
-        (seen (B.told board.new) (B.clock board.new) (B.faults board.new)) }
+        (looks B.told B.clock B.faults board.old)
+        (looks B.told B.clock B.faults board.new) }
     ensures device { IfSome (B.told board.old) (λ t. IsDevice (device_of t)) }
     ensures straight { GoesOn variables result }
 {
@@ -264,8 +265,8 @@ fn move_data<B: Board>(
         t (B.told board.new)) }
     ensures touches { TouchesAs
         (StoreInTurn (use_of Use.Moves entry.now variables reg) variables (B.told board.old)) result
-        (seen (B.told board.old) (B.clock board.old) (B.faults board.old))
-        (seen (B.told board.new) (B.clock board.new) (B.faults board.new)) }
+        (looks B.told B.clock B.faults board.old)
+        (looks B.told B.clock B.faults board.new) }
     ensures device { IfSome (B.told board.old) (λ t. IsDevice (device_of t)) }
 {
     let Ok(offset) = read_field(entry, reg, board) else {

@@ -1,4 +1,5 @@
-use Rattle.std.proofs.Common.{ℕ, ◌∙◌, ap}
+use Rattle.board_core.specs.Cause.{device_call}
+use Rattle.board_core.proofs.DoingLemmas.{broke_faults, well_faults}
 use Rattle.erst_interp.proofs.BreakLemmas.{write_fails}
 use Rattle.erst_interp.proofs.SlowLemmas.{write_keeps, write_fails_keeps}
 use Rattle.erst_interp.proofs.registers.write.Goals as goal
@@ -10,12 +11,12 @@ pub returns-in-Ok-clause-touches : goal.returns-in-Ok-clause-touches
 returns-in-Ok-clause-touches g c = record {
   kept = write_keeps c.args.reg c.args.number _ _ c.in-Ok.ensures.told;
   stops = c.in-Ok.ensures.stops;
-  faults = c.in-Ok.ensures.cause.others ∙ ap (λ (n : ℕ). record (g.B.Board.faults c.args.board.now) { registers = n }) c.in-Ok.ensures.cause.own.same;
+  faults = well_faults device_call _ _ c.in-Ok.ensures.cause;
 }
 
 pub returns-in-Err-clause-touches : goal.returns-in-Err-clause-touches
 returns-in-Err-clause-touches g c = record {
   kept = write_fails_keeps c.args.reg c.args.number _ _ c.in-Err.ensures.failed;
   stops = c.in-Err.ensures.stops;
-  raises = record { own = c.in-Err.ensures.cause.own.failed; later = c.in-Err.ensures.cause.own.later; others = c.in-Err.ensures.cause.others };
+  raises = broke_faults device_call _ _ c.in-Err.ensures.cause;
 }
