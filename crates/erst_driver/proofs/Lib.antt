@@ -1,7 +1,6 @@
 pub mod DeviceLemmas
 pub mod PlanLemmas
 pub mod ActLemmas
-pub mod ToldLemmas
 pub mod WaitLemmas
 pub mod FinishLemmas
 pub mod OperationLemmas
@@ -9,3 +8,6 @@ pub mod ClearLemmas
 pub mod ReadLemmas
 pub mod ListLemmas
 pub mod WriteLemmas
+pub mod DoesLemmas
+pub mod ToldLemmas
+pub mod MomentLemmas

@@ -1,5 +1,5 @@
 -- What public operations say, of a plan that was done.
-use Rattle.std.proofs.Common.{◌≡◌, ◌∙◌, ℕ, zero, suc, ◌+◌, Bool, true, false, List, [], ◌∷◌, ◌++◌, Option, Some, refl, sym, ap, subst, inl, inr, if◌then◌else◌}
+use Rattle.std.proofs.Common.{◌≡◌, ◌∙◌, ℕ, zero, suc, ◌+◌, Bool, true, false, List, [], ◌∷◌, ◌++◌, Option, Some, refl, ap, subst, inl, inr, if◌then◌else◌}
 use Rattle.std.specs.Prelude.{◌⊎◌, Ok, Err}
 use Rattle.erst_store.specs.Actions.{check_busy_status, get_command_status, end_operation}
 use Rattle.erst_store.specs.declared.device.CommandStatus.{CommandStatus}
@@ -13,9 +13,9 @@ use Rattle.erst_interp.specs.Run.{Keeps}
 use Rattle.board_core.specs.Doing.{Seen}
 use Rattle.erst_driver.specs.declared.refusals.DriverRefused.TheVariants.{Register, Busy, Status as EndedWith, NoMemory}
 use Rattle.erst_driver.specs.declared.step.Step.{Step}
-use Rattle.erst_driver.specs.Operations.{plain, checks, is_free_in_time, asks, ends, finishes, actions_of, after_step, after_steps, told_by, most_checks}
-use Rattle.erst_driver.specs.Answers.{Answer, by_status, answer_of, Gives, Leaves, IsStoreIn, LeavesStore, HasCauseIn}
-use Rattle.erst_driver.specs.Steps.{Over, Plan, ComesThrough, StoreIn, Done, Operates}
+use Rattle.erst_driver.specs.Operations.{plain, checks, is_free_in_time, asks, ends, finishes, actions_of, after_step, after_steps, device_calls, told_by, most_checks}
+use Rattle.erst_driver.specs.Answers.{Answer, by_status, answer_of, Gives, HasCauseIn}
+use Rattle.erst_driver.specs.Steps.{Leaves, Over, Plan, ComesThrough, StoreIn, Done, Operates}
 use Rattle.erst_driver.proofs.PlanLemmas.{everywhere, over_more, after_both}
 use Rattle.erst_driver.proofs.WaitLemmas.{checked}
 
@@ -56,24 +56,12 @@ module _ (lists : List (List Entry)) (plan : Plan) (answer : Device → Answer) 
   leaves : (result : Answer) → Done lists plan a b → Over (λ t. b.told ≡ Some (told_by lists (plan (device_of t)) t)) a.told
   leaves result done = over_more _ _ a.told done.tells (λ t tells. tells.told)
 
-  pub leaves_of : (result : Answer) → Operates lists plan answer result a b → Over (λ t. Leaves result t b.told (told_by lists (plan (device_of t)) t)) a.told
+  pub leaves_of : (result : Answer) → Operates lists plan answer result a b → Over (λ t. Leaves result t b.told (device_calls lists (plan (device_of t)) (device_of t))) a.told
   leaves_of (Ok tt) operates = leaves (Ok tt) operates.done
   leaves_of (Err Register) operates = operates.cut
   leaves_of (Err Busy) operates = leaves (Err Busy) operates.done
   leaves_of (Err (EndedWith code)) operates = leaves (Err Busy) operates.done
   leaves_of (Err NoMemory) operates = absurd operates
-
-  module _ (store : Device → List Stored) (is : (d : Device) → (after_steps (plan d) d).store ≡ store d) where
-    stored : Done lists plan a b → Over (λ t. IsStoreIn b.told (store (device_of t))) a.told
-    stored done = over_more _ _ a.told done.tells (λ t tells.
-        subst (λ (o : Option Told). IsStoreIn o (store (device_of t))) (sym tells.told) (ap (λ (d : Device). d.store) tells.device ∙ is (device_of t)))
-
-    pub store_of : (result : Answer) → Operates lists plan answer result a b → Over (λ t. LeavesStore result b.told (store (device_of t))) a.told
-    store_of (Ok tt) operates = stored operates.done
-    store_of (Err Register) operates = everywhere _ a.told (λ t. tt)
-    store_of (Err Busy) operates = stored operates.done
-    store_of (Err (EndedWith code)) operates = stored operates.done
-    store_of (Err NoMemory) operates = absurd operates
 
   pub kept_of : (result : Answer) → Operates lists plan answer result a b → Relates Keeps a.told b.told
   kept_of (Ok tt) operates = operates.done.well.kept

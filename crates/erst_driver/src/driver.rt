@@ -1,7 +1,7 @@
 //! The operations on the record store.
 
-ghost use Rattle.std.specs.Prelude.{◌≡◌, ◌≤◌, ◌<◌, length, take, drop, Some, IfSome, IfOk, OnOk, OnErr};
-ghost use Rattle.board_core.specs.Doing.{looks};
+ghost use Rattle.std.specs.Prelude.{◌≡◌, ◌∷◌, [], ◌⊎◌, ◌≤◌, ◌<◌, length, take, drop, Some, IfSome, IfOk, OnOk, OnErr};
+ghost use Rattle.board_core.specs.Doing.{Does, ended_by, looks, range_read, range_write};
 ghost use Rattle.board_core.specs.Clock.{Passes};
 ghost use Rattle.board_core.specs.Stop.{InStore};
 ghost use Rattle.board_core.specs.Told.{Relates, Steps, device_of, with_access};
@@ -11,11 +11,11 @@ ghost use Rattle.erst_interp.specs.Steps.{Touches, Stays as Unchanged};
 ghost use Rattle.ras_base.specs.LittleEndian.{AreBytes, number_at};
 ghost use Rattle.erst_store.specs.Device.{header_length, length_place};
 ghost use Rattle.erst_store.specs.DeviceLaws.{IsDevice};
-ghost use Rattle.erst_store.specs.Store.{ids, without, most_records};
+ghost use Rattle.erst_store.specs.Store.{ids, most_records};
 ghost use Rattle.erst_interp.specs.Admission.{IsAdmittedTable};
-ghost use Rattle.erst_interp.specs.Run.{Keeps, IsCutShort};
-ghost use Rattle.erst_driver.specs.Operations.{AreInside, Inside, actions_of, asks, finishes, clear_steps, ids_steps, told_by, told_by_read, told_by_write, put_in_range};
-ghost use Rattle.erst_driver.specs.Answers.{answer_within, answer_at, answer_of, answer_on_found, Gives, Leaves, LeavesStore, HasCauseIn, Clears, Stays, HoldsRecord, IsAnswered, IsMemoryOnly, written_id, answer_on_put, store_after_write, Puts};
+ghost use Rattle.erst_interp.specs.Run.{Keeps, IsCutShort, acts_of};
+ghost use Rattle.erst_driver.specs.Operations.{AreInside, Inside, actions_of, asks, finishes, clear_calls, list_calls, write_calls, put_in_range};
+ghost use Rattle.erst_driver.specs.Answers.{read_calls, refusal_end, DoesListing, answer_within, answer_at, answer_of, answer_on_found, Gives, HasCauseIn, HoldsRecord, IsAnswered, IsMemoryOnly, written_id, answer_on_put};
 ghost use Rattle.erst_driver.specs.Steps.{asks_within, answers_within, HasDevice, CalledAs, Acts, Runs, Operates, Reads, ListsOut, Collects, ListsAll, Writes};
 
 use crate::refusals::DriverRefused;
@@ -74,18 +74,16 @@ impl Driver {
     /// action; the record is removed even so. `Status` comes after the operation was ended: 4
     /// where the store is empty, and 5 where it has no such record.
     ///
-    /// At each moment a stop leaves the store as it was or without the record, and all else as it
-    /// was.
+    /// What its calls leave, and what a stop leaves at each moment of them, stands at
+    /// [`crate::operations_on_the_store`]: the store as it was or without the record, and all else
+    /// as it was.
     pub fn clear<B: Board>(&self, id: u64, board: &mut B) -> Result<(), DriverRefused>
+        ensures does { IfSome (B.told board.old) (λ t. Does (looks B.told B.clock B.faults)
+            (acts_of (clear_calls self.now id (device_of t))) (ended_by refusal_end result)
+            board.old board.new) }
         ensures answers { IfSome (B.told board.old)
             (λ t. Gives result (answer_on_found id (device_of t))) }
-        ensures store { IfSome (B.told board.old)
-            (λ t. LeavesStore result (B.told board.new) (without id t.here.store)) }
-        ensures told { IfSome (B.told board.old) (λ t. Leaves result t (B.told board.new)
-            (told_by self.now (actions_of (clear_steps id) (device_of t)) t)) }
         ensures kept { Relates Keeps (B.told board.old) (B.told board.new) }
-        ensures stops { Passes (InStore (Clears id (B.told board.old))) (B.clock board.old)
-            (B.clock board.new) }
         ensures cause { HasCauseIn result (B.faults board.old) (B.faults board.new) }
         ensures refused { IsAnswered result }
         ensures device { IfSome (B.told board.old) (λ t. IsDevice (device_of t)) }
@@ -109,17 +107,14 @@ impl Driver {
         board: &mut B,
     ) -> Result<(), DriverRefused>
         requires { length buf.old ≡ range_length }
+        ensures does { IfSome (B.told board.old) (λ t. Does (looks B.told B.clock B.faults)
+            (acts_of (read_calls self.now id (device_of t))) (ended_by refusal_end result)
+            board.old board.new) }
         ensures answers { IfSome (B.told board.old)
             (λ t. Gives result (answer_on_found id (device_of t))) }
         ensures record_read { OnOk result (IfSome (B.told board.old)
             (λ t. HoldsRecord id t.here.store buf.new)) }
-        ensures store { IfSome (B.told board.old)
-            (λ t. LeavesStore result (B.told board.new) t.here.store) }
-        ensures told { IfSome (B.told board.old) (λ t. Leaves result t (B.told board.new)
-            (told_by_read self.now id (answer_on_found id (device_of t)) t)) }
         ensures kept { Relates Keeps (B.told board.old) (B.told board.new) }
-        ensures stops { Passes (InStore (Stays (B.told board.old))) (B.clock board.old)
-            (B.clock board.new) }
         ensures cause { HasCauseIn result (B.faults board.old) (B.faults board.new) }
         ensures refused { IsAnswered result }
         ensures device { IfSome (B.told board.old) (λ t. IsDevice (device_of t)) }
@@ -137,21 +132,19 @@ impl Driver {
     /// action; the record is put even so. `Status` comes after the operation was ended: 1 where
     /// the identifier is 0 or all ones, or the store is full and has no record under it.
     ///
-    /// At each moment a stop leaves the store as it was or with the record, and all else as it
-    /// was.
+    /// What its calls leave, and what a stop leaves at each moment of them, stands at
+    /// [`crate::operations_on_the_store`]: the store as it was or with the record, and all else as
+    /// it was.
     pub fn write<B: Board>(&self, bytes: &[u8], board: &mut B) -> Result<(), DriverRefused>
         requires long { header_length ≤ length bytes.now }
         requires short { length bytes.now ≤ range_length }
         requires whole { number_at length_place 4 bytes.now ≡ length bytes.now }
+        ensures does { IfSome (B.told board.old) (λ t. Does (looks B.told B.clock B.faults)
+            (acts_of (write_calls self.now bytes.now (device_of t))) (ended_by refusal_end result)
+            board.old board.new) }
         ensures answers { IfSome (B.told board.old)
             (λ t. Gives result (answer_on_put (written_id bytes.now) (device_of t))) }
-        ensures store { IfSome (B.told board.old)
-            (λ t. LeavesStore result (B.told board.new) (store_after_write bytes.now t.here.store)) }
-        ensures told { IfSome (B.told board.old)
-            (λ t. Leaves result t (B.told board.new) (told_by_write self.now bytes.now t)) }
         ensures kept { Relates Keeps (B.told board.old) (B.told board.new) }
-        ensures stops { Passes (InStore (Puts bytes.now (B.told board.old))) (B.clock board.old)
-            (B.clock board.new) }
         ensures cause { HasCauseIn result (B.faults board.old) (B.faults board.new) }
         ensures refused { IsAnswered result }
         ensures device { IfSome (B.told board.old) (λ t. IsDevice (device_of t)) }
@@ -162,11 +155,13 @@ impl Driver {
     // Writes a record into the range, and then does a write.
     fn put_and_operate<B: Board>(&self, bytes: &[u8], board: &mut B) -> Result<(), DriverRefused>
         requires { length bytes.now ≤ range_length }
+        ensures filled { Passes (InStore Unchanged) (B.clock board.old) (B.clock board.new)
+            ⊎ (IsAdmittedTable self.now × AreBytes bytes.now) }
         ensures writes { Writes self.now bytes.now result
             (looks B.told B.clock B.faults board.old)
             (looks B.told B.clock B.faults board.new) }
         ensures refused { IsAnswered result }
-        ensures device { HasDevice (B.told board.old) }
+        ensures device { IfSome (B.told board.old) (λ t. IsDevice (device_of t)) }
     {
         match fill(bytes, board) {
             Ok(()) => {}
@@ -189,7 +184,7 @@ impl Driver {
             (looks B.told B.clock B.faults board.old)
             (looks B.told B.clock B.faults board.new) }
         ensures refused { IsAnswered result }
-        ensures device { HasDevice (B.told board.old) }
+        ensures device { HasDevice self.now (B.told board.old) }
     {
         self.operate(steps, board)?;
         match fetch(buf, board) {
@@ -206,15 +201,13 @@ impl Driver {
     /// `NoMemory` only if memory runs out, after some of the actions. No other refusal comes. At
     /// each moment a stop leaves all as it was.
     pub fn ids<B: Board>(&self, alloc: Global, board: &mut B) -> Result<Vec<u64>, DriverRefused>
+        ensures does { IfSome (B.told board.old) (λ t. DoesListing (looks B.told B.clock B.faults)
+            (list_calls self.now (device_of t)) result board.old board.new) }
         ensures ids { IfOk result (λ found. IfSome (B.told board.old)
             (λ t. found.items ≡ ids t.here.store)) }
         ensures few { IfOk result (λ found. length found.items ≤ most_records) }
-        ensures told { IfSome (B.told board.old) (λ t. Leaves result t (B.told board.new)
-            (told_by self.now (ids_steps (device_of t)) t)) }
         ensures refused { IsMemoryOnly result }
         ensures kept { Relates Keeps (B.told board.old) (B.told board.new) }
-        ensures stops { Passes (InStore (Stays (B.told board.old))) (B.clock board.old)
-            (B.clock board.new) }
         ensures cause { HasCauseIn result (B.faults board.old) (B.faults board.new) }
         ensures device { IfSome (B.told board.old) (λ t. IsDevice (device_of t)) }
     {
@@ -226,7 +219,7 @@ impl Driver {
         ensures all { ListsAll (λ v. v.items) self.now result
             (looks B.told B.clock B.faults board.old)
             (looks B.told B.clock B.faults board.new) }
-        ensures device { HasDevice (B.told board.old) }
+        ensures device { HasDevice self.now (B.told board.old) }
     {
         self.list_to_end(board)?;
         self.collect(alloc, board)
@@ -237,7 +230,7 @@ impl Driver {
         ensures lists { ListsOut self.now result
             (looks B.told B.clock B.faults board.old)
             (looks B.told B.clock B.faults board.new) }
-        ensures device { HasDevice (B.told board.old) }
+        ensures device { HasDevice self.now (B.told board.old) }
     {
         for _ in 0..MOST_LISTINGS {
             let list = Step {
@@ -283,7 +276,7 @@ impl Driver {
             (looks B.told B.clock B.faults board.old)
             (looks B.told B.clock B.faults board.new) }
         ensures refused { IsAnswered result }
-        ensures device { HasDevice (B.told board.old) }
+        ensures device { HasDevice self.now (B.told board.old) }
     {
         match self.table.run(step.action as u8, step.input, board) {
             Ok(value) => Ok(value),
@@ -299,7 +292,7 @@ impl Driver {
             (looks B.told B.clock B.faults board.old)
             (looks B.told B.clock B.faults board.new) }
         ensures refused { IsAnswered result }
-        ensures device { CalledAs result (B.told board.old) (B.told board.new) }
+        ensures device { CalledAs self.now result (B.told board.old) (B.told board.new) }
     {
         for step in steps {
             self.act(*step, board)?;
@@ -313,7 +306,7 @@ impl Driver {
             (looks B.told B.clock B.faults board.old)
             (looks B.told B.clock B.faults board.new) }
         ensures refused { IsAnswered result }
-        ensures device { HasDevice (B.told board.old) }
+        ensures device { HasDevice self.now (B.told board.old) }
     {
         self.check(MOST_CHECKS, board)
     }
@@ -325,7 +318,7 @@ impl Driver {
             (looks B.told B.clock B.faults board.old)
             (looks B.told B.clock B.faults board.new) }
         ensures refused { IsAnswered result }
-        ensures device { 0 < most → HasDevice (B.told board.old) }
+        ensures device { 0 < most → HasDevice self.now (B.told board.old) }
     {
         for _ in 0..most {
             let check = Step {
@@ -346,7 +339,7 @@ impl Driver {
             (looks B.told B.clock B.faults board.old)
             (looks B.told B.clock B.faults board.new) }
         ensures refused { IsAnswered result }
-        ensures device { HasDevice (B.told board.old) }
+        ensures device { HasDevice self.now (B.told board.old) }
     {
         self.wait(board)?;
         let ask = Step {
@@ -373,7 +366,7 @@ impl Driver {
             (looks B.told B.clock B.faults board.old)
             (looks B.told B.clock B.faults board.new) }
         ensures refused { IsAnswered result }
-        ensures device { HasDevice (B.told board.old) }
+        ensures device { HasDevice self.now (B.told board.old) }
     {
         self.run_steps(steps, board)?;
         self.finish(board)
@@ -388,7 +381,7 @@ fn fetch<B: Board>(buf: &mut [u8], board: &mut B) -> Result<(), Failed>
     ensures told { OnOk result
         (Steps (with_access (RangeRead 0 (length buf.old))) (B.told board.old) (B.told board.new)) }
     ensures breaks { OnErr result (IfSome (B.told board.old)
-        (λ t. IsCutShort (with_access (RangeRead 0 range_length) t).accesses t (B.told board.new))) }
+        (λ t. IsCutShort (range_read 0 range_length ∷ []) t (B.told board.new))) }
     ensures touches { Touches Unchanged result
         (looks B.told B.clock B.faults board.old)
         (looks B.told B.clock B.faults board.new) }
@@ -404,12 +397,12 @@ fn fill<B: Board>(bytes: &[u8], board: &mut B) -> Result<(), Failed>
     requires { length bytes.now ≤ range_length }
     ensures told { OnOk result (Steps (put_in_range bytes.now) (B.told board.old) (B.told board.new)) }
     ensures breaks { OnErr result (IfSome (B.told board.old)
-        (λ t. IsCutShort (put_in_range bytes.now t).accesses t (B.told board.new))) }
+        (λ t. IsCutShort (range_write 0 bytes.now ∷ []) t (B.told board.new))) }
     ensures touches { Touches Unchanged result
         (looks B.told B.clock B.faults board.old)
         (looks B.told B.clock B.faults board.new) }
     ensures bytes { AreBytes bytes.now }
-    ensures device { HasDevice (B.told board.old) }
+    ensures device { IfSome (B.told board.old) (λ t. IsDevice (device_of t)) }
 {
     match board.range_write(0, bytes) {
         Ok(()) => Ok(()),

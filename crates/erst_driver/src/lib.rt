@@ -8,6 +8,6 @@ mod refusals;
 mod step;
 
 pub use driver::Driver;
-pub use laws::{driver_limits, told_by_is_of_the_device};
+pub use laws::{driver_limits, operations_on_the_store, told_by_is_of_the_device};
 pub use refusals::DriverRefused;
 pub use step::Step;

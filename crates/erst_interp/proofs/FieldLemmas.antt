@@ -51,7 +51,7 @@ after_field-device e reg x s = by e.preserves
     by true = refl
     by false = refl
 
--- whatever the variables and the accesses
+-- whatever the variables and the calls
 same_device : (e : Entry) (reg : Reg) (x y : ℕ) (s t : State) → x ≡ y → s.device ≡ t.device → (after_field e reg x s).device ≡ (after_field e reg y t).device
 same_device e reg x y s t number device =
     after_field-device e reg x s
@@ -60,7 +60,7 @@ same_device e reg x y s t number device =
     ∙ sym (after_field-device e reg y t)
 
 abbrev over : Variables → Device → State
-over v d = record { variables = v; device = d; accesses = [] }
+over v d = record { variables = v; device = d; calls = [] }
 
 pub field_by : (e : Entry) (reg : Reg) (i : Instruction) (v : Variables) (x : ℕ) (told : Option Told) → x ≡ given i e v
     → (y z : List Stored) → StoreIn (after_field e reg x) told y z → StoreInTurn (used_by Writes i e v reg) v told y z

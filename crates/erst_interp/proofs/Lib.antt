@@ -10,6 +10,7 @@ pub mod LeadLemmas
 pub mod RoleLemmas
 pub mod FaithfulLemmas
 pub mod AdmittedRunLemmas
+pub mod MomentLemmas
 pub mod WalkLemmas
 pub mod AdmitsLemmas
 pub mod ShiftedLemmas

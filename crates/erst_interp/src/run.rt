@@ -12,7 +12,7 @@ ghost use Rattle.erst_interp.specs.Faithful.{input_limit, device_after, DoesRun,
 ghost use Rattle.erst_interp.specs.Machine.{turn, end_of};
 ghost use Rattle.erst_interp.specs.Parts.{use_of, is_straight, is_straight_use, GoesOn, uses_register};
 ghost use Rattle.erst_interp.specs.Run.{IsRun, Keeps, RunCause, StoreInRun};
-ghost use Rattle.erst_interp.specs.Steps.{end_over, end_within, RunsOver, StoreOver, StoreWithin, Turns, TouchesAs, StoreInTurn, state_in};
+ghost use Rattle.erst_interp.specs.Steps.{end_over, end_within, StoreOver, StoreWithin, Turns, TouchesAs, StoreInTurn, state_in};
 ghost use Rattle.erst_interp.specs.Table.{list_of};
 
 use crate::entries::Entry;
@@ -33,8 +33,8 @@ impl Table {
     /// and there is a next entry, with `BadInstruction` where the next entry's instruction isn't
     /// known, with `BadRegister` where it uses a register that isn't good, and with `BadRange`
     /// where it moves bytes that aren't all in the range. `Register` comes only where a call of the
-    /// board failed, which is then the last one: the accesses before it are the first of those that
-    /// the list makes. What was done before a refusal stays done.
+    /// board failed, which is then the last one: the calls before it are the first of those that the
+    /// list makes. What was done before a refusal stays done.
     ///
     /// The list of an admitted table does its action, and is refused with `Register` alone.
     pub fn run<B: Board>(&self, action: u8, input: u64, board: &mut B) -> Result<u64, RunRefused>
@@ -64,7 +64,7 @@ impl Table {
 // Runs a list from an input on.
 fn run_list<B: Board>(list: &[Entry], input: u64, board: &mut B) -> Result<u64, RunRefused>
     ensures runs { IfSome (B.told board.old)
-        (λ t. RunsOver result (end_over list.now input t) t (B.told board.new)) }
+        (λ t. IsRun result (end_over list.now input t) t (B.told board.new)) }
     ensures touches { TouchesAs (StoreOver list.now input (B.told board.old)) result
         (looks B.told B.clock B.faults board.old)
         (looks B.told B.clock B.faults board.new) }
@@ -87,7 +87,7 @@ fn run_turns<B: Board>(
     board: &mut B,
 ) -> Result<u64, RunRefused>
     ensures runs { IfSome (B.told board.old)
-        (λ t. RunsOver result (end_within turns list.now input t) t (B.told board.new)) }
+        (λ t. IsRun result (end_within turns list.now input t) t (B.told board.new)) }
     ensures touches { TouchesAs (StoreWithin turns list.now input (B.told board.old)) result
         (looks B.told B.clock B.faults board.old)
         (looks B.told B.clock B.faults board.new) }

@@ -9,7 +9,7 @@ use Rattle.erst_driver.proofs.driver.Driver.check.Goals as goal
 pub loop-init : goal.loop-init
 loop-init g c = record {
   waiting = wait_begins c.args.self.now _ (nothing_done c.args.self.now _);
-  called = called_none (g.B.Board.told c.args.board.now);
+  called = called_none c.args.self.now (g.B.Board.told c.args.board.now);
 }
 
 pub returns-in_err-act-clause-waits : goal.returns-in_err-act-clause-waits
@@ -26,17 +26,17 @@ pub loop-preserved : goal.loop-preserved
 loop-preserved g c = record {
   waiting = waits_on c.args.most c.args.self.now c.loop.counter _ _ _ c.loop.invariant.waiting c.loop-test.true c.in_ok-act.field-0 c.in_ok-act.ensures.acts
       (λ zero_is. grind (arith, nat_tests, c.if-branch-eq0.false, zero_is));
-  called = called_next c.loop.counter _ _ _ c.loop.invariant.called c.in_ok-act.ensures.device;
+  called = called_next c.args.self.now c.loop.counter _ _ _ c.loop.invariant.called c.in_ok-act.ensures.device;
 }
 
 pub returns-clause-waits : goal.returns-clause-waits
 returns-clause-waits g c = wait_gives_up c.args.most c.args.self.now c.loop.counter _ _ c.loop.invariant.waiting (omega (arith, c.loop-test.false, c.loop.auto.counter-end))
 
 pub returns-in_err-act-clause-device : goal.returns-in_err-act-clause-device
-returns-in_err-act-clause-device g c = λ some. called_device c.loop.counter _ _ c.loop.invariant.called c.in_err-act.ensures.device
+returns-in_err-act-clause-device g c = λ some. called_device c.args.self.now c.loop.counter _ _ c.loop.invariant.called c.in_err-act.ensures.device
 
 pub returns-then-branch-eq0-clause-device : goal.returns-then-branch-eq0-clause-device
-returns-then-branch-eq0-clause-device g c = λ some. called_device c.loop.counter _ _ c.loop.invariant.called c.in_ok-act.ensures.device
+returns-then-branch-eq0-clause-device g c = λ some. called_device c.args.self.now c.loop.counter _ _ c.loop.invariant.called c.in_ok-act.ensures.device
 
 pub returns-clause-device : goal.returns-clause-device
-returns-clause-device g c = λ some. called_some c.loop.counter _ _ (omega (arith, some, c.loop-test.false, c.loop.auto.counter-end)) c.loop.invariant.called
+returns-clause-device g c = λ some. called_some c.args.self.now c.loop.counter _ _ (omega (arith, some, c.loop-test.false, c.loop.auto.counter-end)) c.loop.invariant.called

@@ -9,7 +9,7 @@ use Rattle.erst_driver.proofs.driver.Driver.list_to_end.Goals as goal
 pub loop-init : goal.loop-init
 loop-init g c = record {
   listing = listing_begins c.args.self.now _ (nothing_done c.args.self.now _);
-  called = called_none (g.B.Board.told c.args.board.now);
+  called = called_none c.args.self.now (g.B.Board.told c.args.board.now);
 }
 
 pub returns-in_err-act-clause-lists : goal.returns-in_err-act-clause-lists
@@ -21,7 +21,7 @@ pub loop-preserved : goal.loop-preserved
 loop-preserved g c = record {
   listing = listing_next c.args.self.now c.loop.counter _ _ _ c.loop.invariant.listing c.in_ok-act.field-0 c.in_ok-act.ensures.acts
       (λ end. grind (arith, nat_tests, c.if-branch.false, end));
-  called = called_next c.loop.counter _ _ _ c.loop.invariant.called c.in_ok-act.ensures.device;
+  called = called_next c.args.self.now c.loop.counter _ _ _ c.loop.invariant.called c.in_ok-act.ensures.device;
 }
 
 pub returns-then-branch-clause-lists : goal.returns-then-branch-clause-lists
@@ -29,10 +29,10 @@ returns-then-branch-clause-lists g c = listing_ends c.args.self.now c.loop.count
     (grind (arith, nat_tests, c.if-branch.true))
 
 pub returns-in_err-act-clause-device : goal.returns-in_err-act-clause-device
-returns-in_err-act-clause-device g c = called_device c.loop.counter _ _ c.loop.invariant.called c.in_err-act.ensures.device
+returns-in_err-act-clause-device g c = called_device c.args.self.now c.loop.counter _ _ c.loop.invariant.called c.in_err-act.ensures.device
 
 pub returns-then-branch-clause-device : goal.returns-then-branch-clause-device
-returns-then-branch-clause-device g c = called_device c.loop.counter _ _ c.loop.invariant.called c.in_ok-act.ensures.device
+returns-then-branch-clause-device g c = called_device c.args.self.now c.loop.counter _ _ c.loop.invariant.called c.in_ok-act.ensures.device
 
 pub returns-clause-device : goal.returns-clause-device
-returns-clause-device g c = called_some c.loop.counter _ _ (omega (arith, c.loop-test.false, c.loop.auto.counter-end)) c.loop.invariant.called
+returns-clause-device g c = called_some c.args.self.now c.loop.counter _ _ (omega (arith, c.loop-test.false, c.loop.auto.counter-end)) c.loop.invariant.called

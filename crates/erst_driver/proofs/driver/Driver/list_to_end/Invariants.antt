@@ -9,5 +9,5 @@ invariant-loop g l = record {
   listing : Listing l.self l.counter
       (looks g.B.Board.told g.B.Board.clock g.B.Board.faults l.fn.board)
       (looks g.B.Board.told g.B.Board.clock g.B.Board.faults l.board);
-  called : Called l.counter (g.B.Board.told l.fn.board) (g.B.Board.told l.board);
+  called : Called l.self l.counter (g.B.Board.told l.fn.board) (g.B.Board.told l.board);
 }

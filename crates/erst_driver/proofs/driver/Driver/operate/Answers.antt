@@ -12,4 +12,4 @@ pub returns-clause-operates : goal.returns-clause-operates
 returns-clause-operates g c = operates_then c.args.self.now c.args.steps.now _ _ _ c.in_ok-run_steps.ensures.runs c.finish.result c.finish.ensures.finishes
 
 pub returns-clause-device : goal.returns-clause-device
-returns-clause-device g c = device_before _ _ c.in_ok-run_steps.ensures.device c.finish.ensures.device
+returns-clause-device g c = device_before c.args.self.now _ _ c.in_ok-run_steps.ensures.device c.finish.ensures.device

@@ -10,5 +10,5 @@ invariant-loop-step g l = record {
   done : Done l.self (λ d. take l.step-index l.steps)
       (looks g.B.Board.told g.B.Board.clock g.B.Board.faults l.fn.board)
       (looks g.B.Board.told g.B.Board.clock g.B.Board.faults l.board);
-  called : Called l.step-index (g.B.Board.told l.fn.board) (g.B.Board.told l.board);
+  called : Called l.self l.step-index (g.B.Board.told l.fn.board) (g.B.Board.told l.board);
 }
