@@ -55,7 +55,7 @@ fn section_bytes() -> [u8; 208] {
 fn reads_a_section(rt: HostRuntime) {
     let bytes = section_bytes();
     assert_eq!(rt; read_pcie(&bytes), Ok(TWO_CORRECTABLE));
-    assert_eq!(rt; read_pcie(&bytes[..207]), Err(PcieRefused::Short));
+    assert_eq!(rt; read_pcie(&[0; 207]), Err(PcieRefused::Short));
     assert_eq!(rt; read_pcie(&[0; 208]), Ok(EMPTY));
 }
 

@@ -2,9 +2,8 @@
 use Rattle.std.proofs.Common.{◌≡◌, ℕ, List, [], ◌∷◌, refl, ap, Some}
 use Rattle.ras_klog.specs.declared.line.KlogLine.{KlogLine}
 use Rattle.ras_klog.specs.declared.line.KlogLine.TheVariants.{Start, Tsc, Processor, Other}
-use Rattle.ras_klog.specs.declared.state.Head.{Head}
 use Rattle.ras_klog.specs.declared.state.KlogOut.{KlogOut}
-use Rattle.ras_klog.specs.declared.state.KlogOut.TheVariants.{Whole, Partial}
+use Rattle.ras_klog.specs.declared.state.KlogOut.TheVariants.{Partial}
 use Rattle.ras_klog.specs.declared.state.Stage.{Stage}
 use Rattle.ras_klog.specs.declared.state.Stage.TheVariants.{Idle, Begun, Timed}
 use Rattle.ras_klog.specs.Groups.{told_of, told_of_groups, with_seconds, first_seconds, up_to_start, without_open}

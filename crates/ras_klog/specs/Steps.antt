@@ -1,9 +1,7 @@
 -- The report in work, line by line.
 use Rattle.std.specs.Prelude.{ℕ, List, [], ◌∷◌, ◌++◌}
-use Rattle.ras_facts.specs.declared.bank.BankReport.{BankReport}
 use Rattle.ras_klog.specs.declared.line.KlogLine.{KlogLine}
-use Rattle.ras_klog.specs.declared.line.KlogLine.TheVariants.{Start, Tsc, Processor, Other}
-use Rattle.ras_klog.specs.declared.state.Head.{Head}
+use Rattle.ras_klog.specs.declared.line.KlogLine.TheVariants.{Start, Tsc, Processor}
 use Rattle.ras_klog.specs.declared.state.KlogOut.{KlogOut}
 use Rattle.ras_klog.specs.declared.state.KlogOut.TheVariants.{Nothing, Whole, Partial}
 use Rattle.ras_klog.specs.declared.state.Stage.{Stage}
