@@ -5,8 +5,6 @@
 mod bits;
 mod counts;
 mod section;
-#[cfg(test)]
-mod tests;
 
 pub use bits::{correctable_name, uncorrectable_name};
 pub use counts::{ErrorCounts, PcieCounts};

@@ -2,6 +2,8 @@
 //! comes into the proof of that function alone, and a test sees plain bytes.
 
 mod bytes;
+mod klog;
 mod lines;
+mod pcie;
 mod sections;
 mod stored;

@@ -4,8 +4,6 @@
 
 mod line;
 mod state;
-#[cfg(test)]
-mod tests;
 mod words;
 
 pub use line::{KlogLine, klog_line};

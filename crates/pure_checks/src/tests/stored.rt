@@ -76,12 +76,7 @@ fn no_part_of_a_record_is_one(rt: HostRuntime) {
 // The report of the record at the front of bytes, read at second 300.
 fn report_of(alloc: Global, bytes: &[u8]) -> Result<Report, Fail> {
     match read_record(bytes) {
-        Ok(record) => Ok(report_of_stored(
-            alloc,
-            300,
-            &record,
-            &Topology::new(alloc),
-        )?),
+        Ok(record) => Ok(report_of_stored(alloc, 300, &record, &Topology::new(alloc))?),
         Err(_) => Err("a record".into()),
     }
 }

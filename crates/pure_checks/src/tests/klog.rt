@@ -1,7 +1,7 @@
 //! Lines as Linux prints them, lines that are near them, and the reports that lists of lines make.
 
-use crate::{KlogLine, KlogOut, KlogState, klog_line};
 use ras_facts::BankReport;
+use ras_klog::{KlogLine, KlogOut, KlogState, klog_line};
 
 const STATUS: u64 = 0x8c00_0040_0001_0090;
 

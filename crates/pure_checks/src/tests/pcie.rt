@@ -1,6 +1,6 @@
 //! A section as Linux lays it out in `struct cper_sec_pcie`, the names of its bits, and its counts.
 
-use crate::{
+use cper_pcie::{
     PcieCounts, PcieDevice, PcieRefused, PcieSection, correctable_name, is_pcie, read_pcie,
     uncorrectable_name,
 };
