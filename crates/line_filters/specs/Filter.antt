@@ -19,8 +19,8 @@ pub record Took (line : List ℕ) (before after : Filter) (old new : List ℕ) :
   pub last : (lines : List (List ℕ)) → before.last (line ∷ lines) ≡ after.last lines
 
 -- A refused line is where the answers end, and changes nothing. If memory runs out, nothing is said.
-abbrev pub Takes : Result (Unit {0}) LineRefused → List ℕ → Filter → Filter → List ℕ → List ℕ → Type 0
-Takes (Ok done) line before after old new = Took line before after old new
-Takes (Err NoMemory) line before after old new = ⊤
-Takes (Err why) line before after old new =
+abbrev pub TakesInto : Result (Unit {0}) LineRefused → List ℕ → Filter → Filter → List ℕ → List ℕ → Type 0
+TakesInto (Ok done) line before after old new = Took line before after old new
+TakesInto (Err NoMemory) line before after old new = ⊤
+TakesInto (Err why) line before after old new =
     ((lines : List (List ℕ)) → before.answers (line ∷ lines) ≡ Err why ∷ []) × (after ≡ before)

@@ -2,7 +2,7 @@
 
 ghost use Rattle.std.specs.Prelude.{◌≡◌, ◌+◌, ◌≤◌, ℕ, [], ◌++◌, length, OnErr, OnOk};
 ghost use Rattle.ras_script.specs.declared.reader.TheConstants.{LONGEST_LINE, LONGEST_SCRIPT};
-ghost use Rattle.line_filters.specs.Filter.{Filter, Takes};
+ghost use Rattle.line_filters.specs.Filter.{Filter, TakesInto};
 
 use ras_base::NoMemory;
 use ras_script::LineRefused;
@@ -24,7 +24,7 @@ pub trait LineFilter {
     fn take(&mut self, alloc: Global, line: &[u8], text: &mut Vec<u8>) -> Result<(), LineRefused>
         requires short { length line.now ≤ LONGEST_LINE }
         requires few { taken self.old ≤ LONGEST_SCRIPT }
-        ensures takes { Takes result line.now (makes self.old) (makes self.new) text.old.items
+        ensures takes { TakesInto result line.now (makes self.old) (makes self.new) text.old.items
             text.new.items }
         ensures taken { OnOk result (taken self.new ≡ taken self.old + 1) }
         ensures kept { OnErr result (taken self.new ≡ taken self.old) };

@@ -4,7 +4,7 @@ ghost use Rattle.std.specs.Prelude.{◌≡◌, ◌+◌, ◌≤◌, ◌∷◌, �
 ghost use Rattle.board_core.specs.Told.{Told};
 ghost use Rattle.ras_script.specs.declared.reader.TheConstants.{LONGEST_LINE, LONGEST_SCRIPT};
 ghost use Rattle.ras_exit.specs.Causes.{BoardCause, Causes, SourceCause};
-ghost use Rattle.ras_exit.specs.Device.{LeavesDevice};
+ghost use Rattle.board_core.specs.Device.{LeavesDevice};
 ghost use Rattle.ras_exit.specs.Endings.{IsAnswer, IsCut, IsLineExit, IsStop};
 ghost use Rattle.line_filters.specs.Filters.{Filters, IsFilterExit, OfBoth, TakesOf, closing_text};
 ghost use Rattle.line_filters.specs.Reading.{HasTaken};
