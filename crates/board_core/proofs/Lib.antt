@@ -1,3 +1,5 @@
+pub mod DoingLemmas
+pub mod ActLemmas
 pub mod HistoryLemmas
 pub mod DiskModelLemmas
 pub mod LeavingLemmas

@@ -21,7 +21,7 @@ use Rattle.board_core.specs.declared.board.Reg.{Reg}
 use Rattle.board_core.specs.declared.board.Reg.TheVariants.{Action, Value}
 use Rattle.board_core.specs.Cause.{Faults, Kind, disk_call, device_call, print_call, count_of, with_count, FailsAs, put_failure}
 use Rattle.board_core.specs.Clock.{Clock, LeftNow, Passes, Leads, IsSynced}
-use Rattle.board_core.specs.MemBoard.{Held, device_in, DeviceChange, device_step, wrote_register, wrote_range, put_record, Change, wrote, synced, acted, printed, Past, with_change, past_after, after_change, held_of, clock_of, State, told_of, new_board, Does, IsListed, ListsCall, ListsAccess, ListsNone}
+use Rattle.board_core.specs.MemBoard.{Held, device_in, DeviceChange, device_step, wrote_register, wrote_range, put_record, Change, wrote, synced, acted, printed, Past, with_change, past_after, after_change, held_of, clock_of, State, told_of, new_board, Performs, IsListed, ListsCall, ListsAccess, ListsNone}
 use Rattle.board_core.specs.MemBoardCalls.{IsMemBoard, Starves, Ends, EndsPut}
 use Rattle.board_core.specs.ChangeLemmas.{after_changes-more, passes_wrote, passes_synced, synced_now, passes_acted, passes_kept, passes_printed, leads_printed}
 use Rattle.board_core.specs.DiskLemmas.{nothing_begins}
@@ -223,14 +223,14 @@ with_own print_call faults = refl
 faults_same : {T E : Type 0} (kind : Kind) (old new : Faults) (v : T) → FailsAs {E = E} kind old new (Ok v) → new ≡ old
 faults_same kind old new v fails = fails.others ∙ (ap (λ n. with_count kind n old) fails.own.same ∙ with_own kind old)
 
-starved_same : {T E : Type 0} (kind : Kind) (past : Past) (old new : State) (v : T) → Does {E = E} kind past old new (Ok v) → new.starved ≡ old.starved
+starved_same : {T E : Type 0} (kind : Kind) (past : Past) (old new : State) (v : T) → Performs {E = E} kind past old new (Ok v) → new.starved ≡ old.starved
 starved_same kind past old new v does = elim (cases_lt old.starved new.starved) [
   | inl less ↦ absurd (true≢false (sym (does.exact.starved less)))
   | inr no_less ↦ omega (arith, does.counted.starved)
 ]
 
 -- the same call, with another value or error
-pub does_ok : {T U E F : Type 0} (kind : Kind) (past : Past) (old new : State) (v : T) (w : U) → Does {E = E} kind past old new (Ok v) → Does {E = F} kind past old new (Ok w)
+pub does_ok : {T U E F : Type 0} (kind : Kind) (past : Past) (old new : State) (v : T) (w : U) → Performs {E = E} kind past old new (Ok v) → Performs {E = F} kind past old new (Ok w)
 does_ok kind past old new v w does = record {
   past_is = does.past_is;
   counted = does.counted;
@@ -238,7 +238,7 @@ does_ok kind past old new v w does = record {
   cause = record { own = record { later = does.cause.own.later; failed = tt; same = does.cause.own.same }; others = does.cause.others };
 }
 
-pub does_err : {T U E F : Type 0} (kind : Kind) (past : Past) (old new : State) (e : E) (f : F) → Does {T = T} kind past old new (Err e) → Does {T = U} kind past old new (Err f)
+pub does_err : {T U E F : Type 0} (kind : Kind) (past : Past) (old new : State) (e : E) (f : F) → Performs {T = T} kind past old new (Err e) → Performs {T = U} kind past old new (Err f)
 does_err kind past old new e f does = record {
   past_is = does.past_is;
   counted = does.counted;
@@ -259,8 +259,8 @@ pub access_err : {T U E F : Type 0} (access : Access) (old new : State) (e : E) 
 access_err access old new e f lists = record { disk_calls = lists.disk_calls; accesses = lists.accesses }
 
 -- a call that began well and then made its change, or was refused a growth
-module _ (kind : Kind) (old mid new : State) (begun : Does {T = Unit {0}} {E = SourceFailed} kind old.past old mid (Ok tt)) where
-  does_made : {T E : Type 0} (change : Change) (v : T) → new ≡ record mid { past = with_change change mid.past } → Does {E = E} kind (with_change change old.past) old new (Ok v)
+module _ (kind : Kind) (old mid new : State) (begun : Performs {T = Unit {0}} {E = SourceFailed} kind old.past old mid (Ok tt)) where
+  does_made : {T E : Type 0} (change : Change) (v : T) → new ≡ record mid { past = with_change change mid.past } → Performs {E = E} kind (with_change change old.past) old new (Ok v)
   does_made {T} {E} change v made = record {
     past_is = ap (λ (s : State). s.past) made ∙ ap (with_change change) begun.past_is;
     counted = record {
@@ -280,7 +280,7 @@ module _ (kind : Kind) (old mid new : State) (begun : Does {T = Unit {0}} {E = S
     });
   }
 
-  does_starved : {T E : Type 0} (e : E) → Starves kind mid new → Does {T = T} kind old.past old new (Err e)
+  does_starved : {T E : Type 0} (e : E) → Starves kind mid new → Performs {T = T} kind old.past old new (Err e)
   does_starved {T} {E} e starves =
       let same : mid.starved ≡ old.starved = starved_same kind old.past old mid tt begun in
       let faults : mid.faults ≡ old.faults = faults_same kind old.faults mid.faults tt begun.cause in
@@ -299,14 +299,14 @@ module _ (kind : Kind) (old mid new : State) (begun : Does {T = Unit {0}} {E = S
         });
       }
 
-  pub does_after : (change : Change) (r : Result (Unit {0}) SourceFailed) → Ends kind change mid new r → Does kind (past_after r change old.past) old new r
+  pub does_after : (change : Change) (r : Result (Unit {0}) SourceFailed) → Ends kind change mid new r → Performs kind (past_after r change old.past) old new r
   does_after change (Ok done) ends = does_made change done ends
   does_after change (Err e) ends = does_starved e ends
 
-pub does_after_put : (old mid new : State) (change : Change) (r : Result (Unit {0}) BoardPut) → Does {T = Unit {0}} {E = SourceFailed} device_call old.past old mid (Ok tt) → EndsPut change mid new r
-    → Does device_call (past_after r change old.past) old new (put_failure r)
+pub does_after_put : (old mid new : State) (change : Change) (r : Result (Unit {0}) BoardPut) → Performs {T = Unit {0}} {E = SourceFailed} device_call old.past old mid (Ok tt) → EndsPut change mid new r
+    → Performs device_call (past_after r change old.past) old new (put_failure r)
 does_after_put old mid new change (Ok done) begun ends = does_made device_call old mid new begun change tt ends
-does_after_put old mid new change (Err (Refused cause)) begun ends = subst (λ (s : State). Does {E = BoardPut} device_call old.past old s (Ok tt)) (sym ends) (does_ok device_call old.past old mid tt tt begun)
+does_after_put old mid new change (Err (Refused cause)) begun ends = subst (λ (s : State). Performs {E = BoardPut} device_call old.past old s (Ok tt)) (sym ends) (does_ok device_call old.past old mid tt tt begun)
 does_after_put old mid new change (Err Failed) begun ends = does_starved device_call old mid new begun Failed ends
 
 -- what the last part of a call leaves of the lists

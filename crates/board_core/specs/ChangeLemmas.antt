@@ -4,9 +4,9 @@ use Rattle.std.proofs.Common.{sym, ◌∙◌, ap, subst, inl, inr, arith}
 use Rattle.erst_store.specs.Store.{Stored}
 use Rattle.board_core.specs.declared.board.FileNo.{FileNo}
 use Rattle.board_core.specs.declared.board.FileNo.TheVariants.{Zero, One}
-use Rattle.board_core.specs.Clock.{LeftNow, After, Passes, Leads, IsSynced, IsStored}
+use Rattle.board_core.specs.Clock.{LeftNow, After, Passes, Leads, IsSynced}
 use Rattle.board_core.specs.DiskLemmas.{overlay_more, settled_left, begins_none, nothing_begins}
-use Rattle.board_core.specs.DiskModel.{greatest_length, MayLeaveFile, Disk, MayLeave, Call, stores, rests, disk_file, after, after_all}
+use Rattle.board_core.specs.DiskModel.{greatest_length, MayLeaveFile, Disk, MayLeave, Call, rests, disk_file, after, after_all}
 use Rattle.board_core.specs.MemBoard.{Held, device_in, DeviceChange, device_step, Change, wrote, synced, acted, printed, Past, with_change, after_change, after_changes, call_of, calls_of, settled_disk, held_of, disk_of, clock_of, State, told_of}
 use Rattle.board_core.specs.MomentLemmas.{becomes_same, before_sync, after_all-more, now_only, now_counts, leads_call, passes_call, write_before, write_during, sync_before, synced_only, store_during, store_ends, print_during, print_appends, print_ends, AfterDisk}
 use Rattle.board_core.specs.Stop.{Left, Same, Becomes, Begins, Appends, InFile, InStore, InOut, file_in}

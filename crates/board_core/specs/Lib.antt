@@ -3,6 +3,8 @@ pub mod Takes
 pub mod Told
 pub mod Stop
 pub mod Clock
+pub mod Device
+pub mod Doing
 pub mod ClockLemmas
 pub mod DiskModel
 pub mod CallsMade

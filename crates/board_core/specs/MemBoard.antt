@@ -172,7 +172,7 @@ pub record CountsCall (old new : State) : Type 0 where
 
 -- A call was made: this is the past after it, the calls are numbered on, and it failed exactly
 -- where it was to, with the count of its kind.
-pub record Does {T E : Type 0} (kind : Kind) (past : Past) (old new : State) (result : Result T E) : Type 0 where
+pub record Performs {T E : Type 0} (kind : Kind) (past : Past) (old new : State) (result : Result T E) : Type 0 where
   pub past_is : new.past ≡ past
   pub counted : CountsCall old new
   pub exact : FailsAsChosen old new result

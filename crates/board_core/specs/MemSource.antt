@@ -18,8 +18,8 @@ abbrev pub is_chosen : ℕ → List ℕ → Bool
 is_chosen call fails = list_any (λ fail. nat_eq fail call) fails
 
 -- whether the next call was chosen to fail
-abbrev pub fails_next : Reading → Bool
-fails_next s = is_chosen (next_count s.made) s.fails
+abbrev pub read_fails_next : Reading → Bool
+read_fails_next s = is_chosen (next_count s.made) s.fails
 
 -- The reads are numbered on, and the chosen ones and the pieces stay.
 pub record CountsRead (old new : Reading) : Type 0 where

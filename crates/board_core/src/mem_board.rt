@@ -9,7 +9,7 @@ ghost use Rattle.board_core.specs.Cause.{disk_call, device_call, print_call, put
 ghost use Rattle.board_core.specs.Clock.{LeftNow};
 ghost use Rattle.board_core.specs.MemSource.{next_count};
 ghost use Rattle.board_core.specs.MemBoard.{State, new_board, new_past, told_of, held_of, device_in, disk_of, clock_of, wrote, synced, acted, printed, wrote_register, wrote_range, put_record, past_after};
-ghost use Rattle.board_core.specs.MemBoard.{fails_next, Does, ListsCall, ListsAccess, ListsNone, failed_access};
+ghost use Rattle.board_core.specs.MemBoard.{fails_next, Performs, ListsCall, ListsAccess, ListsNone, failed_access};
 ghost use Rattle.board_core.specs.MemBoardCalls.{Starves, Ends, EndsPut};
 ghost use Rattle.board_core.specs.Pick.{IsPicked};
 ghost use Rattle.board_core.specs.Stop.{file_in, with_file_in};
@@ -202,7 +202,7 @@ impl MemBoard {
     // Counts and lists a disk call. It fails where its number was chosen, or where the list can't
     // grow.
     fn begin(&mut self, call: DiskCall) -> Result<(), Failed>
-        ensures does { Does disk_call self.old.past self.old self.new result }
+        ensures does { Performs disk_call self.old.past self.old self.new result }
         ensures listed { ListsCall call self.old self.new result }
     {
         let is_chosen = self.count();
@@ -218,7 +218,7 @@ impl MemBoard {
 
     // Counts and lists an access, one that is chosen to fail as such.
     fn begin_access(&mut self, access: Access) -> Result<(), Failed>
-        ensures does { Does device_call self.old.past self.old self.new result }
+        ensures does { Performs device_call self.old.past self.old self.new result }
         ensures ok { OnOk result (ListsAccess access self.old self.new result) }
         ensures err { OnErr result (ListsAccess (failed_access access) self.old self.new result) }
         ensures device { IsDevice (device_in (held_of self.old.past)) }
@@ -237,7 +237,7 @@ impl MemBoard {
 
     // Counts a put, which no list tells of.
     fn begin_put(&mut self) -> Result<(), Failed>
-        ensures does { Does device_call self.old.past self.old self.new result }
+        ensures does { Performs device_call self.old.past self.old self.new result }
         ensures listed { ListsNone self.old self.new }
         ensures device { IsDevice (device_in (held_of self.old.past)) }
     {
@@ -250,7 +250,7 @@ impl MemBoard {
 
     // Counts a print, which no list tells of.
     fn begin_print(&mut self) -> Result<(), Failed>
-        ensures does { Does print_call self.old.past self.old self.new result }
+        ensures does { Performs print_call self.old.past self.old self.new result }
         ensures listed { ListsNone self.old self.new }
     {
         if self.count() {
@@ -367,7 +367,7 @@ impl MemBoard {
     // A write: counted, listed and made.
     fn make_write(&mut self, file: FileNo, place: u64, bytes: &[u8]) -> Result<(), Failed>
         requires { place ≤ length (file_in file (held_of self.old.past).here) }
-        ensures does { Does disk_call
+        ensures does { Performs disk_call
             (past_after result (wrote file place bytes.now) self.old.past) self.old self.new
             result }
         ensures listed { ListsCall
@@ -379,7 +379,7 @@ impl MemBoard {
 
     // A sync: counted, listed and made.
     fn make_sync(&mut self, file: FileNo) -> Result<(), Failed>
-        ensures does { Does disk_call
+        ensures does { Performs disk_call
             (past_after result (synced file) self.old.past) self.old self.new result }
         ensures listed { ListsCall (Sync file) self.old self.new result }
     {
@@ -389,7 +389,7 @@ impl MemBoard {
 
     // A write to a register: counted, listed and made.
     fn make_reg_write(&mut self, reg: Reg, value: u64) -> Result<(), Failed>
-        ensures does { Does device_call
+        ensures does { Performs device_call
             (past_after result (acted (wrote_register reg value)) self.old.past) self.old
             self.new result }
         ensures listed { ListsAccess (Write reg value) self.old self.new result }
@@ -402,7 +402,7 @@ impl MemBoard {
     // A write into the range: counted, listed and made.
     fn make_range_write(&mut self, place: u32, bytes: &[u8]) -> Result<(), Failed>
         requires { place + length bytes.now ≤ range_length }
-        ensures does { Does device_call
+        ensures does { Performs device_call
             (past_after result (acted (wrote_range place bytes.now)) self.old.past)
             self.old self.new result }
         ensures listed { ListsAccess
@@ -415,7 +415,7 @@ impl MemBoard {
 
     // A put: counted, and made unless the store refuses it.
     fn make_put(&mut self, id: u64, bytes: &[u8]) -> Result<(), BoardPut>
-        ensures does { Does device_call
+        ensures does { Performs device_call
             (past_after result (acted (put_record id bytes.now)) self.old.past) self.old
             self.new (put_failure result) }
         ensures listed { ListsNone self.old self.new }
@@ -431,7 +431,7 @@ impl MemBoard {
 
     // A print: counted and made.
     fn make_print(&mut self, bytes: &[u8]) -> Result<(), Failed>
-        ensures does { Does print_call
+        ensures does { Performs print_call
             (past_after result (printed bytes.now) self.old.past) self.old self.new result }
         ensures listed { ListsNone self.old self.new }
     {

@@ -2,7 +2,7 @@
 ghost use Rattle.std.specs.Prelude.{◌≡◌, ℕ, ◌+◌, ◌<◌, ◌≤◌, ◌↔◌, [], drop, length, min, Some, IfOk, IsErr, OnErr, IsTrue};
 ghost use Rattle.board_core.specs.Cause.{HasCause, Rose};
 ghost use Rattle.board_core.specs.Takes.{Takes};
-ghost use Rattle.board_core.specs.MemSource.{Reading, CountsRead, fails_next};
+ghost use Rattle.board_core.specs.MemSource.{Reading, CountsRead, read_fails_next};
 
 use crate::{Failed, Source};
 use std::marker::Model;
@@ -61,14 +61,16 @@ impl Source for MemSource {
     fn read(&mut self, buf: &mut [u8]) -> Result<usize, Failed>
         requires { 0 < length buf.old }
         ensures within { IfOk result (λ n. n ≤ length buf.old) }
-        ensures taken { IfOk result (λ n. Takes n buf.new (Some self.old.left) (Some self.new.left)) }
+        ensures taken { IfOk result
+            (λ n. Takes n buf.new (Some self.old.left) (Some self.new.left)) }
         ensures failed { OnErr result (Some self.new.left ≡ Some self.old.left) }
         ensures cause { HasCause self.old.faults self.new.faults result }
 
         // Each read gives a whole piece, or what is left.
-        ensures piece { IfOk result (λ n. n ≡ min self.old.piece (min (length buf.old) (length self.old.left))) }
+        ensures piece { IfOk result
+            (λ n. n ≡ min self.old.piece (min (length buf.old) (length self.old.left))) }
         // It fails exactly at the calls that were chosen.
-        ensures chosen { IsErr result ↔ IsTrue (fails_next self.old) }
+        ensures chosen { IsErr result ↔ IsTrue (read_fails_next self.old) }
         ensures counted { CountsRead self.old self.new }
     {
         self.made = self.made.saturating_add(1);

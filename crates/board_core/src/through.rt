@@ -1,9 +1,11 @@
-//! A write that is on the disk once it has ended well.
-ghost use Rattle.std.specs.Prelude.{◌≡◌, ◌≤◌, length, IfSome, OnOk, OnErr};
-ghost use Rattle.board_core.specs.Cause.{disk_call, FailsAs};
-ghost use Rattle.board_core.specs.Clock.{Adds, After, Rests};
+//! Calls of a board that do one act each: a write that is on the disk once it has ended well, and
+//! a print.
+ghost use Rattle.std.specs.Prelude.{◌≤◌, ◌∷◌, [], length, IfSome};
+ghost use Rattle.board_core.specs.Cause.{disk_call, print_call};
+ghost use Rattle.board_core.specs.Clock.{Adds, After};
+ghost use Rattle.board_core.specs.Doing.{Does, looks, one_end, prints, through};
 ghost use Rattle.board_core.specs.Stop.{InFile};
-ghost use Rattle.board_core.specs.Told.{Told, Steps, Relates, Torn, FailsThrough, file_of, after_write_through};
+ghost use Rattle.board_core.specs.Told.{Torn, file_of};
 
 use crate::{Board, Failed, FileNo};
 
@@ -21,22 +23,22 @@ pub fn write_through<B: Board>(
     board: &mut B,
 ) -> Result<(), Failed>
     requires { IfSome (B.told board.old) (λ told. place ≤ length (file_of file told)) }
-    ensures told { OnOk result (Steps (after_write_through file place bytes.now) (B.told board.old)
-        (B.told board.new)) }
-    ensures failed { OnErr result (Relates (FailsThrough file place bytes.now) (B.told board.old)
-        (B.told board.new)) }
-
+    ensures does { Does (looks B.told B.clock B.faults) (through file place bytes.now ∷ [])
+        (one_end disk_call result) board.old board.new }
+    // Also if a stop before might have left something else than the board tells.
     ensures stops { Adds (After (B.clock board.old) (InFile file (Torn place (length bytes.now))))
         (B.clock board.old) (B.clock board.new) }
-    ensures at_rest { (t : Told) → Rests t (B.told board.old) (B.clock board.old)
-        → Adds (InFile file (Torn place (length bytes.now)) t.here) (B.clock board.old)
-        (B.clock board.new) }
-    ensures rests { OnOk result ((t : Told) → Rests t (B.told board.old) (B.clock board.old)
-        → Rests (after_write_through file place bytes.now t) (B.told board.new)
-        (B.clock board.new)) }
-
-    ensures cause { FailsAs disk_call (B.faults board.old) (B.faults board.new) result }
 {
     board.write_at(file, place, bytes)?;
     board.sync(file)
+}
+
+/// Prints `bytes` by one call.
+///
+/// `Failed` comes only if the print failed; then a beginning of them, maybe nothing, is printed.
+pub fn print<B: Board>(bytes: &[u8], board: &mut B) -> Result<(), Failed>
+    ensures does { Does (looks B.told B.clock B.faults) (prints bytes.now ∷ [])
+        (one_end print_call result) board.old board.new }
+{
+    board.print(bytes)
 }

@@ -1,6 +1,6 @@
 -- One action by the run of its list.
-use Rattle.std.proofs.Common.{◌≡◌, ◌∙◌, ℕ, ◌≤◌, ◌<◌, ◌^◌, Bool, true, false, nat_eq, List, [], ◌∷◌, Option, Some, None, refl, sym, ap, subst, inl, inr, arith, if◌then◌else◌}
-use Rattle.std.specs.Prelude.{◌⊎◌, Result, Ok, Err, IfSome}
+use Rattle.std.proofs.Common.{◌≡◌, ◌∙◌, ℕ, ◌<◌, ◌^◌, Bool, true, false, nat_eq, List, [], ◌∷◌, Option, Some, None, sym, ap, subst, inl, inr, arith, if◌then◌else◌}
+use Rattle.std.specs.Prelude.{Ok, Err, IfSome}
 use Rattle.erst_store.specs.Actions.{set_record_offset}
 use Rattle.erst_store.specs.Store.{Stored}
 use Rattle.erst_store.specs.Device.{Device}
@@ -15,13 +15,16 @@ use Rattle.erst_interp.specs.declared.refusals.RunRefused.TheVariants.{Register,
 use Rattle.erst_interp.specs.Admission.{takes_input, IsAdmitted, IsAdmittedTable}
 use Rattle.erst_interp.specs.Faithful.{input_limit, with_input, device_after, answer_after, ActsOn, DoesRun, IsRegisterAlone}
 use Rattle.erst_interp.specs.Machine.{end_of}
-use Rattle.erst_interp.specs.Run.{told_after, IsRun, Keeps, RunCause}
-use Rattle.erst_interp.specs.Steps.{Seen, GoesWell, Fails}
+use Rattle.erst_interp.specs.Run.{IsRun, Keeps, RunCause}
+use Rattle.board_core.specs.Doing.{Seen}
+use Rattle.erst_interp.specs.Steps.{GoesWell}
 use Rattle.erst_interp.specs.Table.{list_of}
+use Rattle.erst_interp.proofs.BreakLemmas.{off_more}
 use Rattle.erst_interp.proofs.TouchLemmas.{well_more, fails_more}
 use Rattle.erst_driver.specs.declared.step.Step.{Step}
-use Rattle.erst_driver.specs.Operations.{Over, after_step, after_steps, told_by_step, told_by}
-use Rattle.erst_driver.specs.Steps.{Plan, Inside, ComesThrough, StoreIn, Tells, Done, CutIn, FailsIn, Acted}
+use Rattle.erst_driver.specs.Operations.{Inside, after_step, after_steps, device_calls, end_by, told_by_step}
+use Rattle.erst_driver.specs.Steps.{Over, Plan, ComesThrough, StoreIn, Tells, CutIn, FailsIn, Acted}
+use Rattle.erst_driver.proofs.PlanLemmas.{told_step}
 
 some_is : (x y : Told) → Some x ≡ Some y → x ≡ y
 some_is x y e = cc
@@ -40,7 +43,7 @@ input_fits action input inside = by (nat_eq action set_record_offset) inside
     by true small = omega (arith, small)
     by false small = small
 
-is_device_after : (s : Step) (d : Device) → Inside s → IsDevice d → IsDevice (after_step s d)
+pub is_device_after : (s : Step) (d : Device) → Inside s → IsDevice d → IsDevice (after_step s d)
 is_device_after s d inside device =
     IsDevice-act s.action (with_input s.action s.input d) (by (takes_input s.action)) (omega (arith, inside.action))
   where
@@ -65,7 +68,7 @@ module _ (lists : List (List Entry)) (s : Step) (a b : Seen) (kept : Relates Kee
   -- a refusal: an admitted list comes to Register alone
   pub failed : (why : RunRefused) → IsRegisterAlone (Err why) → RunCause (Err why) a.faults b.faults
       → IfSome a.told (λ t. IsRun (Err why) (end_of (list_of s.action lists) s.input (device_of t)) t b.told) → FailsIn lists (λ d. s ∷ []) a b
-  unfolding told_by
+  unfolding device_calls
   failed Register alone raises runs = record {
     fails = fails_more (StoreBy (device_after s.action s.input) a.told) (StoreIn (λ d. s ∷ []) a.told) store_in a b
         (record { kept = kept; stops = stops; raises = raises });
@@ -74,7 +77,7 @@ module _ (lists : List (List Entry)) (s : Step) (a b : Seen) (kept : Relates Kee
     where
       cut : (o : Option Told) → IfSome o (λ t. IsRun (Err Register) (end_of (list_of s.action lists) s.input (device_of t)) t b.told) → CutIn lists (λ d. s ∷ []) o b.told
       cut None runs = tt
-      cut (Some t) runs = λ device. runs
+      cut (Some t) runs = λ device. off_more (end_by lists s (device_of t)).state.calls [] t b.told runs
   failed Fuel alone raises runs = absurd alone
   failed BadInstruction alone raises runs = absurd alone
   failed BadRegister alone raises runs = absurd alone
@@ -82,10 +85,10 @@ module _ (lists : List (List Entry)) (s : Step) (a b : Seen) (kept : Relates Kee
 
   tells_one : (value : ℕ) (t : Told) → Inside s → IsRun (Ok value) (end_of (list_of s.action lists) s.input (device_of t)) t b.told → IsDevice (device_of t)
       → ActsOn s.action s.input value t b.told → Tells lists (s ∷ []) t b.told
-  unfolding told_by after_steps
+  unfolding device_calls after_steps
   tells_one value t inside runs device acts = record {
-    told = runs.1;
-    device = ap (λ (u : Told). device_of u) (some_is (told_by_step lists s t) acts.after (sym runs.1 ∙ acts.told)) ∙ acts.device;
+    told = runs.1 ∙ ap (λ (u : Told). Some u) (sym (told_step lists s [] t));
+    device = ap (λ (u : Told). device_of u) (told_step lists s [] t) ∙ ap (λ (u : Told). device_of u) (some_is (told_by_step lists s t) acts.after (sym runs.1 ∙ acts.told)) ∙ acts.device;
     is = is_device_after s (device_of t) inside device;
   }
 

@@ -1,7 +1,7 @@
 -- What the actions of a clear come to.
-use Rattle.std.proofs.Common.{◌≡◌, ◌∙◌, ℕ, Bool, true, false, nat_eq, List, [], ◌∷◌, length, Option, Some, None, refl, sym, ap, subst, inl, inr, arith, if◌then◌else◌}
+use Rattle.std.proofs.Common.{◌≡◌, ◌∙◌, ℕ, Bool, true, false, nat_eq, List, [], ◌∷◌, length, Option, Some, None, refl, sym, subst, inl, inr, arith, if◌then◌else◌}
 use Rattle.std.proofs.lemmas.Bool.Decides.{nat_tests}
-use Rattle.std.specs.Prelude.{◌⊎◌}
+use Rattle.std.specs.Prelude.{◌⊎◌, IfSome}
 use Rattle.erst_store.specs.declared.device.Command.TheVariants.{Clear}
 use Rattle.erst_store.specs.declared.device.CommandStatus.{CommandStatus}
 use Rattle.erst_store.specs.declared.device.CommandStatus.TheVariants.{Success, StoreEmpty, NotFound}
@@ -9,10 +9,11 @@ use Rattle.erst_store.specs.Actions.{execute_operation, set_record_identifier}
 use Rattle.erst_store.specs.Store.{Stored, holds, without}
 use Rattle.erst_store.specs.StoreLemmas.{without-absent}
 use Rattle.erst_store.specs.Device.{Device, act, busy_device}
+use Rattle.erst_store.specs.DeviceLaws.{IsDevice}
 use Rattle.board_core.specs.Told.{Told, device_of}
 use Rattle.erst_driver.specs.Operations.{actions_of, clear_steps, after_steps}
-use Rattle.erst_driver.specs.Answers.{found_status, answer_of, answer_on_found, Clears}
-use Rattle.erst_driver.specs.Steps.{StoreIn, ComesThrough}
+use Rattle.erst_driver.specs.Answers.{found_status, answer_of, answer_on_found}
+use Rattle.erst_driver.specs.Steps.{Clears, StoreIn, ComesThrough}
 use Rattle.erst_driver.proofs.OperationLemmas.{Carries, through_operation, store_after, answer_is}
 
 without-empty : (id : ℕ) (rs : List Stored) → nat_eq (length rs) 0 ≡ true → rs ≡ without id rs
@@ -74,10 +75,10 @@ clear_answers id d = answer_is (clear_steps id) d (found_status id d.store) (wit
 pub clear_store : (id : ℕ) (d : Device) → (after_steps (actions_of (clear_steps id) d) d).store ≡ without id d.store
 clear_store id d = store_after (clear_steps id) d (found_status id d.store) (without id d.store) (clear_carries id d)
 
-pub clear_stops : (id : ℕ) (told : Option Told) (old new : List Stored) → ((t : Told) → told ≡ Some t → old ≡ t.here.store)
+pub clear_stops : (id : ℕ) (told : Option Told) (old new : List Stored) → IfSome told (λ t. IsDevice (device_of t)) → ((t : Told) → told ≡ Some t → old ≡ t.here.store)
     → StoreIn (actions_of (clear_steps id)) told old new → Clears id told old new
-clear_stops id None old new law is = tt
-clear_stops id (Some t) old new law is = λ device. elim (is device) [
+clear_stops id None old new device law is = tt
+clear_stops id (Some t) old new device law is = elim (is device) [
   | inl same ↦ inl same
   | inr through ↦
       elim (through_operation (clear_steps id) (device_of t) (found_status id t.here.store) (without id t.here.store) (clear_carries id (device_of t)) new through) [

@@ -1,21 +1,20 @@
 -- A device that carried out a command is asked for its status, and the operation is ended.
-use Rattle.std.proofs.Common.{◌≡◌, ◌∙◌, ℕ, ◌+◌, Bool, true, false, List, [], ◌∷◌, ◌++◌, Option, Some, None, refl, sym, ap, subst, arith, if◌then◌else◌, append-nil, append_assoc}
+use Rattle.std.proofs.Common.{◌≡◌, ◌∙◌, ℕ, ◌+◌, Bool, true, false, List, [], ◌∷◌, ◌++◌, refl, sym, ap, arith, if◌then◌else◌, append-nil, append_assoc}
 use Rattle.std.specs.Prelude.{Result, Ok, Err}
 use Rattle.erst_store.specs.declared.device.CommandStatus.{CommandStatus}
 use Rattle.erst_store.specs.declared.device.CommandStatus.TheVariants.{Success, NotEnoughSpace, StoreEmpty, NotFound}
 use Rattle.erst_store.specs.Actions.{get_command_status, end_operation}
 use Rattle.erst_store.specs.Device.{Device, act, status_number}
-use Rattle.board_core.specs.Told.{Told, device_of}
+use Rattle.board_core.specs.Told.{device_of}
 use Rattle.erst_interp.specs.declared.entries.Entry.{Entry}
 use Rattle.erst_interp.specs.Faithful.{answer_after}
-use Rattle.erst_interp.specs.Steps.{Seen}
-use Rattle.erst_driver.specs.declared.driver.TheConstants.{MOST_CHECKS}
+use Rattle.board_core.specs.Doing.{Seen}
 use Rattle.erst_driver.specs.declared.refusals.DriverRefused.{DriverRefused}
 use Rattle.erst_driver.specs.declared.refusals.DriverRefused.TheVariants.{Register, Busy, Status as EndedWith, NoMemory}
 use Rattle.erst_driver.specs.declared.step.Step.{Step}
-use Rattle.erst_driver.specs.Operations.{Over, plain, checks, is_free_in_time, asks, ends, finishes, actions_of, after_step, after_steps}
+use Rattle.erst_driver.specs.Operations.{plain, checks, is_free_in_time, asks, ends, finishes, actions_of, after_steps, most_checks}
 use Rattle.erst_driver.specs.Answers.{by_status, answer_within, answer_at, answer_of}
-use Rattle.erst_driver.specs.Steps.{IsBeginning, Done, Acted, Acts, Runs, Operates, Answered}
+use Rattle.erst_driver.specs.Steps.{Over, IsBeginning, Done, Acted, Acts, Runs, Operates, Answered}
 use Rattle.erst_driver.proofs.PlanLemmas.{done_then, fails_then, fails_as, done_as, refused_in_operation, over_both, over_more, over_after, everywhere}
 use Rattle.erst_driver.proofs.WaitLemmas.{checked}
 
@@ -91,9 +90,9 @@ module _ (lists : List (List Entry)) (a b : Seen) where
 asked_status : (busy : ℕ) (d : Device) → (after_steps (asks busy) d).status ≡ d.status
 asked_status busy d = by (is_free_in_time busy)
   where
-    by : (b : Bool) → (after_steps (if b then checks (busy + 1) else checks MOST_CHECKS) d).status ≡ d.status
+    by : (b : Bool) → (after_steps (if b then checks (busy + 1) else checks most_checks) d).status ≡ d.status
     by true = (checked (busy + 1) d).status
-    by false = (checked MOST_CHECKS d).status
+    by false = (checked most_checks d).status
 
 status_answer : (d : Device) → answer_after get_command_status 0 d ≡ status_number d.status
 unfolding act

@@ -1,3 +1,4 @@
+pub mod DeviceLemmas
 pub mod PlanLemmas
 pub mod ActLemmas
 pub mod WaitLemmas
@@ -7,3 +8,6 @@ pub mod ClearLemmas
 pub mod ReadLemmas
 pub mod ListLemmas
 pub mod WriteLemmas
+pub mod DoesLemmas
+pub mod ToldLemmas
+pub mod MomentLemmas

@@ -1,8 +1,8 @@
 -- Identifiers that are listed.
-use Rattle.std.proofs.Common.{◌≡◌, ◌∙◌, ℕ, zero, suc, ◌+◌, ◌-◌, ◌<◌, ◌≤◌, Bool, true, false, min, List, [], ◌∷◌, ◌++◌, length, take, drop, map, Option, Some, None, refl, sym, ap, subst, inl, inr, arith, append-nil, length-append}
+use Rattle.std.proofs.Common.{◌≡◌, ◌∙◌, ℕ, zero, suc, ◌+◌, ◌-◌, ◌<◌, ◌≤◌, min, List, [], ◌∷◌, ◌++◌, length, take, drop, Option, Some, None, refl, sym, ap, subst, inl, inr, arith, append-nil, length-append}
 use Rattle.std.proofs.lemmas.List.{length-drop}
 use Rattle.std.proofs.lemmas.Option.{slice_get_within, slice_get_cases}
-use Rattle.std.specs.Prelude.{◌⊎◌, slice_get, Result, Ok, Err, IfOk}
+use Rattle.std.specs.Prelude.{◌⊎◌, slice_get, Result, Ok, Err, IfOk, IfSome}
 use Rattle.std.specs.List.{AllByRecursion}
 use Rattle.erst_store.specs.Actions.{get_record_identifier}
 use Rattle.erst_store.specs.ActionLemmas.{length-ids}
@@ -15,16 +15,20 @@ use Rattle.board_core.specs.Told.{Told, device_of, Relates}
 use Rattle.erst_interp.specs.declared.entries.Entry.{Entry}
 use Rattle.erst_interp.specs.Faithful.{answer_after}
 use Rattle.erst_interp.specs.Run.{Keeps}
-use Rattle.erst_interp.specs.Steps.{Seen, GoesWell, Fails}
+use Rattle.board_core.specs.Doing.{Seen}
+use Rattle.erst_interp.specs.Steps.{GoesWell}
 use Rattle.erst_interp.proofs.TouchLemmas.{well_more, fails_more, well_both, well_fails}
 use Rattle.erst_driver.specs.declared.refusals.DriverRefused.{DriverRefused}
 use Rattle.erst_driver.specs.declared.refusals.DriverRefused.TheVariants.{Register, Busy, Status, NoMemory}
 use Rattle.erst_driver.specs.declared.step.Step.{Step}
-use Rattle.erst_driver.specs.Operations.{Over, plain, listings, ids_steps, after_step, after_steps, told_by}
-use Rattle.erst_driver.specs.Answers.{IsMemoryOnly, Leaves, HasCauseIn, Stays}
-use Rattle.erst_driver.specs.Steps.{Plan, ComesThrough, StoreIn, Done, CutIn, FailsIn, IsBeginning, Acted, Acts, Quietly, FailsQuietly, EndsListing, ListsOut, Collected, Collects, ListsAll, Tells}
+use Rattle.erst_driver.specs.Operations.{plain, listings, ids_steps, after_step, after_steps, device_calls, list_calls, told_by}
+use Rattle.erst_driver.specs.Answers.{IsMemoryOnly, HasCauseIn}
+use Rattle.erst_driver.specs.Steps.{Begins, HasCall, Leaves, Stays, Over, HasDevice, Starves, Plan, ComesThrough, StoreIn, Done, CutIn, FailsIn, IsBeginning, Acted, Acts, Quietly, FailsQuietly, EndsListing, ListsOut, Collected, Collects, ListsAll, Tells}
+use Rattle.erst_interp.specs.Admission.{IsAdmittedTable}
+use Rattle.erst_driver.proofs.DeviceLemmas.{over_told}
+use Rattle.erst_driver.proofs.DoesLemmas.{has_call}
 use Rattle.erst_driver.proofs.OperationLemmas.{passes_at}
-use Rattle.erst_driver.proofs.PlanLemmas.{both_plans, after_both, done_then, done_as, fails_then, fails_as, cut_then, cut_as, over_device, over_both_device, over_both, over_more, over_after, everywhere}
+use Rattle.erst_driver.proofs.PlanLemmas.{begun_of, begun_then, both_plans, after_both, done_then, done_as, fails_then, fails_as, cut_then, cut_as, over_device, over_both_device, over_both, over_more, over_after, everywhere}
 
 abbrev list : Step
 list = plain get_record_identifier
@@ -70,11 +74,24 @@ listed d device = listed_by d (slice_get (ids d.store) d.cursor) device refl
 
 -- ---- lists of listings
 
-listings_both : (one two : ℕ) → listings one ++ listings two ≡ listings (one + two)
+pub listings_both : (one two : ℕ) → listings one ++ listings two ≡ listings (one + two)
 listings_both zero two = ap listings (let e : two ≡ 0 + two = omega arith in e)
 listings_both (suc one) two =
     let e : suc (one + two) ≡ suc one + two = omega arith in
     ap (λ (steps : List Step). list ∷ steps) (listings_both one two) ∙ ap listings e
+
+-- one more listing makes a call
+listing_calls : (lists : List (List Entry)) (count : ℕ) (d : Device) → IsAdmittedTable lists → HasCall (device_calls lists (listings (count + 1)) d)
+listing_calls lists count d admitted =
+    let next : suc count ≡ count + 1 = omega arith in
+    subst (λ (n : ℕ). HasCall (device_calls lists (listings n) d)) next
+    (has_call lists list (listings count) d admitted (record { action = omega arith; input = omega arith }))
+
+pub ids_calls : (lists : List (List Entry)) (d : Device) → IsAdmittedTable lists → HasCall (list_calls lists d)
+ids_calls lists d admitted =
+    let next : suc (length d.store - d.cursor) ≡ left_to_list d = omega arith in
+    subst (λ (n : ℕ). HasCall (device_calls lists (listings n ++ listings (min (length d.store + 1) most_records)) d)) next
+    (has_call lists list (listings (length d.store - d.cursor) ++ listings (min (length d.store + 1) most_records)) d admitted (record { action = omega arith; input = omega arith }))
 
 begins_listings : (count all : ℕ) → count ≤ all → IsBeginning (listings count) (listings all)
 begins_listings count all fits =
@@ -90,7 +107,7 @@ one_store d = by (slice_get (ids d.store) d.cursor)
     by (Some id) = refl
     by None = refl
 
-through_listings : (count : ℕ) (d : Device) (store : List Stored) → ComesThrough (listings count) d store → store ≡ d.store
+pub through_listings : (count : ℕ) (d : Device) (store : List Stored) → ComesThrough (listings count) d store → store ≡ d.store
 unfolding ComesThrough
 through_listings zero d store is = is
 through_listings (suc count) d store is =
@@ -258,8 +275,14 @@ module _ (lists : List (List Entry)) (count : ℕ) (found : List ℕ) (a b c : S
     here : Over (λ t. Listed (after_steps (listings count) (device_of t)) (after_step list (after_steps (listings count) (device_of t))) value) a.told
     here = listed_here lists count a b c collecting.listing value acted
 
-    pub collect_starves : GoesWell (Quietly a.told) a c
-    collect_starves = well_more (StoreIn (λ d. listings (count + 1)) a.told) (Quietly a.told) (quiet (count + 1) a.told) a c (next_done lists count a b c collecting.listing value acted).well
+    pub collect_starves : count < most_records → IsAdmittedTable lists → Starves lists (λ d. listings (min (left_to_list d) most_records)) a c
+    collect_starves inside admitted =
+        let done = next_done lists count a b c collecting.listing value acted in
+        record {
+          well = well_more (StoreIn (λ d. listings (count + 1)) a.told) (Quietly a.told) (quiet (count + 1) a.told) a c done.well;
+          begun = begun_of lists (λ d. listings (count + 1)) (λ d. listings (min (left_to_list d) most_records)) a c
+              (to_most lists count a b c collecting.listing inside) (λ d. listing_calls lists count d admitted) done;
+        }
 
     pub collecting_next : (value ≡ all_ones → ⊥) → Collecting lists (count + 1) (found ++ value ∷ []) a c
     collecting_next not_end = record {
@@ -344,6 +367,12 @@ module _ (lists : List (List Entry)) (a b c : Seen) (ends : EndsListing lists a 
       (over_more _ _ a.told same_steps (λ t same. ([], append-nil _ ∙ same)))
       (cut_then lists (λ d. listings (left_to_list d)) (λ d. listings (min (left_to_list d) most_records)) a b c ends.done c.told cut)
 
+  all_begun : Over (λ t. Begins (device_calls lists (listings (min (left_to_list (device_of t)) most_records)) (device_of t)) t c.told) b.told
+      → Over (λ t. Begins (device_calls lists (ids_steps (device_of t)) (device_of t)) t c.told) a.told
+  all_begun begun = over_both _ _ _ a.told same_steps
+      (begun_then lists (λ d. listings (left_to_list d)) (λ d. listings (min (left_to_list d) most_records)) a b c ends.done c.told begun)
+      (λ t same is. subst (λ (steps : List Step). Begins (device_calls lists steps (device_of t)) t c.told) same is)
+
   all_found : (found : List ℕ) → Over (λ t. found ≡ take most_records (drop (device_of t).cursor (ids t.here.store))) b.told → Over (λ t. found ≡ ids t.here.store) a.told
   all_found found over = over_both_device _ _ _ a.told (over_both (λ t. (after_steps (listings (left_to_list (device_of t))) (device_of t)).cursor ≡ 0) _
       (λ t. found ≡ take most_records (ids (after_steps (listings (left_to_list (device_of t))) (device_of t)).store)) a.told ends.cursor
@@ -360,7 +389,7 @@ module _ (lists : List (List Entry)) (a b c : Seen) (ends : EndsListing lists a 
   }
   lists_then view (Err Busy) collected = absurd collected
   lists_then view (Err (Status code)) collected = absurd collected
-  lists_then view (Err NoMemory) well = goes_on well
+  lists_then view (Err NoMemory) starves = record { well = goes_on starves.well; begun = all_begun starves.begun }
 
 pub lists_refused : {X : Type 0} (view : X → List ℕ) (lists : List (List Entry)) (a b : Seen) (e : DriverRefused) → ListsOut lists (Err e) a b → ListsAll {X = X} view lists (Err e) a b
 lists_refused view lists a b Register fails = record {
@@ -375,20 +404,20 @@ lists_refused view lists a b NoMemory is = absurd is
 -- ---- what is said of it
 
 module _ {X : Type 0} (view : X → List ℕ) (lists : List (List Entry)) (a b : Seen) where
-  pub all_ids : (result : Result X DriverRefused) → ListsAll view lists result a b → IfOk result (λ v. Over (λ t. view v ≡ ids t.here.store) a.told)
-  all_ids (Ok found) all = all.found_is
-  all_ids (Err why) all = tt
+  pub all_ids : (result : Result X DriverRefused) → HasDevice lists a.told → ListsAll view lists result a b → IfOk result (λ v. IfSome a.told (λ t. view v ≡ ids t.here.store))
+  all_ids (Ok found) device all = over_told lists _ a.told device all.found_is
+  all_ids (Err why) device all = tt
 
   pub all_few : (result : Result X DriverRefused) → ListsAll view lists result a b → IfOk result (λ v. length (view v) ≤ most_records)
   all_few (Ok found) all = all.few
   all_few (Err why) all = tt
 
-  pub all_told : (result : Result X DriverRefused) → ListsAll view lists result a b → Over (λ t. Leaves result t b.told (told_by lists (ids_steps (device_of t)) t)) a.told
+  pub all_told : (result : Result X DriverRefused) → ListsAll view lists result a b → Over (λ t. Leaves result t b.told (list_calls lists (device_of t))) a.told
   all_told (Ok found) all = over_more _ _ a.told all.done.tells (λ t tells. tells.told)
   all_told (Err Register) all = all.cut
   all_told (Err Busy) all = absurd all
   all_told (Err (Status code)) all = absurd all
-  all_told (Err NoMemory) all = everywhere _ a.told (λ t. tt)
+  all_told (Err NoMemory) all = all.begun
 
   pub all_refused : (result : Result X DriverRefused) → ListsAll view lists result a b → IsMemoryOnly result
   all_refused (Ok found) all = tt
@@ -402,14 +431,14 @@ module _ {X : Type 0} (view : X → List ℕ) (lists : List (List Entry)) (a b :
   all_kept (Err Register) all = all.fails.kept
   all_kept (Err Busy) all = absurd all
   all_kept (Err (Status code)) all = absurd all
-  all_kept (Err NoMemory) all = all.kept
+  all_kept (Err NoMemory) all = all.well.kept
 
   pub all_cause : (result : Result X DriverRefused) → ListsAll view lists result a b → HasCauseIn result a.faults b.faults
   all_cause (Ok found) all = all.done.well.faults
   all_cause (Err Register) all = all.fails.raises
   all_cause (Err Busy) all = absurd all
   all_cause (Err (Status code)) all = absurd all
-  all_cause (Err NoMemory) all = all.faults
+  all_cause (Err NoMemory) all = all.well.faults
 
   quiet_ids : (o : Option Told) (x y : List Stored) → StoreIn ids_steps o x y → Quietly o x y
   quiet_ids None x y is = tt
@@ -424,12 +453,12 @@ module _ {X : Type 0} (view : X → List ℕ) (lists : List (List Entry)) (a b :
   all_stops (Err Register) all = all.fails.stops
   all_stops (Err Busy) all = absurd all
   all_stops (Err (Status code)) all = absurd all
-  all_stops (Err NoMemory) all = all.stops
+  all_stops (Err NoMemory) all = all.well.stops
 
-  stays : (o : Option Told) (x y : List Stored) → ((t : Told) → o ≡ Some t → x ≡ t.here.store) → Quietly o x y → Stays o x y
-  stays None x y law is = tt
-  stays (Some t) x y law is = λ device. elim (is device) [ inl same ↦ same | inr told ↦ told ∙ sym (law t refl) ]
+  stays : (o : Option Told) (x y : List Stored) → IfSome o (λ t. IsDevice (device_of t)) → ((t : Told) → o ≡ Some t → x ≡ t.here.store) → Quietly o x y → Stays o x y
+  stays None x y device law is = tt
+  stays (Some t) x y device law is = elim (is device) [ inl same ↦ same | inr told ↦ told ∙ sym (law t refl) ]
 
-  pub all_stays : (result : Result X DriverRefused) → ListsAll view lists result a b → ((t : Told) (left : Left) → a.told ≡ Some t → LeftNow a.clock left → left.store ≡ t.here.store)
+  pub all_stays : (result : Result X DriverRefused) → HasDevice lists a.told → ListsAll view lists result a b → ((t : Told) (left : Left) → a.told ≡ Some t → LeftNow a.clock left → left.store ≡ t.here.store)
       → Passes (InStore (Stays a.told)) a.clock b.clock
-  all_stays result all law = passes_at (Quietly a.told) (Stays a.told) a.told a.clock b.clock law (stays a.told) (all_stops result all)
+  all_stays result device all law = passes_at (Quietly a.told) (Stays a.told) a.told a.clock b.clock law (λ x y. stays a.told x y device.device) (all_stops result all)

@@ -1,6 +1,6 @@
 -- What public operations say, of a plan that was done.
-use Rattle.std.proofs.Common.{◌≡◌, ◌∙◌, ℕ, zero, suc, ◌+◌, Bool, true, false, List, [], ◌∷◌, ◌++◌, Option, Some, None, refl, sym, ap, subst, inl, inr, arith, if◌then◌else◌}
-use Rattle.std.specs.Prelude.{◌⊎◌, Result, Ok, Err}
+use Rattle.std.proofs.Common.{◌≡◌, ◌∙◌, ℕ, zero, suc, ◌+◌, Bool, true, false, List, [], ◌∷◌, ◌++◌, Option, Some, refl, ap, subst, inl, inr, if◌then◌else◌}
+use Rattle.std.specs.Prelude.{◌⊎◌, Ok, Err}
 use Rattle.erst_store.specs.Actions.{check_busy_status, get_command_status, end_operation}
 use Rattle.erst_store.specs.declared.device.CommandStatus.{CommandStatus}
 use Rattle.erst_store.specs.Store.{Stored}
@@ -9,16 +9,14 @@ use Rattle.board_core.specs.Clock.{Clock, LeftNow, After, Passes}
 use Rattle.board_core.specs.Stop.{Left, InStore}
 use Rattle.board_core.specs.Told.{Told, device_of, Relates}
 use Rattle.erst_interp.specs.declared.entries.Entry.{Entry}
-use Rattle.erst_interp.specs.Run.{Keeps, Raises}
-use Rattle.erst_interp.specs.Steps.{Seen, GoesWell, Fails}
-use Rattle.erst_driver.specs.declared.driver.TheConstants.{MOST_CHECKS}
-use Rattle.erst_driver.specs.declared.refusals.DriverRefused.{DriverRefused}
+use Rattle.erst_interp.specs.Run.{Keeps}
+use Rattle.board_core.specs.Doing.{Seen}
 use Rattle.erst_driver.specs.declared.refusals.DriverRefused.TheVariants.{Register, Busy, Status as EndedWith, NoMemory}
 use Rattle.erst_driver.specs.declared.step.Step.{Step}
-use Rattle.erst_driver.specs.Operations.{Over, plain, checks, is_free_in_time, asks, ends, finishes, actions_of, after_step, after_steps, told_by}
-use Rattle.erst_driver.specs.Answers.{Answer, by_status, answer_of, Gives, Leaves, IsStoreIn, LeavesStore, HasCauseIn}
-use Rattle.erst_driver.specs.Steps.{Plan, ComesThrough, StoreIn, Tells, Done, Operates, Answered}
-use Rattle.erst_driver.proofs.PlanLemmas.{everywhere, over_both, over_more, after_both}
+use Rattle.erst_driver.specs.Operations.{plain, checks, is_free_in_time, asks, ends, finishes, actions_of, after_step, after_steps, device_calls, told_by, most_checks}
+use Rattle.erst_driver.specs.Answers.{Answer, by_status, answer_of, Gives, HasCauseIn}
+use Rattle.erst_driver.specs.Steps.{Leaves, Over, Plan, ComesThrough, StoreIn, Done, Operates}
+use Rattle.erst_driver.proofs.PlanLemmas.{everywhere, over_more, after_both}
 use Rattle.erst_driver.proofs.WaitLemmas.{checked}
 
 -- what a stop before left of the store is what was told
@@ -58,24 +56,12 @@ module _ (lists : List (List Entry)) (plan : Plan) (answer : Device → Answer) 
   leaves : (result : Answer) → Done lists plan a b → Over (λ t. b.told ≡ Some (told_by lists (plan (device_of t)) t)) a.told
   leaves result done = over_more _ _ a.told done.tells (λ t tells. tells.told)
 
-  pub leaves_of : (result : Answer) → Operates lists plan answer result a b → Over (λ t. Leaves result t b.told (told_by lists (plan (device_of t)) t)) a.told
+  pub leaves_of : (result : Answer) → Operates lists plan answer result a b → Over (λ t. Leaves result t b.told (device_calls lists (plan (device_of t)) (device_of t))) a.told
   leaves_of (Ok tt) operates = leaves (Ok tt) operates.done
   leaves_of (Err Register) operates = operates.cut
   leaves_of (Err Busy) operates = leaves (Err Busy) operates.done
   leaves_of (Err (EndedWith code)) operates = leaves (Err Busy) operates.done
   leaves_of (Err NoMemory) operates = absurd operates
-
-  module _ (store : Device → List Stored) (is : (d : Device) → (after_steps (plan d) d).store ≡ store d) where
-    stored : Done lists plan a b → Over (λ t. IsStoreIn b.told (store (device_of t))) a.told
-    stored done = over_more _ _ a.told done.tells (λ t tells.
-        subst (λ (o : Option Told). IsStoreIn o (store (device_of t))) (sym tells.told) (ap (λ (d : Device). d.store) tells.device ∙ is (device_of t)))
-
-    pub store_of : (result : Answer) → Operates lists plan answer result a b → Over (λ t. LeavesStore result b.told (store (device_of t))) a.told
-    store_of (Ok tt) operates = stored operates.done
-    store_of (Err Register) operates = everywhere _ a.told (λ t. tt)
-    store_of (Err Busy) operates = stored operates.done
-    store_of (Err (EndedWith code)) operates = stored operates.done
-    store_of (Err NoMemory) operates = absurd operates
 
   pub kept_of : (result : Answer) → Operates lists plan answer result a b → Relates Keeps a.told b.told
   kept_of (Ok tt) operates = operates.done.well.kept
@@ -118,9 +104,9 @@ through_either (s ∷ one) two d store is =
 asked_store : (busy : ℕ) (d : Device) → (after_steps (asks busy) d).store ≡ d.store
 asked_store busy d = by (is_free_in_time busy)
   where
-    by : (b : Bool) → (after_steps (if b then checks (busy + 1) else checks MOST_CHECKS) d).store ≡ d.store
+    by : (b : Bool) → (after_steps (if b then checks (busy + 1) else checks most_checks) d).store ≡ d.store
     by true = (checked (busy + 1) d).store
-    by false = (checked MOST_CHECKS d).store
+    by false = (checked most_checks d).store
 
 ended_store : (busy : ℕ) (d : Device) → (after_steps (ends busy) d).store ≡ d.store
 unfolding act after_steps
@@ -142,9 +128,9 @@ through_asks busy d store is = by (is_free_in_time busy) is
     count zero e is = is
     count (suc n) e is = elim is [ inl here ↦ here | inr later ↦ count n (after_step (plain check_busy_status) e) later ∙ one_check e ]
 
-    by : (b : Bool) → ComesThrough (if b then checks (busy + 1) else checks MOST_CHECKS) d store → store ≡ d.store
+    by : (b : Bool) → ComesThrough (if b then checks (busy + 1) else checks most_checks) d store → store ≡ d.store
     by true is = count (busy + 1) d is
-    by false is = count MOST_CHECKS d is
+    by false is = count most_checks d is
 
 through_ends : (busy : ℕ) (d : Device) (store : List Stored) → ComesThrough (ends busy) d store → store ≡ d.store
 unfolding act ComesThrough
@@ -164,9 +150,9 @@ through_finishes busy d store is =
 asked_range : (busy : ℕ) (d : Device) → (after_steps (asks busy) d).range ≡ d.range
 asked_range busy d = by (is_free_in_time busy)
   where
-    by : (b : Bool) → (after_steps (if b then checks (busy + 1) else checks MOST_CHECKS) d).range ≡ d.range
+    by : (b : Bool) → (after_steps (if b then checks (busy + 1) else checks most_checks) d).range ≡ d.range
     by true = (checked (busy + 1) d).range
-    by false = (checked MOST_CHECKS d).range
+    by false = (checked most_checks d).range
 
 ended_range : (busy : ℕ) (d : Device) → (after_steps (ends busy) d).range ≡ d.range
 unfolding act after_steps

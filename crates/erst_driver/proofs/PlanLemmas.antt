@@ -1,24 +1,26 @@
 -- Actions one after another.
-use Rattle.std.proofs.Common.{◌≡◌, ◌∙◌, ℕ, zero, suc, ◌+◌, ◌<◌, ◌≤◌, List, [], ◌∷◌, ◌++◌, length, take, drop, get_or, Option, Some, None, refl, sym, ap, subst, inl, inr, arith, append_assoc, append-nil}
+use Rattle.std.proofs.Common.{◌≡◌, ◌∙◌, ℕ, zero, suc, ◌+◌, ◌<◌, List, [], ◌∷◌, ◌++◌, length, take, drop, get_or, Option, Some, None, refl, sym, ap, subst, inl, inr, arith, append_assoc, append-nil}
 use Rattle.std.proofs.lemmas.List.{take-append-drop}
-use Rattle.std.specs.Prelude.{◌⊎◌, Result, Ok, Err}
+use Rattle.std.specs.Prelude.{◌⊎◌, Result, Err}
 use Rattle.erst_store.specs.Store.{Stored}
 use Rattle.erst_store.specs.Device.{Device}
 use Rattle.erst_store.specs.DeviceLaws.{IsDevice}
 use Rattle.board_core.specs.Told.{Told, device_of}
-use Rattle.board_core.specs.declared.board.Access.{Access}
+use Rattle.board_core.specs.Doing.{DeviceCall, after_acts}
 use Rattle.erst_interp.specs.declared.entries.Entry.{Entry}
-use Rattle.erst_interp.specs.Machine.{end_of}
-use Rattle.erst_interp.specs.Run.{IsCutShort}
+use Rattle.erst_interp.specs.Run.{IsCutShort, acts_of}
 use Rattle.erst_interp.specs.Table.{list_of}
-use Rattle.erst_interp.specs.Steps.{Seen, GoesWell, Fails}
+use Rattle.board_core.specs.Doing.{Seen}
+use Rattle.erst_interp.specs.Steps.{GoesWell}
 use Rattle.erst_interp.proofs.BreakLemmas.{off_as, off_more, off_after}
+use Rattle.erst_interp.proofs.BreakLemmas.{after_both as after_runs}
+use Rattle.erst_interp.proofs.RunLemmas.{end_device}
 use Rattle.erst_interp.proofs.TouchLemmas.{well_both, well_fails, well_more, fails_more, none_made}
 use Rattle.erst_driver.specs.declared.refusals.DriverRefused.{DriverRefused}
 use Rattle.erst_driver.specs.declared.refusals.DriverRefused.TheVariants.{Register, Busy, Status, NoMemory}
 use Rattle.erst_driver.specs.declared.step.Step.{Step}
-use Rattle.erst_driver.specs.Operations.{Over, after_step, after_steps, told_by_step, told_by}
-use Rattle.erst_driver.specs.Steps.{Plan, ComesThrough, StoreIn, Tells, Done, CutIn, FailsIn, IsBeginning, Acted, Acts, Runs, Answered, Operates}
+use Rattle.erst_driver.specs.Operations.{after_step, after_steps, device_calls, end_by, told_by_step, told_by}
+use Rattle.erst_driver.specs.Steps.{Begins, HasCall, Over, Plan, ComesThrough, StoreIn, Tells, Done, CutIn, FailsIn, IsBeginning, Acted, Acts, Runs, Operates}
 
 -- one plan, and then another over the device after it
 abbrev pub both_plans : Plan → Plan → Plan
@@ -29,23 +31,38 @@ unfolding after_steps
 after_both [] two d = refl
 after_both (s ∷ one) two d = after_both one two (after_step s d)
 
-told_both : (lists : List (List Entry)) (one two : List Step) (t : Told) → told_by lists (one ++ two) t ≡ told_by lists two (told_by lists one t)
-unfolding told_by
-told_both lists [] two t = refl
-told_both lists (s ∷ one) two t = told_both lists one two _
+-- what is told, and the calls, of one action and then others
+pub told_step : (lists : List (List Entry)) (s : Step) (steps : List Step) (t : Told) → told_by lists (s ∷ steps) t ≡ told_by lists steps (told_by_step lists s t)
+unfolding device_calls
+told_step lists s steps t =
+    let end = end_by lists s (device_of t) in
+    after_runs end.state.calls (device_calls lists steps end.state.device) t
+    ∙ ap (λ (d : Device). after_acts (acts_of (device_calls lists steps d)) (told_by_step lists s t)) (sym (end_device (list_of s.action lists) s.input t))
 
--- actions make their accesses after those that were made before
-pub told_made : (lists : List (List Entry)) (steps : List Step) (t : Told) → (more : List Access) × ((told_by lists steps t).accesses ≡ t.accesses ++ more)
-unfolding told_by
-told_made lists [] t = ([], sym (append-nil t.accesses))
-told_made lists (s ∷ steps) t =
-    let own = (end_of (list_of s.action lists) s.input (device_of t)).state.accesses in
-    let rest = told_made lists steps (told_by_step lists s t) in
-    (own ++ rest.0, rest.1 ∙ append_assoc t.accesses own rest.0)
+pub told_both : (lists : List (List Entry)) (one two : List Step) (t : Told) → told_by lists (one ++ two) t ≡ told_by lists two (told_by lists one t)
+unfolding device_calls
+told_both lists [] two t = refl
+told_both lists (s ∷ one) two t =
+    told_step lists s (one ++ two) t ∙ told_both lists one two (told_by_step lists s t) ∙ ap (λ (u : Told). told_by lists two u) (sym (told_step lists s one t))
+
+pub calls_both : (lists : List (List Entry)) (one two : List Step) (t : Told)
+    → device_calls lists (one ++ two) (device_of t) ≡ device_calls lists one (device_of t) ++ device_calls lists two (device_of (told_by lists one t))
+unfolding device_calls
+calls_both lists [] two t = refl
+calls_both lists (s ∷ one) two t =
+    let end = end_by lists s (device_of t) in
+    let own = end.state.calls in
+    let u = told_by_step lists s t in
+    let same : device_of u ≡ end.state.device = end_device (list_of s.action lists) s.input t in
+    ap (λ (d : Device). own ++ device_calls lists (one ++ two) d) (sym same)
+    ∙ ap (λ (calls : List DeviceCall). own ++ calls) (calls_both lists one two u)
+    ∙ sym (append_assoc own (device_calls lists one (device_of u)) (device_calls lists two (device_of (told_by lists one u))))
+    ∙ ap (λ (d : Device). (own ++ device_calls lists one d) ++ device_calls lists two (device_of (told_by lists one u))) same
+    ∙ ap (λ (v : Told). (own ++ device_calls lists one end.state.device) ++ device_calls lists two (device_of v)) (sym (told_step lists s one t))
 
 -- ---- the stores that a device comes through
 
-through_here : (steps : List Step) (d : Device) (store : List Stored) → store ≡ d.store → ComesThrough steps d store
+pub through_here : (steps : List Step) (d : Device) (store : List Stored) → store ≡ d.store → ComesThrough steps d store
 unfolding ComesThrough
 through_here [] d store is = is
 through_here (s ∷ steps) d store is = inl is
@@ -89,25 +106,48 @@ tells_both lists one q t mid new first over =
 
 -- the same where a call failed
 cut_both : (lists : List (List Entry)) (one : List Step) (q : Plan) (t : Told) (mid new : Option Told) → Tells lists one t mid → CutIn lists q mid new
-    → IsCutShort (told_by lists (one ++ q (after_steps one (device_of t))) t).accesses t new
+    → IsCutShort (device_calls lists (one ++ q (after_steps one (device_of t))) (device_of t)) t new
 cut_both lists one q t mid new first over =
     let u = told_by lists one t in
     let two = q (after_steps one (device_of t)) in
     let device : IsDevice (device_of u) = subst IsDevice (sym first.device) first.is in
-    let made = told_made lists one t in
-    let second : IsCutShort (told_by lists two u).accesses u new =
-    subst (λ (d : Device). IsCutShort (told_by lists (q d) u).accesses u new) first.device
-    (over_at (λ v. IsCutShort (told_by lists (q (device_of v)) v).accesses v new) mid u over first.told device) in
-    off_as (told_by lists two u).accesses (told_by lists (one ++ two) t).accesses t new (ap (λ (v : Told). v.accesses) (sym (told_both lists one two t)))
-    (off_after (told_by lists two u).accesses made.0 t u new made.1 second)
+    let second : IsCutShort (device_calls lists two (device_of u)) u new =
+    subst (λ (d : Device). IsCutShort (device_calls lists (q d) (device_of u)) u new) first.device
+    (over_at (λ v. IsCutShort (device_calls lists (q (device_of v)) (device_of v)) v new) mid u over first.told device) in
+    off_as (device_calls lists one (device_of t) ++ device_calls lists two (device_of u)) (device_calls lists (one ++ two) (device_of t)) t new (sym (calls_both lists one two t))
+    (off_after (device_calls lists one (device_of t)) (device_calls lists two (device_of u)) t u new refl second)
 
-cut_more : (lists : List (List Entry)) (some all : List Step) (t : Told) (new : Option Told) → IsBeginning some all → IsCutShort (told_by lists some t).accesses t new
-    → IsCutShort (told_by lists all t).accesses t new
+cut_more : (lists : List (List Entry)) (some all : List Step) (t : Told) (new : Option Told) → IsBeginning some all → IsCutShort (device_calls lists some (device_of t)) t new
+    → IsCutShort (device_calls lists all (device_of t)) t new
 cut_more lists some all t new begins cut =
-    let later = told_made lists begins.0 (told_by lists some t) in
-    off_as ((told_by lists some t).accesses ++ later.0) (told_by lists all t).accesses t new
-    (sym later.1 ∙ ap (λ (v : Told). v.accesses) (sym (told_both lists some begins.0 t)) ∙ ap (λ (steps : List Step). (told_by lists steps t).accesses) begins.1)
-    (off_more (told_by lists some t).accesses later.0 t new cut)
+    let later = device_calls lists begins.0 (device_of (told_by lists some t)) in
+    off_as (device_calls lists some (device_of t) ++ later) (device_calls lists all (device_of t)) t new
+    (sym (calls_both lists some begins.0 t) ∙ ap (λ (steps : List Step). device_calls lists steps (device_of t)) begins.1)
+    (off_more (device_calls lists some (device_of t)) later t new cut)
+
+-- some actions of a list were done
+begun_some : (lists : List (List Entry)) (some all : List Step) (t : Told) (new : Option Told) → IsBeginning some all → HasCall (device_calls lists some (device_of t)) → new ≡ Some (told_by lists some t)
+    → Begins (device_calls lists all (device_of t)) t new
+begun_some lists some all t new begins has is = record {
+  done = device_calls lists some (device_of t);
+  later = device_calls lists begins.0 (device_of (told_by lists some t));
+  splits = sym (calls_both lists some begins.0 t) ∙ ap (λ (steps : List Step). device_calls lists steps (device_of t)) begins.1;
+  some = has;
+  told = is;
+}
+
+later_calls : (one two : List DeviceCall) → HasCall two → HasCall (one ++ two)
+later_calls [] two has = has
+later_calls (call ∷ one) two has = tt
+
+begun_after : (first calls : List DeviceCall) (t u : Told) (new : Option Told) → u ≡ after_acts (acts_of first) t → Begins calls u new → Begins (first ++ calls) t new
+begun_after first calls t u new is begun = record {
+  done = first ++ begun.done;
+  later = begun.later;
+  splits = append_assoc first begun.done begun.later ∙ ap (λ (l : List DeviceCall). first ++ l) begun.splits;
+  some = later_calls first begun.done begun.some;
+  told = begun.told ∙ ap (λ (v : Told). Some (after_acts (acts_of begun.done) v)) is ∙ ap (λ (v : Told). Some v) (sym (after_runs first begun.done t));
+}
 
 -- ---- two plans
 
@@ -146,6 +186,24 @@ module _ (lists : List (List Entry)) (p q : Plan) (a b c : Seen) (one : Done lis
       by : (o : Option Told) → Over (λ t. Tells lists (p (device_of t)) t b.told) o → CutIn lists (both_plans p q) o told
       by None first = tt
       by (Some t) first = λ device. cut_both lists (p (device_of t)) q t b.told told (first device) cut
+
+  pub begun_then : (told : Option Told) → Over (λ t. Begins (device_calls lists (q (device_of t)) (device_of t)) t told) b.told
+      → Over (λ t. Begins (device_calls lists (both_plans p q (device_of t)) (device_of t)) t told) a.told
+  begun_then told begun = by a.told one.tells
+    where
+      by : (o : Option Told) → Over (λ t. Tells lists (p (device_of t)) t b.told) o → Over (λ t. Begins (device_calls lists (both_plans p q (device_of t)) (device_of t)) t told) o
+      by None first = tt
+      by (Some t) first = λ device.
+          (let tells : Tells lists (p (device_of t)) t b.told = first device in
+          let here = p (device_of t) in
+          let u = told_by lists here t in
+          let two = q (after_steps here (device_of t)) in
+          let there : IsDevice (device_of u) = subst IsDevice (sym tells.device) tells.is in
+          let second : Begins (device_calls lists two (device_of u)) u told =
+          subst (λ (d : Device). Begins (device_calls lists (q d) (device_of u)) u told) tells.device
+          (over_at (λ v. Begins (device_calls lists (q (device_of v)) (device_of v)) v told) b.told u begun tells.told there) in
+          subst (λ (calls : List DeviceCall). Begins calls t told) (sym (calls_both lists here two t))
+          (begun_after (device_calls lists here (device_of t)) (device_calls lists two (device_of u)) t u told refl second))
 
   pub fails_then : FailsIn lists q b c → FailsIn lists (both_plans p q) a c
   fails_then two = record {
@@ -202,7 +260,7 @@ module _ (lists : List (List Entry)) (p q : Plan) (a b : Seen) where
 
 -- no action at all
 pub nothing_done : (lists : List (List Entry)) (a : Seen) → Done lists (λ d. []) a a
-unfolding told_by after_steps
+unfolding device_calls after_steps
 nothing_done lists a = record { well = none_made (StoreIn (λ d. []) a.told) (λ x. same a.told x) a; tells = by a.told refl }
   where
     same : (o : Option Told) (x : List Stored) → StoreIn (λ d. []) o x x
@@ -234,6 +292,12 @@ over_device P R (Some t) p more = λ device. more t device (p device)
 pub over_both_device : (P Q R : Told → Type 0) (o : Option Told) → Over P o → Over Q o → ((t : Told) → IsDevice (device_of t) → P t → Q t → R t) → Over R o
 over_both_device P Q R None p q both = tt
 over_both_device P Q R (Some t) p q both = λ device. both t device (p device) (q device)
+
+-- a plan was done that is a beginning of another
+pub begun_of : (lists : List (List Entry)) (p q : Plan) (a b : Seen) → Over (λ t. IsBeginning (p (device_of t)) (q (device_of t))) a.told
+    → ((d : Device) → HasCall (device_calls lists (p d) d)) → Done lists p a b → Over (λ t. Begins (device_calls lists (q (device_of t)) (device_of t)) t b.told) a.told
+begun_of lists p q a b begins has done = over_both (λ t. IsBeginning (p (device_of t)) (q (device_of t))) (λ t. Tells lists (p (device_of t)) t b.told) _ a.told begins done.tells
+    (λ t begins tells. begun_some lists (p (device_of t)) (q (device_of t)) t b.told begins (has (device_of t)) tells.told)
 
 -- what holds of the device after a plan
 pub over_after : (lists : List (List Entry)) (p : Plan) (a b : Seen) → Done lists p a b → (Q : Device → Type 0) → Over (λ t. Q (device_of t)) b.told

@@ -1,7 +1,7 @@
 -- What the actions of a read come to.
-use Rattle.std.proofs.Common.{◌≡◌, ◌∙◌, ℕ, ◌+◌, ◌-◌, ◌≤◌, Bool, true, false, ◌||◌, nat_eq, nat_lt, List, [], ◌∷◌, ◌++◌, length, Option, Some, None, refl, sym, ap, subst, inl, inr, arith, if◌then◌else◌}
+use Rattle.std.proofs.Common.{◌≡◌, ◌∙◌, ℕ, ◌+◌, ◌-◌, ◌≤◌, Bool, true, false, ◌||◌, nat_eq, nat_lt, List, [], ◌∷◌, ◌++◌, length, Option, Some, None, refl, sym, ap, subst, inl, inr, arith, if◌then◌else◌, append-nil}
 use Rattle.std.proofs.lemmas.Bool.Decides.{nat_tests}
-use Rattle.std.specs.Prelude.{◌⊎◌, replicate, is_some, Result, Ok, Err, OnOk, IfSome}
+use Rattle.std.specs.Prelude.{◌⊎◌, replicate, is_some, Ok, Err, OnOk, IfSome}
 use Rattle.std.specs.List.{AllByRecursion}
 use Rattle.erst_store.specs.declared.device.Command.TheVariants.{Read}
 use Rattle.erst_store.specs.declared.device.CommandStatus.{CommandStatus}
@@ -12,23 +12,24 @@ use Rattle.erst_store.specs.Device.{Device, act, busy_device, range_with_record,
 use Rattle.erst_store.specs.DeviceLaws.{IsDevice}
 use Rattle.board_core.specs.Clock.{Passes, LeftNow}
 use Rattle.board_core.specs.Stop.{Left, InStore}
-use Rattle.board_core.specs.declared.board.Access.{Access}
-use Rattle.board_core.specs.declared.board.Access.TheVariants.{RangeRead}
-use Rattle.board_core.specs.Told.{Told, device_of, with_access, Relates}
+use Rattle.board_core.specs.Told.{Told, device_of, Relates}
 use Rattle.erst_interp.specs.declared.entries.Entry.{Entry}
-use Rattle.erst_interp.specs.Run.{Keeps, IsCutShort}
-use Rattle.erst_interp.specs.Steps.{Seen, Fails}
+use Rattle.erst_interp.specs.Run.{Keeps, IsCutShort, acts_of}
+use Rattle.board_core.specs.Doing.{DeviceCall, Seen, after_acts, range_read}
+use Rattle.erst_interp.specs.Steps.{Fails}
 use Rattle.erst_interp.specs.Steps.{Stays as Unchanged}
 use Rattle.erst_interp.proofs.BreakLemmas.{off_more, off_after}
+use Rattle.erst_interp.proofs.BreakLemmas.{after_both as after_runs}
 use Rattle.erst_interp.proofs.TouchLemmas.{well_fails}
 use Rattle.erst_driver.specs.declared.step.Step.{Step}
 use Rattle.erst_driver.specs.declared.refusals.DriverRefused.{DriverRefused}
 use Rattle.erst_driver.specs.declared.refusals.DriverRefused.TheVariants.{Register, Busy, NoMemory, Status as EndedWith}
-use Rattle.erst_driver.specs.Operations.{Over, is_free_in_time, actions_of, read_steps, after_steps, told_by, fetched_by, told_by_read}
-use Rattle.erst_driver.specs.Answers.{Answer, by_status, found_status, answer_of, answer_on_found, Gives, Leaves, LeavesStore, IsStoreIn, HasCauseIn, Stays, HoldsRecord}
-use Rattle.erst_driver.specs.Steps.{StoreIn, ComesThrough, Done, FailsIn, FailsFetch, Answered, Operates, Reads, Fetched}
-use Rattle.erst_driver.proofs.PlanLemmas.{told_made, over_device, over_both_device, over_both, over_more, everywhere}
-use Rattle.erst_driver.proofs.OperationLemmas.{Carries, through_operation, store_after, range_after, answer_is, passes_at}
+use Rattle.erst_driver.specs.Operations.{is_free_in_time, actions_of, read_steps, after_steps, device_calls, fetch_calls, told_by}
+use Rattle.erst_driver.specs.Answers.{read_calls, Answer, by_status, found_status, answer_of, answer_on_found, Gives, HasCauseIn, HoldsRecord}
+use Rattle.erst_driver.specs.Steps.{Leaves, Stays, Over, HasDevice, StoreIn, ComesThrough, Done, FailsFetch, Answered, Operates, Reads, Fetched}
+use Rattle.erst_driver.proofs.PlanLemmas.{over_device, over_both_device, over_both, over_more, everywhere}
+use Rattle.erst_driver.proofs.DeviceLemmas.{over_told}
+use Rattle.erst_driver.proofs.OperationLemmas.{Carries, through_operation, range_after, answer_is, passes_at}
 
 -- ---- the record that is found
 
@@ -129,10 +130,10 @@ read_carries id d device =
 read_answers : (id : ℕ) (d : Device) → IsDevice d → answer_of (read_steps id) d ≡ answer_on_found id d
 read_answers id d device = answer_is (read_steps id) d (found_status id d.store) d.store (read_carries id d device)
 
-pub read_stops : (id : ℕ) (told : Option Told) (old new : List Stored) → ((t : Told) → told ≡ Some t → old ≡ t.here.store)
+pub read_stops : (id : ℕ) (told : Option Told) (old new : List Stored) → IfSome told (λ t. IsDevice (device_of t)) → ((t : Told) → told ≡ Some t → old ≡ t.here.store)
     → StoreIn (actions_of (read_steps id)) told old new → Stays told old new
-read_stops id None old new law is = tt
-read_stops id (Some t) old new law is = λ device. elim (is device) [
+read_stops id None old new device law is = tt
+read_stops id (Some t) old new device law is = elim (is device) [
   | inl same ↦ same
   | inr through ↦
       elim (through_operation (read_steps id) (device_of t) (found_status id t.here.store) t.here.store (read_carries id (device_of t) device) new through) [
@@ -174,32 +175,26 @@ holds_record id d buffer device answer is =
 
 -- ---- an operation and the read after it
 
-fetch_more : (answer : Answer) (u t : Told) (new : Option Told) → IsCutShort u.accesses t new → IsCutShort (fetched_by answer u).accesses t new
-fetch_more (Ok done) u t new cut = off_more u.accesses (RangeRead 0 range_length ∷ []) t new cut
-fetch_more (Err why) u t new cut = cut
-
 pub operate_refused : (lists : List (List Entry)) (steps : List Step) (buffer : List ℕ) (a b : Seen) (why : DriverRefused)
     → Operates lists (actions_of steps) (answer_of steps) (Err why) a b → Reads lists steps buffer (Err why) a b
 operate_refused lists steps buffer a b Register fails = record {
   fails = fails.fails;
-  cut = over_more _ _ a.told fails.cut (λ t cut. fetch_more (answer_of steps (device_of t)) (told_by lists (actions_of steps (device_of t)) t) t b.told cut);
+  cut = over_more _ _ a.told fails.cut (λ t cut. off_more (device_calls lists (actions_of steps (device_of t)) (device_of t)) (fetch_calls (answer_of steps (device_of t))) t b.told cut);
 }
 operate_refused lists steps buffer a b Busy operates = operates
 operate_refused lists steps buffer a b (EndedWith code) operates = operates
 operate_refused lists steps buffer a b NoMemory operates = absurd operates
 
 pub fetch_failed : (lists : List (List Entry)) (steps : List Step) (a b c : Seen) → Answered lists (actions_of steps) (answer_of steps) (Ok tt) a b
-    → IfSome b.told (λ t. IsCutShort (with_access (RangeRead 0 range_length) t).accesses t c.told) → Fails Unchanged b c → FailsFetch lists steps a c
+    → IfSome b.told (λ t. IsCutShort (range_read 0 range_length ∷ []) t c.told) → Fails Unchanged b c → FailsFetch lists steps a c
 fetch_failed lists steps a b c one breaks fails = record {
   fails = well_fails (StoreIn (actions_of steps) a.told) (StoreIn (actions_of steps) a.told) (λ x y is. is) Unchanged
       (λ x y z through same. subst (λ (u : List Stored). StoreIn (actions_of steps) a.told x u) (sym same) through) a b c one.done.well fails;
   cut = over_both _ _ _ a.told one.done.tells one.answers (λ t tells is.
       (let u = told_by lists (actions_of steps (device_of t)) t in
-      let made = told_made lists (actions_of steps (device_of t)) t in
-      let off : IsCutShort (with_access (RangeRead 0 range_length) u).accesses u c.told =
-      subst (λ (o : Option Told). IfSome o (λ x. IsCutShort (with_access (RangeRead 0 range_length) x).accesses x c.told)) tells.told breaks in
-      subst (λ (x : Answer). IsCutShort (fetched_by x u).accesses t c.told) is
-      (off_after (with_access (RangeRead 0 range_length) u).accesses made.0 t u c.told made.1 off)));
+      let calls = device_calls lists (actions_of steps (device_of t)) (device_of t) in
+      let off : IsCutShort (range_read 0 range_length ∷ []) u c.told = subst (λ (o : Option Told). IfSome o (λ x. IsCutShort (range_read 0 range_length ∷ []) x c.told)) tells.told breaks in
+      subst (λ (x : Answer). IsCutShort (calls ++ fetch_calls x) t c.told) is (off_after calls (range_read 0 range_length ∷ []) t u c.told refl off)));
 }
 
 module _ (lists : List (List Entry)) (id : ℕ) (buffer : List ℕ) (a b : Seen) where
@@ -213,17 +208,21 @@ module _ (lists : List (List Entry)) (id : ℕ) (buffer : List ℕ) (a b : Seen)
   read_gives (Err (EndedWith code)) reads = gives_on (EndedWith code) reads.answers
   read_gives (Err NoMemory) reads = absurd reads
 
-  told_on : (why : DriverRefused) → Done lists (actions_of (read_steps id)) a b → Over (λ t. Err why ≡ answer_of (read_steps id) (device_of t)) a.told
-      → Over (λ t. b.told ≡ Some (told_by_read lists id (answer_on_found id (device_of t)) t)) a.told
-  told_on why done answers = over_both _ _ _ a.told done.tells (gives_on why answers)
-      (λ t tells is. subst (λ (x : Answer). b.told ≡ Some (told_by_read lists id x t)) is tells.told)
+  abbrev own : Told → List DeviceCall
+  own t = device_calls lists (actions_of (read_steps id) (device_of t)) (device_of t)
 
-  pub read_told : (result : Answer) → Reads lists (read_steps id) buffer result a b
-      → Over (λ t. Leaves result t b.told (told_by_read lists id (answer_on_found id (device_of t)) t)) a.told
+  told_on : (why : DriverRefused) → Done lists (actions_of (read_steps id)) a b → Over (λ t. Err why ≡ answer_of (read_steps id) (device_of t)) a.told
+      → Over (λ t. b.told ≡ Some (after_acts (acts_of (read_calls lists id (device_of t))) t)) a.told
+  told_on why done answers = over_both _ _ _ a.told done.tells (gives_on why answers)
+      (λ t tells is. subst (λ (x : Answer). b.told ≡ Some (after_acts (acts_of (own t ++ fetch_calls x)) t)) is
+      (tells.told ∙ ap (λ (calls : List DeviceCall). Some (after_acts (acts_of calls) t)) (sym (append-nil (own t)))))
+
+  pub read_told : (result : Answer) → Reads lists (read_steps id) buffer result a b → Over (λ t. Leaves result t b.told (read_calls lists id (device_of t))) a.told
   read_told (Ok tt) reads = over_both_device _ _ _ a.told reads.told reads.answers
-      (λ t device told is. subst (λ (x : Answer). b.told ≡ Some (told_by_read lists id x t)) (is ∙ read_answers id (device_of t) device) told)
+      (λ t device told is. subst (λ (x : Answer). b.told ≡ Some (after_acts (acts_of (own t ++ fetch_calls x)) t)) (is ∙ read_answers id (device_of t) device)
+      (told ∙ ap (λ (u : Told). Some u) (sym (after_runs (own t) (fetch_calls (Ok tt)) t))))
   read_told (Err Register) reads = over_device _ _ a.told reads.cut
-      (λ t device cut. subst (λ (x : Answer). IsCutShort (told_by_read lists id x t).accesses t b.told) (read_answers id (device_of t) device) cut)
+      (λ t device cut. subst (λ (x : Answer). IsCutShort (own t ++ fetch_calls x) t b.told) (read_answers id (device_of t) device) cut)
   read_told (Err Busy) reads = told_on Busy reads.done reads.answers
   read_told (Err (EndedWith code)) reads = told_on (EndedWith code) reads.done reads.answers
   read_told (Err NoMemory) reads = absurd reads
@@ -246,22 +245,9 @@ module _ (lists : List (List Entry)) (id : ℕ) (buffer : List ℕ) (a b : Seen)
   read_holds fetched = over_both_device _ _ _ a.told fetched.answers fetched.bytes
       (λ t device answer bytes. holds_record id (device_of t) buffer device answer bytes)
 
-  pub read_found : (result : Answer) → Reads lists (read_steps id) buffer result a b → OnOk result (Over (λ t. HoldsRecord id t.here.store buffer) a.told)
-  read_found (Ok tt) reads = read_holds reads
-  read_found (Err why) reads = tt
-
-  kept_store : Done lists (actions_of (read_steps id)) a b → Over (λ t. IsStoreIn b.told t.here.store) a.told
-  kept_store done = over_device _ _ a.told done.tells (λ t device tells. subst (λ (o : Option Told). IsStoreIn o t.here.store) (sym tells.told)
-      (ap (λ (d : Device). d.store) tells.device ∙ store_after (read_steps id) (device_of t) (found_status id t.here.store) t.here.store (read_carries id (device_of t) device)))
-
-  pub read_store : (result : Answer) → Reads lists (read_steps id) buffer result a b → Over (λ t. LeavesStore result b.told t.here.store) a.told
-  read_store (Ok tt) reads = over_both_device _ _ _ a.told reads.told reads.here
-      (λ t device told here. subst (λ (o : Option Told). IsStoreIn o t.here.store) (sym told)
-      (ap (λ (d : Device). d.store) here ∙ store_after (read_steps id) (device_of t) (found_status id t.here.store) t.here.store (read_carries id (device_of t) device)))
-  read_store (Err Register) reads = everywhere _ a.told (λ t. tt)
-  read_store (Err Busy) reads = kept_store reads.done
-  read_store (Err (EndedWith code)) reads = kept_store reads.done
-  read_store (Err NoMemory) reads = absurd reads
+  pub read_found : (result : Answer) → HasDevice lists a.told → Reads lists (read_steps id) buffer result a b → OnOk result (IfSome a.told (λ t. HoldsRecord id t.here.store buffer))
+  read_found (Ok tt) device reads = over_told lists _ a.told device (read_holds reads)
+  read_found (Err why) device reads = tt
 
   read_passes : (result : Answer) → Reads lists (read_steps id) buffer result a b → Passes (InStore (StoreIn (actions_of (read_steps id)) a.told)) a.clock b.clock
   read_passes (Ok tt) reads = reads.well.stops
@@ -270,6 +256,7 @@ module _ (lists : List (List Entry)) (id : ℕ) (buffer : List ℕ) (a b : Seen)
   read_passes (Err (EndedWith code)) reads = reads.done.well.stops
   read_passes (Err NoMemory) reads = absurd reads
 
-  pub read_stays : (result : Answer) → Reads lists (read_steps id) buffer result a b → ((t : Told) (left : Left) → a.told ≡ Some t → LeftNow a.clock left → left.store ≡ t.here.store)
+  pub read_stays : (result : Answer) → HasDevice lists a.told → Reads lists (read_steps id) buffer result a b → ((t : Told) (left : Left) → a.told ≡ Some t → LeftNow a.clock left → left.store ≡ t.here.store)
       → Passes (InStore (Stays a.told)) a.clock b.clock
-  read_stays result reads law = passes_at (StoreIn (actions_of (read_steps id)) a.told) (Stays a.told) a.told a.clock b.clock law (read_stops id a.told) (read_passes result reads)
+  read_stays result device reads law = passes_at (StoreIn (actions_of (read_steps id)) a.told) (Stays a.told) a.told a.clock b.clock law
+      (λ x y. read_stops id a.told x y device.device) (read_passes result reads)

@@ -1,18 +1,18 @@
 -- A device is asked until it isn't busy.
-use Rattle.std.proofs.Common.{◌≡◌, ◌∙◌, ℕ, zero, suc, ◌+◌, ◌-◌, ◌<◌, ◌≤◌, Bool, true, false, nat_lt, List, [], ◌∷◌, ◌++◌, Option, Some, None, refl, sym, ap, subst, inl, inr, arith, if◌then◌else◌, append-nil, append_assoc, true≢false}
+use Rattle.std.proofs.Common.{◌≡◌, ◌∙◌, ℕ, zero, suc, ◌+◌, ◌-◌, ◌<◌, ◌≤◌, Bool, true, false, nat_lt, List, [], ◌∷◌, ◌++◌, refl, sym, ap, arith, if◌then◌else◌}
 use Rattle.std.proofs.lemmas.Bool.Decides.{nat_tests}
-use Rattle.std.specs.Prelude.{◌⊎◌, replicate, Result, Ok, Err}
+use Rattle.std.specs.Prelude.{Ok, Err}
 use Rattle.erst_store.specs.Actions.{check_busy_status}
 use Rattle.erst_store.specs.Device.{Device, act}
-use Rattle.board_core.specs.Told.{Told, device_of}
+use Rattle.board_core.specs.Told.{device_of}
 use Rattle.erst_interp.specs.declared.entries.Entry.{Entry}
 use Rattle.erst_interp.specs.Faithful.{answer_after}
-use Rattle.erst_interp.specs.Steps.{Seen}
+use Rattle.board_core.specs.Doing.{Seen}
 use Rattle.erst_driver.specs.declared.refusals.DriverRefused.{DriverRefused}
-use Rattle.erst_driver.specs.declared.refusals.DriverRefused.TheVariants.{Register, Busy, Status, NoMemory}
+use Rattle.erst_driver.specs.declared.refusals.DriverRefused.TheVariants.{Busy}
 use Rattle.erst_driver.specs.declared.step.Step.{Step}
-use Rattle.erst_driver.specs.Operations.{Over, plain, checks, after_step, after_steps}
-use Rattle.erst_driver.specs.Steps.{asks_within, answers_within, IsBeginning, Done, Acted, Acts, Operates, Answered}
+use Rattle.erst_driver.specs.Operations.{plain, checks, after_step, after_steps}
+use Rattle.erst_driver.specs.Steps.{Over, asks_within, answers_within, IsBeginning, Done, Acted, Acts, Operates}
 use Rattle.erst_driver.proofs.PlanLemmas.{done_then, done_as, refused_in_operation, over_both, over_more, over_after, everywhere}
 
 abbrev check : Step

@@ -1,8 +1,8 @@
 -- What a write comes to.
-use Rattle.std.proofs.Common.{◌≡◌, ◌∙◌, ℕ, ◌+◌, ◌≤◌, Bool, true, false, ◌||◌, nat_lt, List, [], ◌∷◌, ◌++◌, length, take, drop, Option, Some, None, refl, sym, ap, subst, inl, inr, arith, if◌then◌else◌}
+use Rattle.std.proofs.Common.{◌≡◌, ◌∙◌, ℕ, ◌+◌, ◌≤◌, Bool, true, false, ◌||◌, List, [], ◌∷◌, ◌++◌, length, take, drop, Option, Some, None, refl, sym, ap, subst, inl, inr, arith, if◌then◌else◌}
 use Rattle.std.proofs.Math.Seq.{take-append_seam}
 use Rattle.std.proofs.lemmas.Bool.Decides.{nat_tests}
-use Rattle.std.specs.Prelude.{◌⊎◌, Result, Ok, Err, IfSome}
+use Rattle.std.specs.Prelude.{◌⊎◌, Ok, Err, IfSome}
 use Rattle.ras_base.specs.LittleEndian.{AreBytes, number_at}
 use Rattle.ras_base.specs.LittleEndianLemmas.{number_at-append}
 use Rattle.erst_store.specs.declared.device.Command.TheVariants.{Write}
@@ -15,20 +15,19 @@ use Rattle.erst_store.specs.DeviceLaws.{IsDevice}
 use Rattle.erst_store.specs.KeptLemmas.{IsDevice-range}
 use Rattle.board_core.specs.Clock.{Passes, LeftNow}
 use Rattle.board_core.specs.Stop.{Left, InStore}
-use Rattle.board_core.specs.declared.board.Access.TheVariants.{RangeWrite}
 use Rattle.board_core.specs.Told.{Told, device_of, Relates, Steps}
 use Rattle.erst_interp.specs.declared.entries.Entry.{Entry}
 use Rattle.erst_interp.specs.Run.{Keeps, IsCutShort}
-use Rattle.erst_interp.specs.Steps.{Seen, GoesWell, Fails, Stays}
-use Rattle.erst_interp.proofs.BreakLemmas.{off_as, off_more, off_after}
+use Rattle.board_core.specs.Doing.{Seen, range_write}
+use Rattle.erst_interp.specs.Steps.{GoesWell, Fails, Stays}
+use Rattle.erst_interp.proofs.BreakLemmas.{off_more, off_after}
 use Rattle.erst_interp.proofs.TouchLemmas.{well_both, well_fails, fails_more}
-use Rattle.erst_driver.specs.declared.refusals.DriverRefused.{DriverRefused}
 use Rattle.erst_driver.specs.declared.refusals.DriverRefused.TheVariants.{Register, Busy, NoMemory, Status as EndedWith}
-use Rattle.erst_driver.specs.Operations.{Over, is_free_in_time, actions_of, write_steps, after_steps, told_by, put_in_range, told_by_write}
-use Rattle.erst_driver.specs.Answers.{Answer, by_status, answer_of, written_id, is_put_refused, put_status, store_after_write, answer_on_put, Gives, Leaves, LeavesStore, IsStoreIn, HasCauseIn, Puts}
-use Rattle.erst_driver.specs.Steps.{StoreIn, ComesThrough, Tells, Done, Operates, StoreInWrite, Written, FailsIn, FailsWrite, Writes}
-use Rattle.erst_driver.proofs.PlanLemmas.{told_made, over_at, over_device, over_more, everywhere}
-use Rattle.erst_driver.proofs.OperationLemmas.{Carries, through_operation, store_after, answer_is, passes_at}
+use Rattle.erst_driver.specs.Operations.{actions_of, write_steps, after_steps, device_calls, put_in_range, write_calls}
+use Rattle.erst_driver.specs.Answers.{Answer, answer_of, written_id, is_put_refused, put_status, store_after_write, answer_on_put, Gives, HasCauseIn}
+use Rattle.erst_driver.specs.Steps.{Leaves, Puts, Over, StoreIn, ComesThrough, Tells, Done, Operates, StoreInWrite, Written, FailsWrite, Writes}
+use Rattle.erst_driver.proofs.PlanLemmas.{over_at, over_more, everywhere}
+use Rattle.erst_driver.proofs.OperationLemmas.{Carries, through_operation, answer_is, passes_at}
 
 -- ---- the record in the range
 
@@ -106,14 +105,14 @@ module _ (bytes : List ℕ) (long : header_length ≤ length bytes) (short : len
         through = λ mid through. elim (through_write d mid through) [ inl here ↦ inl here | inr there ↦ inr (there ∙ store_is) ];
       }
 
-  write_carries : (t : Told) → Carries write_steps (device_of (put_in_range bytes t)) (put_status (written_id bytes) t.here.store) (store_after_write bytes t.here.store)
+  pub write_carries : (t : Told) → Carries write_steps (device_of (put_in_range bytes t)) (put_status (written_id bytes) t.here.store) (store_after_write bytes t.here.store)
   write_carries t = carries_with (device_of (put_in_range bytes t)) (device_of t).range refl
 
   -- ---- what is said of a write
 
-  write_stops : (o : Option Told) (x y : List Stored) → ((t : Told) → o ≡ Some t → x ≡ t.here.store) → StoreInWrite bytes o x y → Puts bytes o x y
-  write_stops None x y law is = tt
-  write_stops (Some t) x y law is = λ device. elim (is device) [
+  write_stops : (o : Option Told) (x y : List Stored) → IfSome o (λ t. IsDevice (device_of t)) → ((t : Told) → o ≡ Some t → x ≡ t.here.store) → StoreInWrite bytes o x y → Puts bytes o x y
+  write_stops None x y device law is = tt
+  write_stops (Some t) x y device law is = elim (is device) [
     | inl same ↦ inl same
     | inr through ↦
         elim (through_operation write_steps (device_of (put_in_range bytes t)) (put_status (written_id bytes) t.here.store) (store_after_write bytes t.here.store) (write_carries t) y through) [
@@ -134,18 +133,6 @@ module _ (bytes : List ℕ) (long : header_length ≤ length bytes) (short : len
     write_gives (Err (EndedWith code)) writes = gives (Err (EndedWith code)) writes
     write_gives (Err NoMemory) writes = absurd writes
 
-    stored : (result : Answer) → Written lists bytes result a b → Over (λ t. IsStoreIn b.told (store_after_write bytes t.here.store)) a.told
-    stored result written = over_more _ _ a.told written.tells (λ t tells. subst (λ (o : Option Told). IsStoreIn o (store_after_write bytes t.here.store)) (sym tells.told)
-        (ap (λ (d : Device). d.store) tells.device ∙ store_after write_steps (device_of (put_in_range bytes t)) (put_status (written_id bytes) t.here.store)
-        (store_after_write bytes t.here.store) (write_carries t)))
-
-    pub write_store : (result : Answer) → Writes lists bytes result a b → Over (λ t. LeavesStore result b.told (store_after_write bytes t.here.store)) a.told
-    write_store (Ok done) writes = stored (Ok done) writes
-    write_store (Err Register) writes = everywhere _ a.told (λ t. tt)
-    write_store (Err Busy) writes = stored (Err Busy) writes
-    write_store (Err (EndedWith code)) writes = stored (Err (EndedWith code)) writes
-    write_store (Err NoMemory) writes = absurd writes
-
     passes : (result : Answer) → Writes lists bytes result a b → Passes (InStore (StoreInWrite bytes a.told)) a.clock b.clock
     passes (Ok done) writes = writes.well.stops
     passes (Err Register) writes = writes.fails.stops
@@ -153,12 +140,13 @@ module _ (bytes : List ℕ) (long : header_length ≤ length bytes) (short : len
     passes (Err (EndedWith code)) writes = writes.well.stops
     passes (Err NoMemory) writes = absurd writes
 
-    pub write_puts : (result : Answer) → Writes lists bytes result a b → ((t : Told) (left : Left) → a.told ≡ Some t → LeftNow a.clock left → left.store ≡ t.here.store)
+    pub write_puts : (result : Answer) → IfSome a.told (λ t. IsDevice (device_of t)) → Writes lists bytes result a b → ((t : Told) (left : Left) → a.told ≡ Some t → LeftNow a.clock left → left.store ≡ t.here.store)
         → Passes (InStore (Puts bytes a.told)) a.clock b.clock
-    write_puts result writes law = passes_at (StoreInWrite bytes a.told) (Puts bytes a.told) a.told a.clock b.clock law (write_stops a.told) (passes result writes)
+    write_puts result device writes law = passes_at (StoreInWrite bytes a.told) (Puts bytes a.told) a.told a.clock b.clock law
+        (λ x y. write_stops a.told x y device) (passes result writes)
 
 module _ (bytes : List ℕ) (lists : List (List Entry)) (a b : Seen) where
-  pub write_told : (result : Answer) → Writes lists bytes result a b → Over (λ t. Leaves result t b.told (told_by_write lists bytes t)) a.told
+  pub write_told : (result : Answer) → Writes lists bytes result a b → Over (λ t. Leaves result t b.told (write_calls lists bytes (device_of t))) a.told
   write_told (Ok done) writes = over_more _ _ a.told writes.tells (λ t tells. tells.told)
   write_told (Err Register) writes = writes.cut
   write_told (Err Busy) writes = over_more _ _ a.told writes.tells (λ t tells. tells.told)
@@ -181,14 +169,12 @@ module _ (bytes : List ℕ) (lists : List (List Entry)) (a b : Seen) where
 
   -- ---- the range is filled, and then the operation is done
 
-  fill_more : (o : Option Told) → IfSome o (λ t. IsCutShort (put_in_range bytes t).accesses t b.told) → Over (λ t. IsCutShort (told_by_write lists bytes t).accesses t b.told) o
+  fill_more : (o : Option Told) → IfSome o (λ t. IsCutShort (range_write 0 bytes ∷ []) t b.told) → Over (λ t. IsCutShort (write_calls lists bytes (device_of t)) t b.told) o
   fill_more None breaks = tt
   fill_more (Some t) breaks = λ device.
-      (let u = put_in_range bytes t in
-      let made = told_made lists (actions_of write_steps (device_of u)) u in
-      off_as (u.accesses ++ made.0) (told_by_write lists bytes t).accesses t b.told (sym made.1) (off_more u.accesses made.0 t b.told breaks))
+      (let d = device_of (put_in_range bytes t) in off_more (range_write 0 bytes ∷ []) (device_calls lists (actions_of write_steps d) d) t b.told breaks)
 
-  pub fill_fails : IfSome a.told (λ t. IsCutShort (put_in_range bytes t).accesses t b.told) → Fails Stays a b → FailsWrite lists bytes a b
+  pub fill_fails : IfSome a.told (λ t. IsCutShort (range_write 0 bytes ∷ []) t b.told) → Fails Stays a b → FailsWrite lists bytes a b
   fill_fails breaks fails = record {
     fails = fails_more Stays (StoreInWrite bytes a.told) (λ x y same. by a.told x y same) a b fails;
     cut = fill_more a.told breaks;
@@ -233,8 +219,8 @@ module _ (bytes : List ℕ) (lists : List (List Entry)) (a b : Seen) where
     writes_then (Ok done) operates = answered (Ok done) operates.done operates.answers
     writes_then (Err Register) fails = record {
       fails = well_fails Stays (StoreInWrite bytes a.told) first (StoreIn (actions_of write_steps) b.told) both a b c filled fails.fails;
-      cut = over_more _ _ a.told (over_put (λ t. IsCutShort (told_by lists (actions_of write_steps (device_of t)) t).accesses t c.told) fails.cut)
-          (λ t cut. off_after (told_by_write lists bytes t).accesses (RangeWrite 0 (length bytes) ∷ []) t (put_in_range bytes t) c.told refl cut);
+      cut = over_more _ _ a.told (over_put (λ t. IsCutShort (device_calls lists (actions_of write_steps (device_of t)) (device_of t)) t c.told) fails.cut)
+          (λ t cut. (let d = device_of (put_in_range bytes t) in off_after (range_write 0 bytes ∷ []) (device_calls lists (actions_of write_steps d) d) t (put_in_range bytes t) c.told refl cut));
     }
     writes_then (Err Busy) operates = answered (Err Busy) operates.done operates.answers
     writes_then (Err (EndedWith code)) operates = answered (Err (EndedWith code)) operates.done operates.answers

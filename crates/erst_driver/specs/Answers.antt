@@ -1,20 +1,19 @@
 -- What an operation answers, and what it leaves.
-use Rattle.std.specs.Prelude.{◌≡◌, ℕ, ◌-◌, Bool, ◌||◌, nat_eq, List, ◌++◌, length, replicate, Option, Some, None, Result, Ok, Err, if◌then◌else◌}
+use Rattle.std.specs.Prelude.{◌≡◌, ◌≢◌, ℕ, ◌-◌, Bool, ◌||◌, nat_eq, List, ◌++◌, length, replicate, Some, Result, Ok, Err, if◌then◌else◌}
 use Rattle.ras_base.specs.LittleEndian.{number_at}
 use Rattle.erst_store.specs.declared.device.CommandStatus.{CommandStatus}
 use Rattle.erst_store.specs.declared.device.CommandStatus.TheVariants.{Success, NotEnoughSpace, StoreEmpty, NotFound}
 use Rattle.erst_store.specs.Actions.{range_length}
-use Rattle.erst_store.specs.Store.{Stored, holds, bytes_under, with_record, without, is_reserved, is_full_for}
+use Rattle.erst_store.specs.Store.{Stored, holds, bytes_under, with_record, is_reserved, is_full_for}
 use Rattle.erst_store.specs.Device.{Device, status_number, id_place}
-use Rattle.erst_store.specs.DeviceLaws.{IsDevice}
-use Rattle.board_core.specs.Cause.{Faults}
-use Rattle.board_core.specs.Stop.{Becomes}
-use Rattle.board_core.specs.Told.{Told, device_of}
-use Rattle.erst_interp.specs.Run.{Raises, IsCutShort}
+use Rattle.board_core.specs.Cause.{Faults, device_call}
+use Rattle.board_core.specs.Doing.{DeviceCall, Does, Ended, Raises, Seen, broke, ended_by, went_well}
+use Rattle.erst_interp.specs.declared.entries.Entry.{Entry}
+use Rattle.erst_interp.specs.Run.{acts_of}
 use Rattle.erst_driver.specs.declared.refusals.DriverRefused.{DriverRefused}
 use Rattle.erst_driver.specs.declared.refusals.DriverRefused.TheVariants.{Register, Busy, NoMemory, Status as EndedWith}
 use Rattle.erst_driver.specs.declared.step.Step.{Step}
-use Rattle.erst_driver.specs.Operations.{after_steps, is_free_in_time}
+use Rattle.erst_driver.specs.Operations.{actions_of, after_steps, device_calls, fetch_calls, is_free_in_time, read_steps}
 
 abbrev pub Answer : Type 0
 Answer = Result (Unit {0}) DriverRefused
@@ -48,6 +47,10 @@ abbrev pub answer_on_found : ℕ → Device → Answer
 answer_on_found id d =
     if is_free_in_time d.slow then by_status (found_status id d.store) else Err Busy
 
+-- a read's calls: one that ends well reads the range too
+abbrev pub read_calls : List (List Entry) → ℕ → Device → List DeviceCall
+read_calls lists id d = device_calls lists (actions_of (read_steps id) d) d ++ fetch_calls (answer_on_found id d)
+
 -- the identifier in the header of a record's bytes
 abbrev pub written_id : List ℕ → ℕ
 written_id bytes = number_at id_place 8 bytes
@@ -75,52 +78,40 @@ abbrev pub Gives : Answer → Answer → Type 0
 Gives (Err Register) answer = Unit {0}
 Gives result answer = result ≡ answer
 
--- A board that told this tells that. Where a call failed, the accesses are those that would have
--- come to that, up to this call. Where memory ran out nothing is said.
-abbrev pub Leaves : {T : Type 0} → Result T DriverRefused → Told → Option Told → Told → Type 0
-Leaves (Err Register) before new after = IsCutShort after.accesses before new
-Leaves (Err NoMemory) before new after = Unit {0}
-Leaves result before new after = new ≡ Some after
+-- Register comes if a call of the device failed; all other answers come once all is done.
+abbrev pub refusal_end : DriverRefused → Ended
+refusal_end Register = broke device_call
+refusal_end why = went_well
 
--- The record store is this one.
-abbrev pub IsStoreIn : Option Told → List Stored → Type 0
-IsStoreIn None store = ⊥
-IsStoreIn (Some t) store = t.here.store ≡ store
+-- Some of these calls were done, from the first on, and then memory ran out.
+pub record DoesSome {X : Type 0} (see : X → Seen) (calls : List DeviceCall) (old new : X) : Type 0 where
+  pub done : List DeviceCall
+  pub later : List DeviceCall
+  pub splits : done ++ later ≡ calls
+  pub does : Does see (acts_of done) went_well old new
 
-abbrev pub LeavesStore : Answer → Option Told → List Stored → Type 0
-LeavesStore (Err Register) new store = Unit {0}
-LeavesStore result new store = IsStoreIn new store
+abbrev pub DoesListing : {X T : Type 0} → (X → Seen) → List DeviceCall → Result T DriverRefused → X → X → Type 0
+DoesListing see calls (Err NoMemory) old new = DoesSome see calls old new
+DoesListing see calls result old new = Does see (acts_of calls) (ended_by refusal_end result) old new
 
--- Register comes exactly where the count of device calls that failed rose. With any other answer
+-- Register comes exactly if the count of device calls that failed rose. With any other answer
 -- all counts are as they were.
 abbrev pub HasCauseIn : {T : Type 0} → Result T DriverRefused → Faults → Faults → Type 0
-HasCauseIn (Err Register) before now = Raises before now
+HasCauseIn (Err Register) before now = Raises device_call before now
 HasCauseIn result before now = now ≡ before
 
--- A call that takes memory may also answer its want, and nothing else.
+-- A call that takes no memory doesn't lack any, and a status that it tells isn't 0.
+abbrev pub IsAnswered : {T : Type 0} → Result T DriverRefused → Type 0
+IsAnswered (Err NoMemory) = ⊥
+IsAnswered (Err (EndedWith status)) = status ≢ 0
+IsAnswered result = Unit {0}
+
+-- A call that takes memory may lack it, and is refused in no other way.
 abbrev pub IsMemoryOnly : {T : Type 0} → Result T DriverRefused → Type 0
 IsMemoryOnly (Ok x) = Unit {0}
 IsMemoryOnly (Err Register) = Unit {0}
 IsMemoryOnly (Err NoMemory) = Unit {0}
 IsMemoryOnly (Err why) = ⊥
-
--- ---- what a stop during an operation leaves of the record store
-
--- It is as before, or without the record of this identifier.
-abbrev pub Clears : ℕ → Option Told → List Stored → List Stored → Type 0
-Clears id None old new = Unit {0}
-Clears id (Some t) old new = IsDevice (device_of t) → Becomes (without id t.here.store) old new
-
--- It is as before, or with this record put.
-abbrev pub Puts : List ℕ → Option Told → List Stored → List Stored → Type 0
-Puts bytes None old new = Unit {0}
-Puts bytes (Some t) old new =
-    IsDevice (device_of t) → Becomes (store_after_write bytes t.here.store) old new
-
--- It stays.
-abbrev pub Stays : Option Told → List Stored → List Stored → Type 0
-Stays None old new = Unit {0}
-Stays (Some t) old new = IsDevice (device_of t) → new ≡ old
 
 -- ---- what a read leaves in a buffer of the range's length
 

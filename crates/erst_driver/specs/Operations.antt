@@ -1,27 +1,30 @@
 -- The operations on the device, each as the actions that it runs one after another: ACPI 6.5,
 -- section 18.5.2, "Operations". How often a busy device is asked is this project's own.
-use Rattle.std.specs.Prelude.{ℕ, suc, ◌+◌, min, length, Bool, true, false, nat_lt, List, [], ◌∷◌, ◌++◌, replicate, Option, Some, None, Result, Ok, Err, if◌then◌else◌}
-use Rattle.erst_store.specs.Actions.{begin_write_operation, begin_read_operation, begin_clear_operation, end_operation, set_record_offset, execute_operation, check_busy_status, get_command_status, get_record_identifier, set_record_identifier, range_length}
+use Rattle.std.specs.Prelude.{ℕ, ◌+◌, ◌<◌, ◌≤◌, min, length, Bool, nat_lt, List, [], ◌∷◌, ◌++◌, replicate, Result, Ok, Err, if◌then◌else◌}
+use Rattle.std.specs.List.{AllByRecursion}
+use Rattle.erst_store.specs.Actions.{begin_write_operation, begin_read_operation, begin_clear_operation, end_operation, set_record_offset, execute_operation, check_busy_status, get_command_status, get_record_identifier, set_record_identifier, get_record_count, range_length}
 use Rattle.erst_store.specs.Device.{Device}
-use Rattle.erst_store.specs.DeviceLaws.{IsDevice, left_to_list}
+use Rattle.erst_store.specs.DeviceLaws.{left_to_list}
 use Rattle.erst_store.specs.Store.{most_records}
-use Rattle.board_core.specs.declared.board.Access.TheVariants.{RangeRead, RangeWrite}
-use Rattle.board_core.specs.Told.{Told, device_of, on_device, with_access, after_range_write}
+use Rattle.board_core.specs.Doing.{DeviceCall, after_acts, range_read, range_write}
+use Rattle.board_core.specs.Told.{Told, device_of, after_range_write}
 use Rattle.erst_interp.specs.declared.entries.Entry.{Entry}
-use Rattle.erst_interp.specs.Faithful.{device_after}
-use Rattle.erst_interp.specs.Machine.{end_of}
-use Rattle.erst_interp.specs.Run.{told_after}
+use Rattle.erst_interp.specs.Faithful.{device_after, input_limit}
+use Rattle.erst_interp.specs.Machine.{End, end_of}
+use Rattle.erst_interp.specs.Run.{acts_of, told_after}
 use Rattle.erst_interp.specs.Table.{list_of}
-use Rattle.erst_driver.specs.declared.driver.TheConstants.{MOST_CHECKS}
 use Rattle.erst_driver.specs.declared.refusals.DriverRefused.{DriverRefused}
 use Rattle.erst_driver.specs.declared.step.Step.{Step}
 
--- where a board tells a device
-abbrev pub Over : (Told → Type 0) → Option Told → Type 0
-Over P None = Unit {0}
-Over P (Some t) = IsDevice (device_of t) → P t
-
 -- ---- the actions of an operation
+
+-- an action that an admitted table does, with an input that it takes
+pub record Inside (s : Step) : Type 0 where
+  pub action : s.action ≤ get_record_count
+  pub input : s.input < input_limit s.action
+
+abbrev pub AreInside : List Step → Type 0
+AreInside steps = AllByRecursion Inside steps
 
 abbrev pub step : ℕ → ℕ → Step
 step action input = record { action = action; input = input }
@@ -44,15 +47,18 @@ write_steps =
     plain begin_write_operation ∷ step set_record_offset 0 ∷ plain execute_operation ∷ []
 
 -- A device that is busy for so many answers is asked once more than that, until it answers 0. After
--- the most checks it isn't asked on.
+-- 1,000 checks it isn't asked on.
 abbrev pub checks : ℕ → List Step
 checks count = replicate count (plain check_busy_status)
 
+abbrev pub most_checks : ℕ
+most_checks = 1000
+
 abbrev pub is_free_in_time : ℕ → Bool
-is_free_in_time busy = nat_lt busy MOST_CHECKS
+is_free_in_time busy = nat_lt busy most_checks
 
 abbrev pub asks : ℕ → List Step
-asks busy = if is_free_in_time busy then checks (busy + 1) else checks MOST_CHECKS
+asks busy = if is_free_in_time busy then checks (busy + 1) else checks most_checks
 
 -- One that is free is asked for its status, and the operation is ended.
 abbrev pub ends : ℕ → List Step
@@ -80,32 +86,43 @@ unfoldable pub after_steps : List Step → Device → Device
 after_steps [] d = d
 after_steps (s ∷ steps) d = after_steps steps (after_step s d)
 
--- what a board tells after the runs of the actions' lists by the machine, where no call fails
-abbrev pub told_by_step : List (List Entry) → Step → Told → Told
-told_by_step lists s t = told_after (end_of (list_of s.action lists) s.input (device_of t)).state t
+-- the run of an action's list by the machine
+abbrev pub end_by : List (List Entry) → Step → Device → End
+end_by lists s d = end_of (list_of s.action lists) s.input d
 
-unfoldable pub told_by : List (List Entry) → List Step → Told → Told
-told_by lists [] t = t
-told_by lists (s ∷ steps) t = told_by lists steps (told_by_step lists s t)
+-- the calls of the device that these runs make, one run after another
+unfoldable pub device_calls : List (List Entry) → List Step → Device → List DeviceCall
+device_calls lists [] d = []
+device_calls lists (s ∷ steps) d = (end_by lists s d).state.calls ++ device_calls lists steps (end_by lists s d).state.device
+
+-- what a board tells after them
+abbrev pub told_by_step : List (List Entry) → Step → Told → Told
+told_by_step lists s t = told_after (end_by lists s (device_of t)).state t
+
+abbrev pub told_by : List (List Entry) → List Step → Told → Told
+told_by lists steps t = after_acts (acts_of (device_calls lists steps (device_of t))) t
 
 -- all actions of an operation that goes so, over a device
 abbrev pub actions_of : List Step → Device → List Step
 actions_of steps d = steps ++ finishes (after_steps steps d).busy
 
--- What a board tells after the actions of a read that comes to this answer: where it ends well, the
--- range is read too.
-abbrev pub fetched_by : Result (Unit {0}) DriverRefused → Told → Told
-fetched_by (Ok done) t = with_access (RangeRead 0 range_length) t
-fetched_by (Err why) t = t
+-- ---- the calls of the operations
 
-abbrev pub told_by_read : List (List Entry) → ℕ → Result (Unit {0}) DriverRefused → Told → Told
-told_by_read lists id answer t = fetched_by answer (told_by lists (actions_of (read_steps id) (device_of t)) t)
+abbrev pub clear_calls : List (List Entry) → ℕ → Device → List DeviceCall
+clear_calls lists id d = device_calls lists (actions_of (clear_steps id) d) d
 
--- what a board tells after bytes were written into the range, and after a write of them
+-- what is read of the range after an operation that comes to this answer
+abbrev pub fetch_calls : Result (Unit {0}) DriverRefused → List DeviceCall
+fetch_calls (Ok done) = range_read 0 range_length ∷ []
+fetch_calls (Err why) = []
+
+-- A write puts the bytes into the range first.
 abbrev pub put_in_range : List ℕ → Told → Told
-put_in_range bytes t =
-    with_access (RangeWrite 0 (length bytes)) (on_device (after_range_write 0 bytes) t)
+put_in_range bytes t = after_acts (acts_of (range_write 0 bytes ∷ [])) t
 
-abbrev pub told_by_write : List (List Entry) → List ℕ → Told → Told
-told_by_write lists bytes t =
-    told_by lists (actions_of write_steps (device_of (put_in_range bytes t))) (put_in_range bytes t)
+abbrev pub write_calls : List (List Entry) → List ℕ → Device → List DeviceCall
+write_calls lists bytes d =
+    range_write 0 bytes ∷ device_calls lists (actions_of write_steps (after_range_write 0 bytes d)) (after_range_write 0 bytes d)
+
+abbrev pub list_calls : List (List Entry) → Device → List DeviceCall
+list_calls lists d = device_calls lists (ids_steps d) d

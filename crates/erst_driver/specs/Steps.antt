@@ -1,29 +1,81 @@
 -- Only for proofs: what private functions say of the actions that they run.
-use Rattle.std.specs.Prelude.{◌≡◌, ℕ, ◌+◌, ◌<◌, ◌≤◌, ◌⊎◌, nat_lt, if◌then◌else◌, min, length, take, drop, List, [], ◌∷◌, ◌++◌, Option, Some, None, Result, Ok, Err}
-use Rattle.std.specs.List.{AllByRecursion}
-use Rattle.erst_store.specs.Actions.{get_record_count, range_length}
-use Rattle.erst_store.specs.Store.{Stored, most_records, ids}
+use Rattle.std.specs.Prelude.{◌≡◌, ℕ, ◌+◌, ◌≤◌, ◌⊎◌, nat_lt, if◌then◌else◌, min, length, take, drop, List, [], ◌∷◌, ◌++◌, Option, Some, None, Result, Ok, Err, IfSome}
+use Rattle.erst_store.specs.Store.{Stored, most_records, ids, without}
 use Rattle.erst_store.specs.Device.{Device}
 use Rattle.erst_store.specs.DeviceLaws.{IsDevice, left_to_list}
-use Rattle.board_core.specs.declared.board.Access.TheVariants.{RangeRead}
-use Rattle.board_core.specs.Told.{Told, device_of, with_access}
+use Rattle.board_core.specs.Stop.{Becomes}
+use Rattle.board_core.specs.Told.{Told, device_of}
 use Rattle.erst_interp.specs.declared.entries.Entry.{Entry}
-use Rattle.erst_interp.specs.Faithful.{input_limit, answer_after}
-use Rattle.erst_interp.specs.Run.{IsCutShort}
-use Rattle.erst_interp.specs.Steps.{Seen, GoesWell, Fails}
+use Rattle.erst_interp.specs.Admission.{IsAdmittedTable}
+use Rattle.erst_interp.specs.Faithful.{answer_after}
+use Rattle.erst_interp.specs.Run.{IsCutShort, acts_of}
+use Rattle.board_core.specs.Doing.{DeviceCall, Seen, after_acts}
+use Rattle.erst_interp.specs.Steps.{GoesWell, Fails}
 use Rattle.erst_driver.specs.declared.refusals.DriverRefused.{DriverRefused}
 use Rattle.erst_driver.specs.declared.refusals.DriverRefused.TheVariants.{Register, Busy, NoMemory}
 use Rattle.erst_driver.specs.declared.step.Step.{Step}
-use Rattle.erst_driver.specs.Operations.{Over, after_step, after_steps, actions_of, write_steps, checks, listings, ids_steps, told_by, put_in_range, fetched_by, told_by_write}
-use Rattle.erst_driver.specs.Answers.{answer_of}
+use Rattle.erst_driver.specs.Operations.{after_step, after_steps, actions_of, write_steps, checks, listings, ids_steps, told_by, device_calls, put_in_range, fetch_calls, write_calls}
+use Rattle.erst_driver.specs.Answers.{answer_of, store_after_write}
 
--- an action that an admitted table does, with an input that it takes
-pub record Inside (s : Step) : Type 0 where
-  pub action : s.action ≤ get_record_count
-  pub input : s.input < input_limit s.action
+-- where a board tells a device
+abbrev pub Over : (Told → Type 0) → Option Told → Type 0
+Over P None = Unit {0}
+Over P (Some t) = IsDevice (device_of t) → P t
 
-abbrev pub AreInside : List Step → Type 0
-AreInside steps = AllByRecursion Inside steps
+-- What was told is a device, as it is if a call of the device was made by an admitted table.
+pub record HasDevice (lists : List (List Entry)) (told : Option Told) : Type 0 where
+  pub admitted : IsAdmittedTable lists
+  pub device : IfSome told (λ t. IsDevice (device_of t))
+
+-- so many actions, of which none failed
+abbrev pub Called : List (List Entry) → ℕ → Option Told → Option Told → Type 0
+Called lists count old new = ((count ≡ 0) × (new ≡ old)) ⊎ HasDevice lists old
+
+-- Several actions, maybe none, or up to one that failed.
+abbrev pub CalledAs : {T E : Type 0} → List (List Entry) → Result T E → Option Told → Option Told → Type 0
+CalledAs lists (Ok x) old new = (new ≡ old) ⊎ HasDevice lists old
+CalledAs lists (Err e) old new = HasDevice lists old
+
+-- ---- what is told of calls
+
+-- a call at least
+abbrev pub HasCall : List DeviceCall → Type 0
+HasCall [] = ⊥
+HasCall (call ∷ calls) = Unit {0}
+
+-- Some of these calls are done, from the first on.
+pub record Begins (calls : List DeviceCall) (old : Told) (new : Option Told) : Type 0 where
+  pub done : List DeviceCall
+  pub later : List DeviceCall
+  pub splits : done ++ later ≡ calls
+  pub some : HasCall done
+  pub told : new ≡ Some (after_acts (acts_of done) old)
+
+-- A board that told this did these calls. If a call failed, it did them up to this call, and if
+-- memory ran out, some of them.
+abbrev pub Leaves : {T : Type 0} → Result T DriverRefused → Told → Option Told → List DeviceCall → Type 0
+Leaves (Err Register) old new calls = IsCutShort calls old new
+Leaves (Err NoMemory) old new calls = Begins calls old new
+Leaves result old new calls = new ≡ Some (after_acts (acts_of calls) old)
+
+-- ---- what a stop during an operation leaves of the record store
+
+-- It is as before, or without the record of this identifier.
+abbrev pub Clears : ℕ → Option Told → List Stored → List Stored → Type 0
+Clears id None old new = Unit {0}
+Clears id (Some t) old new = Becomes (without id t.here.store) old new
+
+-- It is as before, or with this record put.
+abbrev pub Puts : List ℕ → Option Told → List Stored → List Stored → Type 0
+Puts bytes None old new = Unit {0}
+Puts bytes (Some t) old new = Becomes (store_after_write bytes t.here.store) old new
+
+-- It stays.
+abbrev pub Stays : Option Told → List Stored → List Stored → Type 0
+Stays None old new = Unit {0}
+Stays (Some t) old new = new ≡ old
+
+-- ---- plans
 
 -- a plan: the actions that are to be run over a device
 abbrev pub Plan : Type 0
@@ -58,7 +110,7 @@ pub record Done (lists : List (List Entry)) (plan : Plan) (old new : Seen) : Typ
 
 -- what is told of a plan in which a call failed
 abbrev pub CutIn : List (List Entry) → Plan → Option Told → Option Told → Type 0
-CutIn lists plan old new = Over (λ t. IsCutShort (told_by lists (plan (device_of t)) t).accesses t new) old
+CutIn lists plan old new = Over (λ t. IsCutShort (device_calls lists (plan (device_of t)) (device_of t)) t new) old
 
 pub record FailsIn (lists : List (List Entry)) (plan : Plan) (old new : Seen) : Type 0 where
   pub fails : Fails (StoreIn plan old.told) old new
@@ -97,7 +149,7 @@ Operates lists plan answer result old new = Answered lists plan answer result ol
 -- an operation that was done, and a read of the range after it
 pub record Fetched (lists : List (List Entry)) (steps : List Step) (buffer : List ℕ) (old new : Seen) : Type 0 where
   pub well : GoesWell (StoreIn (actions_of steps) old.told) old new
-  pub told : Over (λ t. new.told ≡ Some (with_access (RangeRead 0 range_length) (told_by lists (actions_of steps (device_of t)) t))) old.told
+  pub told : Over (λ t. new.told ≡ Some (after_acts (acts_of (fetch_calls (Ok tt))) (told_by lists (actions_of steps (device_of t)) t))) old.told
   pub here : Over (λ t. device_of (told_by lists (actions_of steps (device_of t)) t) ≡ after_steps (actions_of steps (device_of t)) (device_of t)) old.told
   pub answers : Over (λ t. Ok tt ≡ answer_of steps (device_of t)) old.told
   pub bytes : Over (λ t. buffer ≡ (after_steps (actions_of steps (device_of t)) (device_of t)).range) old.told
@@ -105,7 +157,7 @@ pub record Fetched (lists : List (List Entry)) (steps : List Step) (buffer : Lis
 -- one in which a call failed, maybe that read
 pub record FailsFetch (lists : List (List Entry)) (steps : List Step) (old new : Seen) : Type 0 where
   pub fails : Fails (StoreIn (actions_of steps) old.told) old new
-  pub cut : Over (λ t. IsCutShort (fetched_by (answer_of steps (device_of t)) (told_by lists (actions_of steps (device_of t)) t)).accesses t new.told) old.told
+  pub cut : Over (λ t. IsCutShort (device_calls lists (actions_of steps (device_of t)) (device_of t) ++ fetch_calls (answer_of steps (device_of t))) t new.told) old.told
 
 abbrev pub Reads : List (List Entry) → List Step → List ℕ → Result (Unit {0}) DriverRefused → Seen → Seen → Type 0
 Reads lists steps buffer (Ok done) old new = Fetched lists steps buffer old new
@@ -135,6 +187,11 @@ ListsOut lists (Ok done) old new = EndsListing lists old new
 ListsOut lists (Err Register) old new = FailsQuietly lists (λ d. listings (left_to_list d)) old new
 ListsOut lists (Err why) old new = ⊥
 
+-- a listing during which memory ran out
+pub record Starves (lists : List (List Entry)) (plan : Plan) (old new : Seen) : Type 0 where
+  pub well : GoesWell (Quietly old.told) old new
+  pub begun : Over (λ t. Begins (device_calls lists (plan (device_of t)) (device_of t)) t new.told) old.told
+
 -- identifiers that were collected
 pub record Collected (lists : List (List Entry)) (found : List ℕ) (old new : Seen) : Type 0 where
   pub done : Done lists (λ d. listings (min (left_to_list d) most_records)) old new
@@ -144,7 +201,7 @@ pub record Collected (lists : List (List Entry)) (found : List ℕ) (old new : S
 abbrev pub Collects : {X : Type 0} → (X → List ℕ) → List (List Entry) → Result X DriverRefused → Seen → Seen → Type 0
 Collects view lists (Ok found) old new = Collected lists (view found) old new
 Collects view lists (Err Register) old new = FailsQuietly lists (λ d. listings (min (left_to_list d) most_records)) old new
-Collects view lists (Err NoMemory) old new = GoesWell (Quietly old.told) old new
+Collects view lists (Err NoMemory) old new = Starves lists (λ d. listings (min (left_to_list d) most_records)) old new
 Collects view lists (Err why) old new = ⊥
 
 -- all identifiers of a store
@@ -156,7 +213,7 @@ pub record ListedAll (lists : List (List Entry)) (found : List ℕ) (old new : S
 abbrev pub ListsAll : {X : Type 0} → (X → List ℕ) → List (List Entry) → Result X DriverRefused → Seen → Seen → Type 0
 ListsAll view lists (Ok found) old new = ListedAll lists (view found) old new
 ListsAll view lists (Err Register) old new = FailsQuietly lists ids_steps old new
-ListsAll view lists (Err NoMemory) old new = GoesWell (Quietly old.told) old new
+ListsAll view lists (Err NoMemory) old new = Starves lists ids_steps old new
 ListsAll view lists (Err why) old new = ⊥
 
 -- ---- writes
@@ -178,7 +235,7 @@ pub record Written (lists : List (List Entry)) (bytes : List ℕ) (result : Resu
 -- a call failed, maybe the one that writes the bytes
 pub record FailsWrite (lists : List (List Entry)) (bytes : List ℕ) (old new : Seen) : Type 0 where
   pub fails : Fails (StoreInWrite bytes old.told) old new
-  pub cut : Over (λ t. IsCutShort (told_by_write lists bytes t).accesses t new.told) old.told
+  pub cut : Over (λ t. IsCutShort (write_calls lists bytes (device_of t)) t new.told) old.told
 
 abbrev pub Writes : List (List Entry) → List ℕ → Result (Unit {0}) DriverRefused → Seen → Seen → Type 0
 Writes lists bytes (Err Register) old new = FailsWrite lists bytes old new

@@ -1,6 +1,7 @@
 //! The operations on the record store.
 
-ghost use Rattle.std.specs.Prelude.{◌≡◌, ◌≤◌, ◌<◌, length, take, drop, Some, IfSome, IfOk, OnOk, OnErr};
+ghost use Rattle.std.specs.Prelude.{◌≡◌, ◌∷◌, [], ◌⊎◌, ◌≤◌, ◌<◌, length, take, drop, Some, IfSome, IfOk, OnOk, OnErr};
+ghost use Rattle.board_core.specs.Doing.{Does, ended_by, looks, range_read, range_write};
 ghost use Rattle.board_core.specs.Clock.{Passes};
 ghost use Rattle.board_core.specs.Stop.{InStore};
 ghost use Rattle.board_core.specs.Told.{Relates, Steps, device_of, with_access};
@@ -9,12 +10,13 @@ ghost use Rattle.erst_store.specs.Actions.{range_length};
 ghost use Rattle.erst_interp.specs.Steps.{Touches, Stays as Unchanged};
 ghost use Rattle.ras_base.specs.LittleEndian.{AreBytes, number_at};
 ghost use Rattle.erst_store.specs.Device.{header_length, length_place};
-ghost use Rattle.erst_store.specs.Store.{ids, without, most_records};
+ghost use Rattle.erst_store.specs.DeviceLaws.{IsDevice};
+ghost use Rattle.erst_store.specs.Store.{ids, most_records};
 ghost use Rattle.erst_interp.specs.Admission.{IsAdmittedTable};
-ghost use Rattle.erst_interp.specs.Run.{Keeps, IsCutShort};
-ghost use Rattle.erst_driver.specs.Operations.{Over, actions_of, asks, finishes, clear_steps, ids_steps, told_by, told_by_read, told_by_write, put_in_range};
-ghost use Rattle.erst_driver.specs.Answers.{answer_within, answer_at, answer_of, answer_on_found, Gives, Leaves, LeavesStore, HasCauseIn, Clears, Stays, HoldsRecord, IsMemoryOnly, written_id, answer_on_put, store_after_write, Puts};
-ghost use Rattle.erst_driver.specs.Steps.{asks_within, answers_within, Inside, AreInside, Acts, Runs, Operates, Reads, ListsOut, Collects, ListsAll, Writes};
+ghost use Rattle.erst_interp.specs.Run.{Keeps, IsCutShort, acts_of};
+ghost use Rattle.erst_driver.specs.Operations.{AreInside, Inside, actions_of, asks, finishes, clear_calls, list_calls, write_calls, put_in_range};
+ghost use Rattle.erst_driver.specs.Answers.{read_calls, refusal_end, DoesListing, answer_within, answer_at, answer_of, answer_on_found, Gives, HasCauseIn, HoldsRecord, IsAnswered, IsMemoryOnly, written_id, answer_on_put};
+ghost use Rattle.erst_driver.specs.Steps.{asks_within, answers_within, HasDevice, CalledAs, Acts, Runs, Operates, Reads, ListsOut, Collects, ListsAll, Writes};
 
 use crate::refusals::DriverRefused;
 use crate::step::{Step, clear_steps, read_steps, write_steps};
@@ -72,19 +74,19 @@ impl Driver {
     /// action; the record is removed even so. `Status` comes after the operation was ended: 4
     /// where the store is empty, and 5 where it has no such record.
     ///
-    /// At each moment a stop leaves the store as it was or without the record, and all else as it
-    /// was.
+    /// What its calls leave, and what a stop leaves at each moment of them, stands at
+    /// [`crate::operations_on_the_store`]: the store as it was or without the record, and all else
+    /// as it was.
     pub fn clear<B: Board>(&self, id: u64, board: &mut B) -> Result<(), DriverRefused>
-        ensures answers { Over (λ t. Gives result (answer_on_found id (device_of t)))
-            (B.told board.old) }
-        ensures store { Over (λ t. LeavesStore result (B.told board.new) (without id t.here.store))
-            (B.told board.old) }
-        ensures told { Over (λ t. Leaves result t (B.told board.new)
-            (told_by self.now (actions_of (clear_steps id) (device_of t)) t)) (B.told board.old) }
+        ensures does { IfSome (B.told board.old) (λ t. Does (looks B.told B.clock B.faults)
+            (acts_of (clear_calls self.now id (device_of t))) (ended_by refusal_end result)
+            board.old board.new) }
+        ensures answers { IfSome (B.told board.old)
+            (λ t. Gives result (answer_on_found id (device_of t))) }
         ensures kept { Relates Keeps (B.told board.old) (B.told board.new) }
-        ensures stops { Passes (InStore (Clears id (B.told board.old))) (B.clock board.old)
-            (B.clock board.new) }
         ensures cause { HasCauseIn result (B.faults board.old) (B.faults board.new) }
+        ensures refused { IsAnswered result }
+        ensures device { IfSome (B.told board.old) (λ t. IsDevice (device_of t)) }
     {
         let steps = clear_steps(id);
         self.operate(&steps, board)
@@ -105,18 +107,17 @@ impl Driver {
         board: &mut B,
     ) -> Result<(), DriverRefused>
         requires { length buf.old ≡ range_length }
-        ensures answers { Over (λ t. Gives result (answer_on_found id (device_of t)))
-            (B.told board.old) }
-        ensures record_read { OnOk result
-            (Over (λ t. HoldsRecord id t.here.store buf.new) (B.told board.old)) }
-        ensures store { Over (λ t. LeavesStore result (B.told board.new) t.here.store)
-            (B.told board.old) }
-        ensures told { Over (λ t. Leaves result t (B.told board.new)
-            (told_by_read self.now id (answer_on_found id (device_of t)) t)) (B.told board.old) }
+        ensures does { IfSome (B.told board.old) (λ t. Does (looks B.told B.clock B.faults)
+            (acts_of (read_calls self.now id (device_of t))) (ended_by refusal_end result)
+            board.old board.new) }
+        ensures answers { IfSome (B.told board.old)
+            (λ t. Gives result (answer_on_found id (device_of t))) }
+        ensures record_read { OnOk result (IfSome (B.told board.old)
+            (λ t. HoldsRecord id t.here.store buf.new)) }
         ensures kept { Relates Keeps (B.told board.old) (B.told board.new) }
-        ensures stops { Passes (InStore (Stays (B.told board.old))) (B.clock board.old)
-            (B.clock board.new) }
         ensures cause { HasCauseIn result (B.faults board.old) (B.faults board.new) }
+        ensures refused { IsAnswered result }
+        ensures device { IfSome (B.told board.old) (λ t. IsDevice (device_of t)) }
     {
         let steps = read_steps(id);
         self.operate_and_fetch(&steps, buf, board)
@@ -131,25 +132,22 @@ impl Driver {
     /// action; the record is put even so. `Status` comes after the operation was ended: 1 where
     /// the identifier is 0 or all ones, or the store is full and has no record under it.
     ///
-    /// At each moment a stop leaves the store as it was or with the record, and all else as it
-    /// was.
+    /// What its calls leave, and what a stop leaves at each moment of them, stands at
+    /// [`crate::operations_on_the_store`]: the store as it was or with the record, and all else as
+    /// it was.
     pub fn write<B: Board>(&self, bytes: &[u8], board: &mut B) -> Result<(), DriverRefused>
         requires long { header_length ≤ length bytes.now }
         requires short { length bytes.now ≤ range_length }
         requires whole { number_at length_place 4 bytes.now ≡ length bytes.now }
-        ensures answers { Over
-            (λ t. Gives result (answer_on_put (written_id bytes.now) (device_of t)))
-            (B.told board.old) }
-        ensures store { Over
-            (λ t. LeavesStore result (B.told board.new) (store_after_write bytes.now t.here.store))
-            (B.told board.old) }
-        ensures told { Over
-            (λ t. Leaves result t (B.told board.new) (told_by_write self.now bytes.now t))
-            (B.told board.old) }
+        ensures does { IfSome (B.told board.old) (λ t. Does (looks B.told B.clock B.faults)
+            (acts_of (write_calls self.now bytes.now (device_of t))) (ended_by refusal_end result)
+            board.old board.new) }
+        ensures answers { IfSome (B.told board.old)
+            (λ t. Gives result (answer_on_put (written_id bytes.now) (device_of t))) }
         ensures kept { Relates Keeps (B.told board.old) (B.told board.new) }
-        ensures stops { Passes (InStore (Puts bytes.now (B.told board.old))) (B.clock board.old)
-            (B.clock board.new) }
         ensures cause { HasCauseIn result (B.faults board.old) (B.faults board.new) }
+        ensures refused { IsAnswered result }
+        ensures device { IfSome (B.told board.old) (λ t. IsDevice (device_of t)) }
     {
         self.put_and_operate(bytes, board)
     }
@@ -157,9 +155,13 @@ impl Driver {
     // Writes a record into the range, and then does a write.
     fn put_and_operate<B: Board>(&self, bytes: &[u8], board: &mut B) -> Result<(), DriverRefused>
         requires { length bytes.now ≤ range_length }
+        ensures filled { Passes (InStore Unchanged) (B.clock board.old) (B.clock board.new)
+            ⊎ (IsAdmittedTable self.now × AreBytes bytes.now) }
         ensures writes { Writes self.now bytes.now result
-            (record { told = B.told board.old; clock = B.clock board.old; faults = B.faults board.old })
-            (record { told = B.told board.new; clock = B.clock board.new; faults = B.faults board.new }) }
+            (looks B.told B.clock B.faults board.old)
+            (looks B.told B.clock B.faults board.new) }
+        ensures refused { IsAnswered result }
+        ensures device { IfSome (B.told board.old) (λ t. IsDevice (device_of t)) }
     {
         match fill(bytes, board) {
             Ok(()) => {}
@@ -179,8 +181,10 @@ impl Driver {
         requires inside { AreInside steps.now }
         requires buffer { length buf.old ≡ range_length }
         ensures reads { Reads self.now steps.now buf.new result
-            (record { told = B.told board.old; clock = B.clock board.old; faults = B.faults board.old })
-            (record { told = B.told board.new; clock = B.clock board.new; faults = B.faults board.new }) }
+            (looks B.told B.clock B.faults board.old)
+            (looks B.told B.clock B.faults board.new) }
+        ensures refused { IsAnswered result }
+        ensures device { HasDevice self.now (B.told board.old) }
     {
         self.operate(steps, board)?;
         match fetch(buf, board) {
@@ -194,19 +198,18 @@ impl Driver {
     /// from the first one on.
     ///
     /// `Register` comes only where a call of the board failed, which is then the last one, and
-    /// `NoMemory` only for want of memory. No other refusal comes. At each moment a stop leaves all
-    /// as it was.
+    /// `NoMemory` only if memory runs out, after some of the actions. No other refusal comes. At
+    /// each moment a stop leaves all as it was.
     pub fn ids<B: Board>(&self, alloc: Global, board: &mut B) -> Result<Vec<u64>, DriverRefused>
-        ensures ids { IfOk result (λ found. Over (λ t. found.items
-            ≡ ids t.here.store) (B.told board.old)) }
+        ensures does { IfSome (B.told board.old) (λ t. DoesListing (looks B.told B.clock B.faults)
+            (list_calls self.now (device_of t)) result board.old board.new) }
+        ensures ids { IfOk result (λ found. IfSome (B.told board.old)
+            (λ t. found.items ≡ ids t.here.store)) }
         ensures few { IfOk result (λ found. length found.items ≤ most_records) }
-        ensures told { Over (λ t. Leaves result t (B.told board.new)
-            (told_by self.now (ids_steps (device_of t)) t)) (B.told board.old) }
         ensures refused { IsMemoryOnly result }
         ensures kept { Relates Keeps (B.told board.old) (B.told board.new) }
-        ensures stops { Passes (InStore (Stays (B.told board.old))) (B.clock board.old)
-            (B.clock board.new) }
         ensures cause { HasCauseIn result (B.faults board.old) (B.faults board.new) }
+        ensures device { IfSome (B.told board.old) (λ t. IsDevice (device_of t)) }
     {
         self.list_all(alloc, board)
     }
@@ -214,8 +217,9 @@ impl Driver {
     // Lists identifiers to the end, and then collects them.
     fn list_all<B: Board>(&self, alloc: Global, board: &mut B) -> Result<Vec<u64>, DriverRefused>
         ensures all { ListsAll (λ v. v.items) self.now result
-            (record { told = B.told board.old; clock = B.clock board.old; faults = B.faults board.old })
-            (record { told = B.told board.new; clock = B.clock board.new; faults = B.faults board.new }) }
+            (looks B.told B.clock B.faults board.old)
+            (looks B.told B.clock B.faults board.new) }
+        ensures device { HasDevice self.now (B.told board.old) }
     {
         self.list_to_end(board)?;
         self.collect(alloc, board)
@@ -224,8 +228,9 @@ impl Driver {
     // Lists identifiers until the end of the list is told.
     fn list_to_end<B: Board>(&self, board: &mut B) -> Result<(), DriverRefused>
         ensures lists { ListsOut self.now result
-            (record { told = B.told board.old; clock = B.clock board.old; faults = B.faults board.old })
-            (record { told = B.told board.new; clock = B.clock board.new; faults = B.faults board.new }) }
+            (looks B.told B.clock B.faults board.old)
+            (looks B.told B.clock B.faults board.new) }
+        ensures device { HasDevice self.now (B.told board.old) }
     {
         for _ in 0..MOST_LISTINGS {
             let list = Step {
@@ -243,8 +248,8 @@ impl Driver {
     // many as a store can hold.
     fn collect<B: Board>(&self, alloc: Global, board: &mut B) -> Result<Vec<u64>, DriverRefused>
         ensures collects { Collects (λ v. v.items) self.now result
-            (record { told = B.told board.old; clock = B.clock board.old; faults = B.faults board.old })
-            (record { told = B.told board.new; clock = B.clock board.new; faults = B.faults board.new }) }
+            (looks B.told B.clock B.faults board.old)
+            (looks B.told B.clock B.faults board.new) }
     {
         let mut found = Vec::new(alloc);
         for _ in 0..MOST_RECORDS {
@@ -268,8 +273,10 @@ impl Driver {
     fn act<B: Board>(&self, step: Step, board: &mut B) -> Result<u64, DriverRefused>
         requires { Inside step }
         ensures acts { Acts self.now step result
-            (record { told = B.told board.old; clock = B.clock board.old; faults = B.faults board.old })
-            (record { told = B.told board.new; clock = B.clock board.new; faults = B.faults board.new }) }
+            (looks B.told B.clock B.faults board.old)
+            (looks B.told B.clock B.faults board.new) }
+        ensures refused { IsAnswered result }
+        ensures device { HasDevice self.now (B.told board.old) }
     {
         match self.table.run(step.action as u8, step.input, board) {
             Ok(value) => Ok(value),
@@ -282,8 +289,10 @@ impl Driver {
     fn run_steps<B: Board>(&self, steps: &[Step], board: &mut B) -> Result<(), DriverRefused>
         requires { AreInside steps.now }
         ensures runs { Runs self.now (λ d. steps.now) result
-            (record { told = B.told board.old; clock = B.clock board.old; faults = B.faults board.old })
-            (record { told = B.told board.new; clock = B.clock board.new; faults = B.faults board.new }) }
+            (looks B.told B.clock B.faults board.old)
+            (looks B.told B.clock B.faults board.new) }
+        ensures refused { IsAnswered result }
+        ensures device { CalledAs self.now result (B.told board.old) (B.told board.new) }
     {
         for step in steps {
             self.act(*step, board)?;
@@ -294,8 +303,10 @@ impl Driver {
     // Asks the device until it isn't busy.
     fn wait<B: Board>(&self, board: &mut B) -> Result<(), DriverRefused>
         ensures waits { Operates self.now (λ d. asks d.busy) (λ d. answer_within d.busy) result
-            (record { told = B.told board.old; clock = B.clock board.old; faults = B.faults board.old })
-            (record { told = B.told board.new; clock = B.clock board.new; faults = B.faults board.new }) }
+            (looks B.told B.clock B.faults board.old)
+            (looks B.told B.clock B.faults board.new) }
+        ensures refused { IsAnswered result }
+        ensures device { HasDevice self.now (B.told board.old) }
     {
         self.check(MOST_CHECKS, board)
     }
@@ -304,8 +315,10 @@ impl Driver {
     fn check<B: Board>(&self, most: u32, board: &mut B) -> Result<(), DriverRefused>
         ensures waits { Operates self.now (λ d. asks_within most d.busy)
             (λ d. answers_within most d.busy) result
-            (record { told = B.told board.old; clock = B.clock board.old; faults = B.faults board.old })
-            (record { told = B.told board.new; clock = B.clock board.new; faults = B.faults board.new }) }
+            (looks B.told B.clock B.faults board.old)
+            (looks B.told B.clock B.faults board.new) }
+        ensures refused { IsAnswered result }
+        ensures device { 0 < most → HasDevice self.now (B.told board.old) }
     {
         for _ in 0..most {
             let check = Step {
@@ -323,8 +336,10 @@ impl Driver {
     // ends the operation.
     fn finish<B: Board>(&self, board: &mut B) -> Result<(), DriverRefused>
         ensures finishes { Operates self.now (λ d. finishes d.busy) answer_at result
-            (record { told = B.told board.old; clock = B.clock board.old; faults = B.faults board.old })
-            (record { told = B.told board.new; clock = B.clock board.new; faults = B.faults board.new }) }
+            (looks B.told B.clock B.faults board.old)
+            (looks B.told B.clock B.faults board.new) }
+        ensures refused { IsAnswered result }
+        ensures device { HasDevice self.now (B.told board.old) }
     {
         self.wait(board)?;
         let ask = Step {
@@ -348,8 +363,10 @@ impl Driver {
     fn operate<B: Board>(&self, steps: &[Step], board: &mut B) -> Result<(), DriverRefused>
         requires { AreInside steps.now }
         ensures operates { Operates self.now (actions_of steps.now) (answer_of steps.now) result
-            (record { told = B.told board.old; clock = B.clock board.old; faults = B.faults board.old })
-            (record { told = B.told board.new; clock = B.clock board.new; faults = B.faults board.new }) }
+            (looks B.told B.clock B.faults board.old)
+            (looks B.told B.clock B.faults board.new) }
+        ensures refused { IsAnswered result }
+        ensures device { HasDevice self.now (B.told board.old) }
     {
         self.run_steps(steps, board)?;
         self.finish(board)
@@ -364,10 +381,10 @@ fn fetch<B: Board>(buf: &mut [u8], board: &mut B) -> Result<(), Failed>
     ensures told { OnOk result
         (Steps (with_access (RangeRead 0 (length buf.old))) (B.told board.old) (B.told board.new)) }
     ensures breaks { OnErr result (IfSome (B.told board.old)
-        (λ t. IsCutShort (with_access (RangeRead 0 range_length) t).accesses t (B.told board.new))) }
+        (λ t. IsCutShort (range_read 0 range_length ∷ []) t (B.told board.new))) }
     ensures touches { Touches Unchanged result
-        (record { told = B.told board.old; clock = B.clock board.old; faults = B.faults board.old })
-        (record { told = B.told board.new; clock = B.clock board.new; faults = B.faults board.new }) }
+        (looks B.told B.clock B.faults board.old)
+        (looks B.told B.clock B.faults board.new) }
 {
     match board.range_read(0, buf) {
         Ok(()) => Ok(()),
@@ -380,11 +397,12 @@ fn fill<B: Board>(bytes: &[u8], board: &mut B) -> Result<(), Failed>
     requires { length bytes.now ≤ range_length }
     ensures told { OnOk result (Steps (put_in_range bytes.now) (B.told board.old) (B.told board.new)) }
     ensures breaks { OnErr result (IfSome (B.told board.old)
-        (λ t. IsCutShort (put_in_range bytes.now t).accesses t (B.told board.new))) }
+        (λ t. IsCutShort (range_write 0 bytes.now ∷ []) t (B.told board.new))) }
     ensures touches { Touches Unchanged result
-        (record { told = B.told board.old; clock = B.clock board.old; faults = B.faults board.old })
-        (record { told = B.told board.new; clock = B.clock board.new; faults = B.faults board.new }) }
+        (looks B.told B.clock B.faults board.old)
+        (looks B.told B.clock B.faults board.new) }
     ensures bytes { AreBytes bytes.now }
+    ensures device { IfSome (B.told board.old) (λ t. IsDevice (device_of t)) }
 {
     match board.range_write(0, bytes) {
         Ok(()) => Ok(()),

@@ -3,8 +3,11 @@
 #![tactic(auto)]
 
 mod driver;
+mod laws;
 mod refusals;
 mod step;
 
 pub use driver::Driver;
+pub use laws::{driver_limits, operations_on_the_store, told_by_is_of_the_device};
 pub use refusals::DriverRefused;
+pub use step::Step;

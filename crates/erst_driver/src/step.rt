@@ -8,11 +8,11 @@ use erst_store::actions::{
     SET_RECORD_IDENTIFIER, SET_RECORD_OFFSET,
 };
 
-// One action of an operation, with its input.
+/// One action of an operation, with its input.
 #[derive(Clone, Copy)]
-pub(crate) struct Step {
-    pub(crate) action: u64,
-    pub(crate) input: u64,
+pub struct Step {
+    pub action: u64,
+    pub input: u64,
 }
 
 impl Step {

@@ -1,6 +1,6 @@
 -- A run of an admitted list over a board.
-use Rattle.std.proofs.Common.{◌≡◌, ◌∙◌, ℕ, ◌^◌, ◌<◌, List, length, arith, Option, Some, None, refl, sym, ap, subst, inl, inr}
-use Rattle.std.specs.Prelude.{◌⊎◌, Result, Ok, Err, IfSome}
+use Rattle.std.proofs.Common.{◌≡◌, ◌∙◌, ℕ, ◌^◌, ◌<◌, List, Option, Some, None, refl, sym, ap, subst, inl, inr}
+use Rattle.std.specs.Prelude.{Result, Ok, Err, IfSome}
 use Rattle.erst_store.specs.Store.{Stored}
 use Rattle.erst_store.specs.DeviceLaws.{IsDevice}
 use Rattle.board_core.specs.Clock.{Clock, LeftNow, After, Passes}
@@ -10,10 +10,12 @@ use Rattle.erst_interp.specs.declared.entries.Entry.{Entry}
 use Rattle.erst_interp.specs.declared.refusals.RunRefused.{RunRefused}
 use Rattle.erst_interp.specs.declared.refusals.RunRefused.TheVariants.{Register, Fuel, BadInstruction, BadRegister, BadRange}
 use Rattle.erst_interp.specs.Machine.{End, start}
-use Rattle.erst_interp.specs.Steps.{start_over, end_over, told_over, RunsOver, StoreOver}
+use Rattle.erst_interp.specs.Steps.{start_over, end_over, StoreOver}
+use Rattle.erst_interp.specs.Run.{IsRun, StoreInRun, told_after}
 use Rattle.erst_interp.specs.Admission.{IsAdmitted}
 use Rattle.erst_interp.specs.Faithful.{input_limit, device_after, IsFaithful, DoesRun}
 use Rattle.erst_interp.proofs.FaithfulLemmas.{Done, done, done-answer}
+use Rattle.erst_interp.proofs.RunLemmas.{end_device}
 
 pub faithful : (action : ℕ) (list : List Entry) → action < 2 ^ 64 → IsAdmitted action list → IsFaithful action list
 faithful action list fits is input d kept inside =
@@ -23,13 +25,15 @@ faithful action list fits is input d kept inside =
       device = ap (λ (e : End). e.state.device) end.ends ∙ end.device;
     }
 
+-- the stores of a run are those of the machine's
+pub store_alone : (list : List Entry) (input : ℕ) (told : Option Told) (x y : List Stored) → StoreOver list input told x y → StoreInRun list input told x y
+store_alone list input None x y is = tt
+store_alone list input (Some t) x y is = is
+
 -- ---- what the board tells
 
 ok_same : (r : Result ℕ RunRefused) (x y : ℕ) → r ≡ Ok x → r ≡ Ok y → x ≡ y
 ok_same r x y one other = cc
-
-some_same : (o : Option Told) (x y : Told) → o ≡ Some x → o ≡ Some y → x ≡ y
-some_same o x y one other = cc
 
 no_err : (r : Result ℕ RunRefused) (why : RunRefused) (x : ℕ) → r ≡ Err why → r ≡ Ok x → ⊥
 no_err r why x one other = cc
@@ -44,22 +48,13 @@ module _ (list : List Entry) (action input : ℕ) (fits : action < 2 ^ 64) (insi
   never : (t : Told) (why : RunRefused) → Err why ≡ (end_over list input t).answer → ⊥
   never t why same = no_err (end_over list input t).answer why (done_over t).after.variables.value (sym same) (ap (λ (e : End). e.answer) (ended t))
 
-  -- the run made an access, before which the board told a device
-  kept_by : (t : Told) (answer : Result ℕ RunRefused) (new : Option Told) → new ≡ Some (told_over (end_over list input t).state t) → (new ≡ Some t) ⊎ IsDevice (device_of t) → IsDevice (device_of t)
-  kept_by t answer new told_is (inr kept) = kept
-  kept_by t answer new told_is (inl same) =
-      let one : told_over (end_over list input t).state t ≡ t = some_same new _ _ told_is same in
-      let accesses : (end_over list input t).state.accesses ≡ t.accesses = ap (λ (u : Told). u.accesses) one in
-      let after : (end_over list input t).state.accesses ≡ (done_over t).after.accesses = ap (λ (e : End). e.state.accesses) (ended t) in
-      absurd (omega (arith, ap length accesses, ap length after, (done_over t).accesses))
-
-  does_told : (t : Told) (result : Result ℕ RunRefused) (new : Option Told) → RunsOver result (end_over list input t) t new → (new ≡ Some t) ⊎ IsDevice (device_of t) → DoesRun action input result t new
+  does_told : (t : Told) (result : Result ℕ RunRefused) (new : Option Told) → IsRun result (end_over list input t) t new → IsDevice (device_of t) → DoesRun action input result t new
   does_told t (Ok x) new ran kept = record {
-    after = told_over (end_over list input t).state t;
+    after = told_after (end_over list input t).state t;
     told = ran.1;
-    device = ap (λ (e : End). e.state.device) (ended t) ∙ (done_over t).device;
+    device = end_device list input t ∙ ap (λ (e : End). e.state.device) (ended t) ∙ (done_over t).device;
     answer = ok_same (end_over list input t).answer x (done_over t).after.variables.value (sym ran.0) (ap (λ (e : End). e.answer) (ended t))
-        ∙ done-answer action list (start_over input t) inside (kept_by t (Ok x) new ran.1 kept) (done_over t);
+        ∙ done-answer action list (start_over input t) inside kept (done_over t);
   }
   does_told t (Err Register) new ran kept = tt
   does_told t (Err Fuel) new ran kept = never t Fuel ran.0
@@ -67,8 +62,8 @@ module _ (list : List Entry) (action input : ℕ) (fits : action < 2 ^ 64) (insi
   does_told t (Err BadRegister) new ran kept = never t BadRegister ran.0
   does_told t (Err BadRange) new ran kept = never t BadRange ran.0
 
-  pub does_run : (old new : Option Told) (result : Result ℕ RunRefused) → IfSome old (λ t. RunsOver result (end_over list input t) t new)
-      → (new ≡ old) ⊎ IfSome old (λ t. IsDevice (device_of t)) → IfSome old (λ t. DoesRun action input result t new)
+  pub does_run : (old new : Option Told) (result : Result ℕ RunRefused) → IfSome old (λ t. IsRun result (end_over list input t) t new)
+      → IfSome old (λ t. IsDevice (device_of t)) → IfSome old (λ t. DoesRun action input result t new)
   does_run None new result ran kept = tt
   does_run (Some t) new result ran kept = does_told t result new ran kept
 

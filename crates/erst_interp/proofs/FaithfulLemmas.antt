@@ -61,7 +61,7 @@ begins_plainly (e ∷ entries) list front rest action s laid place are =
     by : (b : Bool) → is_idle e ≡ b → ((t : State) → t.variables.index ≡ s.variables.index + 1 → Led list (length entries) action t t.device) → Led list (suc (length entries)) action s s.device
     by true is others =
         let one : Idles s (turn e s) = idles e s is in
-        led_more list (length entries) action s one.after (leads_one list s one.after e next_is one.goes_is one.index one.accesses) one.value
+        led_more list (length entries) action s one.after (leads_one list s one.after e next_is one.goes_is one.index one.calls) one.value
         (ap (act action) one.device) (ap (λ (d : Device). d.store) one.device) (others one.after one.index)
     by false is others =
         let free : is_free action e ≡ true = subst (λ b. (b || is_free action e) ≡ true) is parts.0 in
@@ -72,7 +72,7 @@ begins_plainly (e ∷ entries) list front rest action s laid place are =
         ∙ ap (λ (a : ℕ). act a (record s.device { value = alone e e.value })) found.0
         ∙ forgets (alone e e.value) s.device
         ∙ ap (λ (a : ℕ). act a s.device) (sym found.0) in
-        led_more list (length entries) action s one.after (leads_one list s one.after e next_is one.goes_is one.index (soon one.accesses)) one.value
+        led_more list (length entries) action s one.after (leads_one list s one.after e next_is one.goes_is one.index (soon one.calls)) one.value
         forgotten (ap (λ (d : Device). d.store) one.device) (others one.after one.index)
 
 -- the bits of an input
@@ -96,7 +96,7 @@ begins_with_input entries list rest action s laid place inside holds =
     let wide : a.after.variables.value < 2 ^ 64 = subst (λ (n : ℕ). n < 2 ^ 64) (sym a.value) small.3 in
     let b : Writes Value a.after.variables.value a.after (turn holds.one a.after) = takes action small.0 holds.one a.after holds.is small.1 fits wide in
     let next_2 = next_at list holds.before holds.one (holds.after ++ rest) a.after laid_1 place_2 in
-    let lead_b : Leads list 1 a.after b.after = leads_one list a.after b.after holds.one next_2 b.goes_is b.index (soon b.accesses) in
+    let lead_b : Leads list 1 a.after b.after = leads_one list a.after b.after holds.one next_2 b.goes_is b.index (soon b.calls) in
     let laid_3 : list ≡ (holds.before ++ holds.one ∷ []) ++ (holds.after ++ rest) = laid_1 ∙ more_front holds.before holds.one (holds.after ++ rest) in
     let place_3 : b.after.variables.index ≡ length (holds.before ++ holds.one ∷ []) = omega (arith, b.index, place_2, length-more holds.before holds.one) in
     let c : LedIdly list (length holds.after) b.after = led_idly holds.after list (holds.before ++ holds.one ∷ []) rest b.after laid_3 place_3 holds.idle_after in
@@ -130,7 +130,7 @@ pub record Done (action : ℕ) (list : List Entry) (s : State) : Type 0 where
   pub after : State
   pub ends : end_from most_turns list s ≡ record { answer = Ok after.variables.value; state = after }
   pub device : after.device ≡ device_after action s.variables.value s.device
-  pub accesses : length s.accesses < length after.accesses
+  pub calls : length s.calls < length after.calls
   pub stores : (store : List Stored) → PassesStore most_turns list s store → (store ≡ s.device.store) ⊎ (store ≡ (device_after action s.variables.value s.device).store)
   pub value : gives_answer action ≡ false → after.variables.value ≡ s.variables.value
   pub answer : (k : ℕ) → gives_answer action ≡ true → answer_bits action ≡ 2 ^ k - 1 → (device_after action s.variables.value s.device).value < 2 ^ k
@@ -143,7 +143,7 @@ record Acted (action : ℕ) (list : List Entry) (used : ℕ) (s : State) : Type 
   ends : (turns : ℕ) → most_turns ≡ used + turns → end_from most_turns list s ≡ end_from turns list after
   device : after.device ≡ device_after action s.variables.value s.device
   value : after.variables.value ≡ s.variables.value
-  accesses : length s.accesses < length after.accesses
+  calls : length s.calls < length after.calls
   stores : (store : List Stored) (turns : ℕ) → most_turns ≡ used + turns → PassesStore most_turns list s store → (store ≡ s.device.store) ⊎ PassesStore turns list after store
 
 acted : (action : ℕ) (list : List Entry) (s : State) → action < 2 ^ 64 → s.variables.index ≡ 0 → s.variables.value < input_limit action → (is : IsAdmitted action list) → Acted action list (length is.before + 1) s
@@ -152,7 +152,7 @@ acted action list s fits place inside is =
     begins_by (takes_input action) is.before list (is.act ∷ is.after) action s is.laid place inside is.begins in
     let place_1 : led.after.variables.index ≡ length is.before = omega (arith, led.leads.index, place) in
     let one : Writes Action action led.after (turn is.act led.after) = acts action is.act led.after is.is fits in
-    let lead : Leads list 1 led.after one.after = leads_one list led.after one.after is.act (next_at list is.before is.act is.after led.after is.laid place_1) one.goes_is one.index (soon one.accesses) in
+    let lead : Leads list 1 led.after one.after = leads_one list led.after one.after is.act (next_at list is.before is.act is.after led.after is.laid place_1) one.goes_is one.index (soon one.calls) in
     let whole : Leads list (length is.before + 1) s one.after = leads_both list (length is.before) 1 s led.after one.after led.leads lead led.store in
     record {
       after = one.after;
@@ -160,7 +160,7 @@ acted action list s fits place inside is =
       ends = λ turns is_sum. whole.ends turns most_turns is_sum;
       device = one.device ∙ led.device;
       value = one.value ∙ led.value;
-      accesses = omega (arith, led.leads.accesses, one.accesses);
+      calls = omega (arith, led.leads.calls, one.calls);
       stores = λ store turns is_sum passes. whole.stores store turns most_turns is_sum passes;
     }
 
@@ -185,7 +185,7 @@ ends_idly action list s is t idle silent =
     let device : c.after.device ≡ device_after action s.variables.value s.device = c.device ∙ t.device in
     record {
       after = c.after;
-      accesses = omega (arith, t.accesses, c.leads.accesses);
+      calls = omega (arith, t.calls, c.leads.calls);
       ends = t.ends (n + turns) total ∙ c.leads.ends turns (n + turns) refl ∙ ends_at list turns c.after none;
       device = device;
       stores = λ store passes.
@@ -216,14 +216,14 @@ ends_with_answer action list s is t end gives =
     let place_2 : c.after.variables.index ≡ length (front ++ end.idle) =
     omega (arith, c.leads.index, t.index, length-append front end.idle, length-more is.before is.act) in
     let r : Answers action c.after (turn end.last c.after) = answers action end.last c.after end.is in
-    let lead : Leads list 1 c.after r.after = leads_one list c.after r.after end.last (next_at list (front ++ end.idle) end.last [] c.after laid_2 place_2) r.goes_is r.index r.accesses in
+    let lead : Leads list 1 c.after r.after = leads_one list c.after r.after end.last (next_at list (front ++ end.idle) end.last [] c.after laid_2 place_2) r.goes_is r.index r.calls in
     let none = none_next list r.after (omega (arith, r.index, c.leads.index, t.index, count, more)) in
     let total : most_turns ≡ used + (n + (1 + turns)) = omega (arith, count, is.short, more) in
     let device : r.after.device ≡ device_after action s.variables.value s.device = r.device ∙ c.device ∙ t.device in
     let device_c : c.after.device ≡ device_after action s.variables.value s.device = c.device ∙ t.device in
     record {
       after = r.after;
-      accesses = omega (arith, t.accesses, c.leads.accesses, r.accesses);
+      calls = omega (arith, t.calls, c.leads.calls, r.calls);
       ends = t.ends (n + (1 + turns)) total ∙ c.leads.ends (1 + turns) (n + (1 + turns)) refl ∙ lead.ends turns (1 + turns) refl ∙ ends_at list turns r.after none;
       device = device;
       stores = λ store passes.

@@ -14,7 +14,8 @@ use Rattle.erst_interp.specs.declared.refusals.RunRefused.TheVariants.{Register,
 use Rattle.std.specs.Prelude.{Err}
 use Rattle.erst_interp.specs.Machine.{State, Outcome, new_variables, with_field, alone, after_field, after_register_write, after_register_read, field_of}
 use Rattle.erst_interp.specs.Parts.{given, changed, used_by}
-use Rattle.erst_interp.specs.Steps.{Seen, GoesWell, TouchesAs, Stays, IsRead, IsFieldRead, StoreIn, StoreInTurn, state_in}
+use Rattle.board_core.specs.Doing.{Seen}
+use Rattle.erst_interp.specs.Steps.{GoesWell, TouchesAs, Stays, IsRead, IsFieldRead, StoreIn, StoreInTurn, state_in}
 use Rattle.erst_interp.proofs.TouchLemmas.{well_then_well, well_then_fails, well_more, fails_more}
 
 -- a store may stay, whatever is done
@@ -50,7 +51,7 @@ after_field-device e reg x s = by e.preserves
     by true = refl
     by false = refl
 
--- whatever the variables and the accesses
+-- whatever the variables and the calls
 same_device : (e : Entry) (reg : Reg) (x y : ℕ) (s t : State) → x ≡ y → s.device ≡ t.device → (after_field e reg x s).device ≡ (after_field e reg y t).device
 same_device e reg x y s t number device =
     after_field-device e reg x s
@@ -59,7 +60,7 @@ same_device e reg x y s t number device =
     ∙ sym (after_field-device e reg y t)
 
 abbrev over : Variables → Device → State
-over v d = record { variables = v; device = d; accesses = [] }
+over v d = record { variables = v; device = d; calls = [] }
 
 pub field_by : (e : Entry) (reg : Reg) (i : Instruction) (v : Variables) (x : ℕ) (told : Option Told) → x ≡ given i e v
     → (y z : List Stored) → StoreIn (after_field e reg x) told y z → StoreInTurn (used_by Writes i e v reg) v told y z

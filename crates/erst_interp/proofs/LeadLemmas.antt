@@ -4,7 +4,7 @@ use Rattle.std.specs.Prelude.{◌⊎◌, slice_get}
 use Rattle.std.specs.List.{list_all}
 use Rattle.erst_store.specs.Store.{Stored}
 use Rattle.erst_store.specs.Device.{Device}
-use Rattle.board_core.specs.declared.board.Access.{Access}
+use Rattle.board_core.specs.Doing.{DeviceCall}
 use Rattle.board_core.specs.declared.board.Reg.{Reg}
 use Rattle.erst_interp.specs.declared.entries.Instruction.{Instruction}
 use Rattle.erst_interp.specs.declared.entries.Instruction.TheVariants.{ReadRegister, ReadRegisterValue, WriteRegister, WriteRegisterValue, Noop, LoadVar1, LoadVar2, StoreVar1, Add, Subtract, AddValue, SubtractValue, Stall, StallWhileTrue, SkipNextInstructionIfTrue, Goto, SetSrcAddressBase, SetDstAddressBase, MoveData, Unknown}
@@ -17,14 +17,14 @@ use Rattle.erst_interp.proofs.RunLemmas.{goes_on}
 -- So many turns lead from one state to another, with no store in between but the first one's.
 pub record Leads (list : List Entry) (used : ℕ) (s t : State) : Type 0 where
   pub index : t.variables.index ≡ s.variables.index + used
-  pub accesses : length s.accesses ≤ length t.accesses
+  pub calls : length s.calls ≤ length t.calls
   pub ends : (turns total : ℕ) → total ≡ used + turns → end_from total list s ≡ end_from turns list t
   pub stores : (store : List Stored) (turns total : ℕ) → total ≡ used + turns → PassesStore total list s store → (store ≡ s.device.store) ⊎ PassesStore turns list t store
 
 pub leads_none : (list : List Entry) (s : State) → Leads list 0 s s
 leads_none list s = record {
   index = omega arith;
-  accesses = omega arith;
+  calls = omega arith;
   ends = λ turns total is. (let same : total ≡ turns = omega arith in ap (λ (n : ℕ). end_from n list s) same);
   stores = λ store turns total is passes. (let same : total ≡ turns = omega arith in inr (subst (λ (n : ℕ). PassesStore n list s store) same passes));
 }
@@ -32,7 +32,7 @@ leads_none list s = record {
 pub leads_both : (list : List Entry) (n m : ℕ) (s t u : State) → Leads list n s t → Leads list m t u → t.device.store ≡ s.device.store → Leads list (n + m) s u
 leads_both list n m s t u first second same = record {
   index = omega (arith, first.index, second.index);
-  accesses = omega (arith, first.accesses, second.accesses);
+  calls = omega (arith, first.calls, second.calls);
   ends = λ turns total is. first.ends (m + turns) total (omega (arith, is)) ∙ second.ends turns (m + turns) refl;
   stores = λ store turns total is passes.
       elim (first.stores store (m + turns) total (omega (arith, is)) passes) [
@@ -52,10 +52,10 @@ passes_next list turns s t e next goes_is store passes =
     ]
 
 pub leads_one : (list : List Entry) (s t : State) (e : Entry) → slice_get list s.variables.index ≡ Some e → turn e s ≡ goes t → t.variables.index ≡ s.variables.index + 1
-    → length s.accesses ≤ length t.accesses → Leads list 1 s t
-leads_one list s t e next goes_is index accesses = record {
+    → length s.calls ≤ length t.calls → Leads list 1 s t
+leads_one list s t e next goes_is index calls = record {
   index = index;
-  accesses = accesses;
+  calls = calls;
   ends = λ turns total is. (let more : total ≡ suc turns = omega arith in ap (λ (n : ℕ). end_from n list s) more ∙ goes_on list turns s t e next goes_is);
   stores = λ store turns total is passes.
       (let more : total ≡ suc turns = omega arith in passes_next list turns s t e next goes_is store (subst (λ (n : ℕ). PassesStore n list s store) more passes));
@@ -93,13 +93,13 @@ more_front front e rest = sym (append_assoc front (e ∷ []) rest)
 
 -- ---- idle entries
 
-as_many : (xs : List Access) → length xs ≤ length xs
+as_many : (xs : List DeviceCall) → length xs ≤ length xs
 as_many xs = omega arith
 
-pub one_access : (xs : List Access) (x : Access) → length xs < length (xs ++ x ∷ [])
-one_access xs x = omega (arith, length-append xs (x ∷ []))
+pub one_call : (xs : List DeviceCall) (x : DeviceCall) → length xs < length (xs ++ x ∷ [])
+one_call xs x = omega (arith, length-append xs (x ∷ []))
 
-pub at_least : (xs : List Access) (x : Access) → length xs ≤ length (xs ++ x ∷ [])
+pub at_least : (xs : List DeviceCall) (x : DeviceCall) → length xs ≤ length (xs ++ x ∷ [])
 at_least xs x = omega (arith, length-append xs (x ∷ []))
 
 -- a turn after which the device and the value are as they were
@@ -109,17 +109,17 @@ pub record Idles (s : State) (o : Outcome) : Type 0 where
   pub index : after.variables.index ≡ s.variables.index + 1
   pub value : after.variables.value ≡ s.variables.value
   pub device : after.device ≡ s.device
-  pub accesses : length s.accesses ≤ length after.accesses
+  pub calls : length s.calls ≤ length after.calls
 
 idles_by : (i : Instruction) (e : Entry) (s : State) → (r : Option Reg) → e.register ≡ r → is_idle_by i r ≡ true → Idles s (turn_of i e s.variables s)
-idles_by Noop e s r is idle = record { after = _; goes_is = refl; index = refl; value = refl; device = refl; accesses = as_many s.accesses }
-idles_by Stall e s r is idle = record { after = _; goes_is = refl; index = refl; value = refl; device = refl; accesses = as_many s.accesses }
-idles_by Add e s r is idle = record { after = _; goes_is = refl; index = refl; value = refl; device = refl; accesses = as_many s.accesses }
-idles_by Subtract e s r is idle = record { after = _; goes_is = refl; index = refl; value = refl; device = refl; accesses = as_many s.accesses }
+idles_by Noop e s r is idle = record { after = _; goes_is = refl; index = refl; value = refl; device = refl; calls = as_many s.calls }
+idles_by Stall e s r is idle = record { after = _; goes_is = refl; index = refl; value = refl; device = refl; calls = as_many s.calls }
+idles_by Add e s r is idle = record { after = _; goes_is = refl; index = refl; value = refl; device = refl; calls = as_many s.calls }
+idles_by Subtract e s r is idle = record { after = _; goes_is = refl; index = refl; value = refl; device = refl; calls = as_many s.calls }
 idles_by LoadVar1 e s None is idle = absurd (true≢false (sym idle))
 idles_by LoadVar2 e s None is idle = absurd (true≢false (sym idle))
-idles_by LoadVar1 e s (Some reg) is idle = rw is (record { after = _; goes_is = refl; index = refl; value = refl; device = refl; accesses = at_least s.accesses _ })
-idles_by LoadVar2 e s (Some reg) is idle = rw is (record { after = _; goes_is = refl; index = refl; value = refl; device = refl; accesses = at_least s.accesses _ })
+idles_by LoadVar1 e s (Some reg) is idle = rw is (record { after = _; goes_is = refl; index = refl; value = refl; device = refl; calls = at_least s.calls _ })
+idles_by LoadVar2 e s (Some reg) is idle = rw is (record { after = _; goes_is = refl; index = refl; value = refl; device = refl; calls = at_least s.calls _ })
 idles_by ReadRegister e s r is idle = absurd (true≢false (sym idle))
 idles_by ReadRegisterValue e s r is idle = absurd (true≢false (sym idle))
 idles_by WriteRegister e s r is idle = absurd (true≢false (sym idle))
@@ -157,7 +157,7 @@ led_idly (e ∷ idle) list front rest s laid place are =
     let laid_on : list ≡ (front ++ e ∷ []) ++ (idle ++ rest) = laid ∙ more_front front e (idle ++ rest) in
     let place_on : one.after.variables.index ≡ length (front ++ e ∷ []) = omega (arith, one.index, place, length-more front e) in
     let others : LedIdly list (length idle) one.after = led_idly idle list (front ++ e ∷ []) rest one.after laid_on place_on parts.1 in
-    let first : Leads list 1 s one.after = leads_one list s one.after e (next_at list front e (idle ++ rest) s laid place) one.goes_is one.index one.accesses in
+    let first : Leads list 1 s one.after = leads_one list s one.after e (next_at list front e (idle ++ rest) s laid place) one.goes_is one.index one.calls in
     let both : Leads list (1 + length idle) s others.after =
     leads_both list 1 (length idle) s one.after others.after first others.leads (ap (λ (d : Device). d.store) one.device) in
     let count : 1 + length idle ≡ suc (length idle) = omega arith in

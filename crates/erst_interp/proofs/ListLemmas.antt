@@ -1,10 +1,11 @@
 -- Entries that are added to the lists of their actions one after the other.
-use Rattle.std.proofs.Common.{◌≡◌, ◌≢◌, ◌∙◌, ℕ, zero, suc, ◌+◌, ◌-◌, ◌<◌, ◌≤◌, Bool, true, false, nat_eq, List, [], ◌∷◌, ◌++◌, length, map, drop, set, get_or, refl, sym, ap, arith, append_assoc, append-nil, true≢false, if◌then◌else◌}
-use Rattle.std.proofs.lemmas.List.{get_or-set_same, get_or-set_other, length-set, map-set}
+use Rattle.std.proofs.Common.{◌≡◌, ◌≢◌, ◌∙◌, ℕ, zero, suc, ◌+◌, ◌-◌, ◌<◌, ◌≤◌, Bool, true, false, nat_eq, List, [], ◌∷◌, ◌++◌, length, map, drop, set, get_or, refl, sym, ap, arith, append_assoc, append-nil, true≢false, if◌then◌else◌, zero-add}
+use Rattle.std.proofs.lemmas.List.FromFn.{get_or-map-range_with_len, length-map-range_with_len}
+use Rattle.std.proofs.lemmas.List.{ext_get_or, get_or-set_same, get_or-set_other, length-set, map-set}
 use Rattle.ras_base.specs.ExactLemmas.{nat_exact, nat_own}
 use Rattle.erst_interp.specs.declared.entries.Entry.{Entry}
 use Rattle.erst_interp.specs.Entries.{entry_of}
-use Rattle.erst_interp.specs.Table.{list_of, entries_for, entries_at, HasLists}
+use Rattle.erst_interp.specs.Table.{list_of, lists_of, entries_for, entries_at}
 use Rattle.erst_interp.specs.Lists.{AreEmpty, with_entry}
 
 -- Lists that hold the entries before, and will hold those that follow.
@@ -18,8 +19,19 @@ none_held lists all empty = record {
   each = λ action. ap (λ (list : List Entry). list ++ entries_for action all) (empty.empty action);
 }
 
-pub all_held : (all : List Entry) (lists : List (List Entry)) → Hold all lists [] → HasLists lists all
-all_held all lists held action small = sym (append-nil (list_of action lists)) ∙ held.each action
+-- the list of an action of so many entries
+pub list_of-lists_of : (action : ℕ) (entries : List Entry) → action < 256 → list_of action (lists_of entries) ≡ entries_for action entries
+unfolding lists_of
+list_of-lists_of action entries small = get_or-map-range_with_len (λ a. entries_for a entries) 0 256 action action [] small (zero-add action)
+
+pub all_actions : (entries : List Entry) → length (lists_of entries) ≡ 256
+unfolding lists_of
+all_actions entries = length-map-range_with_len (λ action. entries_for action entries) 0 256
+
+pub all_held : (all : List Entry) (lists : List (List Entry)) → Hold all lists [] → lists ≡ lists_of all
+all_held all lists held =
+    ext_get_or [] lists (lists_of all) (held.count ∙ sym (all_actions all)) (λ action inside.
+    sym (append-nil (list_of action lists)) ∙ held.each action ∙ sym (list_of-lists_of action all (omega (arith, inside, held.count))))
 
 -- an entry of an action, before others of it
 added : (list : List Entry) (e : Entry) (left : List Entry) → (list ++ e ∷ []) ++ left ≡ list ++ e ∷ left

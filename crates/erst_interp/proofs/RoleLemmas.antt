@@ -4,7 +4,7 @@ use Rattle.std.proofs.lemmas.Nat.{and_mask, and_assoc, and_comm}
 use Rattle.std.proofs.Math.Nat.{mod-eq_of_lt, mul-one, div-one}
 use Rattle.ras_base.specs.ExactLemmas.{nat_exact}
 use Rattle.erst_store.specs.Actions.{execute_operation, check_busy_status}
-use Rattle.board_core.specs.declared.board.Access.TheVariants.{Read, Write}
+use Rattle.board_core.specs.Doing.{reg_read, reg_write}
 use Rattle.board_core.specs.declared.board.Reg.{Reg}
 use Rattle.board_core.specs.declared.board.Reg.TheVariants.{Action, Value}
 use Rattle.board_core.specs.Told.{after_reg_write, register_in}
@@ -13,7 +13,7 @@ use Rattle.erst_interp.specs.declared.entries.Instruction.TheVariants.{ReadRegis
 use Rattle.erst_interp.specs.declared.entries.Entry.{Entry}
 use Rattle.erst_interp.specs.Machine.{State, Outcome, goes, turn, turn_of, writes, with_register, with_variables, next, after_field, after_register_write, after_register_read, alone, with_field, field_of, truth}
 use Rattle.erst_interp.specs.Admission.{is_constant, is_write, is_read, is_action, is_value, is_whole, is_act, is_input, is_free, is_answer, holds_bits, input_bits, answer_bits}
-use Rattle.erst_interp.proofs.LeadLemmas.{both_true, one_access, at_least}
+use Rattle.erst_interp.proofs.LeadLemmas.{both_true, one_call, at_least}
 
 -- ---- tests
 
@@ -72,7 +72,7 @@ pub record Writes (reg : Reg) (number : ℕ) (s : State) (o : Outcome) : Type 0 
   pub index : after.variables.index ≡ s.variables.index + 1
   pub value : after.variables.value ≡ s.variables.value
   pub device : after.device ≡ after_reg_write reg number s.device
-  pub accesses : length s.accesses < length after.accesses
+  pub calls : length s.calls < length after.calls
 
 written : (e : Entry) (s : State) (x number : ℕ) (reg : Reg) → e.register ≡ Some reg → e.preserves ≡ false → alone e x ≡ number → Writes reg number s (writes e x s)
 written e s x number reg register plain is = record {
@@ -83,7 +83,7 @@ written e s x number reg register plain is = record {
   index = refl;
   value = refl;
   device = ap (λ (n : ℕ). after_reg_write reg n s.device) is;
-  accesses = one_access s.accesses (Write reg (alone e x));
+  calls = one_call s.calls (reg_write reg (alone e x));
 }
 
 pub acts : (action : ℕ) (e : Entry) (s : State) → is_act action e ≡ true → action < 2 ^ 64 → Writes Action action s (turn e s)
@@ -123,7 +123,7 @@ pub record Answers (action : ℕ) (s : State) (o : Outcome) : Type 0 where
   pub goes_is : o ≡ goes after
   pub index : after.variables.index ≡ s.variables.index + 1
   pub device : after.device ≡ s.device
-  pub accesses : length s.accesses ≤ length after.accesses
+  pub calls : length s.calls ≤ length after.calls
   pub value : (k : ℕ) → answer_bits action ≡ 2 ^ k - 1 → s.device.value < 2 ^ k → after.variables.value ≡ s.device.value
 
 truth_is : (n : ℕ) → n < 2 → truth (nat_eq n 1) ≡ n
@@ -138,7 +138,7 @@ answers_by action ReadRegister e s is register offset holds = record {
   goes_is = ap (λ (r : Option Reg). with_register r s (λ q. goes (with_variables (next (record s.variables { value = field_of e (register_in q s.device) })) (after_register_read q s)))) register;
   index = refl;
   device = refl;
-  accesses = at_least s.accesses (Read Value s.device.value);
+  calls = at_least s.calls (reg_read Value);
   value = λ k bits small. field_whole e s.device.value k (answer_bits action) offset holds bits small;
 }
 answers_by action ReadRegisterValue e s is register offset holds =
@@ -150,7 +150,7 @@ answers_by action ReadRegisterValue e s is register offset holds =
       goes_is = ap (λ (r : Option Reg). with_register r s (λ q. goes (with_variables (next (record s.variables { value = truth (nat_eq (field_of e (register_in q s.device)) e.value) })) (after_register_read q s)))) register;
       index = refl;
       device = refl;
-      accesses = at_least s.accesses (Read Value s.device.value);
+      calls = at_least s.calls (reg_read Value);
       value = λ k bits small.
           (let only : answer_bits action ≡ 1 = ap answer_bits busy in
           let few : s.device.value < 2 = omega (arith, only, bits, small) in

@@ -1,12 +1,12 @@
--- Accesses that were made before a run stand before its own, and change nothing else.
-use Rattle.std.proofs.Common.{◌≡◌, ◌∙◌, ℕ, zero, suc, ◌+◌, ◌-◌, Bool, true, false, ◌&&◌, List, ◌∷◌, [], ◌++◌, length, take, drop, Option, Some, None, refl, sym, ap, subst, inl, inr, append_assoc, append-nil, if◌then◌else◌}
-use Rattle.std.specs.Prelude.{Result, slice_get, Ok, Err, IfSome}
+-- Calls that were made before a run stand before its own, and change nothing else.
+use Rattle.std.proofs.Common.{◌≡◌, ◌∙◌, ℕ, zero, suc, ◌+◌, ◌-◌, Bool, true, false, ◌&&◌, List, ◌∷◌, [], ◌++◌, take, drop, Option, Some, None, refl, sym, ap, subst, inl, inr, append_assoc, append-nil, if◌then◌else◌}
+use Rattle.std.specs.Prelude.{slice_get, Err, IfSome}
 use Rattle.erst_store.specs.Store.{Stored}
 use Rattle.erst_store.specs.Actions.{range_address}
-use Rattle.board_core.specs.declared.board.Access.{Access}
-use Rattle.board_core.specs.declared.board.Access.TheVariants.{Read, Write, RangeRead, RangeWrite}
+use Rattle.board_core.specs.Doing.{DeviceCall, after_acts, reg_read, reg_write, range_read, range_write}
 use Rattle.board_core.specs.declared.board.Reg.{Reg}
-use Rattle.board_core.specs.Told.{Told, device_of, register_in}
+use Rattle.board_core.specs.declared.board.Access.TheVariants.{Read}
+use Rattle.board_core.specs.Told.{Told, device_of, register_in, with_access}
 use Rattle.erst_interp.specs.declared.entries.Entry.{Entry}
 use Rattle.erst_interp.specs.declared.entries.Instruction.{Instruction}
 use Rattle.erst_interp.specs.declared.machine.Use.{Use}
@@ -16,32 +16,34 @@ use Rattle.erst_interp.specs.declared.machine.Work as Work
 use Rattle.erst_interp.specs.declared.machine.Variables.{Variables}
 use Rattle.erst_interp.specs.declared.refusals.RunRefused.{RunRefused}
 use Rattle.erst_interp.specs.declared.refusals.RunRefused.TheVariants.{Register, Fuel, BadInstruction, BadRegister, BadRange}
-use Rattle.erst_interp.specs.Machine.{State, Outcome, goes, stops, turn, End, end_from, end_of, at_entry, after_turn, most_turns, with_variables, with_register, next, after_register_read, after_register_write, after_field, after_move, after_range_read, after_range_write_at, field_in, with_field, alone, moved, is_inside, start}
+use Rattle.erst_interp.specs.Machine.{State, Outcome, goes, stops, turn, End, end_from, at_entry, after_turn, with_variables, with_register, next, after_register_read, after_register_write, after_field, after_move, after_range_read, after_range_write_at, field_in, with_field, alone, moved, is_inside}
 use Rattle.erst_interp.specs.Parts.{turn_by, used_by, taken, given, changed, work_of}
-use Rattle.erst_interp.specs.Run.{told_after, IsRun, IsCutShort, PassesStore, AtNext, AfterTurn, StoreInRun}
-use Rattle.erst_interp.specs.Steps.{start_over, end_over, told_over, RunsOver, StoreOver, state_of}
+use Rattle.erst_interp.specs.Run.{PassesStore, AtNext, AfterTurn, IsCutShort, acts_of, told_after}
+use Rattle.erst_interp.specs.Steps.{IsFieldRead, Turns, state_in, state_of}
+use Rattle.erst_interp.specs.Steps as Steps
+use Rattle.erst_interp.proofs.BreakLemmas.{after_both, off_after, off_as}
 use Rattle.erst_interp.proofs.TurnLemmas.{by_kind}
 
--- a state with these accesses before its own
-abbrev pub shifted : List Access → State → State
-shifted before s = record s { accesses = before ++ s.accesses }
+-- a state with these calls before its own
+abbrev pub shifted : List DeviceCall → State → State
+shifted before s = record s { calls = before ++ s.calls }
 
-abbrev pub shifted_outcome : List Access → Outcome → Outcome
+abbrev pub shifted_outcome : List DeviceCall → Outcome → Outcome
 shifted_outcome before (goes s) = goes (shifted before s)
 shifted_outcome before (stops why s) = stops why (shifted before s)
 
-abbrev pub shifted_end : List Access → End → End
+abbrev pub shifted_end : List DeviceCall → End → End
 shifted_end before end = record end { state = shifted before end.state }
 
-module _ (before : List Access) where
-  -- one access more
+module _ (before : List DeviceCall) where
+  -- one call more
   after_read-shifted : (reg : Reg) (s : State) → after_register_read reg (shifted before s) ≡ shifted before (after_register_read reg s)
   after_read-shifted reg s =
-      ap (λ (made : List Access). record s { accesses = made }) (append_assoc before s.accesses (Read reg (register_in reg s.device) ∷ []))
+      ap (λ (made : List DeviceCall). record s { calls = made }) (append_assoc before s.calls (reg_read reg ∷ []))
 
   after_write-shifted : (reg : Reg) (number : ℕ) (s : State) → after_register_write reg number (shifted before s) ≡ shifted before (after_register_write reg number s)
   after_write-shifted reg number s =
-      ap (λ (made : List Access). record (after_register_write reg number s) { accesses = made }) (append_assoc before s.accesses (Write reg number ∷ []))
+      ap (λ (made : List DeviceCall). record (after_register_write reg number s) { calls = made }) (append_assoc before s.calls (reg_write reg number ∷ []))
 
   after_field-shifted : (e : Entry) (reg : Reg) (x : ℕ) (s : State) → after_field e reg x (shifted before s) ≡ shifted before (after_field e reg x s)
   after_field-shifted e reg x s = by e.preserves
@@ -57,9 +59,9 @@ module _ (before : List Access) where
   after_move-shifted from to count s =
       let bytes = take count (drop from s.device.range) in
       ap (λ (t : State). after_range_write_at to bytes t)
-      (ap (λ (made : List Access). record s { accesses = made }) (append_assoc before s.accesses (RangeRead from count ∷ [])))
-      ∙ ap (λ (made : List Access). record (after_range_write_at to bytes (after_range_read from count s)) { accesses = made })
-      (append_assoc before (after_range_read from count s).accesses (RangeWrite to (length bytes) ∷ []))
+      (ap (λ (made : List DeviceCall). record s { calls = made }) (append_assoc before s.calls (range_read from count ∷ [])))
+      ∙ ap (λ (made : List DeviceCall). record (after_range_write_at to bytes (after_range_read from count s)) { calls = made })
+      (append_assoc before (after_range_read from count s).calls (range_write to bytes ∷ []))
 
   moved-shifted : (offset : ℕ) (s : State) → moved offset (shifted before s) ≡ shifted_outcome before (moved offset s)
   moved-shifted offset s = by (is_inside (s.variables.src + offset) s.variables.var2 && is_inside (s.variables.dst + offset) s.variables.var2)
@@ -116,87 +118,86 @@ module _ (before : List Access) where
       by None later = refl
       by (Some e) later = ap (λ (o : Outcome). after_turn (λ t. end_from turns list t) o) (turn-shifted e s) ∙ gone (turn e s) later
 
--- a run over a board that tells, by the same run alone
-pub over_alone : (list : List Entry) (input : ℕ) (t : Told) → end_over list input t ≡ shifted_end t.accesses (end_of list input (device_of t))
-over_alone list input t =
-    ap (λ (made : List Access). end_from most_turns list (record (start_over input t) { accesses = made })) (sym (append-nil t.accesses))
-    ∙ end-shifted t.accesses most_turns list (start input (device_of t))
-
--- ---- the accesses of a turn and of a run, which come after those that were made before
+-- ---- the calls of a turn and of a run, which come after those that were made before
 
 bare : State → State
-bare s = record s { accesses = [] }
+bare s = record s { calls = [] }
 
-is_shifted : (s : State) → s ≡ shifted s.accesses (bare s)
+is_shifted : (s : State) → s ≡ shifted s.calls (bare s)
 unfolding bare
-is_shifted s = ap (λ (made : List Access). record s { accesses = made }) (sym (append-nil s.accesses))
+is_shifted s = ap (λ (made : List DeviceCall). record s { calls = made }) (sym (append-nil s.calls))
 
-outcome_made : (before : List Access) (o : Outcome) → (state_of (shifted_outcome before o)).accesses ≡ before ++ (state_of o).accesses
+outcome_made : (before : List DeviceCall) (o : Outcome) → (state_of (shifted_outcome before o)).calls ≡ before ++ (state_of o).calls
 outcome_made before (goes s) = refl
 outcome_made before (stops why s) = refl
 
-pub turn_made : (e : Entry) (s : State) → (more : List Access) × ((state_of (turn e s)).accesses ≡ s.accesses ++ more)
-turn_made e s = (
-  (state_of (turn e (bare s))).accesses,
-  ap (λ (t : State). (state_of (turn e t)).accesses) (is_shifted s)
-      ∙ ap (λ (o : Outcome). (state_of o).accesses) (turn-shifted s.accesses e (bare s))
-      ∙ outcome_made s.accesses (turn e (bare s)),
-)
-
-pub end_made : (turns : ℕ) (list : List Entry) (s : State) → (more : List Access) × ((end_from turns list s).state.accesses ≡ s.accesses ++ more)
+pub end_made : (turns : ℕ) (list : List Entry) (s : State) → (more : List DeviceCall) × ((end_from turns list s).state.calls ≡ s.calls ++ more)
 end_made turns list s = (
-  (end_from turns list (bare s)).state.accesses,
-  ap (λ (t : State). (end_from turns list t).state.accesses) (is_shifted s)
-      ∙ ap (λ (e : End). e.state.accesses) (end-shifted s.accesses turns list (bare s)),
+  (end_from turns list (bare s)).state.calls,
+  ap (λ (t : State). (end_from turns list t).state.calls) (is_shifted s)
+      ∙ ap (λ (e : End). e.state.calls) (end-shifted s.calls turns list (bare s)),
 )
-
--- ---- what a board tells
-
-runs_told : (list : List Entry) (input : ℕ) (result : Result ℕ RunRefused) (t : Told) (new : Option Told) → RunsOver result (end_over list input t) t new → IsRun result (end_of list input (device_of t)) t new
-runs_told list input result t new ran = by result ran
-  where
-    both : (answer : Result ℕ RunRefused) → (answer ≡ (end_over list input t).answer) × (new ≡ Some (told_over (end_over list input t).state t))
-        → (answer ≡ (end_of list input (device_of t)).answer) × (new ≡ Some (told_after (end_of list input (device_of t)).state t))
-    both answer ran =
-        (ran.0 ∙ ap (λ (e : End). e.answer) (over_alone list input t), ran.1 ∙ ap (λ (e : End). Some (told_over e.state t)) (over_alone list input t))
-
-    by : (r : Result ℕ RunRefused) → RunsOver r (end_over list input t) t new → IsRun r (end_of list input (device_of t)) t new
-    by (Ok x) ran = both (Ok x) ran
-    by (Err Register) ran = subst (λ (e : End). IsCutShort e.state.accesses t new) (over_alone list input t) ran
-    by (Err Fuel) ran = both (Err Fuel) ran
-    by (Err BadInstruction) ran = both (Err BadInstruction) ran
-    by (Err BadRegister) ran = both (Err BadRegister) ran
-    by (Err BadRange) ran = both (Err BadRange) ran
-
-pub runs_alone : (list : List Entry) (input : ℕ) (result : Result ℕ RunRefused) (old new : Option Told) → IfSome old (λ t. RunsOver result (end_over list input t) t new)
-    → IfSome old (λ t. IsRun result (end_of list input (device_of t)) t new)
-runs_alone list input result None new ran = tt
-runs_alone list input result (Some t) new ran = runs_told list input result t new ran
 
 -- ---- the stores
 
-passes_alone : (before : List Access) (store : List Stored) (turns : ℕ) (list : List Entry) (s : State) → PassesStore turns list (shifted before s) store → PassesStore turns list s store
+pub passes_shifted : (before : List DeviceCall) (store : List Stored) (turns : ℕ) (list : List Entry) (s : State) → PassesStore turns list s store → PassesStore turns list (shifted before s) store
 unfolding PassesStore
-passes_alone before store zero list s passes = passes
-passes_alone before store (suc turns) list s passes =
-    elim passes [ inl here ↦ inl here | inr later ↦ inr (by (slice_get list s.variables.index) later (λ t. passes_alone before store turns list t)) ]
+passes_shifted before store zero list s passes = passes
+passes_shifted before store (suc turns) list s passes =
+    elim passes [ inl here ↦ inl here | inr later ↦ inr (by (slice_get list s.variables.index) later (λ t. passes_shifted before store turns list t)) ]
   where
-    gone : (o : Outcome) → AfterTurn (λ t. PassesStore turns list t store) (λ t. store ≡ t.device.store) (shifted_outcome before o)
-        → ((t : State) → PassesStore turns list (shifted before t) store → PassesStore turns list t store) → AfterTurn (λ t. PassesStore turns list t store) (λ t. store ≡ t.device.store) o
+    gone : (o : Outcome) → AfterTurn (λ t. PassesStore turns list t store) (λ t. store ≡ t.device.store) o
+        → ((t : State) → PassesStore turns list t store → PassesStore turns list (shifted before t) store)
+        → AfterTurn (λ t. PassesStore turns list t store) (λ t. store ≡ t.device.store) (shifted_outcome before o)
     gone (goes t) is later = later t is
     gone (stops why t) is later = is
 
-    by : (o : Option Entry) → AtNext (λ e. AfterTurn (λ t. PassesStore turns list t store) (λ t. store ≡ t.device.store) (turn e (shifted before s))) o
-        → ((t : State) → PassesStore turns list (shifted before t) store → PassesStore turns list t store)
-        → AtNext (λ e. AfterTurn (λ t. PassesStore turns list t store) (λ t. store ≡ t.device.store) (turn e s)) o
+    by : (o : Option Entry) → AtNext (λ e. AfterTurn (λ t. PassesStore turns list t store) (λ t. store ≡ t.device.store) (turn e s)) o
+        → ((t : State) → PassesStore turns list t store → PassesStore turns list (shifted before t) store)
+        → AtNext (λ e. AfterTurn (λ t. PassesStore turns list t store) (λ t. store ≡ t.device.store) (turn e (shifted before s))) o
     by None is later = is
-    by (Some e) is later = gone (turn e s) (subst (λ (o : Outcome). AfterTurn (λ t. PassesStore turns list t store) (λ t. store ≡ t.device.store) o) (turn-shifted before e s) is) later
+    by (Some e) is later = subst (λ (o : Outcome). AfterTurn (λ t. PassesStore turns list t store) (λ t. store ≡ t.device.store) o) (sym (turn-shifted before e s)) (gone (turn e s) is later)
 
-pub store_alone : (list : List Entry) (input : ℕ) (told : Option Told) (x y : List Stored) → StoreOver list input told x y → StoreInRun list input told x y
-store_alone list input None x y is = tt
-store_alone list input (Some t) x y is =
-    elim is [
-      | inl same ↦ inl same
-      | inr passes ↦ inr (passes_alone t.accesses y most_turns list (start input (device_of t))
-          (subst (λ (made : List Access). PassesStore most_turns list (record (start_over input t) { accesses = made }) y) (sym (append-nil t.accesses)) passes))
-    ]
+-- ---- what is told of calls that were made after others
+
+module _ (first : List DeviceCall) (t u : Told) (new : Option Told) (made : u ≡ after_acts (acts_of first) t) where
+  pub told_on : (s : State) → told_after s u ≡ told_after (shifted first s) t
+  told_on s = ap (λ (v : Told). after_acts (acts_of s.calls) v) made ∙ sym (after_both first s.calls t)
+
+  pub cut_on : (o : Outcome) → IsCutShort (state_of o).calls u new → IsCutShort (state_of (shifted_outcome first o)).calls t new
+  cut_on o cut = off_as (first ++ (state_of o).calls) (state_of (shifted_outcome first o)).calls t new (sym (outcome_made first o)) (off_after first (state_of o).calls t u new made cut)
+
+  pub refused_on : (why : RunRefused) (o : Outcome) → Turns (Err why) o u new → Turns (Err why) (shifted_outcome first o) t new
+  refused_on Register o is = cut_on o is
+  refused_on Fuel (goes s) is = absurd is
+  refused_on BadInstruction (goes s) is = absurd is
+  refused_on BadRegister (goes s) is = absurd is
+  refused_on BadRange (goes s) is = absurd is
+  refused_on Fuel (stops cause s) is = (is.0, is.1 ∙ ap (λ (v : Told). Some v) (told_on s))
+  refused_on BadInstruction (stops cause s) is = (is.0, is.1 ∙ ap (λ (v : Told). Some v) (told_on s))
+  refused_on BadRegister (stops cause s) is = (is.0, is.1 ∙ ap (λ (v : Told). Some v) (told_on s))
+  refused_on BadRange (stops cause s) is = (is.0, is.1 ∙ ap (λ (v : Told). Some v) (told_on s))
+
+-- a refused move is a refused turn
+as_turn : (why : RunRefused) (o : Outcome) (t : Told) (new : Option Told) → Steps.Moves (Err why) o t new → Turns (Err why) o t new
+as_turn Register o t new is = is
+as_turn Fuel (goes s) t new is = absurd is
+as_turn BadInstruction (goes s) t new is = absurd is
+as_turn BadRegister (goes s) t new is = absurd is
+as_turn BadRange (goes s) t new is = absurd is
+as_turn Fuel (stops cause s) t new is = is
+as_turn BadInstruction (stops cause s) t new is = is
+as_turn BadRegister (stops cause s) t new is = is
+as_turn BadRange (stops cause s) t new is = is
+
+-- a move that was refused, after its offset was read
+pub move_refused : (why : RunRefused) (e : Entry) (reg : Reg) (i : Instruction) (v : Variables) (n : ℕ) (old mid new : Option Told) → IsFieldRead e reg n old mid
+    → IfSome mid (λ u. Steps.Moves (Err why) (moved n (state_in v u)) u new) → IfSome old (λ t. Turns (Err why) (used_by Moves i e v reg (state_in v t)) t new)
+move_refused why e reg i v n None mid new read moves = tt
+move_refused why e reg i v n (Some t) mid new (n_is, mid_is) moves =
+    let u = with_access (Read reg (register_in reg (device_of t))) t in
+    let first = reg_read reg ∷ [] in
+    let k = field_in e reg (state_in v t) in
+    let at : Steps.Moves (Err why) (moved n (state_in v u)) u new = subst (λ (told : Option Told). IfSome told (λ x. Steps.Moves (Err why) (moved n (state_in v x)) x new)) mid_is moves in
+    let by : Turns (Err why) (moved k (state_in v u)) u new = as_turn why (moved k (state_in v u)) u new (subst (λ (m : ℕ). Steps.Moves (Err why) (moved m (state_in v u)) u new) n_is at) in
+    subst (λ (o : Outcome). Turns (Err why) o t new) (sym (moved-shifted first k (state_in v u))) (refused_on first t u new refl why (moved k (state_in v u)) by)

@@ -1,13 +1,13 @@
 -- A list whose entries come one after the other, as those of an admitted list do, is refused with
 -- Register alone, whatever the board answers.
-use Rattle.std.proofs.Common.{◌≡◌, ◌∙◌, ℕ, zero, suc, ◌+◌, ◌≤◌, ◌<◌, Bool, true, false, ◌&&◌, ◌||◌, List, [], ◌∷◌, ◌++◌, length, Option, Some, None, refl, sym, ap, subst, arith, true≢false, not, nat_eq, bit_and}
-use Rattle.std.specs.Prelude.{slice_get, Result, Ok, Err, IsTrue}
+use Rattle.std.proofs.Common.{◌≡◌, ◌∙◌, ℕ, zero, suc, ◌+◌, Bool, true, false, ◌&&◌, ◌||◌, List, [], ◌∷◌, ◌++◌, Option, Some, None, refl, sym, ap, subst, true≢false, not, nat_eq, bit_and}
+use Rattle.std.specs.Prelude.{slice_get, Err}
 use Rattle.std.specs.List.{list_all}
 use Rattle.erst_store.specs.Actions.{execute_operation}
 use Rattle.board_core.specs.declared.board.Reg.{Reg}
 use Rattle.board_core.specs.declared.board.Reg.TheVariants.{Action, Value}
 use Rattle.erst_interp.specs.declared.entries.Instruction.{Instruction}
-use Rattle.erst_interp.specs.declared.entries.Instruction.TheVariants.{ReadRegister, ReadRegisterValue, WriteRegister, WriteRegisterValue, Noop, LoadVar1, LoadVar2, StoreVar1, Add, Subtract, AddValue, SubtractValue, Stall, StallWhileTrue, SkipNextInstructionIfTrue, Goto, SetSrcAddressBase, SetDstAddressBase, MoveData, Unknown}
+use Rattle.erst_interp.specs.declared.entries.Instruction.TheVariants.{ReadRegister, ReadRegisterValue, WriteRegister, WriteRegisterValue, Noop, LoadVar1, LoadVar2, Add, Subtract, Stall, StallWhileTrue, SkipNextInstructionIfTrue, Goto, SetSrcAddressBase, SetDstAddressBase}
 use Rattle.erst_interp.specs.declared.entries.Entry.{Entry}
 use Rattle.erst_interp.specs.declared.machine.Variables.{Variables}
 use Rattle.erst_interp.specs.declared.machine.Use.{Use}
@@ -18,7 +18,7 @@ use Rattle.erst_interp.specs.declared.refusals.RunRefused.{RunRefused}
 use Rattle.erst_interp.specs.declared.refusals.RunRefused.TheVariants.{Register, Fuel, BadInstruction, BadRegister, BadRange}
 use Rattle.erst_interp.specs.Parts.{taken, computed, is_straight, is_straight_by, is_straight_at, is_straight_use, is_straight_computed, GoesOn, work_of}
 use Rattle.erst_interp.specs.Faithful.{IsRegisterAlone}
-use Rattle.erst_interp.specs.Admission.{is_idle, is_idle_by, is_constant, is_write, is_read, is_action, is_value, is_whole, is_act, is_input, is_free, is_answer, holds_bits, input_bits, answer_bits, AreIdle, HoldsOne, BeginsBy, EndsWithAnswer, EndsBy, IsAdmitted, takes_input, gives_answer}
+use Rattle.erst_interp.specs.Admission.{is_idle, is_idle_by, is_constant, is_write, is_read, is_action, is_value, is_whole, is_act, is_input, is_free, is_answer, holds_bits, input_bits, answer_bits, AreIdle, BeginsBy, EndsBy, IsAdmitted, takes_input, gives_answer}
 use Rattle.erst_interp.proofs.LeadLemmas.{both_true}
 use Rattle.erst_interp.proofs.RoleLemmas.{constant_is, write_is, action_is, value_is}
 

@@ -2,12 +2,13 @@
 use Rattle.std.proofs.Common.{◌≡◌, ◌∙◌, ◌≤◌, List, Option, Some, None, refl, sym, ap, subst, inl, inr, arith}
 use Rattle.std.specs.Prelude.{Result, Ok, Err}
 use Rattle.erst_store.specs.Store.{Stored}
-use Rattle.board_core.specs.Cause.{Faults}
+use Rattle.board_core.specs.Cause.{Faults, device_call}
 use Rattle.board_core.specs.Clock.{Clock, After, Passes}
 use Rattle.board_core.specs.Stop.{Left, InStore}
 use Rattle.board_core.specs.Told.{Told, Relates}
-use Rattle.erst_interp.specs.Run.{Keeps, Raises}
-use Rattle.erst_interp.specs.Steps.{Seen, GoesWell, Fails, Stays, Touches}
+use Rattle.erst_interp.specs.Run.{Keeps}
+use Rattle.board_core.specs.Doing.{Raises, Seen}
+use Rattle.erst_interp.specs.Steps.{GoesWell, Fails, Stays, Touches}
 
 -- ---- what is told
 
@@ -15,6 +16,7 @@ keeps_both : (a b c : Told) → Keeps a b → Keeps b c → Keeps a c
 keeps_both a b c first second = record {
   here = second.here ∙ ap (λ (left : Left). record left { store = c.here.store }) first.here;
   disk_calls = second.disk_calls ∙ first.disk_calls;
+  slow = second.slow ∙ first.slow;
 }
 
 kept_both : (a b c : Option Told) → Relates Keeps a b → Relates Keeps b c → Relates Keeps a c
@@ -25,7 +27,7 @@ kept_both (Some a) (Some b) (Some c) first second = keeps_both a b c first secon
 
 kept_none : (a : Option Told) → Relates Keeps a a
 kept_none None = refl
-kept_none (Some a) = record { here = refl; disk_calls = refl }
+kept_none (Some a) = record { here = refl; disk_calls = refl; slow = refl }
 
 -- ---- what stops leave
 
@@ -92,7 +94,7 @@ module _ (S1 S : List Stored → List Stored → Type 0) (more : (x y : List Sto
     well_fails a b c first second = record {
       kept = kept_both a.told b.told c.told first.kept second.kept;
       stops = passes_both a.clock b.clock c.clock first.stops second.stops;
-      raises = subst (λ (faults : Faults). Raises faults c.faults) first.faults second.raises;
+      raises = subst (λ (faults : Faults). Raises device_call faults c.faults) first.faults second.raises;
     }
 
 -- a call that leaves the store, before another

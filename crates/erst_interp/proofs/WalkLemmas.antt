@@ -13,7 +13,7 @@ use Rattle.erst_interp.specs.declared.entries.Instruction.TheVariants.{ReadRegis
 use Rattle.erst_interp.specs.declared.entries.Entry.{Entry}
 use Rattle.erst_interp.specs.Machine.{most_turns}
 use Rattle.erst_interp.specs.Admission.{takes_input, gives_answer, input_bits, answer_bits, is_constant, is_write, is_read, is_action, is_value, is_whole, holds_bits, is_idle, is_idle_by, is_act, is_input, is_free, is_answer, HoldsOne, BeginsBy, EndsWithAnswer, EndsBy, IsEnding, IsAdmitted}
-use Rattle.erst_interp.specs.Walk.{first_awaited, after_act, after_idle, after_role, goes_by, walks}
+use Rattle.erst_interp.specs.Walk.{first_awaited, awaited_after, after_idle, after_role, goes_by, walks}
 use Rattle.erst_interp.proofs.LeadLemmas.{both_true}
 use Rattle.erst_interp.proofs.RoleLemmas.{constant_is, write_is, action_is, value_is}
 
@@ -134,7 +134,7 @@ answer_shape action (e ∷ entries) walked =
           | inr no_more ↦ absurd (true≢false (sym no_more.1))
         ]
 
-ends_shape : (action : ℕ) (entries : List Entry) → walks action (after_act action) entries ≡ true → IsEnding action entries
+ends_shape : (action : ℕ) (entries : List Entry) → walks action (awaited_after action) entries ≡ true → IsEnding action entries
 ends_shape action entries walked = by (gives_answer action) walked
   where
     by : (b : Bool) → walks action (if b then Awaits.TheVariants.Answer else Awaits.TheVariants.Rest) entries ≡ true → EndsBy b action entries
@@ -178,7 +178,7 @@ act_shape action (e ∷ entries) walked =
         → (walks action Awaits.TheVariants.Action entries ≡ true → ActShape action entries) → ActShape action (e ∷ entries)
     by (inl step) later = act_more action e entries (or_left (is_idle e) (is_free action e) step.0) (later step.1)
     by (inr step) later =
-        elim (if_goes action (after_act action) entries (is_act action e) (if is_free action e then Some Awaits.TheVariants.Action else None) step.1) [
+        elim (if_goes action (awaited_after action) entries (is_act action e) (if is_free action e then Some Awaits.TheVariants.Action else None) step.1) [
           | inl is ↦ record { before = []; act = e; after = entries; laid = refl; is = is.0; begins = refl; ends = ends_shape action entries is.1 }
           | inr other ↦ elim (if_goes action Awaits.TheVariants.Action entries (is_free action e) None other.1) [
             | inl free ↦ act_more action e entries (or_right (is_idle e) (is_free action e) free.0) (later free.1)
@@ -292,7 +292,7 @@ idle_walk action awaited stays (e ∷ idle) rest all =
 step_free : (action : ℕ) (e : Entry) (entries : List Entry) → is_idle e ≡ false → is_free action e ≡ true → walks action Awaits.TheVariants.Action (e ∷ entries) ≡ walks action Awaits.TheVariants.Action entries
 step_free action e entries busy free =
     step_role action Awaits.TheVariants.Action e entries busy
-    ∙ ap (λ b. goes_by (λ next. walks action next entries) (if b then Some (after_act action) else (if is_free action e then Some Awaits.TheVariants.Action else None))) (free-no_act action e free)
+    ∙ ap (λ b. goes_by (λ next. walks action next entries) (if b then Some (awaited_after action) else (if is_free action e then Some Awaits.TheVariants.Action else None))) (free-no_act action e free)
     ∙ ap (λ b. goes_by (λ next. walks action next entries) (if b then Some Awaits.TheVariants.Action else None)) free
 
 before_walk : (action : ℕ) (before rest : List Entry) → list_all (λ e. is_idle e || is_free action e) before ≡ true
@@ -318,7 +318,7 @@ ends_walk action after true end =
 act_walk : (action : ℕ) (act : Entry) (after : List Entry) → is_act action act ≡ true → IsEnding action after → walks action Awaits.TheVariants.Action (act ∷ after) ≡ true
 act_walk action act after is ends =
     step_role action Awaits.TheVariants.Action act after (act-busy action act is)
-    ∙ ap (λ b. goes_by (λ next. walks action next after) (if b then Some (after_act action) else (if is_free action act then Some Awaits.TheVariants.Action else None))) is
+    ∙ ap (λ b. goes_by (λ next. walks action next after) (if b then Some (awaited_after action) else (if is_free action act then Some Awaits.TheVariants.Action else None))) is
     ∙ ends_walk action after (gives_answer action) ends
 
 idle_or_free : (action : ℕ) (entries : List Entry) → list_all is_idle entries ≡ true → list_all (λ e. is_idle e || is_free action e) entries ≡ true

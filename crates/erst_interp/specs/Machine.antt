@@ -1,12 +1,11 @@
 -- The serialization machine: ACPI 6.5, section 18.5.1.2, "Serialization Instructions". It runs the
 -- list of an action over the device, one instruction a turn. That it ends after 4,096 turns, that
 -- GOTO counts within the action's list and that STALL doesn't wait are this project's own.
-use Rattle.std.specs.Prelude.{ℕ, zero, suc, ◌+◌, ◌-◌, ◌*◌, ◌/◌, ◌%◌, ◌^◌, Bool, true, false, ◌&&◌, nat_eq, nat_le, List, [], ◌∷◌, ◌++◌, length, take, drop, slice_get, bit_and, bit_or, Option, Some, None, Result, Ok, Err, if◌then◌else◌}
+use Rattle.std.specs.Prelude.{ℕ, zero, suc, ◌+◌, ◌-◌, ◌*◌, ◌/◌, ◌%◌, ◌^◌, Bool, true, false, ◌&&◌, nat_eq, nat_le, List, [], ◌∷◌, ◌++◌, take, drop, slice_get, bit_and, bit_or, Option, Some, None, Result, Ok, Err, if◌then◌else◌}
 use Rattle.erst_store.specs.Actions.{range_address, range_length}
 use Rattle.erst_store.specs.Device.{Device}
 use Rattle.board_core.specs.declared.board.Reg.{Reg}
-use Rattle.board_core.specs.declared.board.Access.{Access}
-use Rattle.board_core.specs.declared.board.Access.TheVariants.{Read, Write, RangeRead, RangeWrite}
+use Rattle.board_core.specs.Doing.{DeviceCall, reg_read, reg_write, range_read, range_write}
 use Rattle.board_core.specs.Told.{register_in, after_reg_write, after_range_write}
 use Rattle.erst_interp.specs.declared.entries.Instruction.{Instruction}
 use Rattle.erst_interp.specs.declared.entries.Instruction.TheVariants.{ReadRegister, ReadRegisterValue, WriteRegister, WriteRegisterValue, Noop, LoadVar1, LoadVar2, StoreVar1, Add, Subtract, AddValue, SubtractValue, Stall, StallWhileTrue, SkipNextInstructionIfTrue, Goto, SetSrcAddressBase, SetDstAddressBase, MoveData, Unknown}
@@ -16,11 +15,12 @@ use Rattle.erst_interp.specs.declared.refusals.RunRefused.{RunRefused}
 use Rattle.erst_interp.specs.declared.refusals.RunRefused.TheVariants.{Fuel, BadInstruction, BadRegister, BadRange}
 
 -- The state of a run: the variables, which are the index of the next entry in the list, the value,
--- var1, var2, and the source and destination bases; the device; and the accesses made so far.
+-- var1, var2, and the source and destination bases; the device; and the calls of the device made so
+-- far.
 pub record State : Type 0 where
   pub variables : Variables
   pub device : Device
-  pub accesses : List Access
+  pub calls : List DeviceCall
 
 -- the variables of a run that begins
 abbrev pub new_variables : ℕ → Variables
@@ -69,24 +69,24 @@ with_field e x number = bit_or (in_place e (bit_and x e.mask)) (cleared e number
 abbrev pub alone : Entry → ℕ → ℕ
 alone e x = in_place e (bit_and x e.mask)
 
--- ---- accesses
+-- ---- calls of the device
 
 abbrev pub after_register_read : Reg → State → State
-after_register_read reg s = record s { accesses = s.accesses ++ Read reg (register_in reg s.device) ∷ [] }
+after_register_read reg s = record s { calls = s.calls ++ reg_read reg ∷ [] }
 
 abbrev pub after_register_write : Reg → ℕ → State → State
 after_register_write reg number s = record s {
   device = after_reg_write reg number s.device;
-  accesses = s.accesses ++ Write reg number ∷ [];
+  calls = s.calls ++ reg_write reg number ∷ [];
 }
 
 abbrev pub after_range_read : ℕ → ℕ → State → State
-after_range_read place count s = record s { accesses = s.accesses ++ RangeRead place count ∷ [] }
+after_range_read place count s = record s { calls = s.calls ++ range_read place count ∷ [] }
 
 abbrev pub after_range_write_at : ℕ → List ℕ → State → State
 after_range_write_at place bytes s = record s {
   device = after_range_write place bytes s.device;
-  accesses = s.accesses ++ RangeWrite place (length bytes) ∷ [];
+  calls = s.calls ++ range_write place bytes ∷ [];
 }
 
 -- the number in an entry's field of a register
@@ -211,7 +211,7 @@ most_turns = 4096
 
 -- the state of a run that begins with this input over a device
 abbrev pub start : ℕ → Device → State
-start input device = record { variables = new_variables input; device = device; accesses = [] }
+start input device = record { variables = new_variables input; device = device; calls = [] }
 
 -- the end of the run of a list
 abbrev pub end_of : List Entry → ℕ → Device → End

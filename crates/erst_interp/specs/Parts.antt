@@ -1,5 +1,5 @@
 -- Only for proofs: the instructions by kinds, and what those of each kind do with the variables.
-use Rattle.std.specs.Prelude.{◌≡◌, ℕ, ◌+◌, Bool, true, false, Option, Some, None, Result, Ok, Err, nat_eq, if◌then◌else◌}
+use Rattle.std.specs.Prelude.{◌≡◌, ℕ, ◌+◌, ◌&&◌, is_some, Bool, true, false, Option, Some, None, Result, Ok, Err, nat_eq, if◌then◌else◌}
 use Rattle.board_core.specs.declared.board.Reg.{Reg}
 use Rattle.erst_interp.specs.declared.entries.Instruction.{Instruction}
 use Rattle.erst_interp.specs.declared.entries.Instruction.TheVariants.{ReadRegister, ReadRegisterValue, WriteRegister, WriteRegisterValue, Noop, LoadVar1, LoadVar2, StoreVar1, Add, Subtract, AddValue, SubtractValue, Stall, StallWhileTrue, SkipNextInstructionIfTrue, Goto, SetSrcAddressBase, SetDstAddressBase, MoveData, Unknown}
@@ -69,6 +69,14 @@ abbrev pub turn_by : Work → Instruction → Entry → Variables → State → 
 turn_by Work.TheVariants.Unknown i e v s = stops BadInstruction s
 turn_by Work.TheVariants.Computes i e v s = computes (computed i e v) s
 turn_by (Work.TheVariants.Uses how) i e v s = uses e s (λ reg. used_by how i e v reg s)
+
+-- whether an entry uses a register that is good
+abbrev pub is_use : Work → Bool
+is_use (Work.TheVariants.Uses how) = true
+is_use work = false
+
+abbrev pub uses_register : Entry → Bool
+uses_register e = is_use (work_of e.instruction) && is_some e.register
 
 -- ---- entries after which the one that follows is the next, whatever the board answers
 

@@ -1,6 +1,5 @@
--- Refusals of a table: the numbers that the program prints, and what a reader that takes memory
--- answers.
-use Rattle.std.specs.Prelude.{◌≡◌, ℕ, Option, Some, None, Result, Ok, Err}
+-- Refusals of a table: the numbers that the program prints, and what the reader answers.
+use Rattle.std.specs.Prelude.{◌≡◌, ℕ, Option, Some, None, Result, Err}
 use Rattle.erst_interp.specs.declared.refusals.ErstTableRefused.{ErstTableRefused}
 use Rattle.erst_interp.specs.declared.refusals.ErstTableRefused.TheVariants.{Short, Signature, Length, Sum, HeaderSize, Count, NoMemory}
 
@@ -14,9 +13,7 @@ table_number HeaderSize = Some 5
 table_number Count = Some 6
 table_number NoMemory = None
 
--- the table that was read is so related to this value, or the refusal is this one, or memory ran
--- out
-abbrev pub ReadsInto : {X Y : Type 0} → (X → Y → Type 0) → Result X ErstTableRefused → Result Y ErstTableRefused → Type 0
-ReadsInto {Y = Y} Is (Ok x) answer = (y : Y) × (answer ≡ Ok y) × Is x y
-ReadsInto Is (Err NoMemory) answer = Unit {0}
-ReadsInto Is (Err why) answer = answer ≡ Err why
+-- This is answered, or memory ran out.
+abbrev pub IsAnswer : {T : Type 0} → Result T ErstTableRefused → Result T ErstTableRefused → Type 0
+IsAnswer (Err NoMemory) answer = Unit {0}
+IsAnswer result answer = result ≡ answer

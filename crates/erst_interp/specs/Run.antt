@@ -1,59 +1,44 @@
 -- What a run does to a board, whether or not a call of the board fails.
-use Rattle.std.specs.Prelude.{◌≡◌, ℕ, zero, suc, ◌≤◌, ◌⊎◌, List, [], ◌∷◌, ◌++◌, slice_get, Option, Some, None, Result, Err}
+use Rattle.std.specs.Prelude.{map, ◌≡◌, ℕ, zero, suc, ◌⊎◌, List, slice_get, Option, Some, None, Result, Err}
 use Rattle.erst_store.specs.Store.{Stored}
-use Rattle.board_core.specs.declared.board.Access.{Access}
-use Rattle.board_core.specs.declared.board.Access.TheVariants.{Read}
-use Rattle.board_core.specs.Cause.{Rose, Faults}
-use Rattle.board_core.specs.Told.{Told, device_of, with_device}
+use Rattle.board_core.specs.Cause.{Faults, device_call}
+use Rattle.board_core.specs.Doing.{Act, DeviceCall, FailsActs, Raises, after_acts, device}
+use Rattle.board_core.specs.Told.{Told, device_of}
 use Rattle.erst_interp.specs.declared.entries.Entry.{Entry}
 use Rattle.erst_interp.specs.declared.refusals.RunRefused.{RunRefused}
 use Rattle.erst_interp.specs.declared.refusals.RunRefused.TheVariants.{Register}
 use Rattle.erst_interp.specs.Machine.{State, Outcome, goes, stops, turn, End, start, most_turns}
 
--- what is told after a run that ended in a state: the device is that state's, its accesses come
--- after those that were made before, and all else is as it was
+-- calls of the device one after another
+abbrev pub acts_of : List DeviceCall → List Act
+acts_of calls = map (λ call. device call) calls
+
+-- what is told after a run that ended in a state
 abbrev pub told_after : State → Told → Told
-told_after s t = record (with_device s.device t) { accesses = t.accesses ++ s.accesses }
+told_after s t = after_acts (acts_of s.calls) t
 
--- what a call that fails lists: a read of a register that failed is listed with the number 0
-abbrev pub as_failed : Access → Access
-as_failed (Read reg number) = Read reg 0
-as_failed access = access
+-- Of these calls one failed and was the last, and those before it are done.
+abbrev pub IsCutShort : List DeviceCall → Told → Option Told → Type 0
+IsCutShort calls old None = ⊥
+IsCutShort calls old (Some new) = FailsActs device_call (acts_of calls) old new
 
--- Of a list of accesses those before were made, some more, and then the next one failed. It is
--- listed or isn't.
-pub record EndsEarly (all before now : List Access) : Type 0 where
-  pub done : List Access
-  pub next : Access
-  pub later : List Access
-  pub splits : all ≡ before ++ (done ++ next ∷ later)
-  pub listed : (now ≡ before ++ done) ⊎ (now ≡ before ++ (done ++ as_failed next ∷ []))
-
-abbrev pub IsCutShort : List Access → Told → Option Told → Type 0
-IsCutShort all old None = ⊥
-IsCutShort all old (Some new) = EndsEarly all old.accesses new.accesses
-
--- Where no call of the board failed, the run is the machine's: it answers what the machine does,
--- and what is told is as that end has it. Where one failed, the accesses are those of that end up
--- to this call.
+-- If no call of the board failed, the run is the machine's: it answers what the machine does, and
+-- did its calls. If one failed, it made them up to this call.
 abbrev pub IsRun : Result ℕ RunRefused → End → Told → Option Told → Type 0
-IsRun (Err Register) end old new = IsCutShort (told_after end.state old).accesses old new
+IsRun (Err Register) end old new = IsCutShort end.state.calls old new
 IsRun answer end old new = (answer ≡ end.answer) × (new ≡ Some (told_after end.state old))
 
--- Of what is told, the record store, the rest of the device and the accesses alone change.
+-- Of what is told, the record store, the rest of the device and the accesses alone change, and the
+-- device stays as slow as it was.
 pub record Keeps (old new : Told) : Type 0 where
   pub here : new.here ≡ record old.here { store = new.here.store }
   pub disk_calls : new.disk_calls ≡ old.disk_calls
+  pub slow : new.volatile.slow ≡ old.volatile.slow
 
--- The count of device calls that failed rose, and no other.
-pub record Raises (before now : Faults) : Type 0 where
-  pub own : Rose before.registers now.registers
-  pub later : before.registers ≤ now.registers
-  pub others : now ≡ record before { registers = now.registers }
-
--- Register comes exactly where that count rose. With any other answer all counts are as they were.
+-- Register comes exactly if the count of device calls that failed rose. With any other answer all
+-- counts are as they were.
 abbrev pub RunCause : Result ℕ RunRefused → Faults → Faults → Type 0
-RunCause (Err Register) before now = Raises before now
+RunCause (Err Register) before now = Raises device_call before now
 RunCause answer before now = now ≡ before
 
 -- of the entry that is next, and of what its turn comes to

@@ -1,30 +1,21 @@
 -- Only for proofs: what private functions of a run say of what a board tells, keeps and counts.
-use Rattle.std.specs.Prelude.{◌≡◌, ℕ, ◌+◌, ◌-◌, ◌≤◌, ◌⊎◌, true, false, List, [], ◌++◌, Option, Some, None, Result, Ok, Err, IfSome}
+use Rattle.std.specs.Prelude.{◌≡◌, ℕ, ◌+◌, ◌-◌, ◌≤◌, ◌⊎◌, true, false, List, [], Option, Some, None, Result, Ok, Err, IfSome}
 use Rattle.std.specs.Option.{option_map}
 use Rattle.erst_store.specs.Store.{Stored}
 use Rattle.erst_store.specs.Actions.{range_address, range_length}
 use Rattle.board_core.specs.declared.board.Reg.{Reg}
-use Rattle.board_core.specs.declared.board.Access.{Access}
 use Rattle.board_core.specs.declared.board.Access.TheVariants.{Read}
-use Rattle.board_core.specs.Told.{Told, device_of, with_device, register_in, with_access, Relates, StoreBy}
+use Rattle.board_core.specs.Told.{Told, device_of, register_in, with_access, Relates, StoreBy}
 use Rattle.board_core.specs.Stop.{InStore, Becomes}
-use Rattle.board_core.specs.Clock.{Clock, Passes}
-use Rattle.board_core.specs.Cause.{Faults}
+use Rattle.board_core.specs.Clock.{Passes}
+use Rattle.board_core.specs.Cause.{device_call}
+use Rattle.board_core.specs.Doing.{Raises, Seen}
 use Rattle.erst_interp.specs.declared.entries.Entry.{Entry}
 use Rattle.erst_interp.specs.declared.machine.Variables.{Variables}
 use Rattle.erst_interp.specs.declared.refusals.RunRefused.{RunRefused}
 use Rattle.erst_interp.specs.declared.refusals.RunRefused.TheVariants.{Register}
 use Rattle.erst_interp.specs.Machine.{State, Outcome, goes, stops, new_variables, field_of, is_inside, End, end_from, most_turns}
-use Rattle.erst_interp.specs.Run.{Keeps, Raises, PassesStore, IsCutShort}
-
--- what a board tells, what stops leave of it, and its counts
-pub record Seen : Type 1 where
-  pub told : Option Told
-  pub clock : Clock
-  pub faults : Faults
-
-abbrev pub seen : Option Told → Clock → Faults → Seen
-seen told clock faults = record { told = told; clock = clock; faults = faults }
+use Rattle.erst_interp.specs.Run.{Keeps, PassesStore, IsCutShort, told_after}
 
 -- Calls went well, or the last of them failed. The record store may have changed so.
 pub record GoesWell (Store : List Stored → List Stored → Type 0) (old new : Seen) : Type 0 where
@@ -35,7 +26,7 @@ pub record GoesWell (Store : List Stored → List Stored → Type 0) (old new : 
 pub record Fails (Store : List Stored → List Stored → Type 0) (old new : Seen) : Type 0 where
   pub kept : Relates Keeps old.told new.told
   pub stops : Passes (InStore Store) old.clock new.clock
-  pub raises : Raises old.faults new.faults
+  pub raises : Raises device_call old.faults new.faults
 
 abbrev pub Touches : {T E : Type 0} → (List Stored → List Stored → Type 0) → Result T E → Seen → Seen → Type 0
 Touches Store (Ok x) old new = GoesWell Store old new
@@ -52,7 +43,7 @@ Stays old new = new ≡ old
 
 -- the state that variables and what is told make
 abbrev pub state_in : Variables → Told → State
-state_in v t = record { variables = v; device = device_of t; accesses = t.accesses }
+state_in v t = record { variables = v; device = device_of t; calls = [] }
 
 -- a number was read from a register
 abbrev pub IsRead : Reg → ℕ → Option Told → Option Told → Type 0
@@ -66,8 +57,7 @@ IsFieldRead e reg x (Some t) new =
     (x ≡ field_of e (register_in reg (device_of t)))
     × (new ≡ Some (with_access (Read reg (register_in reg (device_of t))) t))
 
--- the state of a run that begins over what is told, the accesses that were made before standing
--- before its own, and its end
+-- the state of a run that begins over what is told, and its end
 abbrev pub start_over : ℕ → Told → State
 start_over input t = state_in (new_variables input) t
 
@@ -77,18 +67,9 @@ end_within turns list input t = end_from turns list (start_over input t)
 abbrev pub end_over : List Entry → ℕ → Told → End
 end_over list input t = end_within most_turns list input t
 
--- what is told in such a state
-abbrev pub told_over : State → Told → Told
-told_over s t = record (with_device s.device t) { accesses = s.accesses }
-
 -- a part of a turn in which a call failed
 abbrev pub BreaksIn : (State → State) → Option Told → Option Told → Type 0
-BreaksIn part old new = IfSome old (λ t. IsCutShort (part (state_in (new_variables 0) t)).accesses t new)
-
--- a run of the machine, or a beginning of one where a call of the board failed
-abbrev pub RunsOver : Result ℕ RunRefused → End → Told → Option Told → Type 0
-RunsOver (Err Register) end old new = IsCutShort end.state.accesses old new
-RunsOver answer end old new = (answer ≡ end.answer) × (new ≡ Some (told_over end.state old))
+BreaksIn part old new = IfSome old (λ t. IsCutShort (part (state_in (new_variables 0) t)).calls t new)
 
 abbrev pub StoreWithin : ℕ → List Entry → ℕ → Option Told → List Stored → List Stored → Type 0
 StoreWithin turns list input None old new = Unit {0}
@@ -99,14 +80,14 @@ StoreOver list input told = StoreWithin most_turns list input told
 
 -- what is told goes on by a part of a turn
 abbrev pub told_by : (State → State) → Told → Told
-told_by part t = told_over (part (state_in (new_variables 0) t)) t
+told_by part t = told_after (part (state_in (new_variables 0) t)) t
 
 abbrev pub Does : (State → State) → Option Told → Option Told → Type 0
 Does part old new = new ≡ option_map (told_by part) old
 
 -- a part of a turn is all that the record store may have gone through
 abbrev pub StoreIn : (State → State) → Option Told → List Stored → List Stored → Type 0
-StoreIn part = StoreBy (λ d. (part (record { variables = new_variables 0; device = d; accesses = [] })).device)
+StoreIn part = StoreBy (λ d. (part (record { variables = new_variables 0; device = d; calls = [] })).device)
 
 abbrev pub state_of : Outcome → State
 state_of (goes s) = s
@@ -115,19 +96,19 @@ state_of (stops why s) = s
 -- A turn that went well, or was refused, is the machine's, and one whose board failed is a
 -- beginning of it.
 abbrev pub Turns : Result Variables RunRefused → Outcome → Told → Option Told → Type 0
-Turns (Ok v) (goes s) t new = (v ≡ s.variables) × (new ≡ Some (told_over s t))
+Turns (Ok v) (goes s) t new = (v ≡ s.variables) × (new ≡ Some (told_after s t))
 Turns (Ok v) (stops why s) t new = ⊥
-Turns (Err Register) outcome t new = IsCutShort (state_of outcome).accesses t new
+Turns (Err Register) outcome t new = IsCutShort (state_of outcome).calls t new
 Turns (Err why) (goes s) t new = ⊥
-Turns (Err why) (stops cause s) t new = (cause ≡ why) × (new ≡ Some (told_over s t))
+Turns (Err why) (stops cause s) t new = (cause ≡ why) × (new ≡ Some (told_after s t))
 
 -- the same of a move, which comes before the variables change
 abbrev pub Moves : Result (Unit {0}) RunRefused → Outcome → Told → Option Told → Type 0
-Moves (Ok done) (goes s) t new = new ≡ Some (told_over s t)
+Moves (Ok done) (goes s) t new = new ≡ Some (told_after s t)
 Moves (Ok done) (stops why s) t new = ⊥
-Moves (Err Register) outcome t new = IsCutShort (state_of outcome).accesses t new
+Moves (Err Register) outcome t new = IsCutShort (state_of outcome).calls t new
 Moves (Err why) (goes s) t new = ⊥
-Moves (Err why) (stops cause s) t new = (cause ≡ why) × (new ≡ Some (told_over s t))
+Moves (Err why) (stops cause s) t new = (cause ≡ why) × (new ≡ Some (told_after s t))
 
 -- the place of a stretch in the range, where it is inside
 abbrev pub IsPlace : ℕ → ℕ → Option ℕ → Type 0

@@ -1,8 +1,8 @@
 -- The error record serialization table: ACPI 6.5, section 18.5.1, "Serialization Action Table".
 -- After the header of all tables come the size of the serialization header (4) at 36 and the count
 -- of its entries (4) at 44. The entries follow from 48 on.
-use Rattle.std.specs.Prelude.{◌≡◌, ℕ, zero, suc, ◌+◌, ◌*◌, ◌<◌, Bool, ◌||◌, not, nat_eq, nat_le, nat_lt, List, [], ◌∷◌, length, drop, filter, get_or, codes, Result, Ok, Err, if◌then◌else◌}
-use Rattle.std.specs.List.{starts_with}
+use Rattle.std.specs.Prelude.{ℕ, zero, suc, ◌+◌, ◌*◌, Bool, ◌||◌, not, nat_eq, nat_le, nat_lt, List, [], ◌∷◌, length, drop, map, filter, get_or, codes, Result, Ok, Err, if◌then◌else◌}
+use Rattle.std.specs.List.{range_with_len, starts_with}
 use Rattle.ras_base.specs.LittleEndian.{number_at}
 use Rattle.ras_base.specs.AcpiTable.{own_bytes, has_length, has_sum}
 use Rattle.erst_interp.specs.declared.entries.Entry.{Entry}
@@ -43,15 +43,7 @@ entries_at (suc count) bytes = entry_of bytes ∷ entries_at count (drop ENTRY_L
 abbrev pub entries_in : List ℕ → List Entry
 entries_in table = entries_at (entry_count table) (drop ERST_FIXED_LENGTH table)
 
-abbrev pub entries_of : Result (List ℕ) ErstTableRefused → Result (List Entry) ErstTableRefused
-entries_of (Ok table) = Ok (entries_in table)
-entries_of (Err why) = Err why
-
--- the entries of the table at the front of bytes, or the first reason that they can't be read
-abbrev pub erst_of : List ℕ → Result (List Entry) ErstTableRefused
-erst_of bytes = entries_of (erst_table bytes)
-
--- what is kept of a table: for each action, by its number, a list of entries
+-- what is kept of a table: for each number that an action can have, a list of entries
 abbrev pub list_of : ℕ → List (List Entry) → List Entry
 list_of action lists = get_or lists action []
 
@@ -59,6 +51,13 @@ list_of action lists = get_or lists action []
 abbrev pub entries_for : ℕ → List Entry → List Entry
 entries_for action entries = filter (λ e. nat_eq action e.action) entries
 
--- An action's list is its entries in the order of the table.
-abbrev pub HasLists : List (List Entry) → List Entry → Type 0
-HasLists lists entries = (action : ℕ) → action < 256 → list_of action lists ≡ entries_for action entries
+unfoldable pub lists_of : List Entry → List (List Entry)
+lists_of entries = map (λ action. entries_for action entries) (range_with_len 0 256)
+
+abbrev pub lists_in : Result (List ℕ) ErstTableRefused → Result (List (List Entry)) ErstTableRefused
+lists_in (Ok table) = Ok (lists_of (entries_in table))
+lists_in (Err why) = Err why
+
+-- the table at the front of bytes, by its lists, or the first reason that it can't be read
+abbrev pub erst_of : List ℕ → Result (List (List Entry)) ErstTableRefused
+erst_of bytes = lists_in (erst_table bytes)

@@ -1,15 +1,18 @@
--- Only for proofs: what a list still has to hold, entry by entry.
-use Rattle.std.specs.Prelude.{ℕ, Bool, true, false, List, [], ◌∷◌, Option, Some, None, if◌then◌else◌}
+-- Whether a list is admitted, as a test: what it still has to hold, entry by entry.
+use Rattle.std.specs.Prelude.{ℕ, Bool, true, false, ◌&&◌, nat_le, List, [], ◌∷◌, length, Option, Some, None, if◌then◌else◌}
+use Rattle.std.specs.List.{list_all, range_with_len}
 use Rattle.erst_interp.specs.declared.entries.Entry.{Entry}
 use Rattle.erst_interp.specs.declared.admission.Awaited.{Awaited}
 use Rattle.erst_interp.specs.declared.admission.Awaited.TheVariants.{Input, Action, Answer, Rest, End}
 use Rattle.erst_interp.specs.Admission.{takes_input, gives_answer, is_idle, is_act, is_input, is_free, is_answer}
+use Rattle.erst_interp.specs.Machine.{most_turns}
+use Rattle.erst_interp.specs.Table.{list_of}
 
 abbrev pub first_awaited : ℕ → Awaited
 first_awaited action = if takes_input action then Input else Action
 
-abbrev pub after_act : ℕ → Awaited
-after_act action = if gives_answer action then Answer else Rest
+abbrev pub awaited_after : ℕ → Awaited
+awaited_after action = if gives_answer action then Answer else Rest
 
 -- after an idle entry, and after another
 abbrev pub after_idle : Awaited → Option Awaited
@@ -18,7 +21,7 @@ after_idle awaited = Some awaited
 
 abbrev pub after_role : ℕ → Awaited → Entry → Option Awaited
 after_role action Input e = if is_input action e then Some Action else None
-after_role action Action e = if is_act action e then Some (after_act action) else (if is_free action e then Some Action else None)
+after_role action Action e = if is_act action e then Some (awaited_after action) else (if is_free action e then Some Action else None)
 after_role action Answer e = if is_answer action e then Some End else None
 after_role action Rest e = None
 after_role action End e = None
@@ -39,3 +42,10 @@ goes_by go_on (Some awaited) = go_on awaited
 abbrev pub walks : ℕ → Awaited → List Entry → Bool
 walks action awaited [] = is_last awaited
 walks action awaited (e ∷ entries) = goes_by (λ next. walks action next entries) (next_awaited action awaited e)
+
+abbrev pub is_admitted_list : ℕ → List Entry → Bool
+is_admitted_list action list = nat_le (length list) most_turns && walks action (first_awaited action) list
+
+-- the lists of actions 0 to 10
+unfoldable pub is_admitted : List (List Entry) → Bool
+is_admitted lists = list_all (λ action. is_admitted_list action (list_of action lists)) (range_with_len 0 11)

@@ -2,7 +2,7 @@
 
 ghost use Rattle.std.specs.Prelude.{◌≡◌, ◌↔◌, ◌≤◌, length, IsTrue};
 ghost use Rattle.erst_interp.specs.Admission.{takes_input, gives_answer, input_bits, answer_bits, is_action, is_value, is_constant, holds_bits, is_idle, is_whole, is_act, is_input, is_free, is_read, is_answer, IsAdmitted, IsAdmittedTable};
-ghost use Rattle.erst_interp.specs.Walk.{first_awaited, after_act, next_awaited, walks};
+ghost use Rattle.erst_interp.specs.Walk.{first_awaited, awaited_after, next_awaited, walks, is_admitted};
 
 use crate::entries::{Entry, Instruction};
 use crate::run::MOST_TURNS;
@@ -45,7 +45,8 @@ pub(crate) enum Awaited {
 /// - besides these only NOOP, STALL, ADD and SUBTRACT, and LOAD_VAR1 and LOAD_VAR2 of a good
 ///   register.
 pub fn admits(table: &Table) -> bool
-    ensures { IsTrue result ↔ IsAdmittedTable table.now }
+    ensures admitted { IsTrue result ↔ IsAdmittedTable table.now }
+    ensures test { result ≡ is_admitted table.now }
 {
     for action in 0..ACTIONS {
         if !admits_list(u64::from(action), table.list(action)) {
@@ -100,7 +101,7 @@ fn next_awaited(action: u64, awaited: Awaited, entry: &Entry) -> Option<Awaited>
     }
     match awaited {
         Awaited::Input if entry.is_input(action) => Some(Awaited::Action),
-        Awaited::Action if entry.is_act(action) => Some(after_act(action)),
+        Awaited::Action if entry.is_act(action) => Some(awaited_after(action)),
         Awaited::Action if entry.is_free(action) => Some(Awaited::Action),
         Awaited::Answer if entry.is_answer(action) => Some(Awaited::End),
         _ => None,
@@ -108,8 +109,8 @@ fn next_awaited(action: u64, awaited: Awaited, entry: &Entry) -> Option<Awaited>
 }
 
 // What is awaited after the action's write.
-fn after_act(action: u64) -> Awaited
-    ensures { result ≡ after_act action }
+fn awaited_after(action: u64) -> Awaited
+    ensures { result ≡ awaited_after action }
 {
     if gives_answer(action) {
         Awaited::Answer

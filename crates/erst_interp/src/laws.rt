@@ -1,4 +1,4 @@
-//! What is said of every list of entries.
+//! What is said of every list of entries, and the limits in digits.
 
 ghost use Rattle.std.specs.Prelude.{◌≡◌, ℕ, ◌<◌, ◌^◌, List};
 ghost use Rattle.erst_store.specs.Device.{Device};
@@ -7,6 +7,10 @@ ghost use Rattle.erst_interp.specs.declared.entries.Entry.{Entry};
 ghost use Rattle.erst_interp.specs.Admission.{IsAdmitted};
 ghost use Rattle.erst_interp.specs.Faithful.{IsFaithful, input_limit};
 ghost use Rattle.erst_interp.specs.Machine.{end_of};
+ghost use Rattle.erst_interp.specs.Table.{list_of, lists_of, entries_for};
+ghost use Rattle.erst_interp.specs.declared.entries.TheConstants.{ENTRY_LENGTH};
+ghost use Rattle.erst_interp.specs.declared.run.TheConstants.{MOST_TURNS};
+ghost use Rattle.erst_interp.specs.declared.table.TheConstants.{ERST_FIXED_LENGTH};
 
 /// An admitted list of an action does the action, on every device and every input. So of two
 /// admitted lists of one action the answer and the device after them are the same. The function
@@ -23,4 +27,18 @@ pub fn admitted_lists_are_faithful()
         → action < 2 ^ 64 → IsAdmitted action one → IsAdmitted action other
         → IsDevice d → input < input_limit action
         → (end_of one input d).state.device ≡ (end_of other input d).state.device }
+{}
+
+/// Of a table that was read, the list of an action has the entries of this action, in the order of
+/// the table. The function does nothing.
+pub fn lists_are_of_the_entries()
+    ensures { (action : ℕ) (entries : List Entry) → action < 256
+        → list_of action (lists_of entries) ≡ entries_for action entries }
+{}
+
+/// The limits in digits. The function does nothing.
+pub fn table_limits()
+    ensures fixed { ERST_FIXED_LENGTH ≡ 48 }
+    ensures entry { ENTRY_LENGTH ≡ 32 }
+    ensures turns { MOST_TURNS ≡ 4096 }
 {}

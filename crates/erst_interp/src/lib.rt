@@ -14,7 +14,7 @@ mod table;
 
 pub use admission::admits;
 pub use entries::{Entry, Instruction};
-pub use laws::admitted_lists_are_faithful;
+pub use laws::{admitted_lists_are_faithful, lists_are_of_the_entries, table_limits};
 pub use refusals::{ErstTableRefused, RunRefused};
 pub use run::MOST_TURNS;
 pub use table::{Table, read_erst};

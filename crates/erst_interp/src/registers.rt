@@ -1,11 +1,12 @@
 //! The accesses that instructions make.
 
 ghost use Rattle.std.specs.Prelude.{◌≡◌, ◌+◌, ◌<◌, ◌≤◌, ◌^◌, IfOk, IfSome, OnOk, OnErr};
+ghost use Rattle.board_core.specs.Doing.{looks};
 ghost use Rattle.board_core.specs.Told.{device_of};
 ghost use Rattle.erst_store.specs.Actions.{range_length};
 ghost use Rattle.erst_store.specs.DeviceLaws.{IsDevice};
 ghost use Rattle.erst_interp.specs.Machine.{after_register_read, after_register_write, after_field, after_move, moved};
-ghost use Rattle.erst_interp.specs.Steps.{seen, Touches, TouchesAs, Stays, IsRead, IsFieldRead, Does, StoreIn, BreaksIn, IsPlace, Moves, state_in};
+ghost use Rattle.erst_interp.specs.Steps.{Touches, TouchesAs, Stays, IsRead, IsFieldRead, Does, StoreIn, BreaksIn, IsPlace, Moves, state_in};
 
 use crate::entries::Entry;
 use crate::machine::Variables;
@@ -20,8 +21,8 @@ pub(crate) fn read<B: Board>(reg: Reg, board: &mut B) -> Result<u64, Failed>
     ensures breaks { OnErr result (BreaksIn (after_register_read reg) (B.told board.old)
         (B.told board.new)) }
     ensures touches { Touches Stays result
-        (seen (B.told board.old) (B.clock board.old) (B.faults board.old))
-        (seen (B.told board.new) (B.clock board.new) (B.faults board.new)) }
+        (looks B.told B.clock B.faults board.old)
+        (looks B.told B.clock B.faults board.new) }
     ensures device { IfSome (B.told board.old) (λ t. IsDevice (device_of t)) }
 {
     match board.reg_read(reg) {
@@ -37,8 +38,8 @@ fn write<B: Board>(reg: Reg, number: u64, board: &mut B) -> Result<(), Failed>
     ensures breaks { OnErr result (BreaksIn (after_register_write reg number) (B.told board.old)
         (B.told board.new)) }
     ensures touches { Touches (StoreIn (after_register_write reg number) (B.told board.old)) result
-        (seen (B.told board.old) (B.clock board.old) (B.faults board.old))
-        (seen (B.told board.new) (B.clock board.new) (B.faults board.new)) }
+        (looks B.told B.clock B.faults board.old)
+        (looks B.told B.clock B.faults board.new) }
     ensures device { IfSome (B.told board.old) (λ t. IsDevice (device_of t)) }
 {
     match board.reg_write(reg, number) {
@@ -60,8 +61,8 @@ pub(crate) fn write_field<B: Board>(
     ensures breaks { OnErr result (BreaksIn (after_field entry.now reg number) (B.told board.old)
         (B.told board.new)) }
     ensures touches { Touches (StoreIn (after_field entry.now reg number) (B.told board.old)) result
-        (seen (B.told board.old) (B.clock board.old) (B.faults board.old))
-        (seen (B.told board.new) (B.clock board.new) (B.faults board.new)) }
+        (looks B.told B.clock B.faults board.old)
+        (looks B.told B.clock B.faults board.new) }
     ensures device { IfSome (B.told board.old) (λ t. IsDevice (device_of t)) }
 {
     if !entry.preserves {
@@ -80,8 +81,8 @@ pub(crate) fn read_field<B: Board>(entry: &Entry, reg: Reg, board: &mut B) -> Re
     ensures breaks { OnErr result (BreaksIn (after_register_read reg) (B.told board.old)
         (B.told board.new)) }
     ensures touches { Touches Stays result
-        (seen (B.told board.old) (B.clock board.old) (B.faults board.old))
-        (seen (B.told board.new) (B.clock board.new) (B.faults board.new)) }
+        (looks B.told B.clock B.faults board.old)
+        (looks B.told B.clock B.faults board.new) }
     ensures device { IfSome (B.told board.old) (λ t. IsDevice (device_of t)) }
 {
     match read(reg, board) {
@@ -111,8 +112,8 @@ fn move_inside<B: Board>(from: u32, to: u32, count: usize, board: &mut B) -> Res
     ensures breaks { OnErr result (BreaksIn (after_move from to count) (B.told board.old)
         (B.told board.new)) }
     ensures touches { Touches Stays result
-        (seen (B.told board.old) (B.clock board.old) (B.faults board.old))
-        (seen (B.told board.new) (B.clock board.new) (B.faults board.new)) }
+        (looks B.told B.clock B.faults board.old)
+        (looks B.told B.clock B.faults board.new) }
 {
     let mut buffer = [0u8; RANGE_LENGTH];
     let bytes = &mut buffer[..count];
@@ -136,8 +137,8 @@ pub(crate) fn move_bytes<B: Board>(
     ensures moves { IfSome (B.told board.old)
         (λ t. Moves result (moved offset (state_in variables t)) t (B.told board.new)) }
     ensures touches { TouchesAs Stays result
-        (seen (B.told board.old) (B.clock board.old) (B.faults board.old))
-        (seen (B.told board.new) (B.clock board.new) (B.faults board.new)) }
+        (looks B.told B.clock B.faults board.old)
+        (looks B.told B.clock B.faults board.new) }
 {
     let count = variables.var2;
     let Some(from) = place_of(variables.src, offset, count) else {

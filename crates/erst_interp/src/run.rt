@@ -1,7 +1,8 @@
 //! Runs of an action's list.
 
-ghost use Rattle.std.specs.Prelude.{◌≡◌, ◌<◌, ◌≤◌, ◌+◌, ◌^◌, ◌⊎◌, length, IfSome, IfOk, OnOk, IsTrue};
-ghost use Rattle.std.specs.List.{list_all};
+ghost use Rattle.std.specs.Prelude.{◌≡◌, ◌<◌, ◌≤◌, ◌+◌, ◌^◌, ◌⊎◌, length, IfSome, IfOk, OnOk, IsTrue, Err};
+ghost use Rattle.std.specs.List.{list_all, list_any};
+ghost use Rattle.board_core.specs.Doing.{looks};
 ghost use Rattle.board_core.specs.Clock.{Passes};
 ghost use Rattle.board_core.specs.Stop.{InStore};
 ghost use Rattle.board_core.specs.Told.{Relates, StoreBy, device_of};
@@ -9,9 +10,9 @@ ghost use Rattle.erst_store.specs.DeviceLaws.{IsDevice};
 ghost use Rattle.erst_interp.specs.Admission.{IsAdmitted};
 ghost use Rattle.erst_interp.specs.Faithful.{input_limit, device_after, DoesRun, IsRegisterAlone};
 ghost use Rattle.erst_interp.specs.Machine.{turn, end_of};
-ghost use Rattle.erst_interp.specs.Parts.{use_of, is_straight, is_straight_use, GoesOn};
+ghost use Rattle.erst_interp.specs.Parts.{use_of, is_straight, is_straight_use, GoesOn, uses_register};
 ghost use Rattle.erst_interp.specs.Run.{IsRun, Keeps, RunCause, StoreInRun};
-ghost use Rattle.erst_interp.specs.Steps.{seen, end_over, end_within, RunsOver, StoreOver, StoreWithin, Turns, TouchesAs, StoreInTurn, state_in};
+ghost use Rattle.erst_interp.specs.Steps.{end_over, end_within, StoreOver, StoreWithin, Turns, TouchesAs, StoreInTurn, state_in};
 ghost use Rattle.erst_interp.specs.Table.{list_of};
 
 use crate::entries::Entry;
@@ -32,8 +33,8 @@ impl Table {
     /// and there is a next entry, with `BadInstruction` where the next entry's instruction isn't
     /// known, with `BadRegister` where it uses a register that isn't good, and with `BadRange`
     /// where it moves bytes that aren't all in the range. `Register` comes only where a call of the
-    /// board failed, which is then the last one: the accesses before it are the first of those that
-    /// the list makes. What was done before a refusal stays done.
+    /// board failed, which is then the last one: the calls before it are the first of those that the
+    /// list makes. What was done before a refusal stays done.
     ///
     /// The list of an admitted table does its action, and is refused with `Register` alone.
     pub fn run<B: Board>(&self, action: u8, input: u64, board: &mut B) -> Result<u64, RunRefused>
@@ -50,6 +51,8 @@ impl Table {
             → IfSome (B.told board.old) (λ t. DoesRun action input result t (B.told board.new)) }
         ensures only_register { IsAdmitted action (list_of action self.now)
             → IsRegisterAlone result }
+        ensures device { IsAdmitted action (list_of action self.now)
+            → IfSome (B.told board.old) (λ t. IsDevice (device_of t)) }
         ensures stores { IsAdmitted action (list_of action self.now) → input < input_limit action
             → Passes (InStore (StoreBy (device_after action input) (B.told board.old)))
             (B.clock board.old) (B.clock board.new) }
@@ -61,14 +64,17 @@ impl Table {
 // Runs a list from an input on.
 fn run_list<B: Board>(list: &[Entry], input: u64, board: &mut B) -> Result<u64, RunRefused>
     ensures runs { IfSome (B.told board.old)
-        (λ t. RunsOver result (end_over list.now input t) t (B.told board.new)) }
+        (λ t. IsRun result (end_over list.now input t) t (B.told board.new)) }
     ensures touches { TouchesAs (StoreOver list.now input (B.told board.old)) result
-        (seen (B.told board.old) (B.clock board.old) (B.faults board.old))
-        (seen (B.told board.new) (B.clock board.new) (B.faults board.new)) }
+        (looks B.told B.clock B.faults board.old)
+        (looks B.told B.clock B.faults board.new) }
     ensures device { (B.told board.new ≡ B.told board.old)
         ⊎ IfSome (B.told board.old) (λ t. IsDevice (device_of t)) }
     ensures straight { IsTrue (list_all is_straight list.now) → length list.now ≤ MOST_TURNS
         → IsRegisterAlone result }
+    ensures reached { IsTrue (list_all is_straight list.now) → length list.now ≤ MOST_TURNS
+        → IsTrue (list_any uses_register list.now)
+        → IfSome (B.told board.old) (λ t. IsDevice (device_of t)) }
 {
     run_turns(list, MOST_TURNS, input, board)
 }
@@ -81,14 +87,17 @@ fn run_turns<B: Board>(
     board: &mut B,
 ) -> Result<u64, RunRefused>
     ensures runs { IfSome (B.told board.old)
-        (λ t. RunsOver result (end_within turns list.now input t) t (B.told board.new)) }
+        (λ t. IsRun result (end_within turns list.now input t) t (B.told board.new)) }
     ensures touches { TouchesAs (StoreWithin turns list.now input (B.told board.old)) result
-        (seen (B.told board.old) (B.clock board.old) (B.faults board.old))
-        (seen (B.told board.new) (B.clock board.new) (B.faults board.new)) }
+        (looks B.told B.clock B.faults board.old)
+        (looks B.told B.clock B.faults board.new) }
     ensures device { (B.told board.new ≡ B.told board.old)
         ⊎ IfSome (B.told board.old) (λ t. IsDevice (device_of t)) }
     ensures straight { IsTrue (list_all is_straight list.now) → length list.now ≤ turns
         → IsRegisterAlone result }
+    ensures reached { IsTrue (list_all is_straight list.now) → length list.now ≤ turns
+        → IsTrue (list_any uses_register list.now)
+        → IfSome (B.told board.old) (λ t. IsDevice (device_of t)) }
 {
     let mut variables = Variables::new(input);
     for _ in 0..turns {
@@ -117,11 +126,15 @@ fn turn<B: Board>(
         (λ t. Turns result (turn entry.now (state_in variables t)) t (B.told board.new)) }
     ensures touches { TouchesAs
         (StoreInTurn (λ s. turn entry.now s) variables (B.told board.old)) result
-        (seen (B.told board.old) (B.clock board.old) (B.faults board.old))
-        (seen (B.told board.new) (B.clock board.new) (B.faults board.new)) }
+        (looks B.told B.clock B.faults board.old)
+        (looks B.told B.clock B.faults board.new) }
     ensures device { (B.told board.new ≡ B.told board.old)
         ⊎ IfSome (B.told board.old) (λ t. IsDevice (device_of t)) }
     ensures straight { IsTrue (is_straight entry.now) → GoesOn variables result }
+    ensures reached { IsTrue (uses_register entry.now)
+        → IfSome (B.told board.old) (λ t. IsDevice (device_of t)) }
+    ensures failed { result ≡ Err RunRefused.Register
+        → IfSome (B.told board.old) (λ t. IsDevice (device_of t)) }
 {
     match entry.instruction.work() {
         Work::Unknown => Err(RunRefused::BadInstruction),
@@ -147,8 +160,8 @@ fn use_register<B: Board>(
         t (B.told board.new)) }
     ensures touches { TouchesAs
         (StoreInTurn (use_of how entry.now variables reg) variables (B.told board.old)) result
-        (seen (B.told board.old) (B.clock board.old) (B.faults board.old))
-        (seen (B.told board.new) (B.clock board.new) (B.faults board.new)) }
+        (looks B.told B.clock B.faults board.old)
+        (looks B.told B.clock B.faults board.new) }
     ensures device { IfSome (B.told board.old) (λ t. IsDevice (device_of t)) }
     ensures straight { IsTrue (is_straight_use how entry.now.instruction)
         → GoesOn variables result }
@@ -174,8 +187,8 @@ fn take_field<B: Board>(
         t (B.told board.new)) }
     ensures touches { TouchesAs
         (StoreInTurn (use_of Use.Reads entry.now variables reg) variables (B.told board.old)) result
-        (seen (B.told board.old) (B.clock board.old) (B.faults board.old))
-        (seen (B.told board.new) (B.clock board.new) (B.faults board.new)) }
+        (looks B.told B.clock B.faults board.old)
+        (looks B.told B.clock B.faults board.new) }
     ensures device { IfSome (B.told board.old) (λ t. IsDevice (device_of t)) }
     ensures straight { IsTrue (is_straight_use Use.Reads entry.now.instruction)
         → GoesOn variables result }
@@ -199,8 +212,8 @@ fn give_field<B: Board>(
         t (B.told board.new)) }
     ensures touches { TouchesAs
         (StoreInTurn (use_of Use.Writes entry.now variables reg) variables (B.told board.old)) result
-        (seen (B.told board.old) (B.clock board.old) (B.faults board.old))
-        (seen (B.told board.new) (B.clock board.new) (B.faults board.new)) }
+        (looks B.told B.clock B.faults board.old)
+        (looks B.told B.clock B.faults board.new) }
     ensures device { IfSome (B.told board.old) (λ t. IsDevice (device_of t)) }
     ensures straight { GoesOn variables result }
 {
@@ -224,8 +237,8 @@ fn change_field<B: Board>(
         t (B.told board.new)) }
     ensures touches { TouchesAs
         (StoreInTurn (use_of Use.Changes entry.now variables reg) variables (B.told board.old)) result
-        (seen (B.told board.old) (B.clock board.old) (B.faults board.old))
-        (seen (B.told board.new) (B.clock board.new) (B.faults board.new)) }
+        (looks B.told B.clock B.faults board.old)
+        (looks B.told B.clock B.faults board.new) }
     ensures device { IfSome (B.told board.old) (λ t. IsDevice (device_of t)) }
     ensures straight { GoesOn variables result }
 {
@@ -252,8 +265,8 @@ fn move_data<B: Board>(
         t (B.told board.new)) }
     ensures touches { TouchesAs
         (StoreInTurn (use_of Use.Moves entry.now variables reg) variables (B.told board.old)) result
-        (seen (B.told board.old) (B.clock board.old) (B.faults board.old))
-        (seen (B.told board.new) (B.clock board.new) (B.faults board.new)) }
+        (looks B.told B.clock B.faults board.old)
+        (looks B.told B.clock B.faults board.new) }
     ensures device { IfSome (B.told board.old) (λ t. IsDevice (device_of t)) }
 {
     let Ok(offset) = read_field(entry, reg, board) else {

@@ -2,9 +2,9 @@
 
 ghost use Rattle.std.specs.Prelude.{◌≡◌, ◌<◌, ◌≤◌, ◌*◌, ℕ, List, length, map, IfOk, OnOk, Err};
 ghost use Rattle.erst_interp.specs.declared.refusals.ErstTableRefused.{ErstTableRefused};
-ghost use Rattle.erst_interp.specs.Refusals.{ReadsInto};
+ghost use Rattle.erst_interp.specs.Refusals.{IsAnswer};
 ghost use Rattle.erst_interp.specs.Lists.{AreEmpty, ReadsTable, HoldsEntries, with_entry};
-ghost use Rattle.erst_interp.specs.Table.{list_of, HasLists, entries_at, erst_table, erst_of};
+ghost use Rattle.erst_interp.specs.Table.{list_of, lists_of, entries_at, erst_table, erst_of};
 
 use crate::entries::{ENTRY_LENGTH, Entry, entry_at};
 use crate::refusals::ErstTableRefused;
@@ -29,12 +29,14 @@ pub struct Table {
 }
 
 impl Model for Table {
-    ghost use Rattle.std.specs.Prelude.{List, map};
+    ghost use Rattle.std.specs.Prelude.{◌≡◌, List, length, map};
     ghost use Rattle.erst_interp.specs.declared.entries.Entry.{Entry};
 
     ghost Value = { List (List Entry) };
 
     ghost view = { λ t. map (λ v. v.items) t.lists.items };
+
+    ghost invariant = { λ t. length t.lists.items ≡ 256 };
 }
 
 /// Reads the ERST at the front of bytes. (ACPI 6.5, section 18.5.1, "Serialization Action Table".)
@@ -44,9 +46,9 @@ impl Model for Table {
 /// doesn't begin with `ERST`, `Length` where its length is below 48 or above the number of bytes,
 /// `Sum` where its bytes don't sum to 0 modulo 256, `HeaderSize` where the size of its header is
 /// neither 12 nor 48, and `Count` where the entries that it counts pass its length. `NoMemory`
-/// comes for want of memory alone, and never where the table is refused.
+/// comes only if memory runs out, and never where the table is refused.
 pub fn read_erst(alloc: Global, bytes: &[u8]) -> Result<Table, ErstTableRefused>
-    ensures answer { ReadsInto HasLists result (erst_of bytes.now) }
+    ensures answer { IsAnswer result (erst_of bytes.now) }
     ensures front { (why : ErstTableRefused) → erst_table bytes.now ≡ Err why
         → result ≡ Err why }
 {
@@ -60,10 +62,7 @@ impl Table {
     pub(crate) fn list(&self, action: u8) -> &[Entry]
         ensures { result.now ≡ list_of action self.now }
     {
-        match self.lists.get(action as usize) {
-            Some(list) => list,
-            None => &[],
-        }
+        &self.lists[action as usize]
     }
 }
 
@@ -122,7 +121,7 @@ fn add(lists: &mut Vec<Vec<Entry>>, entry: Entry) -> Result<(), NoMemory>
 fn lists_at(alloc: Global, count: u32, bytes: &[u8]) -> Result<Vec<Vec<Entry>>, NoMemory>
     requires { ENTRY_LENGTH * count ≤ length bytes.now }
     ensures { IfOk result (λ lists.
-        HasLists (map (λ v. v.items) lists.items) (entries_at count bytes.now)) }
+        map (λ v. v.items) lists.items ≡ lists_of (entries_at count bytes.now)) }
 {
     let mut lists = empty_lists(alloc)?;
     let mut rest = bytes;

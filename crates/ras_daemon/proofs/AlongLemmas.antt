@@ -10,8 +10,9 @@ use Rattle.ras_base.specs.Places.{places, places_behind}
 use Rattle.ras_base.specs.PlacesLemmas.{places-snoc}
 use Rattle.ras_base.specs.Prefix.{IsPrefixOf}
 use Rattle.ras_facts.specs.declared.entry.Entry.{Entry}
-use Rattle.ras_recover.specs.DiskCalls.{IsBeginning, IsReading, IsWriting, Makes}
+use Rattle.ras_recover.specs.DiskCalls.{IsBeginning, IsReading, Makes}
 use Rattle.ras_recover.specs.OpeningCalls.{IsOpening, IsRecovery}
+use Rattle.ras_recover.proofs.OpeningCallsLemmas.{an_opening}
 use Rattle.ras_ledger.specs.KeepingCalls.{IsKeeping, write_through_calls}
 use Rattle.ras_events.specs.declared.event.Event.{Event}
 use Rattle.ras_events.specs.declared.event.Event.TheVariants.{Nothing, Settled, Counted, Reopened}
@@ -69,18 +70,7 @@ along_calls start (p ∷ ps) =
 
 -- and so has an opening
 pub opening_calls : (here : Left) → (calls : List DiskCall) × IsOpening here calls
-opening_calls here = (
-  Sync Zero ∷ Sync One ∷ [],
-  record {
-    recovery = Sync Zero ∷ Sync One ∷ [];
-    formatting = [];
-    is = refl;
-    recovers = recovery;
-    few = omega arith;
-    alone = All-nil IsWriting;
-    only = inl refl;
-  },
-)
+opening_calls here = an_opening here
 
 -- ---- beginnings
 

@@ -16,7 +16,7 @@ use Rattle.ras_exit.specs.declared.exit.Exit.{Exit}
 use Rattle.ras_exit.specs.declared.exit.Exit.TheVariants.{Done}
 use Rattle.ras_exit.specs.Endings.{CallEnding, IsAnswer, IsCut, IsLineExit, answered, ending_of, faulted, is_answered, source_failed, starved}
 use Rattle.ras_exit.proofs.EndingLemmas.{answer_or_cut, at_answer, not_both}
-use Rattle.ras_exit.specs.Device.{LeavesDevice}
+use Rattle.board_core.specs.Device.{LeavesDevice}
 use Rattle.ras_run.specs.Places.{Start, account_at}
 use Rattle.ras_run.specs.Taking.{LedgerStands, Prints}
 use Rattle.ras_run.proofs.StandsLemmas.{before_of}

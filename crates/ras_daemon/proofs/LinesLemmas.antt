@@ -25,7 +25,7 @@ use Rattle.ras_exit.specs.declared.exit.Exit.{Exit}
 use Rattle.ras_exit.specs.declared.exit.Exit.TheVariants.{Done}
 use Rattle.ras_exit.specs.Endings.{AnyFault, CallEnding, EndsBy, UnlessFaulted, answered, ending_of, faulted, source_failed, starved}
 use Rattle.ras_run.specs.declared.run.Run.{Run}
-use Rattle.ras_exit.specs.Device.{LeavesDevice}
+use Rattle.board_core.specs.Device.{LeavesDevice}
 use Rattle.ras_run.specs.LaterKinds.{taken_line}
 use Rattle.ras_run.specs.Output.{output_at}
 use Rattle.ras_run.specs.Places.{Start, account_at}

@@ -3,7 +3,7 @@ use Rattle.std.proofs.Common.{◌≡◌, Option, None, Some, IsSomeAnd, refl, su
 use Rattle.board_core.specs.Clock.{Clock, Adds}
 use Rattle.board_core.specs.Stop.{Left}
 use Rattle.board_core.specs.Told.{Told}
-use Rattle.ras_exit.specs.Device.{KeepsDevice, LeavesDevice}
+use Rattle.board_core.specs.Device.{KeepsDevice, LeavesDevice}
 
 -- two properties that are added, together
 pub adds_and : (P Q : Left → Type 0) (old new : Clock) → Adds P old new → Adds Q old new → Adds (λ left. P left × Q left) old new

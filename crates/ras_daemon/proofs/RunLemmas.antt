@@ -19,7 +19,7 @@ use Rattle.ras_exit.specs.declared.exit.Exit.{Exit}
 use Rattle.ras_exit.specs.declared.exit.Exit.TheVariants.{Damaged, NoMemory, TooLong}
 use Rattle.ras_exit.specs.Endings.{CallEnding, EndsBy, IsCut, OnlyFault, answered, ending_of, faulted, is_answered, source_failed, starved}
 use Rattle.ras_exit.proofs.EndingLemmas.{ends_weaker, memory_ran_out, not_both, on_answer, on_cut}
-use Rattle.ras_exit.specs.Device.{LeavesDevice}
+use Rattle.board_core.specs.Device.{LeavesDevice}
 use Rattle.ras_run.specs.Places.{Start, account_at}
 use Rattle.ras_exit.specs.StopLine.{stop_line}
 use Rattle.ras_run.specs.Files.{KeepsFiles, KeepsRefused, files_refusal, refusal_exit}

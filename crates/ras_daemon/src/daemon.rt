@@ -7,7 +7,7 @@ ghost use Rattle.board_core.specs.Told.{Relates, Steps, Told, after_print};
 ghost use Rattle.ras_account.specs.Accounts.{IsAccount};
 ghost use Rattle.ras_recover.specs.DiskCalls.{IsBeginning, Makes};
 ghost use Rattle.ras_exit.specs.Causes.{BoardCause, SourceCause};
-ghost use Rattle.ras_exit.specs.Device.{LeavesDevice};
+ghost use Rattle.board_core.specs.Device.{LeavesDevice};
 ghost use Rattle.ras_exit.specs.Endings.{OnAnswer, OnWhole};
 ghost use Rattle.ras_run.specs.Places.{Start};
 ghost use Rattle.ras_exit.specs.StopLine.{stop_line};

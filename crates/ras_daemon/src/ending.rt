@@ -5,7 +5,7 @@ ghost use Rattle.board_core.specs.Clock.{Adds, Rests};
 ghost use Rattle.board_core.specs.Stop.{Begins, InOut};
 ghost use Rattle.board_core.specs.Told.{Told};
 ghost use Rattle.ras_exit.specs.Causes.{BoardCause};
-ghost use Rattle.ras_exit.specs.Device.{LeavesDevice};
+ghost use Rattle.board_core.specs.Device.{LeavesDevice};
 ghost use Rattle.ras_exit.specs.Endings.{IsAnswer, IsCut};
 ghost use Rattle.ras_daemon.specs.RunOutput.{closing_line};
 ghost use Rattle.ras_daemon.specs.Running.{Ends, Says};

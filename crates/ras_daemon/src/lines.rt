@@ -4,7 +4,7 @@ ghost use Rattle.std.specs.Prelude.{◌≡◌, Err, ℕ, List, [], false, Ok, So
 ghost use Rattle.board_core.specs.Clock.{Adds};
 ghost use Rattle.board_core.specs.Told.{Told};
 ghost use Rattle.ras_exit.specs.Causes.{BoardCause, Causes, SourceCause};
-ghost use Rattle.ras_exit.specs.Device.{LeavesDevice};
+ghost use Rattle.board_core.specs.Device.{LeavesDevice};
 ghost use Rattle.ras_exit.specs.Endings.{IsLineExit};
 ghost use Rattle.ras_run.specs.Places.{Start};
 ghost use Rattle.ras_run.specs.Taking.{IsRunAfter, LedgerStands};

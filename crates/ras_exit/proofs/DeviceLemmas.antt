@@ -8,7 +8,7 @@ use Rattle.board_core.specs.declared.board.FileNo.{FileNo}
 use Rattle.board_core.specs.declared.board.FileNo.TheVariants.{Zero, One}
 use Rattle.board_core.specs.Stop.{Left, InOut}
 use Rattle.board_core.specs.Told.{Told, Relates, Steps, MayList, FailsWrite, FailsThrough, FailsPrint, with_call, with_file, after_write, after_write_through, after_print}
-use Rattle.ras_exit.specs.Device.{KeepsDevice, LeavesDevice}
+use Rattle.board_core.specs.Device.{KeepsDevice, LeavesDevice}
 
 -- ---- what is told
 

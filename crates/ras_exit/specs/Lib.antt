@@ -3,6 +3,5 @@ pub mod Endings
 pub mod ExitStatus
 pub mod StopLine
 pub mod Causes
-pub mod Device
 pub mod Telling
 pub mod ScriptEnd

@@ -5,7 +5,7 @@ ghost use Rattle.board_core.specs.Clock.{Adds, Rests};
 ghost use Rattle.board_core.specs.Stop.{Begins, InOut};
 ghost use Rattle.board_core.specs.Told.{FailsPrint, Relates, Steps, Told, after_print};
 ghost use Rattle.ras_exit.specs.Causes.{BoardCause, Causes};
-ghost use Rattle.ras_exit.specs.Device.{LeavesDevice};
+ghost use Rattle.board_core.specs.Device.{LeavesDevice};
 
 use crate::Exit;
 use board_core::{Board, Failed};

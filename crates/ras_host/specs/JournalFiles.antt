@@ -1,4 +1,4 @@
--- Which of the journal's files are open.
+-- Only for proofs: which of the journal's files are open.
 use Rattle.std.specs.Prelude.{◌≡◌, Option, IsSome}
 use Rattle.std.specs.declared.fs.File.{File}
 use Rattle.board_core.specs.declared.board.FileNo.{FileNo}

@@ -1,16 +1,15 @@
 -- What a stop leaves at each moment of an append.
-use Rattle.std.proofs.Common.{◌≡◌, ◌∙◌, ℕ, ◌+◌, ◌-◌, ◌^◌, ◌≤◌, ◌<◌, ◌⊎◌, min, max, List, [], ◌∷◌, length, Option, None, Some, Ok, refl, sym, ap, subst, arith, inl, inr, length-append}
+use Rattle.std.proofs.Common.{◌≡◌, ◌∙◌, ℕ, ◌+◌, ◌-◌, ◌^◌, ◌≤◌, ◌<◌, ◌⊎◌, min, max, List, [], ◌∷◌, ◌++◌, length, Option, None, Some, Ok, refl, sym, ap, subst, arith, inl, inr, length-append}
 use Rattle.std.specs.Prelude.{IfSome, true, false}
-use Rattle.std.specs.Option.{option_map}
 use Rattle.std.proofs.lemmas.Bool.Decides.{nat_tests}
 use Rattle.ras_base.specs.LittleEndian.{u32_bytes}
 use Rattle.ras_base.specs.LittleEndianLemmas.{length-u32_bytes}
 use Rattle.board_core.specs.declared.board.FileNo.{FileNo}
 use Rattle.board_core.specs.declared.board.FileNo.TheVariants.{Zero, One}
-use Rattle.board_core.specs.Clock.{Clock, Adds, Rests}
-use Rattle.board_core.specs.ClockLemmas.{adds_weaker, adds_both, file_in-with}
+use Rattle.board_core.specs.ClockLemmas.{file_in-with}
 use Rattle.board_core.specs.Stop.{Left, InFile, file_in, with_file_in}
-use Rattle.board_core.specs.Told.{Told, Torn, Steps, file_of, overlay}
+use Rattle.board_core.specs.Told.{Told, Torn, Steps, after_write_through, file_of, overlay}
+use Rattle.board_core.specs.Doing.{Moment}
 use Rattle.ras_facts.specs.declared.entry.Entry.{Entry}
 use Rattle.ras_account.specs.Account.{State}
 use Rattle.ras_account.specs.Continued.{account_after, account_after_all}
@@ -20,12 +19,12 @@ use Rattle.entry_format.specs.declared.version.Version.TheVariants.{Two}
 use Rattle.journal_format.specs.Links.{payload_bytes, link_bytes}
 use Rattle.journal_format.specs.PayloadReading.{payload_of}
 use Rattle.journal_format.proofs.PayloadLemmas.{payload_is_read}
-use Rattle.ras_journal.specs.declared.limits.TheConstants.{LONGEST_FILE, OPEN_GATE}
+use Rattle.ras_journal.specs.declared.limits.TheConstants.{CLOSED_GATE, LONGEST_FILE, OPEN_GATE}
 use Rattle.ras_journal.specs.declared.standing.Standing.{Standing}
 use Rattle.ras_journal.specs.Fields.{stays_within}
 use Rattle.ras_journal.specs.File.{FileFront, front_of, account_by}
 use Rattle.ras_journal.specs.Recovered.{standing_of, other_of, is_shut, Recovers, IsAt}
-use Rattle.ras_journal.specs.Appending.{length_with, standing_with, after_link, after_gate, after_append, Links, Before, Appending}
+use Rattle.ras_journal.specs.Appending.{HasRoom, length_with, standing_with, after_append, append_acts, Links, Appending}
 use Rattle.ras_journal.specs.Laws.{followed}
 use Rattle.ras_journal.proofs.FileLemmas.{Lies, lies, CanRead, linked, linked_parts, opened, opened_length, torn_link, torn_gate, gate_written}
 use Rattle.ras_journal.proofs.JournalLemmas.{Here, here_of, recovers_of, at_of}
@@ -212,7 +211,11 @@ at_behind standing account entries link here r =
     (r.here.counts.changed bytes next (omega arith) reads refl) (standing_follows standing account entries link here r bytes)
     (account_two next r.version ∙ ap (λ (a : State). account_after_all a entries) r.account_is)
 
--- what is told after each of the two
+-- ---- as acts
+
+-- the link with the next closed gate is on the disk, and its own gate is still closed
+abbrev pub after_link : Standing → List ℕ → Told → Told
+after_link standing link t = after_write_through standing.file (standing.length + 1) (link ++ CLOSED_GATE ∷ []) t
 
 link_told : (standing : Standing) (link : List ℕ) (t : Told) → file_of standing.file (after_link standing link t) ≡ linked_file standing link t.here
 link_told standing link t = file_in-with standing.file (linked_file standing link t.here) t.here
@@ -222,67 +225,6 @@ append_told standing link t =
     let there = (after_link standing link t).here in
     ap (λ (b : List ℕ). with_file_in standing.file (overlay standing.length (OPEN_GATE ∷ []) b) there) (link_told standing link t)
     ∙ file_twice standing.file (linked_file standing link t.here) (opened_file standing link t.here) t.here
-
-pub file_told : (standing : Standing) (link : List ℕ) (t : Told) → file_of standing.file (after_append standing link t) ≡ opened_file standing link t.here
-file_told standing link t =
-    ap (λ (l : Left). file_in standing.file l) (append_told standing link t) ∙ file_in-with standing.file (opened_file standing link t.here) t.here
-
--- ---- for the function
-
-pub gate_within : (standing : Standing) (link : List ℕ) (old new : Option Told) → IfSome old (λ t. standing.length < length (file_of standing.file t)) → Steps (after_append standing link) old new
-    → IfSome new (λ t. standing.length + 1 + length link < length (file_of standing.file t))
-gate_within standing link None new within steps = subst (λ (o : Option Told). IfSome o (λ t. standing.length + 1 + length link < length (file_of standing.file t))) (sym steps) tt
-gate_within standing link (Some t) new within steps =
-    let base = file_of standing.file t in
-    let w = linked_parts base standing.length link within in
-    let longer : standing.length + 1 + length link < length (linked base standing.length link) = w.longer in
-    let long : length (opened base standing.length link) ≡ length (linked base standing.length link) = opened_length base standing.length link within in
-    let here : standing.length + 1 + length link < length (file_of standing.file (after_append standing link t)) = omega (arith, ap length (file_told standing link t)) in
-    subst (λ (o : Option Told). IfSome o (λ t. standing.length + 1 + length link < length (file_of standing.file t))) (sym steps) here
-
-pub both_steps : (standing : Standing) (link : List ℕ) (old mid new : Option Told) → Steps (after_link standing link) old mid → Steps (after_gate standing) mid new → Steps (after_append standing link) old new
-both_steps standing link None mid new first second = second ∙ ap (λ (o : Option Told). option_map (after_gate standing) o) first
-both_steps standing link (Some t) mid new first second = second ∙ ap (λ (o : Option Told). option_map (after_gate standing) o) first
-
--- the link and its sync, from rest
-abbrev pub FirstAdds : Standing → List ℕ → Option Told → Clock → Clock → Type 0
-FirstAdds standing link told old mid = (t : Told) → Rests t told old → Adds (InFile standing.file (Torn (standing.length + 1) (length link + 1)) t.here) old mid
-
-pub stops_first : (standing : Standing) (account : State) (entries : List Entry) (link : List ℕ) (t : Told) (told : Option Told) (old mid : Clock) → standing.version ≡ Two → length_with standing link ≤ LONGEST_FILE
-    → FirstAdds standing link told old mid → Before standing account t told old → Links account entries link → Adds (Appending standing account entries t.here) old mid
-stops_first standing account entries link t told old mid two room adds before links =
-    let r = ready standing account entries link t.here two room before.at links in
-    adds_weaker (InFile standing.file (Torn (standing.length + 1) (length link + 1)) t.here) (Appending standing account entries t.here) old mid (adds t before.rests)
-    (λ left by. first_moment standing account entries link t.here left r by)
-
-abbrev pub FirstRests : Standing → List ℕ → Option Told → Clock → Option Told → Clock → Type 0
-FirstRests standing link told old told_mid mid = (t : Told) → Rests t told old → Rests (after_link standing link t) told_mid mid
-
-abbrev pub SecondAdds : Standing → Option Told → Clock → Clock → Type 0
-SecondAdds standing told mid new = (t : Told) → Rests t told mid → Adds (InFile standing.file (Torn standing.length 1) t.here) mid new
-
-pub stops_both : (standing : Standing) (account : State) (entries : List Entry) (link : List ℕ) (t : Told) (told : Option Told) (old : Clock) (told_mid : Option Told) (mid new : Clock) → standing.version ≡ Two → length_with standing link ≤ LONGEST_FILE
-    → FirstAdds standing link told old mid → FirstRests standing link told old told_mid mid → SecondAdds standing told_mid mid new → Before standing account t told old → Links account entries link → Adds (Appending standing account entries t.here) old new
-stops_both standing account entries link t told old told_mid mid new two room adds rests then before links =
-    let r = ready standing account entries link t.here two room before.at links in
-    let there = after_link standing link t in
-    adds_both (Appending standing account entries t.here) old mid new
-    (stops_first standing account entries link t told old mid two room adds before links)
-    (adds_weaker (InFile standing.file (Torn standing.length 1) there.here) (Appending standing account entries t.here) mid new (then there (rests t before.rests))
-    (λ left by. second_moment standing account entries link t.here there.here left r refl by))
-
-abbrev pub SecondRests : Standing → Option Told → Clock → Option Told → Clock → Type 0
-SecondRests standing told mid told_new new = (t : Told) → Rests t told mid → Rests (after_gate standing t) told_new new
-
-pub appended : (standing : Standing) (account : State) (entries : List Entry) (link : List ℕ) (t : Told) (told : Option Told) (old : Clock) (told_mid : Option Told) (mid : Clock) (told_new : Option Told) (new : Clock) → standing.version ≡ Two
-    → length_with standing link ≤ LONGEST_FILE → FirstRests standing link told old told_mid mid → SecondRests standing told_mid mid told_new new → Before standing account t told old → Links account entries link
-    → Before (standing_with standing link) (account_after_all account entries) (after_append standing link t) told_new new
-appended standing account entries link t told old told_mid mid told_new new two room rests then before links =
-    let r = ready standing account entries link t.here two room before.at links in
-    record {
-      rests = then (after_link standing link t) (rests t before.rests);
-      at = subst (λ (l : Left). IsAt (standing_with standing link) (account_after_all account entries) l) (sym (append_told standing link t)) (at_behind standing account entries link t.here r);
-    }
 
 -- the closed gate still lies in the file once the link is written
 pub gate_after_link : (standing : Standing) (link : List ℕ) (old mid : Option Told) → IfSome old (λ t. standing.length < length (file_of standing.file t)) → Steps (after_link standing link) old mid
@@ -294,3 +236,19 @@ gate_after_link standing link (Some t) mid within steps =
     let kept : length base ≤ length (linked base standing.length link) = w.kept in
     let here : standing.length ≤ length (file_of standing.file (after_link standing link t)) = omega (arith, ap length (link_told standing link t)) in
     subst (λ (o : Option Told). IfSome o (λ t. standing.length ≤ length (file_of standing.file t))) (sym steps) here
+
+pub append_leaves : (standing : Standing) (account : State) (entries : List Entry) (link : List ℕ) (t : Told) (left : Left) → HasRoom standing link → Links account entries link → IsAt standing account t.here → Moment (append_acts standing link) t left
+    → Appending standing account entries t.here left
+append_leaves standing account entries link t left has links at moment =
+    let r = ready standing account entries link t.here has.version has.room at links in
+    elim moment [
+      | inl torn ↦ first_moment standing account entries link t.here left r (subst (λ (n : ℕ). InFile standing.file (Torn (standing.length + 1) n) t.here left) (length-append link (0 ∷ [])) torn)
+      | inr (inl torn) ↦ second_moment standing account entries link t.here (after_link standing link t).here left r refl torn
+      | inr (inr never) ↦ absurd never
+    ]
+
+pub append_ends : (standing : Standing) (account : State) (entries : List Entry) (link : List ℕ) (t : Told) → HasRoom standing link → Links account entries link → IsAt standing account t.here
+    → IsAt (standing_with standing link) (account_after_all account entries) (after_append standing link t).here
+append_ends standing account entries link t has links at =
+    subst (λ (l : Left). IsAt (standing_with standing link) (account_after_all account entries) l) (sym (append_told standing link t))
+    (at_behind standing account entries link t.here (ready standing account entries link t.here has.version has.room at links))

@@ -5,6 +5,5 @@ pub mod JournalLemmas
 pub mod AppendLemmas
 pub mod LawLemmas
 pub mod PairLemmas
-pub mod AllLemmas
 pub mod FormattingLemmas
 pub mod SwitchLemmas

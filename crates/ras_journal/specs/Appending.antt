@@ -2,7 +2,9 @@
 use Rattle.std.specs.Prelude.{◌≡◌, ℕ, ◌+◌, ◌-◌, ◌^◌, ◌<◌, ◌≤◌, ◌⊎◌, min, Bool, true, false, nat_lt, nat_le, ◌||◌, List, [], ◌∷◌, ◌++◌, length, Result, Ok, Err, Option}
 use Rattle.board_core.specs.Clock.{Clock, Rests}
 use Rattle.board_core.specs.Stop.{Left, file_in, with_file_in}
-use Rattle.board_core.specs.Told.{Told, after_write_through, FailsThrough}
+use Rattle.board_core.specs.Told.{Told}
+use Rattle.board_core.specs.Cause.{disk_call}
+use Rattle.board_core.specs.Doing.{Act, Ended, after_acts, broke, ended_by, gave_up, through}
 use Rattle.ras_facts.specs.declared.entry.Entry.{Entry}
 use Rattle.ras_account.specs.Account.{State}
 use Rattle.ras_account.specs.Continued.{account_after_all}
@@ -15,6 +17,7 @@ use Rattle.ras_journal.specs.declared.standing.Standing.{Standing}
 use Rattle.ras_journal.specs.declared.refused.AppendRefused.{AppendRefused}
 use Rattle.ras_journal.specs.declared.refused.AppendRefused.TheVariants.{Full, Disk}
 use Rattle.ras_journal.specs.Recovered.{Recovers, IsAt}
+use Rattle.ras_journal.specs.View.{JournalView}
 
 -- how long a file is with a link of these bytes at its closed gate, and the next closed gate
 abbrev pub length_with : Standing → List ℕ → ℕ
@@ -27,46 +30,36 @@ standing_with standing link = record standing {
   links = min (standing.links + 1) (2 ^ 64 - 1);
 }
 
--- the link with the next closed gate is on the disk, and its own gate is still closed
-abbrev pub after_link : Standing → List ℕ → Told → Told
-after_link standing link t = after_write_through standing.file (standing.length + 1) (link ++ CLOSED_GATE ∷ []) t
+-- An append: the link with the next closed gate is written after the closed gate and synced, and
+-- then that gate is opened and synced.
+abbrev pub append_acts : Standing → List ℕ → List Act
+append_acts standing link =
+    through standing.file (standing.length + 1) (link ++ CLOSED_GATE ∷ [])
+    ∷ through standing.file standing.length (OPEN_GATE ∷ []) ∷ []
 
--- and then the gate is open
-abbrev pub after_gate : Standing → Told → Told
-after_gate standing t = after_write_through standing.file standing.length (OPEN_GATE ∷ []) t
-
+-- what is told once it is done
 abbrev pub after_append : Standing → List ℕ → Told → Told
-after_append standing link t = after_gate standing (after_link standing link t)
+after_append standing link t = after_acts (append_acts standing link) t
 
--- a disk call of the one or of the other failed, and was the last
-abbrev pub FailsLink : Standing → List ℕ → Told → Told → Type 0
-FailsLink standing link old new = FailsThrough standing.file (standing.length + 1) (link ++ CLOSED_GATE ∷ []) old new
+-- Full comes before any call, and Disk if a disk call failed.
+abbrev pub refusal_end : AppendRefused → Ended
+refusal_end Full = gave_up
+refusal_end Disk = broke disk_call
 
-abbrev pub FailsGate : Standing → Told → Told → Type 0
-FailsGate standing old new = FailsThrough standing.file standing.length (OPEN_GATE ∷ []) old new
+abbrev pub append_end : Result (Unit {0}) AppendRefused → Ended
+append_end result = ended_by refusal_end result
 
-abbrev pub FailsAppend : Standing → List ℕ → Told → Told → Type 0
-FailsAppend standing link old new = FailsLink standing link old new ⊎ FailsGate standing (after_link standing link old) new
-
--- Full isn't a fault of the disk.
-abbrev pub disk_failure : Result (Unit {0}) AppendRefused → Result (Unit {0}) AppendRefused
-disk_failure (Ok done) = Ok tt
-disk_failure (Err Full) = Ok tt
-disk_failure (Err Disk) = Err Disk
+-- What becomes of a journal that is appended to, this being its next standing: if a disk call
+-- failed it has failed.
+abbrev pub MovesOn : Result (Unit {0}) AppendRefused → Standing → JournalView → JournalView → Type 0
+MovesOn (Ok done) next old new = new ≡ record { standing = next; failed = false }
+MovesOn (Err Full) next old new = new ≡ old
+MovesOn (Err Disk) next old new = new ≡ record old { failed = true }
 
 -- Full comes exactly where the file would be too long.
 abbrev pub IsFullBy : Result (Unit {0}) AppendRefused → ℕ → Type 0
 IsFullBy (Err Full) count = LONGEST_FILE < count
 IsFullBy result count = count ≤ LONGEST_FILE
-
--- what holds where the answer is Full, and where it is Disk
-abbrev pub OnFull : Result (Unit {0}) AppendRefused → Type 0 → Type 0
-OnFull (Err Full) P = P
-OnFull result P = Unit {0}
-
-abbrev pub OnDisk : Result (Unit {0}) AppendRefused → Type 0 → Type 0
-OnDisk (Err Disk) P = P
-OnDisk result P = Unit {0}
 
 -- whether the journal has to be switched before an append: its chain has 256 or more links, or its
 -- file would be too long, or is of version 1
@@ -78,6 +71,11 @@ abbrev pub needs_switch : Standing → List ℕ → Bool
 needs_switch standing link =
     nat_le MOST_LINKS standing.links || nat_lt LONGEST_FILE (length_with standing link)
     || is_first_version standing.version
+
+-- there is room for this link in a file of version 2
+pub record HasRoom (standing : Standing) (link : List ℕ) : Type 0 where
+  pub version : standing.version ≡ Two
+  pub room : length_with standing link ≤ LONGEST_FILE
 
 -- these bytes are the link of these entries, by which the account can be continued
 pub record Links (account : State) (entries : List Entry) (link : List ℕ) : Type 0 where

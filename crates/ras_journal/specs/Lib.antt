@@ -3,5 +3,4 @@ pub mod Fields
 pub mod File
 pub mod Recovered
 pub mod Appending
-pub mod AppendingAll
 pub mod Laws

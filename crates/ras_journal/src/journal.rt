@@ -1,14 +1,11 @@
 //! A journal, and appending to it.
-ghost use Rattle.std.specs.Prelude.{◌≡◌, ℕ, ◌+◌, ◌<◌, ◌≤◌, ◌∷◌, [], ◌++◌, List, length, true, false, nat_lt, Err, IfSome, OnOk, OnErr};
-ghost use Rattle.board_core.specs.Cause.{disk_call, FailsAs};
-ghost use Rattle.board_core.specs.Clock.{Adds, Rests};
-ghost use Rattle.board_core.specs.Stop.{InFile};
-ghost use Rattle.board_core.specs.Told.{Told, Torn, Steps, Relates, file_of};
-ghost use Rattle.ras_facts.specs.declared.entry.Entry.{Entry};
-ghost use Rattle.ras_account.specs.Account.{State};
-ghost use Rattle.ras_account.specs.Continued.{account_after_all};
+ghost use Rattle.std.specs.Prelude.{◌≡◌, ◌+◌, ◌<◌, ◌≤◌, false, length, nat_lt, true, IfSome};
+ghost use Rattle.board_core.specs.Cause.{disk_call};
+ghost use Rattle.board_core.specs.Doing.{Does, looks, one_end};
+ghost use Rattle.board_core.specs.Told.{file_of};
 ghost use Rattle.entry_format.specs.declared.version.Version.TheVariants.{Two};
-ghost use Rattle.ras_journal.specs.Appending.{length_with, standing_with, after_link, after_gate, after_append, FailsLink, FailsGate, FailsAppend, disk_failure, IsFullBy, OnFull, OnDisk, needs_switch, Links, Before, Appending};
+ghost use Rattle.ras_journal.specs.Appending.{IsFullBy, MovesOn, append_acts, append_end};
+ghost use Rattle.ras_journal.specs.Appending.{length_with, needs_switch, standing_with};
 
 use crate::{AppendRefused, LONGEST_FILE, MOST_LINKS, OPEN_GATE, Standing};
 use board_core::{Board, Failed, write_through};
@@ -83,43 +80,18 @@ impl Journal {
     ///
     /// `Full` comes exactly where the file would be longer than 67,108,864 bytes; then nothing was
     /// called, and the journal is as before. `Disk` comes only where a disk call failed; then the
-    /// journal has failed.
+    /// journal has failed. What stops leave of an append stands at [`crate::append_laws`].
     pub fn append<B: Board>(&mut self, link: &Link, board: &mut B) -> Result<(), AppendRefused>
         requires usable { self.old.failed ≡ false }
         requires version { self.old.standing.version ≡ Two }
         requires gate { IfSome (B.told board.old)
             (λ t. self.old.standing.length < length (file_of self.old.standing.file t)) }
 
-        // Whatever a stop leaves of it recovers the account without the link or with it.
-        ensures stops { (account : State) (entries : List Entry) (t : Told)
-            → Before self.old.standing account t (B.told board.old) (B.clock board.old)
-            → Links account entries link.now
-            → Adds (Appending self.old.standing account entries t.here) (B.clock board.old)
-            (B.clock board.new) }
-        // Once it has answered `Ok`, it recovers the account with the link, at the new standing.
-        ensures appended { OnOk result ((account : State) (entries : List Entry) (t : Told)
-            → Before self.old.standing account t (B.told board.old) (B.clock board.old)
-            → Links account entries link.now
-            → Before self.new.standing (account_after_all account entries)
-            (after_append self.old.standing link.now t) (B.told board.new) (B.clock board.new)) }
-
-        ensures standing { OnOk result (self.new ≡ record {
-          standing = standing_with self.old.standing link.now;
-          failed = false;
-        }) }
-        ensures gate { OnOk result (IfSome (B.told board.new)
-            (λ t. self.new.standing.length < length (file_of self.new.standing.file t))) }
-        ensures told { OnOk result (Steps (after_append self.old.standing link.now)
-            (B.told board.old) (B.told board.new)) }
-
+        ensures does { Does (looks B.told B.clock B.faults) (append_acts self.old.standing link.now)
+            (append_end result) board.old board.new }
+        ensures journal { MovesOn result (standing_with self.old.standing link.now)
+            self.old self.new }
         ensures full { IsFullBy result (length_with self.old.standing link.now) }
-        ensures full_calls_nothing { OnFull result (board.new ≡ board.old) }
-        ensures full_keeps { OnFull result (self.new ≡ self.old) }
-        ensures disk { OnDisk result (self.new ≡ record self.old { failed = true }) }
-        ensures disk_told { OnDisk result (Relates (FailsAppend self.old.standing link.now)
-            (B.told board.old) (B.told board.new)) }
-        ensures cause { FailsAs disk_call (B.faults board.old) (B.faults board.new)
-            (disk_failure result) }
     {
         let written = link.bytes_and_gate();
         if is_too_long(self.standing.length, written) {
@@ -145,57 +117,12 @@ fn is_too_long(gate: u64, bytes: &[u8]) -> bool
 
 // The four disk calls of an append.
 fn append_link<B: Board>(standing: Standing, link: &Link, board: &mut B) -> Result<(), Failed>
-    requires version { standing.version ≡ Two }
     requires gate { IfSome (B.told board.old) (λ t. standing.length < length (file_of standing.file t)) }
     requires room { length_with standing link.now ≤ LONGEST_FILE }
-
-    ensures stops { (account : State) (entries : List Entry) (t : Told)
-        → Before standing account t (B.told board.old) (B.clock board.old) → Links account entries link.now
-        → Adds (Appending standing account entries t.here) (B.clock board.old) (B.clock board.new) }
-    ensures written { OnOk result ((account : State) (entries : List Entry) (t : Told)
-        → Before standing account t (B.told board.old) (B.clock board.old) → Links account entries link.now
-        → Before (standing_with standing link.now) (account_after_all account entries)
-        (after_append standing link.now t) (B.told board.new) (B.clock board.new)) }
-
-    ensures told { OnOk result (Steps (after_append standing link.now) (B.told board.old) (B.told board.new)) }
-    ensures gate { OnOk result (IfSome (B.told board.new)
-        (λ t. standing.length + 1 + length link.now < length (file_of standing.file t))) }
-    ensures failed { OnErr result (Relates (FailsAppend standing link.now) (B.told board.old) (B.told board.new)) }
-    ensures cause { FailsAs disk_call (B.faults board.old) (B.faults board.new) result }
-{
-    write_link(standing, link, board)?;
-    open_gate(standing, board)
-}
-
-// Writes a link with the next closed gate behind the closed gate of a journal, and syncs them.
-fn write_link<B: Board>(standing: Standing, link: &Link, board: &mut B) -> Result<(), Failed>
-    requires gate { IfSome (B.told board.old) (λ t. standing.length < length (file_of standing.file t)) }
-    requires room { length_with standing link.now ≤ LONGEST_FILE }
-
-    ensures told { OnOk result (Steps (after_link standing link.now) (B.told board.old) (B.told board.new)) }
-    ensures failed { OnErr result (Relates (FailsLink standing link.now) (B.told board.old) (B.told board.new)) }
-    ensures at_rest { (t : Told) → Rests t (B.told board.old) (B.clock board.old)
-        → Adds (InFile standing.file (Torn (standing.length + 1) (length link.now + 1)) t.here) (B.clock board.old)
-        (B.clock board.new) }
-    ensures rests { OnOk result ((t : Told) → Rests t (B.told board.old) (B.clock board.old)
-        → Rests (after_link standing link.now t) (B.told board.new) (B.clock board.new)) }
-    ensures cause { FailsAs disk_call (B.faults board.old) (B.faults board.new) result }
+    ensures does { Does (looks B.told B.clock B.faults) (append_acts standing link.now)
+        (one_end disk_call result) board.old board.new }
 {
     let Standing { file, length, .. } = standing;
-    write_through(file, length + 1, link.bytes_and_gate(), board)
-}
-
-// Opens the closed gate of a journal, and syncs it.
-fn open_gate<B: Board>(standing: Standing, board: &mut B) -> Result<(), Failed>
-    requires gate { IfSome (B.told board.old) (λ t. standing.length ≤ length (file_of standing.file t)) }
-
-    ensures told { OnOk result (Steps (after_gate standing) (B.told board.old) (B.told board.new)) }
-    ensures failed { OnErr result (Relates (FailsGate standing) (B.told board.old) (B.told board.new)) }
-    ensures at_rest { (t : Told) → Rests t (B.told board.old) (B.clock board.old)
-        → Adds (InFile standing.file (Torn standing.length 1) t.here) (B.clock board.old) (B.clock board.new) }
-    ensures rests { OnOk result ((t : Told) → Rests t (B.told board.old) (B.clock board.old)
-        → Rests (after_gate standing t) (B.told board.new) (B.clock board.new)) }
-    ensures cause { FailsAs disk_call (B.faults board.old) (B.faults board.new) result }
-{
-    write_through(standing.file, standing.length, &[OPEN_GATE], board)
+    write_through(file, length + 1, link.bytes_and_gate(), board)?;
+    write_through(file, length, &[OPEN_GATE], board)
 }

@@ -7,9 +7,15 @@ ghost use Rattle.ras_account.specs.History.{empty};
 ghost use Rattle.ras_account.specs.Account.{State, account_of};
 ghost use Rattle.entry_format.specs.declared.version.Version.{Version};
 ghost use Rattle.journal_format.specs.Links.{link_bytes};
-ghost use Rattle.ras_journal.specs.declared.limits.TheConstants.{LONGEST_FILE, OPEN_GATE};
+ghost use Rattle.board_core.specs.Doing.{Moment};
+ghost use Rattle.board_core.specs.Stop.{Left};
+ghost use Rattle.board_core.specs.Told.{Told};
+ghost use Rattle.ras_account.specs.Continued.{account_after_all};
+ghost use Rattle.ras_journal.specs.Appending.{Appending, HasRoom, Links, after_append, append_acts, standing_with};
+ghost use Rattle.ras_journal.specs.declared.limits.TheConstants.{CLOSED_GATE, LAST_GENERATION, LONGEST_FILE, MOST_LINKS, OPEN_GATE};
+ghost use Rattle.ras_journal.specs.declared.standing.Standing.{Standing};
 ghost use Rattle.ras_journal.specs.File.{FileFront, front_of};
-ghost use Rattle.ras_journal.specs.Recovered.{too_long, damaged, recovered};
+ghost use Rattle.ras_journal.specs.Recovered.{IsAt, too_long, damaged, recovered};
 ghost use Rattle.ras_journal.specs.Laws.{IsRead, IsDamaged, IsShort, CanBegin, begun, begun_front, CanFollow, followed, opened_with, FollowsWhole};
 
 /// The laws of one journal file. What is read of it is told by its front, up to the closed gate:
@@ -59,6 +65,33 @@ pub fn file_laws()
         (bytes : List ℕ)
         → IsRead taken file front → AreBytes bytes
         → IsRead taken (opened_with file front bytes) longer → FollowsWhole front bytes longer }
+{}
+
+/// What an append comes to: laws of its acts, of a journal in version 2 whose file has room for the
+/// link.
+pub fn append_laws()
+    // Whatever a stop leaves at any moment of it recovers the account without the link or with it.
+    ensures moments { (standing : Standing) (account : State) (entries : List Entry)
+        (link : List ℕ) (t : Told) (left : Left)
+        → HasRoom standing link → Links account entries link → IsAt standing account t.here
+        → Moment (append_acts standing link) t left
+        → Appending standing account entries t.here left }
+
+    // Once it is done, the files hold the account with the link, at the next standing.
+    ensures done { (standing : Standing) (account : State) (entries : List Entry)
+        (link : List ℕ) (t : Told)
+        → HasRoom standing link → Links account entries link → IsAt standing account t.here
+        → IsAt (standing_with standing link) (account_after_all account entries)
+        (after_append standing link t).here }
+{}
+
+/// The limits of a journal and its gates, in digits.
+pub fn limit_laws()
+    ensures longest_file { LONGEST_FILE ≡ 67108864 }
+    ensures most_links { MOST_LINKS ≡ 256 }
+    ensures last_generation { LAST_GENERATION ≡ 9223372036854775807 }
+    ensures open_gate { OPEN_GATE ≡ 165 }
+    ensures closed_gate { CLOSED_GATE ≡ 0 }
 {}
 
 /// The laws of two journal files.

@@ -2,16 +2,14 @@
 //! the account without a link or with it.
 #![tactic(auto)]
 
-mod all;
 mod journal;
 mod laws;
 mod limits;
 mod refused;
 mod standing;
 
-pub use all::append_all;
 pub use journal::Journal;
-pub use laws::{file_laws, journal_laws};
+pub use laws::{append_laws, file_laws, journal_laws, limit_laws};
 pub use limits::{CLOSED_GATE, LAST_GENERATION, LONGEST_FILE, MOST_LINKS, OPEN_GATE};
 pub use refused::AppendRefused;
 pub use standing::Standing;

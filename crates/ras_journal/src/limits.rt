@@ -3,7 +3,7 @@
 /// The most bytes that a journal file has: 64 mebibytes.
 pub const LONGEST_FILE: u64 = 67_108_864;
 
-/// A chain of so many links isn't appended to: the journal is switched to the other file first.
+/// A chain of this many links isn't appended to: the journal is switched to the other file first.
 pub const MOST_LINKS: u64 = 256;
 
 /// The last generation of a journal.

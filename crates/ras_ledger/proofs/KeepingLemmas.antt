@@ -1,23 +1,34 @@
 -- Making room for a link and then appending it, as one.
-use Rattle.std.proofs.Common.{◌≡◌, ◌<◌, Bool, true, false, List, [], ◌∷◌, ℕ, length, Option, None, Some, IfSome, Result, Ok, Err, OnOk, inl, ap, refl, subst, sym, ◌∙◌, arith, if◌then◌else◌}
+use Rattle.std.proofs.Common.{◌≡◌, ◌<◌, ◌+◌, Bool, true, false, List, [], ◌∷◌, ◌++◌, ℕ, length, Option, None, Some, Result, Ok, Err, IfSome, IsTrue, ◌&&◌, if◌then◌else◌, inl, inr, ap, refl, subst, sym, ◌∙◌, arith, length-append}
+use Rattle.std.proofs.lemmas.Bool.Decides.{nat_tests}
 use Rattle.board_core.specs.declared.board.FileNo.{FileNo}
 use Rattle.board_core.specs.declared.board.FileNo.TheVariants.{Zero, One}
-use Rattle.board_core.specs.Clock.{Clock, Adds}
-use Rattle.board_core.specs.ClockLemmas.{adds_both, adds_weaker}
+use Rattle.board_core.specs.Clock.{Clock}
+use Rattle.board_core.specs.Doing.{Act, AreOnDisk, IsBad, IsMade, Moment, after_acts, calls_of}
 use Rattle.board_core.specs.Stop.{Left, file_in}
-use Rattle.board_core.specs.Told.{Told, after_write_through, file_of}
+use Rattle.board_core.specs.Told.{Steps, Told, file_of}
+use Rattle.board_core.proofs.ActLemmas.{moment_out, moment_store, on_disk_off}
+use Rattle.board_core.proofs.DoingLemmas.{after-append, moment_parts}
+use Rattle.entry_format.specs.declared.version.Version.{Version}
+use Rattle.entry_format.specs.declared.version.Version.TheVariants.{One as first, Two}
 use Rattle.ras_account.specs.Account.{State}
 use Rattle.ras_account.specs.Continued.{account_after_all}
 use Rattle.ras_facts.specs.declared.entry.Entry.{Entry}
+use Rattle.ras_journal.specs.View.{JournalView}
 use Rattle.ras_journal.specs.declared.standing.Standing.{Standing}
-use Rattle.ras_journal.specs.Recovered.{IsAt, is_shut, other, other_of}
-use Rattle.ras_journal.specs.Appending.{Before, Links, after_append, needs_switch}
+use Rattle.ras_journal.specs.Recovered.{IsAt, Recovers, is_shut, other, other_of}
+use Rattle.ras_journal.specs.Appending.{HasRoom, Links, append_acts, is_first_version, needs_switch, standing_with}
+use Rattle.ras_journal.proofs.AppendLemmas.{append_ends, append_leaves}
 use Rattle.ras_journal.proofs.FileLemmas.{lies}
 use Rattle.ras_journal.proofs.JournalLemmas.{here_of}
-use Rattle.ras_recover.specs.Formatting.{after_formatting, after_closing, after_writing}
-use Rattle.ras_recover.specs.Switching.{after_switch, next_bytes}
+use Rattle.ras_recover.specs.Formatting.{formatting_acts}
+use Rattle.ras_recover.specs.Switching.{CanSwitch, has_no_room, next_bytes, switch_acts, switched}
+use Rattle.ras_recover.proofs.SwitchingLemmas.{switch_ends, switch_leaves}
+use Rattle.ras_ledger.specs.declared.ledger.Ledger.{Ledger}
 use Rattle.ras_ledger.specs.declared.refused.KeepRefused.{KeepRefused}
-use Rattle.ras_ledger.specs.Keeping.{Keeping, MakingRoom, SameBeside, Stands, after_keeping, after_room, standing_roomy}
+use Rattle.ras_ledger.specs.declared.refused.KeepRefused.TheVariants.{Full, Disk, NoMemory}
+use Rattle.ras_ledger.specs.Keeping.{CanMake, Keeping, Keeps, Stands, after_keeping, keep_end, keeping_acts, lacks_room, refusal_end, room_acts, standing_kept, standing_roomy}
+use Rattle.ras_ledger.specs.KeepingCalls.{IsKeeping, write_through_calls}
 
 -- ---- what a journal's place says of its files
 
@@ -37,69 +48,129 @@ shut_of standing account left at =
     let here = here_of standing account left at in
     sym (ap (λ (s : Standing). s.shut) here.standing_is) ∙ ap is_shut (other_is standing.file left)
 
-pub stands_gate : (standing : Standing) (account : State) (told : Option Told) (clock : Clock) → Stands standing account told clock → IfSome told (λ t. standing.length < length (file_of standing.file t))
-stands_gate standing account None clock stands = tt
-stands_gate standing account (Some t) clock stands = gate_of standing account t.here stands.at
-
 pub stands_shut : (standing : Standing) (account : State) (told : Option Told) (clock : Clock) → Stands standing account told clock → IfSome told (λ t. standing.shut ≡ is_shut (file_of (other standing.file) t))
 stands_shut standing account None clock stands = tt
 stands_shut standing account (Some t) clock stands = shut_of standing account t.here stands.at
 
--- ---- writes leave the printed text and the record store
+-- ---- by whether a switch is due
 
-beside_then : (a b c : Left) → SameBeside a b → SameBeside b c → SameBeside a c
-beside_then a b c one two = record { out = two.out ∙ one.out; store = two.store ∙ one.store }
+abbrev acts_if : Bool → Bool → Standing → State → List ℕ → List Act
+acts_if due shut standing account link =
+    (if due then formatting_acts (other standing.file) shut (next_bytes standing account) else []) ++ append_acts (if due then switched standing account else standing) link
 
-write_beside : (file : FileNo) (place : ℕ) (bytes : List ℕ) (t : Told) → SameBeside t.here (after_write_through file place bytes t).here
-write_beside Zero place bytes t = record { out = refl; store = refl }
-write_beside One place bytes t = record { out = refl; store = refl }
+on_disk_if : (due shut : Bool) (standing : Standing) (account : State) (link : List ℕ) → AreOnDisk (acts_if due shut standing account link)
+on_disk_if false shut standing account link = (tt, (tt, tt))
+on_disk_if true true standing account link = (tt, (tt, (tt, (tt, tt))))
+on_disk_if true false standing account link = (tt, (tt, (tt, (tt, (tt, tt)))))
 
-closing_beside : (file : FileNo) (shut : Bool) (t : Told) → SameBeside t.here (after_closing file shut t).here
-closing_beside file true t = record { out = refl; store = refl }
-closing_beside file false t = write_beside file 0 (0 ∷ []) t
+-- all are acts of the disk
+pub keeping_on_disk : (standing : Standing) (account : State) (link : List ℕ) → AreOnDisk (keeping_acts standing account link)
+keeping_on_disk standing account link = on_disk_if (needs_switch standing link) standing.shut standing account link
 
-formatting_beside : (file : FileNo) (shut : Bool) (bytes : List ℕ) (t : Told) → SameBeside t.here (after_formatting file shut bytes t).here
-formatting_beside file shut bytes t =
-    beside_then t.here (after_writing file shut bytes t).here (after_formatting file shut bytes t).here
-    (beside_then t.here (after_closing file shut t).here (after_writing file shut bytes t).here (closing_beside file shut t) (write_beside file 1 bytes (after_closing file shut t)))
-    (write_beside file 0 (165 ∷ []) (after_writing file shut bytes t))
+two_of : (v : Version) → is_first_version v ≡ false → v ≡ Two
+two_of first is = absurd cc
+two_of Two is = refl
 
-room_beside : (standing : Standing) (account : State) (link : List ℕ) (t : Told) → SameBeside t.here (after_room standing account link t).here
-room_beside standing account link t = by (needs_switch standing link)
-  where
-    by : (b : Bool) → SameBeside t.here (if b then after_switch standing account t else t).here
-    by true = formatting_beside (other standing.file) standing.shut (next_bytes standing account) t
-    by false = record { out = refl; store = refl }
+roomy_if : (b : Bool) (standing : Standing) (account : State) (link : List ℕ) → needs_switch standing link ≡ b → ¬ IsTrue (b && has_no_room standing account link) → HasRoom (if b then switched standing account else standing) link
+roomy_if true standing account link is not = record { version = refl; room = grind (arith, nat_tests) }
+roomy_if false standing account link is not = record { version = two_of standing.version (grind arith); room = grind (arith, nat_tests) }
 
--- ---- both together
+pub roomy : (standing : Standing) (account : State) (link : List ℕ) → ¬ IsTrue (lacks_room standing account link) → HasRoom (standing_roomy standing account link) link
+roomy standing account link not = roomy_if (needs_switch standing link) standing account link refl not
 
-making_keeps : (account : State) (entries : List Entry) (here left : Left) → MakingRoom account here left → Keeping account entries here left
-making_keeps account entries here left making = record { recovers = inl making.recovers; beside = making.beside }
+roomy_at_if : (due : Bool) (standing : Standing) (account : State) (t : Told) → (IsTrue due → CanSwitch standing account) → IsAt standing account t.here
+    → IsAt (if due then switched standing account else standing) account (after_acts (if due then switch_acts standing account else []) t).here
+roomy_at_if true standing account t can at = switch_ends standing account t (can refl) at
+roomy_at_if false standing account t can at = at
 
-pub keep_stops : (account now : State) (standing next : Standing) (link : List ℕ) (told : Option Told) (old mid new : Clock) → now ≡ account
-    → ((entries : List Entry) (t : Told) → Before next now t told mid → Links now entries link → Adds (Keeping now entries t.here) mid new)
-    → (entries : List Entry) (t : Told) → Adds (MakingRoom account t.here) old mid → Before next account (after_room standing account link t) told mid → Links account entries link
-    → Adds (Keeping account entries t.here) old new
-keep_stops account now standing next link told old mid new is append entries t making before links =
-    let there = (after_room standing account link t).here in
-    let first = adds_weaker (MakingRoom account t.here) (Keeping account entries t.here) old mid making (making_keeps account entries t.here) in
-    let second : Adds (Keeping account entries there) mid new =
-    subst (λ (a : State). Before next a (after_room standing account link t) told mid → Links a entries link → Adds (Keeping a entries there) mid new) is (append entries (after_room standing account link t)) before links in
-    adds_both (Keeping account entries t.here) old mid new first
-    (adds_weaker (Keeping account entries there) (Keeping account entries t.here) mid new second
-    (λ left keeping. record { recovers = keeping.recovers; beside = beside_then t.here there left (room_beside standing account link t) keeping.beside }))
+roomy_at : (standing : Standing) (account : State) (link : List ℕ) (t : Told) → CanMake standing account link → IsAt standing account t.here
+    → IsAt (standing_roomy standing account link) account (after_acts (room_acts standing account link) t).here
+roomy_at standing account link t can at = roomy_at_if (needs_switch standing link) standing account t can at
 
-on_ok : {P Q : Type 0} → (result : Result (Unit {0}) KeepRefused) → OnOk result P → (P → Q) → OnOk result Q
-on_ok (Ok done) holds f = f holds
-on_ok (Err refused) holds f = tt
+-- the gate lies in the file
+pub roomy_gate : (standing : Standing) (account : State) (link : List ℕ) (a b : Option Told) (clock : Clock) → CanMake standing account link → Stands standing account a clock → Steps (after_acts (room_acts standing account link)) a b
+    → IfSome b (λ t. (standing_roomy standing account link).length < length (file_of (standing_roomy standing account link).file t))
+roomy_gate standing account link None b clock can stands told = rw told tt
+roomy_gate standing account link (Some t) b clock can stands told =
+    rw told (gate_of (standing_roomy standing account link) account (after_acts (room_acts standing account link) t).here (roomy_at standing account link t can stands.at))
 
-pub keep_kept : (result : Result (Unit {0}) KeepRefused) (account now : State) (standing next last : Standing) (link : List ℕ) (first told told' : Option Told) (old mid new : Clock) → now ≡ account
-    → next ≡ standing_roomy standing account link
-    → OnOk result ((entries : List Entry) (t : Told) → Before next now t told mid → Links now entries link → Before last (account_after_all now entries) (after_append next link t) told' new)
-    → ((t : Told) → Before standing account t first old → Before next account (after_room standing account link t) told mid)
-    → OnOk result ((entries : List Entry) (t : Told) → Before standing account t first old → Links account entries link → Before last (account_after_all account entries) (after_keeping standing account link t) told' new)
-keep_kept result account now standing next last link first told told' old mid new is roomy append made =
-    on_ok result append (λ appended entries t before links.
-    subst (λ (s : Standing). Before last (account_after_all account entries) (after_append s link (after_room standing account link t)) told' new) roomy
-    (subst (λ (a : State). Before next a (after_room standing account link t) told mid → Links a entries link → Before last (account_after_all a entries) (after_append next link (after_room standing account link t)) told' new) is
-    (appended entries (after_room standing account link t)) (made t before) links))
+-- ---- what stops leave, and what the files hold then
+
+room_leaves : (due : Bool) (standing : Standing) (account : State) (t : Told) (left : Left) → (IsTrue due → CanSwitch standing account) → IsAt standing account t.here → Moment (if due then switch_acts standing account else []) t left → Recovers account left
+room_leaves true standing account t left can at switching = (switch_leaves standing account t left (can refl) at switching).recovers
+room_leaves false standing account t left can at never = absurd never
+
+pub keeping_leaves : (standing : Standing) (account : State) (entries : List Entry) (link : List ℕ) (t : Told) (left : Left) → CanMake standing account link → ¬ IsTrue (lacks_room standing account link) → Links account entries link
+    → IsAt standing account t.here → Moment (keeping_acts standing account link) t left → Keeping account entries t.here left
+keeping_leaves standing account entries link t left can not links at moment = record {
+  recovers = elim (moment_parts (room_acts standing account link) (append_acts (standing_roomy standing account link) link) t left moment) [
+    | inl switching ↦ inl (room_leaves (needs_switch standing link) standing account t left can at switching)
+    | inr appending ↦ (append_leaves (standing_roomy standing account link) account entries link (after_acts (room_acts standing account link) t) left (roomy standing account link not) links (roomy_at standing account link t can at) appending).recovers
+  ];
+  beside = record {
+    out = moment_out (keeping_acts standing account link) (keeping_on_disk standing account link) t left moment;
+    store = moment_store (keeping_acts standing account link) (on_disk_off (keeping_acts standing account link) (keeping_on_disk standing account link)) t left moment;
+  };
+}
+
+pub keeping_ends : (standing : Standing) (account : State) (entries : List Entry) (link : List ℕ) (t : Told) → CanMake standing account link → ¬ IsTrue (lacks_room standing account link) → Links account entries link
+    → IsAt standing account t.here → IsAt (standing_kept standing account link) (account_after_all account entries) (after_keeping standing account link t).here
+keeping_ends standing account entries link t can not links at =
+    let s = standing_roomy standing account link in
+    let room = room_acts standing account link in
+    subst (λ (u : Told). IsAt (standing_with s link) (account_after_all account entries) u.here) (sym (after-append room (append_acts s link) t))
+    (append_ends s account entries link (after_acts room t) (roomy standing account link not) links (roomy_at standing account link t can at))
+
+-- ---- the disk calls
+
+append_calls : (file : FileNo) (gate : ℕ) (link : List ℕ) → write_through_calls file (gate + 1) (length (link ++ 0 ∷ [])) ++ write_through_calls file gate 1 ≡ write_through_calls file (gate + 1) (length link + 1) ++ write_through_calls file gate 1
+append_calls file gate link = ap (λ (n : ℕ). write_through_calls file (gate + 1) n ++ write_through_calls file gate 1) (length-append link (0 ∷ []))
+
+calls_if : (due shut : Bool) (standing : Standing) (account : State) (link : List ℕ) → IsKeeping link (calls_of (acts_if due shut standing account link))
+calls_if false shut standing account link = record {
+  file = standing.file;
+  switch = [];
+  append = _;
+  is = refl;
+  at_most_one = inl refl;
+  appends = record { gate = standing.length; is = append_calls standing.file standing.length link };
+}
+calls_if true true standing account link = record {
+  file = other standing.file;
+  switch = calls_of (formatting_acts (other standing.file) true (next_bytes standing account));
+  append = _;
+  is = refl;
+  at_most_one = inr (record { closing = []; count = length (next_bytes standing account); is = refl; only = inl refl });
+  appends = record { gate = (switched standing account).length; is = append_calls (other standing.file) (switched standing account).length link };
+}
+calls_if true false standing account link = record {
+  file = other standing.file;
+  switch = calls_of (formatting_acts (other standing.file) false (next_bytes standing account));
+  append = _;
+  is = refl;
+  at_most_one = inr (record { closing = write_through_calls (other standing.file) 0 1; count = length (next_bytes standing account); is = refl; only = inr refl });
+  appends = record { gate = (switched standing account).length; is = append_calls (other standing.file) (switched standing account).length link };
+}
+
+pub is_keeping : (standing : Standing) (account : State) (link : List ℕ) → IsKeeping link (calls_of (keeping_acts standing account link))
+is_keeping standing account link = calls_if (needs_switch standing link) standing.shut standing account link
+
+-- ---- what becomes of the ledger
+
+pub is_bad : (why : KeepRefused) → IsBad (refusal_end why)
+is_bad Full = tt
+is_bad Disk = tt
+is_bad NoMemory = tt
+
+pub keeps_not : (why : KeepRefused) (next last : Standing) (old new : Ledger) → Keeps (Err why) next old new → Keeps (Err why) last old new
+keeps_not Full next last old new keeps = keeps
+keeps_not Disk next last old new keeps = keeps
+keeps_not NoMemory next last old new keeps = keeps
+
+pub keeps_then : (result : Result (Unit {0}) KeepRefused) (s : Standing) (link : List ℕ) (old mid new : Ledger) → IsMade (keep_end result) → mid.account ≡ old.account → mid.journal ≡ record { standing = s; failed = false }
+    → Keeps result (standing_with mid.journal.standing link) mid new → Keeps result (standing_with s link) old new
+keeps_then (Ok done) s link old mid new made account journal keeps =
+    (keeps.0 ∙ account, keeps.1 ∙ ap (λ (v : JournalView). record { standing = standing_with v.standing link; failed = false }) journal)
+keeps_then (Err Disk) s link old mid new made account journal keeps = (keeps.0 ∙ account, keeps.1)
+keeps_then (Err Full) s link old mid new made account journal keeps = absurd made
+keeps_then (Err NoMemory) s link old mid new made account journal keeps = absurd made

@@ -1,2 +1,2 @@
 pub mod KeepingLemmas
-pub mod KeepingCallsLemmas
+pub mod KeepingLaws

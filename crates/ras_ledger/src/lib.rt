@@ -2,8 +2,10 @@
 //! any moment leaves the account without it or with it.
 #![tactic(auto)]
 
+mod laws;
 mod ledger;
 mod refused;
 
+pub use laws::keeping_laws;
 pub use ledger::Ledger;
 pub use refused::KeepRefused;

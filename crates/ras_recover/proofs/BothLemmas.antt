@@ -13,7 +13,8 @@ use Rattle.ras_journal.specs.File.{FileFront, front_of}
 use Rattle.ras_journal.specs.Recovered.{JournalFile, in_file, greater, generation_in, journal_of, recovered}
 use Rattle.ras_recover.specs.declared.refused.OpenRefused.{OpenRefused}
 use Rattle.ras_recover.specs.declared.refused.OpenRefused.TheVariants.{Disk, TooLong, Damaged, NoMemory}
-use Rattle.ras_recover.specs.Looking.{Calls, AreReads}
+use Rattle.ras_recover.specs.Looking.{AreReads}
+use Rattle.ras_recover.specs.DiskCalls.{Calls}
 use Rattle.ras_recover.specs.OpeningCalls.{ReadsStanding, ReadsBoth}
 use Rattle.ras_recover.specs.Recovering.{Refuses, open_failure}
 use Rattle.ras_recover.specs.DiskCalls.{ReadsPlace}

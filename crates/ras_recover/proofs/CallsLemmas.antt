@@ -5,8 +5,7 @@ use Rattle.std.proofs.lemmas.List.{append-nil}
 use Rattle.std.proofs.lemmas.List.Elements.{All-append, All-cons, All-nil, Contains-append_left, Contains-append_right}
 use Rattle.board_core.specs.declared.board.DiskCall.{DiskCall}
 use Rattle.board_core.specs.Told.{Told, Steps, Relates, MayList, with_call}
-use Rattle.ras_recover.specs.DiskCalls.{IsReading, Makes}
-use Rattle.ras_recover.specs.Looking.{Calls, with_calls}
+use Rattle.ras_recover.specs.DiskCalls.{Calls, IsReading, Makes, with_calls}
 
 -- ---- where a board tells
 

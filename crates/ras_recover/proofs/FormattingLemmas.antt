@@ -4,11 +4,11 @@ use Rattle.std.proofs.Common.{◌≡◌, ◌≢◌, ◌∙◌, ℕ, ◌+◌, ◌
 use Rattle.std.specs.Prelude.{Bool, true, false, slice_index}
 use Rattle.std.proofs.lemmas.Bool.Decides.{nat_tests}
 use Rattle.board_core.specs.declared.board.FileNo.{FileNo}
-use Rattle.board_core.specs.Clock.{Clock, Adds}
-use Rattle.board_core.specs.ClockLemmas.{adds_weaker, adds_both, file_in-with}
+use Rattle.board_core.specs.ClockLemmas.{file_in-with}
 use Rattle.board_core.specs.DiskLemmas.{length-overlay}
 use Rattle.board_core.specs.Stop.{Left, InFile, with_file_in}
-use Rattle.board_core.specs.Told.{Told, Torn, overlay, file_of}
+use Rattle.board_core.specs.Doing.{Moment, after_acts}
+use Rattle.board_core.specs.Told.{Told, Torn, after_write_through, overlay, file_of}
 use Rattle.ras_account.specs.Account.{State}
 use Rattle.entry_format.specs.declared.version.Version.TheVariants.{Two}
 use Rattle.ras_journal.specs.declared.limits.TheConstants.{LONGEST_FILE, OPEN_GATE, CLOSED_GATE}
@@ -18,9 +18,24 @@ use Rattle.ras_journal.specs.Laws.{CanBegin, begun_front}
 use Rattle.ras_journal.proofs.AppendLemmas.{file_twice}
 use Rattle.ras_journal.proofs.FileLemmas.{closed_is}
 use Rattle.ras_journal.proofs.FormattingLemmas.{torn_close, torn_behind, torn_open, opened_reads}
-use Rattle.ras_recover.specs.Formatting.{behind_gate, after_closing, after_writing, closed, TornClosing, Formatting}
+use Rattle.ras_recover.specs.Formatting.{after_formatting, behind_gate, closing_acts, formatting_acts}
 
 -- ---- the file alone
+
+-- the file with a closed gate at its front
+abbrev pub closed : Bool → List ℕ → List ℕ
+closed true file = file
+closed false file = overlay 0 (CLOSED_GATE ∷ []) file
+
+-- What a stop leaves of the file: one of the steps may be torn, and those before it are done.
+abbrev pub TornClosing : Bool → List ℕ → List ℕ → Type 0
+TornClosing shut old new = (shut ≡ false) × Torn 0 1 old new
+
+abbrev pub Formatting : Bool → List ℕ → List ℕ → List ℕ → Type 0
+Formatting shut bytes old new =
+    TornClosing shut old new
+    ⊎ (Torn 1 (length bytes) (closed shut old) new
+    ⊎ Torn 0 1 (overlay 1 bytes (closed shut old)) new)
 
 pub record Closed (file : List ℕ) : Type 0 where
   pub some : 0 < length file
@@ -81,6 +96,16 @@ formatted_short shut bytes base is short room =
 
 -- ---- what is told
 
+abbrev pub after_closing : FileNo → Bool → Told → Told
+after_closing file shut t = after_acts (closing_acts file shut) t
+
+abbrev pub after_writing : FileNo → Bool → List ℕ → Told → Told
+after_writing file shut bytes t = after_write_through file 1 bytes (after_closing file shut t)
+
+formatting_told : (file : FileNo) (shut : Bool) (bytes : List ℕ) (t : Told) → after_formatting file shut bytes t ≡ after_write_through file 0 (OPEN_GATE ∷ []) (after_writing file shut bytes t)
+formatting_told file true bytes t = refl
+formatting_told file false bytes t = refl
+
 pub closing_told : (file : FileNo) (shut : Bool) (t : Told) → file_of file (after_closing file shut t) ≡ closed shut (file_of file t)
 closing_told file true t = refl
 closing_told file false t = file_in-with file _ t.here
@@ -95,37 +120,38 @@ writing_told file shut bytes t = file_in-with file _ (after_closing file shut t)
 pub writing_frame : (file : FileNo) (shut : Bool) (bytes new : List ℕ) (t : Told) → with_file_in file new (after_writing file shut bytes t).here ≡ with_file_in file new t.here
 writing_frame file shut bytes new t = file_twice file _ new (after_closing file shut t).here ∙ closing_frame file shut new t
 
--- ---- for the function
+pub formatted_told : (file : FileNo) (shut : Bool) (bytes : List ℕ) (t : Told) → (after_formatting file shut bytes t).here ≡ with_file_in file (formatted shut bytes (file_of file t)) t.here
+formatted_told file shut bytes t =
+    ap (λ (u : Told). u.here) (formatting_told file shut bytes t)
+    ∙ (writing_frame file shut bytes _ t ∙ ap (λ (l : List ℕ). with_file_in file (overlay 0 (OPEN_GATE ∷ []) l) t.here) (writing_told file shut bytes t))
 
-abbrev pub DuringFormatting : FileNo → Bool → List ℕ → Told → Left → Type 0
+-- ---- at a moment
+
+abbrev DuringFormatting : FileNo → Bool → List ℕ → Told → Left → Type 0
 DuringFormatting file shut bytes t left = InFile file (Formatting shut bytes) t.here left
 
-pub while_closing : (file : FileNo) (shut : Bool) (bytes : List ℕ) (t : Told) (left : Left) → InFile file (TornClosing shut) t.here left → DuringFormatting file shut bytes t left
+while_closing : (file : FileNo) (shut : Bool) (bytes : List ℕ) (t : Told) (left : Left) → InFile file (TornClosing shut) t.here left → DuringFormatting file shut bytes t left
 while_closing file shut bytes t left by = record { bytes = by.bytes; step = inl by.step; rest = by.rest }
 
-pub while_writing : (file : FileNo) (shut : Bool) (bytes : List ℕ) (t : Told) (left : Left) → InFile file (Torn 1 (length bytes)) (after_closing file shut t).here left → DuringFormatting file shut bytes t left
+while_writing : (file : FileNo) (shut : Bool) (bytes : List ℕ) (t : Told) (left : Left) → InFile file (Torn 1 (length bytes)) (after_closing file shut t).here left → DuringFormatting file shut bytes t left
 while_writing file shut bytes t left by = record {
   bytes = by.bytes;
   step = inr (inl (subst (λ (l : List ℕ). Torn 1 (length bytes) l by.bytes) (closing_told file shut t) by.step));
   rest = by.rest ∙ closing_frame file shut by.bytes t;
 }
 
-pub while_opening : (file : FileNo) (shut : Bool) (bytes : List ℕ) (t : Told) (left : Left) → InFile file (Torn 0 1) (after_writing file shut bytes t).here left → DuringFormatting file shut bytes t left
+while_opening : (file : FileNo) (shut : Bool) (bytes : List ℕ) (t : Told) (left : Left) → InFile file (Torn 0 1) (after_writing file shut bytes t).here left → DuringFormatting file shut bytes t left
 while_opening file shut bytes t left by = record {
   bytes = by.bytes;
   step = inr (inr (subst (λ (l : List ℕ). Torn 0 1 l by.bytes) (writing_told file shut bytes t) by.step));
   rest = by.rest ∙ writing_frame file shut bytes by.bytes t;
 }
 
-pub stops_writing : (file : FileNo) (shut : Bool) (bytes : List ℕ) (t : Told) (old mid new : Clock) → Adds (InFile file (TornClosing shut) t.here) old mid → Adds (InFile file (Torn 1 (length bytes)) (after_closing file shut t).here) mid new
-    → Adds (InFile file (Formatting shut bytes) t.here) old new
-stops_writing file shut bytes t old mid new first second =
-    adds_both (InFile file (Formatting shut bytes) t.here) old mid new
-    (adds_weaker (InFile file (TornClosing shut) t.here) (InFile file (Formatting shut bytes) t.here) old mid first (while_closing file shut bytes t))
-    (adds_weaker (InFile file (Torn 1 (length bytes)) (after_closing file shut t).here) (InFile file (Formatting shut bytes) t.here) mid new second (while_writing file shut bytes t))
-
-pub stops_opening : (file : FileNo) (shut : Bool) (bytes : List ℕ) (t : Told) (old mid new : Clock) → Adds (InFile file (Formatting shut bytes) t.here) old mid → Adds (InFile file (Torn 0 1) (after_writing file shut bytes t).here) mid new
-    → Adds (InFile file (Formatting shut bytes) t.here) old new
-stops_opening file shut bytes t old mid new first second =
-    adds_both (InFile file (Formatting shut bytes) t.here) old mid new first
-    (adds_weaker (InFile file (Torn 0 1) (after_writing file shut bytes t).here) (InFile file (Formatting shut bytes) t.here) mid new second (while_opening file shut bytes t))
+pub moment_formats : (file : FileNo) (shut : Bool) (bytes : List ℕ) (t : Told) (left : Left) → Moment (formatting_acts file shut bytes) t left → InFile file (Formatting shut bytes) t.here left
+moment_formats file true bytes t left (inl torn) = while_writing file true bytes t left torn
+moment_formats file true bytes t left (inr (inl torn)) = while_opening file true bytes t left torn
+moment_formats file true bytes t left (inr (inr never)) = absurd never
+moment_formats file false bytes t left (inl torn) = while_closing file false bytes t left (record { bytes = torn.bytes; step = (refl, torn.step); rest = torn.rest })
+moment_formats file false bytes t left (inr (inl torn)) = while_writing file false bytes t left torn
+moment_formats file false bytes t left (inr (inr (inl torn))) = while_opening file false bytes t left torn
+moment_formats file false bytes t left (inr (inr (inr never))) = absurd never

@@ -5,8 +5,10 @@ pub mod PairLemmas
 pub mod KeepingLemmas
 pub mod OpeningLemmas
 pub mod LifeLemmas
+pub mod LiveLemmas
 pub mod CountingLemmas
 pub mod CallsLemmas
+pub mod DoneLemmas
 pub mod OpeningCallsLemmas
 pub mod WindowLemmas
 pub mod LooksLemmas

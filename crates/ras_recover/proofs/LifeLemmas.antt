@@ -3,6 +3,7 @@ use Rattle.std.proofs.Common.{◌≡◌, ◌∙◌, ℕ, ◌≤◌, List, [], �
 use Rattle.std.proofs.lemmas.List.Sums.{fold-append}
 use Rattle.board_core.specs.Clock.{Clock, LeftNow, Adds}
 use Rattle.board_core.specs.ClockLemmas.{adds_weaker}
+use Rattle.board_core.specs.Doing.{Seen, after_acts}
 use Rattle.board_core.specs.Stop.{Left}
 use Rattle.board_core.specs.Told.{Told}
 use Rattle.ras_facts.specs.declared.entry.Entry.{Entry}
@@ -17,13 +18,15 @@ use Rattle.ras_journal.specs.declared.limits.TheConstants.{LONGEST_FILE}
 use Rattle.ras_journal.specs.declared.standing.Standing.{Standing}
 use Rattle.ras_journal.specs.File.{FileFront, front_of, account_by}
 use Rattle.ras_journal.specs.Recovered.{recovered, journal_of, Recovers}
-use Rattle.ras_journal.specs.Appending.{Before, Appending}
-use Rattle.ras_journal.specs.AppendingAll.{account_after_links}
+use Rattle.ras_journal.specs.Appending.{Before, append_acts}
 use Rattle.ras_journal.proofs.PartLemmas.{bind_of, same_ok}
 use Rattle.ras_journal.proofs.JournalLemmas.{both_whole}
-use Rattle.ras_recover.specs.Life.{JournalCall, an_append, a_switch, an_opening, Life, start, done, cut, stopped, Continues, RecoversBehind, with_links, Site, CallsSwitch, Works, Opens, IsAnswered, StartsOver, BeginsWith, IsCut, IsStopped, Lives}
+use Rattle.ras_recover.specs.Life.{account_after_links, JournalCall, an_append, a_switch, an_opening, Life, start, done, cut, stopped, Continues, RecoversBehind, with_links, Site, CallsSwitch, Works, Opens, IsAnswered, StartsOver, BeginsWith, IsCut, IsStopped, Lives}
 use Rattle.ras_recover.specs.Opening.{FormatsFirst, Opening}
-use Rattle.ras_recover.specs.Switching.{Switching}
+use Rattle.ras_journal.proofs.AppendLemmas.{append_ends, append_leaves}
+use Rattle.ras_recover.specs.Switching.{switch_acts}
+use Rattle.ras_recover.proofs.DoneLemmas.{does_leaves}
+use Rattle.ras_recover.proofs.SwitchingLemmas.{switch_ends, switch_leaves}
 use Rattle.ras_recover.proofs.OpeningLemmas.{none_of}
 
 -- ---- accounts
@@ -92,7 +95,13 @@ same_standing one other e = cc
 none_stands : (standing : Standing) → ◌≡◌ {A = Option Standing} None (Some standing) → ⊥
 none_stands standing e = cc
 
-module _ {B : Type 0} (told : B → Option Told) (clock : B → Clock) where
+module _ {B : Type 0} (see : B → Seen) where
+  abbrev told : B → Option Told
+  told board = (see board).told
+
+  abbrev clock : B → Clock
+  clock board = (see board).clock
+
   record Holds (account : State) (life : Life) (site : Site B) : Type 0 where
     pub left : (left : Left) → LeftNow (clock site.board) left → RecoversBehind account life left
     pub in_force : (standing : Standing) → site.journal ≡ Some standing → InForce account life standing (told site.board) (clock site.board)
@@ -105,7 +114,7 @@ module _ {B : Type 0} (told : B → Option Told) (clock : B → Clock) where
   }
 
   -- started again over files of such an account
-  holds_started : (account : State) (life : Life) (left : Left) (site : Site B) → RecoversBehind account life left → StartsOver told clock left site → Holds account life site
+  holds_started : (account : State) (life : Life) (left : Left) (site : Site B) → RecoversBehind account life left → StartsOver see left site → Holds account life site
   holds_started account life left site behind starts = record {
     left = λ l now. subst (RecoversBehind account life) (sym (starts.rests.rests.only l now ∙ starts.rests.same)) behind;
     in_force = λ standing is. absurd (none_stands standing (sym starts.journal ∙ is));
@@ -113,36 +122,36 @@ module _ {B : Type 0} (told : B → Option Told) (clock : B → Clock) where
 
   -- ---- a call at work
 
-  append_adds : (account : State) (life : Life) (entries : List Entry) (old : Site B) (new : B) → Holds account life old → Works told clock (an_append entries) old new
+  append_adds : (account : State) (life : Life) (entries : List Entry) (old : Site B) (new : B) → Holds account life old → Works see (an_append entries) old new
       → Adds (RecoversBehind account (cut life (an_append entries))) (clock old.board) (clock new)
-  append_adds account life entries old new holds works =
-      let f = holds.in_force works.0.standing works.0.journal in
-      adds_weaker (Appending works.0.standing f.now entries f.there.here) (RecoversBehind account (cut life (an_append entries))) (clock old.board) (clock new)
-      (works.1 f.now f.there f.before (works.0.links f.now f.there f.before.rests.is (record { is = f.before.at.recovers })))
-      (λ left by. elim by.recovers [
+  append_adds account life entries old new holds (call, ended, has, does) =
+      let f = holds.in_force call.standing call.journal in
+      let links = call.links f.now f.there f.before.rests.is (record { is = f.before.at.recovers }) in
+      does_leaves see (append_acts call.standing call.link) ended old.board new (RecoversBehind account (cut life (an_append entries))) f.there f.before.rests does
+      (λ made left moment. elim (append_leaves call.standing f.now entries call.link f.there left (has made) links f.before.at moment).recovers [
         | inl as_before ↦ record { now = f.now; continues = continues_without account f.now life (an_append entries) f.continues; recovers = as_before }
         | inr with_link ↦ record { now = account_after_all f.now entries; continues = continues_cut account f.now life entries f.continues; recovers = with_link }
       ])
 
   -- the account that a switch is called with is the one that the files hold
-  switch_before : (account : State) (life : Life) (old : Site B) (call : CallsSwitch told old) (f : InForce account life call.standing (told old.board) (clock old.board)) → Before call.standing call.account f.there (told old.board) (clock old.board)
+  switch_before : (account : State) (life : Life) (old : Site B) (call : CallsSwitch see old) (f : InForce account life call.standing (told old.board) (clock old.board)) → Before call.standing call.account f.there (told old.board) (clock old.board)
   switch_before account life old call f =
       subst (λ (a : State). Before call.standing a f.there (told old.board) (clock old.board))
       (one_account f.now call.account f.there.here (record { is = f.before.at.recovers }) (call.held f.there f.before.rests.is)) f.before
 
-  switch_continues : (account : State) (life : Life) (old : Site B) (call : CallsSwitch told old) → InForce account life call.standing (told old.board) (clock old.board) → Continues account life call.account
+  switch_continues : (account : State) (life : Life) (old : Site B) (call : CallsSwitch see old) → InForce account life call.standing (told old.board) (clock old.board) → Continues account life call.account
   switch_continues account life old call f =
       subst (Continues account life) (one_account f.now call.account f.there.here (record { is = f.before.at.recovers }) (call.held f.there f.before.rests.is)) f.continues
 
-  switch_adds : (account : State) (life : Life) (old : Site B) (new : B) → Holds account life old → Works told clock a_switch old new → Adds (RecoversBehind account (cut life a_switch)) (clock old.board) (clock new)
-  switch_adds account life old new holds works =
-      let f = holds.in_force works.0.standing works.0.journal in
-      adds_weaker (Switching works.0.standing works.0.account f.there.here) (RecoversBehind account (cut life a_switch)) (clock old.board) (clock new)
-      (works.1 f.there (switch_before account life old works.0 f))
-      (λ left by. record {
-        now = works.0.account;
-        continues = continues_without account works.0.account life a_switch (switch_continues account life old works.0 f);
-        recovers = by.recovers;
+  switch_adds : (account : State) (life : Life) (old : Site B) (new : B) → Holds account life old → Works see a_switch old new → Adds (RecoversBehind account (cut life a_switch)) (clock old.board) (clock new)
+  switch_adds account life old new holds (call, ended, can, does) =
+      let f = holds.in_force call.standing call.journal in
+      let before = switch_before account life old call f in
+      does_leaves see (switch_acts call.standing call.account) ended old.board new (RecoversBehind account (cut life a_switch)) f.there before.rests does
+      (λ made left moment. record {
+        now = call.account;
+        continues = continues_without account call.account life a_switch (switch_continues account life old call f);
+        recovers = (switch_leaves call.standing call.account f.there left (can made) before.at moment).recovers;
       })
 
   -- what the board tells is among what a stop leaves
@@ -160,7 +169,7 @@ module _ {B : Type 0} (told : B → Option Told) (clock : B → Clock) where
     recovers = subst (λ (a : State). Recovers a left) (sym (none_of behind.now here behind.recovers.is formats.none).account_is) formats.recovers;
   }
 
-  opening_adds : TellsLeft → (account : State) (life : Life) (old : Site B) (new : B) → Holds account life old → Works told clock an_opening old new → Adds (RecoversBehind account (cut life an_opening)) (clock old.board) (clock new)
+  opening_adds : TellsLeft → (account : State) (life : Life) (old : Site B) (new : B) → Holds account life old → Works see an_opening old new → Adds (RecoversBehind account (cut life an_opening)) (clock old.board) (clock new)
   opening_adds tells account life old new holds works =
       adds_weaker (Opening (clock old.board) works.0.there.here) (RecoversBehind account (cut life an_opening)) (clock old.board) (clock new) works.1
       (λ left by. without account life an_opening left (elim by [
@@ -168,12 +177,12 @@ module _ {B : Type 0} (told : B → Option Told) (clock : B → Clock) where
         | inr formats ↦ formats_behind account life works.0.there.here left (holds.left works.0.there.here (tells old.board works.0.there works.0.tells)) formats
       ]))
 
-  adds_of : TellsLeft → (account : State) (life : Life) (call : JournalCall) (old : Site B) (new : B) → Holds account life old → Works told clock call old new → Adds (RecoversBehind account (cut life call)) (clock old.board) (clock new)
+  adds_of : TellsLeft → (account : State) (life : Life) (call : JournalCall) (old : Site B) (new : B) → Holds account life old → Works see call old new → Adds (RecoversBehind account (cut life call)) (clock old.board) (clock new)
   adds_of tells account life (an_append entries) old new holds works = append_adds account life entries old new holds works
   adds_of tells account life a_switch old new holds works = switch_adds account life old new holds works
   adds_of tells account life an_opening old new holds works = opening_adds tells account life old new holds works
 
-  at_work : TellsLeft → (account : State) (life : Life) (call : JournalCall) (old : Site B) (new : B) (left : Left) → Holds account life old → Works told clock call old new → (clock new).may_leave_since (clock old.board).now left
+  at_work : TellsLeft → (account : State) (life : Life) (call : JournalCall) (old : Site B) (new : B) (left : Left) → Holds account life old → Works see call old new → (clock new).may_leave_since (clock old.board).now left
       → RecoversBehind account (cut life call) left
   at_work tells account life call old new left holds works since =
       elim ((adds_of tells account life call old new holds works).each (clock old.board).now left (omega arith) since) [
@@ -183,28 +192,30 @@ module _ {B : Type 0} (told : B → Option Told) (clock : B → Clock) where
 
   -- ---- a call that was answered
 
-  opening_answered : TellsLeft → (account : State) (life : Life) (now : State) (old new : Site B) → Holds account life old → Opens told clock now old new → Continues account life now
+  opening_answered : TellsLeft → (account : State) (life : Life) (now : State) (old new : Site B) → Holds account life old → Opens see now old new → Continues account life now
   opening_answered tells account life now old new holds opens =
       let behind = holds.left opens.call.there.here (tells old.board opens.call.there opens.call.tells) in
       subst (Continues account life) (one_account behind.now now opens.call.there.here behind.recovers opens.recovers) behind.continues
 
-  holds_answered : TellsLeft → (account : State) (life : Life) (call : JournalCall) (old new : Site B) → Holds account life old → IsAnswered told clock call old new → Holds account (done life call) new
-  holds_answered tells account life (an_append entries) old new holds (call, journal, answered) =
+  holds_answered : TellsLeft → (account : State) (life : Life) (call : JournalCall) (old new : Site B) → Holds account life old → IsAnswered see call old new → Holds account (done life call) new
+  holds_answered tells account life (an_append entries) old new holds (call, journal, has, does) =
       let f = holds.in_force call.standing call.journal in
+      let links = call.links f.now f.there f.before.rests.is (record { is = f.before.at.recovers }) in
       holds_open account (done life (an_append entries)) _ new journal (record {
         now = account_after_all f.now entries;
         continues = continues_done account f.now life entries f.continues;
-        there = _;
-        before = answered f.now f.there f.before (call.links f.now f.there f.before.rests.is (record { is = f.before.at.recovers }));
+        there = after_acts (append_acts call.standing call.link) f.there;
+        before = record { rests = does.rests f.there f.before.rests; at = append_ends call.standing f.now entries call.link f.there has links f.before.at };
       })
-  holds_answered tells account life a_switch old new holds (call, journal, answered) =
+  holds_answered tells account life a_switch old new holds (call, journal, can, does) =
       let f = holds.in_force call.standing call.journal in
       let c = switch_continues account life old call f in
+      let before = switch_before account life old call f in
       holds_open account (done life a_switch) _ new journal (record {
         now = call.account;
         continues = record { links = c.links; kept = c.kept; is = c.is };
-        there = _;
-        before = answered f.there (switch_before account life old call f);
+        there = after_acts (switch_acts call.standing call.account) f.there;
+        before = record { rests = does.rests f.there before.rests; at = switch_ends call.standing call.account f.there can before.at };
       })
   holds_answered tells account life an_opening old new holds (now, opens) =
       let c = opening_answered tells account life now old new holds opens in
@@ -217,7 +228,7 @@ module _ {B : Type 0} (told : B → Option Told) (clock : B → Clock) where
 
   -- ---- a call that was cut, and a stop
 
-  holds_cut : TellsLeft → Earlier → (account : State) (life : Life) (call : JournalCall) (old new : Site B) → Holds account life old → IsCut told clock call old new → Holds account (cut life call) new
+  holds_cut : TellsLeft → Earlier → (account : State) (life : Life) (call : JournalCall) (old new : Site B) → Holds account life old → IsCut see call old new → Holds account (cut life call) new
   holds_cut tells earlier account life call old new holds (board, works, inl (left, since, starts)) =
       holds_started account (cut life call) left new (at_work tells account life call old board left holds works since) starts
   holds_cut tells earlier account life call old new holds (board, works, inr is) =
@@ -227,19 +238,19 @@ module _ {B : Type 0} (told : B → Option Told) (clock : B → Clock) where
         in_force = λ standing is. absurd (none_stands standing is);
       })
 
-  holds_stopped : (account : State) (life : Life) (old new : Site B) → Holds account life old → IsStopped told clock old new → Holds account (stopped life) new
+  holds_stopped : (account : State) (life : Life) (old new : Site B) → Holds account life old → IsStopped see old new → Holds account (stopped life) new
   holds_stopped account life old new holds (left, now, starts) =
       let behind = holds.left left now in
       holds_started account (stopped life) left new
       (record { now = behind.now; continues = record { links = behind.continues.links; kept = behind.continues.kept; is = behind.continues.is }; recovers = behind.recovers }) starts
 
-  holds_begun : (account : State) (site : Site B) → BeginsWith told clock account site → Holds account start site
+  holds_begun : (account : State) (site : Site B) → BeginsWith see account site → Holds account start site
   holds_begun account site (inl (here, recovers, starts)) =
       holds_started account start here site (record { now = account; continues = continues_first account; recovers = recovers }) starts
   holds_begun account site (inr (standing, journal, is)) =
       holds_open account start standing site journal (record { now = account; continues = continues_first account; there = is.there; before = is.before })
 
-  lives : TellsLeft → Earlier → (account : State) (life : Life) (first last : Site B) → BeginsWith told clock account first → Lives told clock life first last → Holds account life last
+  lives : TellsLeft → Earlier → (account : State) (life : Life) (first last : Site B) → BeginsWith see account first → Lives see life first last → Holds account life last
   lives tells earlier account start first last begins is = subst (λ (site : Site B). Holds account start site) (sym is) (holds_begun account first begins)
   lives tells earlier account (done life call) first last begins (mid, so_far, answered) =
       holds_answered tells account life call mid last (lives tells earlier account life first mid begins so_far) answered
@@ -250,12 +261,12 @@ module _ {B : Type 0} (told : B → Option Told) (clock : B → Clock) where
 
   -- ---- the law's clauses
 
-  pub between_calls : TellsLeft → Earlier → (account : State) (life : Life) (first last : Site B) (left : Left) → BeginsWith told clock account first → Lives told clock life first last → LeftNow (clock last.board) left → RecoversBehind account life left
+  pub between_calls : TellsLeft → Earlier → (account : State) (life : Life) (first last : Site B) (left : Left) → BeginsWith see account first → Lives see life first last → LeftNow (clock last.board) left → RecoversBehind account life left
   between_calls tells earlier account life first last left begins so_far now = (lives tells earlier account life first last begins so_far).left left now
 
-  pub in_a_call : TellsLeft → Earlier → (account : State) (life : Life) (call : JournalCall) (first last : Site B) (board : B) (left : Left) → BeginsWith told clock account first → Lives told clock life first last
-      → Works told clock call last board → (clock board).may_leave_since (clock last.board).now left → RecoversBehind account (cut life call) left
+  pub in_a_call : TellsLeft → Earlier → (account : State) (life : Life) (call : JournalCall) (first last : Site B) (board : B) (left : Left) → BeginsWith see account first → Lives see life first last
+      → Works see call last board → (clock board).may_leave_since (clock last.board).now left → RecoversBehind account (cut life call) left
   in_a_call tells earlier account life call first last board left begins so_far works since = at_work tells account life call last board left (lives tells earlier account life first last begins so_far) works since
 
-  pub opened_account : TellsLeft → Earlier → (account now : State) (life : Life) (first last new : Site B) → BeginsWith told clock account first → Lives told clock life first last → Opens told clock now last new → Continues account life now
+  pub opened_account : TellsLeft → Earlier → (account now : State) (life : Life) (first last new : Site B) → BeginsWith see account first → Lives see life first last → Opens see now last new → Continues account life now
   opened_account tells earlier account now life first last new begins so_far opens = opening_answered tells account life now last new (lives tells earlier account life first last begins so_far) opens

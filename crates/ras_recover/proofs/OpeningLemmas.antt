@@ -1,5 +1,5 @@
 -- What a stop leaves while file 0 is formatted, where no file stands.
-use Rattle.std.proofs.Common.{◌≡◌, ◌∙◌, ℕ, ◌+◌, ◌-◌, ◌≤◌, ◌⊎◌, ◌^◌, min, List, [], ◌∷◌, ◌++◌, length, length-append, Option, None, Some, Result, Ok, refl, sym, ap, subst, arith, inl, inr}
+use Rattle.std.proofs.Common.{◌≡◌, ◌∙◌, ℕ, ◌+◌, ◌-◌, ◌≤◌, ◌⊎◌, ◌^◌, min, List, [], ◌∷◌, ◌++◌, length, length-append, Option, None, Some, Result, Ok, Err, refl, sym, ap, subst, arith, inl, inr}
 use Rattle.std.specs.Prelude.{Bool, true, false, if◌then◌else◌, nat_lt, IfSome, unwrap_or}
 use Rattle.std.specs.Option.{option_map}
 use Rattle.ras_base.specs.Chaining.{◌>>=◌}
@@ -7,15 +7,16 @@ use Rattle.ras_base.specs.LittleEndian.{u64_bytes}
 use Rattle.ras_base.specs.LittleEndianLemmas.{length-u64_bytes}
 use Rattle.board_core.specs.declared.board.FileNo.TheVariants.{Zero, One}
 use Rattle.board_core.specs.Clock.{Clock, LeftNow, Adds, Rests}
-use Rattle.board_core.specs.ClockLemmas.{adds_weaker, adds_both}
-use Rattle.board_core.specs.Stop.{Left, InFile, with_file_in}
-use Rattle.board_core.specs.Told.{Told, overlay}
+use Rattle.board_core.specs.ClockLemmas.{adds_weaker, adds_both, adds_none}
+use Rattle.board_core.specs.Doing.{Act, Does, Ended, GoesWell, IsMade, Moment, Seen, after_acts, broke, gave_up, went_well}
+use Rattle.board_core.specs.Stop.{Left, with_file_in}
+use Rattle.board_core.specs.Told.{Told}
 use Rattle.ras_account.specs.History.{empty}
 use Rattle.ras_account.specs.Account.{State, account_of}
 use Rattle.entry_format.specs.declared.version.Version.TheVariants.{Two}
 use Rattle.journal_format.specs.Checkpoints.{checkpoint_bytes, front_bytes, end_bytes, IsCheckpoint}
 use Rattle.entry_format.specs.Spelling.{limit_bytes}
-use Rattle.ras_journal.specs.declared.limits.TheConstants.{LONGEST_FILE, OPEN_GATE}
+use Rattle.ras_journal.specs.declared.limits.TheConstants.{LONGEST_FILE}
 use Rattle.ras_journal.specs.declared.standing.Standing.{Standing}
 use Rattle.ras_journal.specs.File.{FileFront, has_open_gate, first_front, whole_front, front_of}
 use Rattle.ras_journal.specs.Recovered.{Refusal, JournalFile, greater, generation_in, journal_of, account_of_journal, recovered, standing_of, standing_in, position_of, is_shut, Recovers, IsAt}
@@ -24,12 +25,12 @@ use Rattle.ras_journal.proofs.PartLemmas.{bind_ok, same_ok}
 use Rattle.ras_journal.proofs.FormattingLemmas.{absent}
 use Rattle.ras_journal.proofs.JournalLemmas.{both_whole, both_parts, recovers_of, at_of}
 use Rattle.ras_journal.proofs.PairLemmas.{none_stands}
-use Rattle.ras_recover.specs.Formatting.{behind_gate, after_formatting, Formatting}
+use Rattle.ras_recover.specs.Formatting.{behind_gate, formatting_acts}
 use Rattle.ras_recover.specs.Looking.{standing_begun}
-use Rattle.ras_recover.specs.Opening.{FormatsFirst, Opening, HoldsNone, IsOpened, first_standing, standing_opened}
+use Rattle.ras_recover.specs.Opening.{FormatsFirst, Opening, HoldsNone, IsOpened, acts_behind, first_standing, opening_acts, standing_opened}
 use Rattle.ras_recover.specs.Recovering.{Keeps, RestsHere}
 use Rattle.ras_recover.proofs.KeepingLemmas.{still}
-use Rattle.ras_recover.proofs.FormattingLemmas.{formatting_reads, formatted, formatted_reads, formatting_short, formatted_short, writing_told, writing_frame}
+use Rattle.ras_recover.proofs.FormattingLemmas.{formatted, formatted_reads, formatted_short, formatted_told, formatting_reads, formatting_short, moment_formats}
 
 -- a file of which nothing counts doesn't stand
 not_standing : (taken : Option ℕ) (file : List ℕ) → front_of taken file ≡ Ok None → has_open_gate file ≡ false
@@ -129,50 +130,44 @@ bytes_length account =
     let n = u64_bytes (length c) in
     omega (arith, length-u64_bytes 1, length-u64_bytes (length c), length-append g (n ++ c), length-append n c, length-append (g ++ (n ++ c)) (0 ∷ []))
 
-first_moment : (account : State) (here left : Left) → HoldsNone account here → IsCheckpoint Two account (checkpoint_bytes Two account)
-    → InFile Zero (Formatting (is_shut here.file0) (behind_gate 1 (checkpoint_bytes Two account))) here left → FormatsFirst here left
-first_moment account here left holds is by =
+-- the acts of the formatting, for a file that is known to be shut or not
+abbrev pub first_acts : Bool → State → List Act
+first_acts shut account = formatting_acts Zero shut (behind_gate 1 (checkpoint_bytes Two account))
+
+first_moment : (account : State) (shut : Bool) (t : Told) (left : Left) → HoldsNone account t.here → IsCheckpoint Two account (checkpoint_bytes Two account) → shut ≡ is_shut t.here.file0 → Moment (first_acts shut account) t left → FormatsFirst t.here left
+first_moment account shut t left holds is shut_is moment =
+    let here = t.here in
+    let by = moment_formats Zero shut (behind_gate 1 (checkpoint_bytes Two account)) t left moment in
     let none = none_of account here holds.recovers holds.none in
     let can = can_format account here none is in
     let room : 26 + length (checkpoint_bytes Two account) ≤ LONGEST_FILE = can.room in
-    let short : length by.bytes ≤ LONGEST_FILE = formatting_short (is_shut here.file0) (behind_gate 1 (checkpoint_bytes Two account)) here.file0 by.bytes refl none.short_zero (omega (arith, bytes_length account)) by.step in
+    let short : length by.bytes ≤ LONGEST_FILE = formatting_short shut (behind_gate 1 (checkpoint_bytes Two account)) here.file0 by.bytes shut_is none.short_zero (omega (arith, bytes_length account)) by.step in
     let recovers : Recovers account (with_file_in Zero by.bytes here) = first_recovers account (checkpoint_bytes Two account) here none by.bytes short
-    (formatting_reads None (is_shut here.file0) here.file0 by.bytes 1 (checkpoint_bytes Two account) account refl (begins account (checkpoint_bytes Two account) can) by.step) in
+    (formatting_reads None shut here.file0 by.bytes 1 (checkpoint_bytes Two account) account shut_is (begins account (checkpoint_bytes Two account) can) by.step) in
     record {
       none = holds.none;
       recovers = subst (λ (a : State). Recovers a left) none.account_is (subst (λ (l : Left). Recovers account l) (sym by.rest) recovers);
       rest = by.rest ∙ ap (λ (b : List ℕ). with_file_in Zero b here) (sym (ap (λ (l : Left). l.file0) by.rest));
     }
 
-pub first_stops : (account : State) (shut : Bool) (bytes : List ℕ) (t : Told) (old new : Clock) → HoldsNone account t.here → IsCheckpoint Two account (checkpoint_bytes Two account) → shut ≡ is_shut t.here.file0 → bytes ≡ behind_gate 1 (checkpoint_bytes Two account)
-    → Adds (InFile Zero (Formatting shut bytes) t.here) old new → Adds (FormatsFirst t.here) old new
-first_stops account shut bytes t old new holds is shut_is bytes_are adds =
-    adds_weaker (InFile Zero (Formatting shut bytes) t.here) (FormatsFirst t.here) old new adds
-    (λ left by. first_moment account t.here left holds is
-    (subst (λ (b : List ℕ). InFile Zero (Formatting (is_shut t.here.file0) b) t.here left) bytes_are (subst (λ (s : Bool). InFile Zero (Formatting s bytes) t.here left) shut_is by)))
-
-pub first_opened : (account : State) (shut : Bool) (bytes : List ℕ) (shut_one : Bool) (t : Told) (told : Option Told) (clock : Clock) → HoldsNone account t.here → IsCheckpoint Two account (checkpoint_bytes Two account) → shut ≡ is_shut t.here.file0
-    → bytes ≡ behind_gate 1 (checkpoint_bytes Two account) → shut_one ≡ is_shut t.here.file1 → Rests (after_formatting Zero shut bytes t) told clock → IsOpened (standing_begun account shut_one) account told clock
-first_opened account shut bytes shut_one t told clock holds is shut_is bytes_are shut_one_is rests =
+first_opened : (account : State) (shut shut_one : Bool) (t : Told) (told : Option Told) (clock : Clock) → HoldsNone account t.here → IsCheckpoint Two account (checkpoint_bytes Two account) → shut ≡ is_shut t.here.file0
+    → shut_one ≡ is_shut t.here.file1 → Rests (after_acts (first_acts shut account) t) told clock → IsOpened (standing_begun account shut_one) account told clock
+first_opened account shut shut_one t told clock holds is shut_is shut_one_is rests =
     let here = t.here in
     let none = none_of account here holds.recovers holds.none in
     let can = can_format account here none is in
     let room : 26 + length (checkpoint_bytes Two account) ≤ LONGEST_FILE = can.room in
     let c = checkpoint_bytes Two account in
-    let file = formatted (is_shut here.file0) (behind_gate 1 c) here.file0 in
-    let short : length file ≤ LONGEST_FILE = formatted_short (is_shut here.file0) (behind_gate 1 c) here.file0 refl none.short_zero (omega (arith, bytes_length account)) in
+    let file = formatted shut (behind_gate 1 c) here.file0 in
+    let short : length file ≤ LONGEST_FILE = formatted_short shut (behind_gate 1 c) here.file0 shut_is none.short_zero (omega (arith, bytes_length account)) in
     let long : min (2 ^ 64 - 1) (25 + min (2 ^ 64 - 1) (length c)) ≡ 25 + length c = omega arith in
-    let reads = formatted_reads None (is_shut here.file0) here.file0 1 c account refl (begins account c can) in
+    let reads = formatted_reads None shut here.file0 1 c account shut_is (begins account c can) in
     let left = with_file_in Zero file here in
-    let told_here : (after_formatting Zero shut bytes t).here ≡ left =
-    writing_frame Zero shut bytes _ t
-    ∙ (ap (λ (l : List ℕ). with_file_in Zero (overlay 0 (OPEN_GATE ∷ []) l) here) (writing_told Zero shut bytes t)
-    ∙ (ap (λ (s : Bool). with_file_in Zero (formatted s bytes here.file0) here) shut_is ∙ ap (λ (b : List ℕ). with_file_in Zero (formatted (is_shut here.file0) b here.file0) here) bytes_are)) in
     record {
-      there = after_formatting Zero shut bytes t;
+      there = after_acts (first_acts shut account) t;
       before = record {
         rests = rests;
-        at = subst (λ (l : Left). IsAt (standing_begun account shut_one) account l) (sym told_here)
+        at = subst (λ (l : Left). IsAt (standing_begun account shut_one) account l) (sym (formatted_told Zero shut (behind_gate 1 c) t))
             (at_of left (record { file = Zero; front = begun_front Two 1 c account }) (standing_begun account shut_one) account
             (first_counts account c here none file short reads)
             (λ i. record { file = Zero; version = Two; generation = 1; length = sym long i; links = 0; shut = sym shut_one_is i }) refl);
@@ -213,25 +208,35 @@ pub zero_is_shut : (one two : Bool) (told : Option Told) → IfSome told (λ t. 
 zero_is_shut one two None is = tt
 zero_is_shut one two (Some t) is = is.0
 
--- what format_first gives, from rest
-abbrev pub FormatStops : State → Option Told → Clock → Clock → Type 0
-FormatStops account told old new = (t : Told) → HoldsNone account t.here → Rests t told old → Adds (FormatsFirst t.here) old new
+-- what format_first gives, after a recovery that found nothing
+module _ {X : Type 0} (see : X → Seen) (account : State) (one two : Bool) (old a b : X) (t : Told) (told : (see old).told ≡ Some t) (holds : Holds account (see old).told) (none : HasPosition None (see old).told)
+    (shut : IfSome (see old).told (λ u. (one ≡ is_shut u.here.file0) × (two ≡ is_shut u.here.file1))) (r : RestsHere t.here (see a).told (see a).clock) where
+  there_none : HoldsNone account r.there.here
+  there_none = subst (λ (l : Left). HoldsNone account l) (sym r.same) (holds_none account t (see old).told told holds none)
 
-pub opening_stops : (account : State) (t : Told) (told_old : Option Told) (old : Clock) (told_a : Option Told) (a new : Clock) → told_old ≡ Some t → Keeps told_old old told_a a → Holds account told_old → HasPosition None told_old
-    → RestsHere t.here told_a a → FormatStops account told_a a new → Adds (Opening old t.here) old new
-opening_stops account t told_old old told_a a new is keeps holds none r format =
-    let adds = format r.there (subst (λ (l : Left). HoldsNone account l) (sym r.same) (holds_none account t told_old is holds none)) r.rests in
-    adds_both (Opening old t.here) old a new (adds_weaker (LeftNow old) (Opening old t.here) old a keeps.stops (λ left now. inl now))
-    (adds_weaker (FormatsFirst r.there.here) (Opening old t.here) a new adds (λ left f. inr (subst (λ (l : Left). FormatsFirst l left) r.same f)))
+  there_shut : (one ≡ is_shut r.there.here.file0) × (two ≡ is_shut r.there.here.file1)
+  there_shut = subst (λ (l : Left). (one ≡ is_shut l.file0) × (two ≡ is_shut l.file1)) (sym r.same) (subst (λ (o : Option Told). IfSome o (λ u. (one ≡ is_shut u.here.file0) × (two ≡ is_shut u.here.file1))) told shut)
 
-abbrev pub FormatOpens : State → Bool → Standing → Option Told → Clock → Option Told → Clock → Type 0
-FormatOpens account shut standing told old told_new new = (t : Told) → HoldsNone account t.here → shut ≡ is_shut t.here.file1 → Rests t told old → IsOpened standing account told_new new
+  formats : (stops : (u : Told) → Rests u (see a).told (see a).clock → Adds (Moment (first_acts one account) u) (see a).clock (see b).clock) → IsCheckpoint Two account (checkpoint_bytes Two account) → Adds (FormatsFirst r.there.here) (see a).clock (see b).clock
+  formats stops is =
+      adds_weaker (Moment (first_acts one account) r.there) (FormatsFirst r.there.here) (see a).clock (see b).clock (stops r.there r.rests)
+      (λ left moment. first_moment account one r.there left there_none is there_shut.0 moment)
 
-pub opening_opens : (account : State) (one two : Bool) (standing : Standing) (t : Told) (told_old : Option Told) (told_a : Option Told) (a : Clock) (told_new : Option Told) (new : Clock) → told_old ≡ Some t → Holds account told_old → HasPosition None told_old
-    → IfSome told_old (λ u. (one ≡ is_shut u.here.file0) × (two ≡ is_shut u.here.file1)) → RestsHere t.here told_a a → FormatOpens account two standing told_a a told_new new → IsOpened standing account told_new new
-opening_opens account one two standing t told_old told_a a told_new new is holds none shut r format =
-    let there = subst (λ (o : Option Told). IfSome o (λ u. (one ≡ is_shut u.here.file0) × (two ≡ is_shut u.here.file1))) is shut in
-    format r.there (subst (λ (l : Left). HoldsNone account l) (sym r.same) (holds_none account t told_old is holds none)) (there.1 ∙ ap (λ (l : Left). is_shut l.file1) (sym r.same)) r.rests
+  adds : (ended : Ended) → (IsMade ended → IsCheckpoint Two account (checkpoint_bytes Two account)) → Does see (first_acts one account) ended a b → Adds (FormatsFirst r.there.here) (see a).clock (see b).clock
+  adds went_well can does = formats does.stops (can tt)
+  adds (broke kind) can does = formats does.stops (can tt)
+  adds gave_up can same = subst (λ x. Adds (FormatsFirst r.there.here) (see a).clock (see x).clock) (sym same) (adds_none (FormatsFirst r.there.here) (see a).clock)
+
+  pub opening_stops : (ended : Ended) → (IsMade ended → IsCheckpoint Two account (checkpoint_bytes Two account)) → Does see (first_acts one account) ended a b → Keeps (see old).told (see old).clock (see a).told (see a).clock
+      → Adds (Opening (see old).clock t.here) (see old).clock (see b).clock
+  opening_stops ended can does keeps =
+      adds_both (Opening (see old).clock t.here) (see old).clock (see a).clock (see b).clock
+      (adds_weaker (LeftNow (see old).clock) (Opening (see old).clock t.here) (see old).clock (see a).clock keeps.stops (λ left now. inl now))
+      (adds_weaker (FormatsFirst r.there.here) (Opening (see old).clock t.here) (see a).clock (see b).clock (adds ended can does)
+      (λ left f. inr (subst (λ (l : Left). FormatsFirst l left) r.same f)))
+
+  pub opening_opens : IsCheckpoint Two account (checkpoint_bytes Two account) → GoesWell (first_acts one account) (see a) (see b) → IsOpened (standing_begun account two) account (see b).told (see b).clock
+  opening_opens is does = first_opened account one two r.there (see b).told (see b).clock there_none is there_shut.0 there_shut.1 (does.rests r.there r.rests)
 
 -- ---- where the journal stands then
 
@@ -252,3 +257,42 @@ stands_first account one two None holds none is = tt
 stands_first account one two (Some t) holds none is =
     first_of_empty account t.here.file1 two (none_of account t.here holds none).account_is is.1
     ∙ sym (ap (λ (o : Option Standing). unwrap_or o (first_standing t.here.file1)) none)
+
+-- ---- what is written then
+
+nothing_stands : (account : State) (here : Left) → recovered here.file0 here.file1 ≡ Ok account → position_of here.file0 here.file1 ≡ None → journal_of here.file0 here.file1 ≡ Ok None
+unfolding recovered position_of
+nothing_stands account here is none =
+    let found = bind_ok (journal_of here.file0 here.file1) _ account is in
+    by found.0 found.1 (sym (ap (λ (r : Result (Option JournalFile) Refusal). standing_in here.file0 here.file1 r) found.1) ∙ none)
+  where
+    by : (journal : Option JournalFile) → journal_of here.file0 here.file1 ≡ Ok journal → option_map (standing_of here.file0 here.file1) journal ≡ None → journal_of here.file0 here.file1 ≡ Ok None
+    by (Some journal) e none = absurd cc
+    by None e none = e
+
+-- if nothing stands, file 0 is formatted with the empty account
+pub acts_are : (account : State) (here : Left) (shut : Bool) → HoldsNone account here → shut ≡ is_shut here.file0 → first_acts shut account ≡ opening_acts here
+acts_are account here shut holds is =
+    ap (λ (s : Bool). first_acts s account) is
+    ∙ (ap (λ (a : State). first_acts (is_shut here.file0) a) (none_of account here holds.recovers holds.none).account_is
+    ∙ sym (ap (acts_behind here) (nothing_stands account here holds.recovers holds.none)))
+
+-- and if a file stands, nothing is written
+pub no_acts : (here : Left) (standing : Standing) → position_of here.file0 here.file1 ≡ Some standing → opening_acts here ≡ []
+unfolding position_of
+no_acts here standing is = by (journal_of here.file0 here.file1) is
+  where
+    by : (journal : Result (Option JournalFile) Refusal) → standing_in here.file0 here.file1 journal ≡ Some standing → acts_behind here journal ≡ []
+    by (Ok None) is = absurd cc
+    by (Ok (Some journal)) is = refl
+    by (Err why) is = refl
+
+-- nor if the files are refused
+pub refused_acts : (here : Left) (why : Refusal) → recovered here.file0 here.file1 ≡ Err why → opening_acts here ≡ []
+unfolding recovered
+refused_acts here why is = by (journal_of here.file0 here.file1) is
+  where
+    by : (journal : Result (Option JournalFile) Refusal) → (journal >>= λ j. Ok (account_of_journal j)) ≡ Err why → acts_behind here journal ≡ []
+    by (Ok None) is = absurd cc
+    by (Ok (Some journal)) is = refl
+    by (Err why) is = refl

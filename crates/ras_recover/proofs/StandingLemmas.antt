@@ -23,7 +23,8 @@ use Rattle.ras_recover.specs.declared.place.ReadRefused.{ReadRefused}
 use Rattle.ras_recover.specs.declared.place.ReadRefused.TheVariants.{Disk, Damaged, NoMemory}
 use Rattle.ras_recover.specs.declared.window.SizedFile.{SizedFile}
 use Rattle.ras_recover.specs.declared.window.Window.{Window}
-use Rattle.ras_recover.specs.Looking.{Calls, AreReads, ReadsPart}
+use Rattle.ras_recover.specs.Looking.{AreReads, ReadsPart}
+use Rattle.ras_recover.specs.DiskCalls.{Calls}
 use Rattle.ras_recover.specs.OpeningCalls.{ReadsStanding}
 use Rattle.ras_recover.specs.Windows.{end_of, Spans, IsWindowOf, Sees, IsAnswer, IsBroken, FrontHeld, LooksAt, Looks, read_failure}
 use Rattle.ras_recover.proofs.CallsLemmas.{relates_if, relates_weaker, calls_weaker}

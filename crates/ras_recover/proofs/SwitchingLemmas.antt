@@ -1,32 +1,30 @@
 -- What a stop leaves while the journal is switched, and where the journal stands once it is.
 use Rattle.std.proofs.Common.{◌≡◌, ◌∙◌, ℕ, ◌+◌, ◌≤◌, ◌<◌, ◌⊎◌, List, [], ◌∷◌, ◌++◌, length, Option, None, Some, Ok, refl, sym, ap, subst, arith, inl, inr, length-append}
-use Rattle.std.specs.Prelude.{Bool, true, false, IfSome, nat_lt, if◌then◌else◌}
+use Rattle.std.specs.Prelude.{Bool, true, false, nat_lt, if◌then◌else◌}
 use Rattle.std.proofs.lemmas.Bool.Decides.{nat_tests}
 use Rattle.ras_base.specs.LittleEndian.{u64_bytes}
 use Rattle.ras_base.specs.LittleEndianLemmas.{length-u64_bytes}
 use Rattle.board_core.specs.declared.board.FileNo.{FileNo}
 use Rattle.board_core.specs.declared.board.FileNo.TheVariants.{Zero, One}
-use Rattle.board_core.specs.Clock.{Clock, Adds, Rests}
-use Rattle.board_core.specs.ClockLemmas.{adds_weaker, file_in-with}
+use Rattle.board_core.specs.Doing.{Moment}
+use Rattle.board_core.specs.ClockLemmas.{file_in-with}
 use Rattle.board_core.specs.Stop.{Left, InFile, file_in, with_file_in}
-use Rattle.board_core.specs.Told.{Told, Steps, file_of, overlay}
+use Rattle.board_core.specs.Told.{Told}
 use Rattle.ras_account.specs.Account.{State}
 use Rattle.entry_format.specs.declared.version.Version.TheVariants.{Two}
 use Rattle.journal_format.specs.Checkpoints.{checkpoint_bytes, IsCheckpoint}
-use Rattle.ras_journal.specs.declared.limits.TheConstants.{LONGEST_FILE, LAST_GENERATION, OPEN_GATE}
+use Rattle.ras_journal.specs.declared.limits.TheConstants.{LONGEST_FILE, LAST_GENERATION}
 use Rattle.ras_journal.specs.declared.standing.Standing.{Standing}
 use Rattle.ras_journal.specs.Fields.{is_taken}
 use Rattle.ras_journal.specs.File.{FileFront, has_open_gate, front_of, account_by}
 use Rattle.ras_journal.specs.Recovered.{JournalFile, greater, generation_in, journal_of, other, other_of, is_shut, Recovers, IsAt}
-use Rattle.ras_journal.specs.Appending.{Before}
 use Rattle.ras_journal.specs.Laws.{CanBegin, begun_front}
-use Rattle.ras_journal.proofs.FileLemmas.{lies}
 use Rattle.ras_journal.proofs.FrontLemmas.{front_parts}
 use Rattle.ras_journal.proofs.JournalLemmas.{both_whole, both_parts, here_of, recovers_of, at_of}
 use Rattle.ras_journal.proofs.SwitchLemmas.{taken_for_other, greater_with, other_changed}
-use Rattle.ras_recover.specs.Formatting.{behind_gate, Formatting}
-use Rattle.ras_recover.specs.Switching.{switched, next_bytes, after_switch, Switching}
-use Rattle.ras_recover.proofs.FormattingLemmas.{formatting_reads, formatted, formatted_reads, formatting_short, formatted_short, writing_told, writing_frame}
+use Rattle.ras_recover.specs.Formatting.{behind_gate}
+use Rattle.ras_recover.specs.Switching.{CanSwitch, Switching, after_switch, next_bytes, switch_acts, switched}
+use Rattle.ras_recover.proofs.FormattingLemmas.{Formatting, formatted, formatted_reads, formatted_short, formatted_told, formatting_reads, formatting_short, moment_formats}
 
 -- ---- the other file is read as before
 
@@ -101,11 +99,6 @@ other_bytes One left = refl
 other_short : (file : FileNo) (left : Left) (journal : Option JournalFile) → journal_of left.file0 left.file1 ≡ Ok journal → length (file_in (other file) left) ≤ LONGEST_FILE
 other_short Zero left journal e = (both_parts left.file0 left.file1 journal e).0.short_one
 other_short One left journal e = (both_parts left.file0 left.file1 journal e).0.short_zero
-
-pub record CanSwitch (standing : Standing) (account : State) : Type 0 where
-  pub generation : standing.generation < LAST_GENERATION
-  pub room : 27 + length (checkpoint_bytes Two account) ≤ LONGEST_FILE
-  pub is : IsCheckpoint Two account (checkpoint_bytes Two account)
 
 pub record Ready (standing : Standing) (account : State) (here : Left) : Type 0 where
   pub front : FileFront
@@ -210,10 +203,7 @@ switching_moment standing account here left r room by =
 
 switched_told : (standing : Standing) (account : State) (t : Told)
     → (after_switch standing account t).here ≡ with_file_in (other standing.file) (formatted standing.shut (next_bytes standing account) (file_in (other standing.file) t.here)) t.here
-switched_told standing account t =
-    let file = other standing.file in
-    let bytes = next_bytes standing account in
-    writing_frame file standing.shut bytes _ t ∙ ap (λ (l : List ℕ). with_file_in file (overlay 0 (OPEN_GATE ∷ []) l) t.here) (writing_told file standing.shut bytes t)
+switched_told standing account t = formatted_told (other standing.file) standing.shut (next_bytes standing account) t
 
 open_is_not_shut : (file : List ℕ) → has_open_gate file ≡ true → is_shut file ≡ false
 open_is_not_shut file open_gate = grind (arith, nat_tests)
@@ -237,39 +227,18 @@ at_switched standing account here r room =
     (ap (λ (shut : Bool). record { file = file; version = Two; generation = standing.generation + 1; length = 25 + length (checkpoint_bytes Two account); links = 0; shut = shut }) not_shut)
     refl
 
+-- ---- what a switch comes to
+
+pub switch_leaves : (standing : Standing) (account : State) (t : Told) (left : Left) → CanSwitch standing account → IsAt standing account t.here → Moment (switch_acts standing account) t left → Switching standing account t.here left
+switch_leaves standing account t left can at moment =
+    switching_moment standing account t.here left (ready standing account t.here at can) can.room
+    (moment_formats (other standing.file) standing.shut (next_bytes standing account) t left moment)
+
+pub switch_ends : (standing : Standing) (account : State) (t : Told) → CanSwitch standing account → IsAt standing account t.here → IsAt (switched standing account) account (after_switch standing account t).here
+switch_ends standing account t can at =
+    subst (λ (l : Left). IsAt (switched standing account) account l) (sym (switched_told standing account t)) (at_switched standing account t.here (ready standing account t.here at can) can.room)
+
 -- ---- for the function
-
-pub stops : (standing : Standing) (account : State) (t : Told) (told : Option Told) (old new : Clock) → CanSwitch standing account → Before standing account t told old
-    → (Rests t told old → Adds (InFile (other standing.file) (Formatting standing.shut (next_bytes standing account)) t.here) old new) → Adds (Switching standing account t.here) old new
-stops standing account t told old new can before adds =
-    let r = ready standing account t.here before.at can in
-    adds_weaker (InFile (other standing.file) (Formatting standing.shut (next_bytes standing account)) t.here) (Switching standing account t.here) old new (adds before.rests)
-    (λ left by. switching_moment standing account t.here left r can.room by)
-
-pub before_after : (standing : Standing) (account : State) (t : Told) (told told_new : Option Told) (old new : Clock) → CanSwitch standing account → Before standing account t told old
-    → (Rests t told old → Rests (after_switch standing account t) told_new new) → Before (switched standing account) account (after_switch standing account t) told_new new
-before_after standing account t told told_new old new can before rests =
-    let r = ready standing account t.here before.at can in
-    record {
-      rests = rests before.rests;
-      at = subst (λ (l : Left). IsAt (switched standing account) account l) (sym (switched_told standing account t)) (at_switched standing account t.here r can.room);
-    }
-
--- the closed gate lies in the file
-pub gate_within : (standing : Standing) (account : State) (old new : Option Told) → CanSwitch standing account → IfSome old (λ t. standing.shut ≡ is_shut (file_of (other standing.file) t)) → Steps (after_switch standing account) old new
-    → IfSome new (λ t. 25 + length (checkpoint_bytes Two account) < length (file_of (other standing.file) t))
-gate_within standing account None new can shut steps = subst (λ (o : Option Told). IfSome o (λ t. 25 + length (checkpoint_bytes Two account) < length (file_of (other standing.file) t))) (sym steps) tt
-gate_within standing account (Some t) new can shut steps =
-    let file = other standing.file in
-    let c = checkpoint_bytes Two account in
-    let last : standing.generation < LAST_GENERATION = can.generation in
-    let room : 27 + length c ≤ LONGEST_FILE = can.room in
-    let bytes = formatted standing.shut (next_bytes standing account) (file_of file t) in
-    let begins : CanBegin None Two (standing.generation + 1) c account = record { first = omega arith; last = omega arith; free = refl; size = omega arith; is = can.is } in
-    let l = lies None bytes (begun_front Two (standing.generation + 1) c account) (formatted_reads None standing.shut (file_of file t) (standing.generation + 1) c account shut begins) in
-    let within : 25 + length c < length bytes = l.within in
-    let is : file_of file (after_switch standing account t) ≡ bytes = ap (λ (l : Left). file_in file l) (switched_told standing account t) ∙ file_in-with file bytes t.here in
-    subst (λ (o : Option Told). IfSome o (λ t. 25 + length c < length (file_of file t))) (sym steps) (subst (λ (b : List ℕ). 25 + length c < length b) (sym is) within)
 
 -- the file, whether it is shut, and the bytes that are written there are those of the switch
 pub record IsSwitch (standing : Standing) (account : State) (file : FileNo) (shut : Bool) (bytes : List ℕ) : Type 0 where

@@ -13,19 +13,22 @@ IsReading (ReadAt file place count) = Unit {0}
 IsReading (WriteAt file place count) = ⊥
 IsReading (Sync file) = ⊥
 
--- WriteAt and Sync calls are the others.
-abbrev pub IsWriting : DiskCall → Type 0
-IsWriting (Size file) = ⊥
-IsWriting (ReadAt file place count) = ⊥
-IsWriting (WriteAt file place count) = Unit {0}
-IsWriting (Sync file) = Unit {0}
-
 -- a place of a file lies in the range of this read
 abbrev pub ReadsPlace : FileNo → ℕ → DiskCall → Type 0
 ReadsPlace file place (Size other) = ⊥
 ReadsPlace file place (ReadAt other from count) = (other ≡ file) × (from ≤ place) × (place < from + count)
 ReadsPlace file place (WriteAt other from count) = ⊥
 ReadsPlace file place (Sync other) = ⊥
+
+-- with these disk calls more in the list
+abbrev pub with_calls : List DiskCall → Told → Told
+with_calls made t = record t { disk_calls = t.disk_calls ++ made }
+
+-- Such calls were made, and nothing else is told anew.
+pub record Calls (Are : List DiskCall → Type 0) (old new : Told) : Type 0 where
+  pub made : List DiskCall
+  pub is : new ≡ with_calls made old
+  pub are : Are made
 
 -- The disk calls that were made are such: they are listed behind those made before.
 pub record Makes (Are : List DiskCall → Type 0) (old new : Told) : Type 0 where

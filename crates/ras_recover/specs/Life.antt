@@ -1,21 +1,20 @@
 -- What happens to a journal: calls that work on it, one after another, and stops of the machine at
 -- any moment of them.
 use Rattle.std.specs.Prelude.{◌≡◌, ℕ, ◌⊎◌, List, [], ◌∷◌, ◌++◌, fold, Option, None, Some}
-use Rattle.board_core.specs.Clock.{Clock, LeftNow, Adds}
+use Rattle.board_core.specs.Clock.{LeftNow, Adds}
+use Rattle.board_core.specs.Doing.{Does, Ended, IsMade, Seen, went_well}
 use Rattle.board_core.specs.Stop.{Left}
 use Rattle.board_core.specs.Told.{Told}
 use Rattle.ras_facts.specs.declared.entry.Entry.{Entry}
 use Rattle.ras_account.specs.Account.{State}
 use Rattle.ras_account.specs.Continued.{account_after_all}
 use Rattle.ras_account.specs.History.{History, with_entries}
-use Rattle.entry_format.specs.declared.version.Version.TheVariants.{Two}
 use Rattle.ras_journal.specs.declared.standing.Standing.{Standing}
 use Rattle.ras_journal.specs.Recovered.{Recovers}
-use Rattle.ras_journal.specs.Appending.{standing_with, after_append, Links, Before, Appending}
-use Rattle.ras_journal.specs.AppendingAll.{account_after_links}
+use Rattle.ras_journal.specs.Appending.{HasRoom, Links, append_acts, standing_with}
 use Rattle.ras_recover.specs.Opening.{Opening, IsOpened}
 use Rattle.ras_recover.specs.Recovering.{RestsHere}
-use Rattle.ras_recover.specs.Switching.{switched, after_switch, Switching}
+use Rattle.ras_recover.specs.Switching.{CanSwitch, switch_acts, switched}
 
 -- a call that works on a journal: an append of a link of these entries, a switch to the other file,
 -- or an opening of the two files
@@ -31,6 +30,10 @@ pub data Life : Type 0 where
   done : Life → JournalCall → Life
   cut : Life → JournalCall → Life
   stopped : Life → Life
+
+-- an account continued by the entries of each link, in order
+abbrev pub account_after_links : State → List (List Entry) → State
+account_after_links account links = fold account_after_all account links
 
 -- The links that count, each by its entries: all whose append was answered Ok, in order. A link
 -- whose append was cut counts or doesn't.
@@ -59,12 +62,16 @@ pub record RecoversBehind (account : State) (life : Life) (left : Left) : Type 0
 abbrev pub with_links : History → List (List Entry) → History
 with_links history links = fold with_entries history links
 
--- ---- what one call does, as its clauses say
+-- ---- what one call does
 
 -- a board, and where the journal stands that is open on it, if one is
 pub record Site (B : Type 0) : Type 0 where
   pub board : B
   pub journal : Option Standing
+
+-- a board on which a journal is open that stands there
+abbrev pub open_site : {B : Type 0} → B → Standing → Site B
+open_site board standing = record { board = board; journal = Some standing }
 
 -- an account that the files hold
 abbrev pub IsHeld : Option Told → State → Type 0
@@ -75,88 +82,84 @@ abbrev pub CanLinkHere : Option Told → List Entry → List ℕ → Type 0
 CanLinkHere told entries link = (account : State) (t : Told) → told ≡ Some t → Recovers account t.here → Links account entries link
 
 -- an append is called, of a link of these entries
-pub record CallsAppend {B : Type 0} (told : B → Option Told) (entries : List Entry) (site : Site B) : Type 0 where
+pub record CallsAppend {B : Type 0} (see : B → Seen) (entries : List Entry) (site : Site B) : Type 0 where
   pub standing : Standing
   pub link : List ℕ
   pub journal : site.journal ≡ Some standing
-  pub version : standing.version ≡ Two
-  pub links : CanLinkHere (told site.board) entries link
+  pub links : CanLinkHere (see site.board).told entries link
 
 -- a switch is called, with the account that the files hold
-pub record CallsSwitch {B : Type 0} (told : B → Option Told) (site : Site B) : Type 0 where
+pub record CallsSwitch {B : Type 0} (see : B → Seen) (site : Site B) : Type 0 where
   pub standing : Standing
   pub account : State
   pub journal : site.journal ≡ Some standing
-  pub held : IsHeld (told site.board) account
+  pub held : IsHeld (see site.board).told account
 
 -- an opening is called, of a board that tells
-pub record CallsOpening {B : Type 0} (told : B → Option Told) (site : Site B) : Type 0 where
+pub record CallsOpening {B : Type 0} (see : B → Seen) (site : Site B) : Type 0 where
   pub there : Told
-  pub tells : told site.board ≡ Some there
+  pub tells : (see site.board).told ≡ Some there
 
--- A call is at work, or has answered, whatever it was. Of a stop the function's clause says this.
-abbrev pub Works : {B : Type 0} → (B → Option Told) → (B → Clock) → JournalCall → Site B → B → Type 0
-Works told clock (an_append entries) old new =
-    (c : CallsAppend told entries old)
-    × ((account : State) (t : Told) → Before c.standing account t (told old.board) (clock old.board) → Links account entries c.link
-    → Adds (Appending c.standing account entries t.here) (clock old.board) (clock new))
-Works told clock a_switch old new =
-    (c : CallsSwitch told old)
-    × ((t : Told) → Before c.standing c.account t (told old.board) (clock old.board)
-    → Adds (Switching c.standing c.account t.here) (clock old.board) (clock new))
-Works told clock an_opening old new =
-    (c : CallsOpening told old) × Adds (Opening (clock old.board) c.there.here) (clock old.board) (clock new)
+-- A call is at work, or has answered, whatever it was: an append and a switch do their acts, or
+-- begin them; and of what stops leave of an opening the function's clause says this.
+abbrev pub Works : {B : Type 0} → (B → Seen) → JournalCall → Site B → B → Type 0
+Works see (an_append entries) old new =
+    (c : CallsAppend see entries old) × (ended : Ended) × (IsMade ended → HasRoom c.standing c.link)
+    × Does see (append_acts c.standing c.link) ended old.board new
+Works see a_switch old new =
+    (c : CallsSwitch see old) × (ended : Ended) × (IsMade ended → CanSwitch c.standing c.account)
+    × Does see (switch_acts c.standing c.account) ended old.board new
+Works see an_opening old new =
+    (c : CallsOpening see old) × Adds (Opening (see old.board).clock c.there.here) (see old.board).clock (see new).clock
 
 -- an opening was answered Ok, with this account
-pub record Opens {B : Type 0} (told : B → Option Told) (clock : B → Clock) (account : State) (old new : Site B) : Type 0 where
-  pub call : CallsOpening told old
+pub record Opens {B : Type 0} (see : B → Seen) (account : State) (old new : Site B) : Type 0 where
+  pub call : CallsOpening see old
   pub standing : Standing
   pub recovers : Recovers account call.there.here
-  pub is : IsOpened standing account (told new.board) (clock new.board)
+  pub is : IsOpened standing account (see new.board).told (see new.board).clock
   pub journal : new.journal ≡ Some standing
 
--- A call was answered Ok. Then the function's clause says this, and the journal stands there.
-abbrev pub IsAnswered : {B : Type 0} → (B → Option Told) → (B → Clock) → JournalCall → Site B → Site B → Type 0
-IsAnswered told clock (an_append entries) old new =
-    (c : CallsAppend told entries old) × (new.journal ≡ Some (standing_with c.standing c.link))
-    × ((account : State) (t : Told) → Before c.standing account t (told old.board) (clock old.board) → Links account entries c.link
-    → Before (standing_with c.standing c.link) (account_after_all account entries) (after_append c.standing c.link t) (told new.board) (clock new.board))
-IsAnswered told clock a_switch old new =
-    (c : CallsSwitch told old) × (new.journal ≡ Some (switched c.standing c.account))
-    × ((t : Told) → Before c.standing c.account t (told old.board) (clock old.board)
-    → Before (switched c.standing c.account) c.account (after_switch c.standing c.account t) (told new.board) (clock new.board))
-IsAnswered told clock an_opening old new = (account : State) × Opens told clock account old new
+-- A call was answered Ok: an append and a switch have done their acts, and the journal stands there.
+abbrev pub IsAnswered : {B : Type 0} → (B → Seen) → JournalCall → Site B → Site B → Type 0
+IsAnswered see (an_append entries) old new =
+    (c : CallsAppend see entries old) × (new.journal ≡ Some (standing_with c.standing c.link)) × HasRoom c.standing c.link
+    × Does see (append_acts c.standing c.link) went_well old.board new.board
+IsAnswered see a_switch old new =
+    (c : CallsSwitch see old) × (new.journal ≡ Some (switched c.standing c.account)) × CanSwitch c.standing c.account
+    × Does see (switch_acts c.standing c.account) went_well old.board new.board
+IsAnswered see an_opening old new = (account : State) × Opens see account old new
 
 -- ---- stops
 
 -- The machine was started again over what a stop left: the board tells that, a stop now leaves just
 -- that, and no journal is open.
-pub record StartsOver {B : Type 0} (told : B → Option Told) (clock : B → Clock) (left : Left) (site : Site B) : Type 0 where
-  pub rests : RestsHere left (told site.board) (clock site.board)
+pub record StartsOver {B : Type 0} (see : B → Seen) (left : Left) (site : Site B) : Type 0 where
+  pub rests : RestsHere left (see site.board).told (see site.board).clock
   pub journal : site.journal ≡ None
 
 -- A life begins here with this account: the machine was started over files that give it, or a
 -- journal is open that holds it.
-abbrev pub BeginsWith : {B : Type 0} → (B → Option Told) → (B → Clock) → State → Site B → Type 0
-BeginsWith told clock account site =
-    ((here : Left) × Recovers account here × StartsOver told clock here site)
-    ⊎ ((standing : Standing) × (site.journal ≡ Some standing) × IsOpened standing account (told site.board) (clock site.board))
+abbrev pub BeginsWith : {B : Type 0} → (B → Seen) → State → Site B → Type 0
+BeginsWith see account site =
+    ((here : Left) × Recovers account here × StartsOver see here site)
+    ⊎ ((standing : Standing) × (site.journal ≡ Some standing) × IsOpened standing account (see site.board).told (see site.board).clock)
 
 -- A call was cut: by a stop at any moment of it, and the machine was started again; or by a fault,
 -- and then no journal is open on the board.
-abbrev pub IsCut : {B : Type 0} → (B → Option Told) → (B → Clock) → JournalCall → Site B → Site B → Type 0
-IsCut {B} told clock call old new =
-    (board : B) × Works told clock call old board
-    × (((left : Left) × (clock board).may_leave_since (clock old.board).now left × StartsOver told clock left new)
+abbrev pub IsCut : {B : Type 0} → (B → Seen) → JournalCall → Site B → Site B → Type 0
+IsCut {B} see call old new =
+    (board : B) × Works see call old board
+    × (((left : Left) × (see board).clock.may_leave_since (see old.board).clock.now left × StartsOver see left new)
     ⊎ (new ≡ record { board = board; journal = None }))
 
 -- a stop came between two calls, and the machine was started again
-abbrev pub IsStopped : {B : Type 0} → (B → Option Told) → (B → Clock) → Site B → Site B → Type 0
-IsStopped told clock old new = (left : Left) × LeftNow (clock old.board) left × StartsOver told clock left new
+abbrev pub IsStopped : {B : Type 0} → (B → Seen) → Site B → Site B → Type 0
+IsStopped see old new = (left : Left) × LeftNow (see old.board).clock left × StartsOver see left new
 
 -- All of this happened, one after the other.
-abbrev pub Lives : {B : Type 0} → (B → Option Told) → (B → Clock) → Life → Site B → Site B → Type 0
-Lives told clock start first last = last ≡ first
-Lives {B} told clock (done life call) first last = (mid : Site B) × Lives told clock life first mid × IsAnswered told clock call mid last
-Lives {B} told clock (cut life call) first last = (mid : Site B) × Lives told clock life first mid × IsCut told clock call mid last
-Lives {B} told clock (stopped life) first last = (mid : Site B) × Lives told clock life first mid × IsStopped told clock mid last
+abbrev pub Lives : {B : Type 0} → (B → Seen) → Life → Site B → Site B → Type 0
+Lives see start first last = last ≡ first
+Lives {B} see (done life call) first last = (mid : Site B) × Lives see life first mid × IsAnswered see call mid last
+Lives {B} see (cut life call) first last = (mid : Site B) × Lives see life first mid × IsCut see call mid last
+Lives {B} see (stopped life) first last = (mid : Site B) × Lives see life first mid × IsStopped see mid last

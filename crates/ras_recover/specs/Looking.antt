@@ -1,5 +1,5 @@
 -- Only for proofs: disk calls that are made while all else that is told stays, or all but a file.
-use Rattle.std.specs.Prelude.{◌≡◌, ℕ, ◌+◌, ◌-◌, ◌^◌, ◌≤◌, ◌<◌, min, Bool, List, [], ◌∷◌, ◌++◌, length, All, Any, Result, OnOk}
+use Rattle.std.specs.Prelude.{◌≡◌, ℕ, ◌+◌, ◌-◌, ◌^◌, ◌≤◌, ◌<◌, min, Bool, List, [], ◌∷◌, length, All, Any, Result, OnOk}
 use Rattle.ras_base.specs.Prefix.{IsPrefixOf}
 use Rattle.board_core.specs.declared.board.FileNo.{FileNo}
 use Rattle.board_core.specs.declared.board.FileNo.TheVariants.{Zero, One}
@@ -10,16 +10,7 @@ use Rattle.ras_account.specs.Account.{State}
 use Rattle.entry_format.specs.declared.version.Version.TheVariants.{Two}
 use Rattle.journal_format.specs.Checkpoints.{checkpoint_bytes}
 use Rattle.ras_journal.specs.declared.standing.Standing.{Standing}
-use Rattle.ras_recover.specs.DiskCalls.{IsReading, IsWriting, ReadsPlace}
-
-abbrev pub with_calls : List DiskCall → Told → Told
-with_calls made t = record t { disk_calls = t.disk_calls ++ made }
-
--- such calls were made, and nothing else is told anew
-pub record Calls (Are : List DiskCall → Type 0) (old new : Told) : Type 0 where
-  pub made : List DiskCall
-  pub is : new ≡ with_calls made old
-  pub are : Are made
+use Rattle.ras_recover.specs.DiskCalls.{IsReading, ReadsPlace, with_calls}
 
 -- both files were synced, or the syncs ended early
 pub record AreSyncs {T E : Type 0} (result : Result T E) (calls : List DiskCall) : Type 0 where
@@ -35,13 +26,12 @@ pub record AreReads {T E : Type 0} (result : Result T E) (Done : List DiskCall �
 abbrev pub ReadsPart : FileNo → ℕ → ℕ → List DiskCall → Type 0
 ReadsPart file from end calls = (place : ℕ) → from ≤ place → place < end → Any (ReadsPlace file place) calls
 
--- at most so many WriteAt and Sync calls were made, and nothing but this file is told anew
-pub record WritesIn (file : FileNo) (most : ℕ) (old new : Told) : Type 0 where
+-- such calls were made, and nothing but this file is told anew
+pub record WritesIn (file : FileNo) (Are : List DiskCall → Type 0) (old new : Told) : Type 0 where
   pub bytes : List ℕ
   pub made : List DiskCall
   pub is : new ≡ with_calls made (with_file file bytes old)
-  pub few : length made ≤ most
-  pub alone : All IsWriting made
+  pub are : Are made
 
 -- where the journal stands behind the checkpoint of this account, with numbers of 64 bits
 abbrev pub standing_begun : State → Bool → Standing

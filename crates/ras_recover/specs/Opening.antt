@@ -1,7 +1,8 @@
 -- What opening a journal leaves.
-use Rattle.std.specs.Prelude.{◌≡◌, ℕ, ◌+◌, ◌⊎◌, List, length, None, Option, Ok, unwrap_or}
+use Rattle.std.specs.Prelude.{◌≡◌, ℕ, ◌+◌, ◌⊎◌, List, [], length, None, Option, Some, Result, Ok, Err, unwrap_or}
 use Rattle.board_core.specs.declared.board.FileNo.TheVariants.{Zero}
 use Rattle.board_core.specs.Clock.{Clock, LeftNow}
+use Rattle.board_core.specs.Doing.{Act}
 use Rattle.board_core.specs.Stop.{Left, with_file_in}
 use Rattle.board_core.specs.Told.{Told}
 use Rattle.ras_account.specs.History.{empty}
@@ -9,8 +10,9 @@ use Rattle.ras_account.specs.Account.{State, account_of}
 use Rattle.entry_format.specs.declared.version.Version.TheVariants.{Two}
 use Rattle.journal_format.specs.Checkpoints.{checkpoint_bytes}
 use Rattle.ras_journal.specs.declared.standing.Standing.{Standing}
-use Rattle.ras_journal.specs.Recovered.{recovered, position_of, is_shut, Recovers}
+use Rattle.ras_journal.specs.Recovered.{JournalFile, Refusal, journal_of, recovered, position_of, is_shut, Recovers}
 use Rattle.ras_journal.specs.Appending.{Before}
+use Rattle.ras_recover.specs.Formatting.{behind_gate, formatting_acts}
 
 -- While file 0 is formatted, whatever a stop leaves recovers the empty account. All but file 0 is
 -- as it was.
@@ -33,6 +35,19 @@ pub record IsOpened (standing : Standing) (account : State) (told : Option Told)
 pub record HoldsNone (account : State) (here : Left) : Type 0 where
   pub recovers : recovered here.file0 here.file1 ≡ Ok account
   pub none : position_of here.file0 here.file1 ≡ None
+
+-- ---- what is written
+
+-- After its recovery an opening formats file 0 with the empty account as generation 1, if no file
+-- stands; else it writes nothing.
+abbrev pub acts_behind : Left → Result (Option JournalFile) Refusal → List Act
+acts_behind here (Ok None) =
+    formatting_acts Zero (is_shut here.file0) (behind_gate 1 (checkpoint_bytes Two (account_of empty)))
+acts_behind here (Ok (Some journal)) = []
+acts_behind here (Err why) = []
+
+abbrev pub opening_acts : Left → List Act
+opening_acts here = acts_behind here (journal_of here.file0 here.file1)
 
 -- ---- where the journal stands
 

@@ -1,34 +1,24 @@
 -- The disk calls of a recovery and of an opening, and what these change of what a board tells,
 -- whatever they answer.
-use Rattle.std.specs.Prelude.{◌≡◌, ℕ, ◌≤◌, ◌⊎◌, List, [], ◌∷◌, ◌++◌, length, All, Any, Option, Some, Ok}
+use Rattle.std.specs.Prelude.{◌≡◌, ℕ, ◌≤◌, ◌⊎◌, List, ◌∷◌, ◌++◌, All, Any, Option, Some, Ok}
 use Rattle.board_core.specs.declared.board.FileNo.{FileNo}
 use Rattle.board_core.specs.declared.board.FileNo.TheVariants.{Zero, One}
 use Rattle.board_core.specs.declared.board.DiskCall.{DiskCall}
 use Rattle.board_core.specs.declared.board.DiskCall.TheVariants.{Sync}
+use Rattle.board_core.specs.Doing.{after_acts, calls_of}
 use Rattle.board_core.specs.Stop.{Left}
 use Rattle.board_core.specs.Told.{Told}
 use Rattle.ras_account.specs.History.{empty}
 use Rattle.ras_account.specs.Account.{account_of}
 use Rattle.ras_journal.specs.File.{FileFront, front_of}
-use Rattle.ras_recover.specs.DiskCalls.{IsReading, IsWriting, ReadsPlace, Makes, IsBeginning}
-use Rattle.ras_recover.specs.Opening.{HoldsNone}
+use Rattle.ras_recover.specs.DiskCalls.{IsReading, ReadsPlace, Makes, IsBeginning, with_calls}
+use Rattle.ras_recover.specs.Opening.{HoldsNone, opening_acts}
 
 -- A whole recovery: both files are synced, and then there are Size and ReadAt calls alone.
 pub record IsRecovery (calls : List DiskCall) : Type 0 where
   pub reading : List DiskCall
   pub is : calls ≡ Sync Zero ∷ Sync One ∷ reading
   pub alone : All IsReading reading
-
--- A whole opening: a recovery. Only where no file stands it is followed by the formatting, at most
--- six WriteAt and Sync calls alone.
-pub record IsOpening (here : Left) (calls : List DiskCall) : Type 0 where
-  pub recovery : List DiskCall
-  pub formatting : List DiskCall
-  pub is : calls ≡ recovery ++ formatting
-  pub recovers : IsRecovery recovery
-  pub few : length formatting ≤ 6
-  pub alone : All IsWriting formatting
-  pub only : (formatting ≡ []) ⊎ HoldsNone (account_of empty) here
 
 -- Where a file stands, each of its places from 0 up to and with its closed gate lies in the range
 -- of one of these reads, whatever generation the other file has taken.
@@ -40,6 +30,27 @@ ReadsStanding file bytes calls =
 pub record ReadsBoth (here : Left) (calls : List DiskCall) : Type 0 where
   pub zero : ReadsStanding Zero here.file0 calls
   pub one : ReadsStanding One here.file1 calls
+
+-- Each place of a file from 0 up to and with the last one lies in the range of one of these reads.
+abbrev pub ReadsTo : FileNo → ℕ → List DiskCall → Type 0
+ReadsTo file last calls = (place : ℕ) → place ≤ last → Any (ReadsPlace file place) calls
+
+-- a whole recovery over files of these bytes: all that counts of them is read
+pub record IsRecoveryOf (here : Left) (calls : List DiskCall) : Type 0 where
+  pub recovery : IsRecovery calls
+  pub reads : ReadsBoth here calls
+
+-- A whole opening: such a recovery, and then the calls of the formatting, if no file stands.
+pub record IsOpening (here : Left) (calls : List DiskCall) : Type 0 where
+  pub recovery : List DiskCall
+  pub recovers : IsRecoveryOf here recovery
+  pub is : calls ≡ recovery ++ calls_of (opening_acts here)
+
+-- An opening was answered Ok: it made such a recovery, and then did just what it writes.
+pub record MakesOpening (old new : Told) : Type 0 where
+  pub recovery : List DiskCall
+  pub recovers : IsRecoveryOf old.here recovery
+  pub is : new ≡ after_acts (opening_acts old.here) (with_calls recovery old)
 
 -- ---- what is told afterwards, whatever the answer is
 

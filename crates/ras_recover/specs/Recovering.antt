@@ -4,6 +4,8 @@ use Rattle.std.specs.Option.{option_map}
 use Rattle.board_core.specs.declared.board.FileNo.{FileNo}
 use Rattle.board_core.specs.declared.board.FileNo.TheVariants.{Zero, One}
 use Rattle.board_core.specs.Clock.{Clock, LeftNow, Adds, Rests}
+use Rattle.board_core.specs.Cause.{disk_call}
+use Rattle.board_core.specs.Doing.{Ended, broke, ended_by, gave_up}
 use Rattle.board_core.specs.Stop.{Left}
 use Rattle.board_core.specs.Told.{Told}
 use Rattle.ras_journal.specs.Recovered.{Refusal, too_long, damaged}
@@ -60,3 +62,13 @@ open_failure (Err Disk) = Err Disk
 open_failure (Err TooLong) = Ok tt
 open_failure (Err (Damaged file place)) = Ok tt
 open_failure (Err NoMemory) = Ok tt
+
+-- Disk comes if a disk call failed. Each other refusal comes from a call that goes no further.
+abbrev pub refusal_end : OpenRefused → Ended
+refusal_end Disk = broke disk_call
+refusal_end TooLong = gave_up
+refusal_end (Damaged file place) = gave_up
+refusal_end NoMemory = gave_up
+
+abbrev pub open_end : {T : Type 0} → Result T OpenRefused → Ended
+open_end result = ended_by refusal_end result

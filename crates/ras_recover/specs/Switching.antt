@@ -1,17 +1,20 @@
 -- What a switch of the journal to the other file does, and what stops leave of it at every moment.
-use Rattle.std.specs.Prelude.{◌≡◌, ℕ, ◌+◌, Bool, false, nat_lt, nat_le, ◌||◌, IsTrue, List, length, Result, Ok, Err}
+use Rattle.std.specs.Prelude.{◌≡◌, ℕ, ◌+◌, ◌<◌, ◌≤◌, Bool, true, false, nat_lt, nat_le, ◌||◌, IsTrue, List, length, Result, Ok, Err}
+use Rattle.board_core.specs.Cause.{disk_call}
+use Rattle.board_core.specs.Doing.{Act, Ended, after_acts, broke, ended_by, gave_up}
 use Rattle.board_core.specs.Stop.{Left, file_in, with_file_in}
 use Rattle.board_core.specs.Told.{Told}
 use Rattle.ras_account.specs.Account.{State}
 use Rattle.entry_format.specs.declared.version.Version.TheVariants.{Two}
-use Rattle.journal_format.specs.Checkpoints.{checkpoint_bytes}
+use Rattle.journal_format.specs.Checkpoints.{IsCheckpoint, checkpoint_bytes}
 use Rattle.ras_journal.specs.declared.limits.TheConstants.{LONGEST_FILE, LAST_GENERATION}
 use Rattle.ras_journal.specs.declared.standing.Standing.{Standing}
 use Rattle.ras_journal.specs.Recovered.{other, Recovers}
 use Rattle.ras_journal.specs.Appending.{length_with}
+use Rattle.ras_journal.specs.View.{JournalView}
 use Rattle.ras_recover.specs.declared.refused.SwitchRefused.{SwitchRefused}
 use Rattle.ras_recover.specs.declared.refused.SwitchRefused.TheVariants.{Full, Disk, NoMemory}
-use Rattle.ras_recover.specs.Formatting.{behind_gate, after_formatting, FailsFormatting}
+use Rattle.ras_recover.specs.Formatting.{behind_gate, formatting_acts}
 
 -- where the journal stands once it is switched: in the other file, with the next generation, behind
 -- the checkpoint of the account, with no link
@@ -29,13 +32,12 @@ switched standing account = record {
 abbrev pub next_bytes : Standing → State → List ℕ
 next_bytes standing account = behind_gate (standing.generation + 1) (checkpoint_bytes Two account)
 
-abbrev pub after_switch : Standing → State → Told → Told
-after_switch standing account t =
-    after_formatting (other standing.file) standing.shut (next_bytes standing account) t
+abbrev pub switch_acts : Standing → State → List Act
+switch_acts standing account = formatting_acts (other standing.file) standing.shut (next_bytes standing account)
 
-abbrev pub FailsSwitch : Standing → State → Told → Told → Type 0
-FailsSwitch standing account old new =
-    FailsFormatting (other standing.file) standing.shut (next_bytes standing account) old new
+-- what is told once it is done
+abbrev pub after_switch : Standing → State → Told → Told
+after_switch standing account t = after_acts (switch_acts standing account) t
 
 -- There is no room for a switch where the last generation is reached, or the other file with this
 -- link would be too long.
@@ -49,22 +51,28 @@ abbrev pub IsFullBy : Result (Unit {0}) SwitchRefused → Bool → Type 0
 IsFullBy (Err Full) lacks = IsTrue lacks
 IsFullBy result lacks = ¬ IsTrue lacks
 
--- Neither Full nor want of memory is a fault of the disk.
-abbrev pub disk_failure : Result (Unit {0}) SwitchRefused → Result (Unit {0}) SwitchRefused
-disk_failure (Ok done) = Ok tt
-disk_failure (Err Full) = Ok tt
-disk_failure (Err Disk) = Err Disk
-disk_failure (Err NoMemory) = Ok tt
+-- Full and NoMemory come before any call, and Disk if a disk call failed.
+abbrev pub refusal_end : SwitchRefused → Ended
+refusal_end Full = gave_up
+refusal_end Disk = broke disk_call
+refusal_end NoMemory = gave_up
 
--- what holds where nothing was called, for want of room or of memory, and where a disk call failed
-abbrev pub OnNothingCalled : Result (Unit {0}) SwitchRefused → Type 0 → Type 0
-OnNothingCalled (Err Full) P = P
-OnNothingCalled (Err NoMemory) P = P
-OnNothingCalled result P = Unit {0}
+abbrev pub switch_end : Result (Unit {0}) SwitchRefused → Ended
+switch_end result = ended_by refusal_end result
 
-abbrev pub OnDisk : Result (Unit {0}) SwitchRefused → Type 0 → Type 0
-OnDisk (Err Disk) P = P
-OnDisk result P = Unit {0}
+-- What becomes of a journal that is switched, this being its next standing: if a disk call
+-- failed it has failed.
+abbrev pub MovesOver : Result (Unit {0}) SwitchRefused → Standing → JournalView → JournalView → Type 0
+MovesOver (Ok done) next old new = new ≡ record { standing = next; failed = false }
+MovesOver (Err Full) next old new = new ≡ old
+MovesOver (Err NoMemory) next old new = new ≡ old
+MovesOver (Err Disk) next old new = new ≡ record old { failed = true }
+
+-- A switch can be made: there is a next generation, room for the account, and its checkpoint is one.
+pub record CanSwitch (standing : Standing) (account : State) : Type 0 where
+  pub generation : standing.generation < LAST_GENERATION
+  pub room : 27 + length (checkpoint_bytes Two account) ≤ LONGEST_FILE
+  pub is : IsCheckpoint Two account (checkpoint_bytes Two account)
 
 -- While a journal is switched, whatever a stop leaves recovers the account. All but the other file
 -- is as it was.

@@ -12,7 +12,8 @@ use Rattle.ras_recover.specs.declared.place.ReadRefused.{ReadRefused}
 use Rattle.ras_recover.specs.declared.place.ReadRefused.TheVariants.{Disk, Damaged, NoMemory}
 use Rattle.ras_recover.specs.declared.window.SizedFile.{SizedFile}
 use Rattle.ras_recover.specs.declared.window.Window.{Window}
-use Rattle.ras_recover.specs.Looking.{Calls, AreReads}
+use Rattle.ras_recover.specs.Looking.{AreReads}
+use Rattle.ras_recover.specs.DiskCalls.{Calls}
 use Rattle.ras_recover.specs.Recovering.{Keeps}
 
 -- the place behind the bytes that are held

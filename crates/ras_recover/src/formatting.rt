@@ -1,14 +1,12 @@
 //! A new generation of the journal over a file.
-ghost use Rattle.std.specs.Prelude.{◌≡◌, ◌≤◌, ◌++◌, [], length, Bool, false, IfSome, IfOk, OnOk, OnErr};
-ghost use Rattle.board_core.specs.Cause.{disk_call, FailsAs};
-ghost use Rattle.board_core.specs.Clock.{Adds, Rests};
-ghost use Rattle.board_core.specs.Stop.{InFile};
-ghost use Rattle.board_core.specs.Told.{Told, Steps, Relates, file_of};
+ghost use Rattle.std.specs.Prelude.{◌≡◌, IfOk, IfSome};
+ghost use Rattle.board_core.specs.Cause.{disk_call};
+ghost use Rattle.board_core.specs.Doing.{Does, looks, one_end};
+ghost use Rattle.board_core.specs.Told.{file_of};
 ghost use Rattle.journal_format.specs.Checkpoints.{checkpoint_bytes, IsCheckpoint};
 ghost use Rattle.entry_format.specs.declared.version.Version.TheVariants.{Two};
 ghost use Rattle.ras_journal.specs.Recovered.{is_shut};
-ghost use Rattle.ras_recover.specs.Formatting.{behind_gate, after_closing, after_formatting, FailsClosing, FailsFormatting, TornClosing, Formatting};
-ghost use Rattle.ras_recover.specs.Looking.{WritesIn};
+ghost use Rattle.ras_recover.specs.Formatting.{behind_gate, closing_acts, formatting_acts};
 
 use board_core::{Board, Failed, FileNo, write_through};
 use journal_format::encode_checkpoint;
@@ -56,14 +54,8 @@ pub(crate) fn next_bytes(
 
 // Closes the gate at the front of a file and syncs it, where the file isn't shut already.
 fn close_gate<B: Board>(file: FileNo, shut: bool, board: &mut B) -> Result<(), Failed>
-    ensures told { OnOk result (Steps (after_closing file shut) (B.told board.old) (B.told board.new)) }
-    ensures failed { OnErr result (Relates (FailsClosing file shut) (B.told board.old) (B.told board.new)) }
-    ensures writes { Relates (WritesIn file 2) (B.told board.old) (B.told board.new) }
-    ensures at_rest { (t : Told) → Rests t (B.told board.old) (B.clock board.old)
-        → Adds (InFile file (TornClosing shut) t.here) (B.clock board.old) (B.clock board.new) }
-    ensures rests { OnOk result ((t : Told) → Rests t (B.told board.old) (B.clock board.old)
-        → Rests (after_closing file shut t) (B.told board.new) (B.clock board.new)) }
-    ensures cause { FailsAs disk_call (B.faults board.old) (B.faults board.new) result }
+    ensures does { Does (looks B.told B.clock B.faults) (closing_acts file shut)
+        (one_end disk_call result) board.old board.new }
 {
     if shut {
         return Ok(());
@@ -80,16 +72,8 @@ pub(crate) fn format_file<B: Board>(
     board: &mut B,
 ) -> Result<(), Failed>
     requires { IfSome (B.told board.old) (λ t. shut ≡ is_shut (file_of file t)) }
-    ensures stops { (t : Told) → Rests t (B.told board.old) (B.clock board.old)
-        → Adds (InFile file (Formatting shut bytes.now) t.here) (B.clock board.old) (B.clock board.new) }
-    ensures rests { OnOk result ((t : Told) → Rests t (B.told board.old) (B.clock board.old)
-        → Rests (after_formatting file shut bytes.now t) (B.told board.new) (B.clock board.new)) }
-    ensures told { OnOk result (Steps (after_formatting file shut bytes.now) (B.told board.old)
-        (B.told board.new)) }
-    ensures failed { OnErr result (Relates (FailsFormatting file shut bytes.now) (B.told board.old)
-        (B.told board.new)) }
-    ensures writes { Relates (WritesIn file 6) (B.told board.old) (B.told board.new) }
-    ensures cause { FailsAs disk_call (B.faults board.old) (B.faults board.new) result }
+    ensures does { Does (looks B.told B.clock B.faults) (formatting_acts file shut bytes.now)
+        (one_end disk_call result) board.old board.new }
 {
     close_gate(file, shut, board)?;
     write_through(file, 1, bytes, board)?;

@@ -1,19 +1,45 @@
 //! What a stop leaves of a journal, whatever happened to it.
 ghost use Rattle.std.specs.Prelude.{◌≡◌, ℕ, List, None, Some, Ok};
+ghost use Rattle.board_core.specs.declared.board.DiskCall.{DiskCall};
 ghost use Rattle.board_core.specs.Clock.{LeftNow};
+ghost use Rattle.board_core.specs.Doing.{Moment, looks};
 ghost use Rattle.board_core.specs.Stop.{Left};
+ghost use Rattle.board_core.specs.Told.{Told};
 ghost use Rattle.ras_facts.specs.declared.entry.Entry.{Entry};
 ghost use Rattle.ras_account.specs.Account.{State, account_of};
 ghost use Rattle.ras_account.specs.Continued.{account_after_mark};
 ghost use Rattle.ras_account.specs.History.{History};
 ghost use Rattle.entry_format.specs.declared.version.Version.TheVariants.{One};
-ghost use Rattle.ras_journal.specs.AppendingAll.{account_after_links};
 ghost use Rattle.ras_journal.specs.File.{FileFront, front_of};
 ghost use Rattle.ras_journal.specs.Laws.{IsRead, IsShort};
-ghost use Rattle.ras_journal.specs.Recovered.{recovered};
-ghost use Rattle.ras_recover.specs.Life.{JournalCall, Life, cut, Continues, RecoversBehind, with_links, Site, Works, Opens, BeginsWith, Lives};
+ghost use Rattle.ras_journal.specs.Recovered.{IsAt, recovered};
+ghost use Rattle.ras_recover.specs.Life.{JournalCall, Life, account_after_links, cut, Continues, RecoversBehind, with_links, Site, Works, Opens, BeginsWith, Lives};
+ghost use Rattle.ras_journal.specs.declared.standing.Standing.{Standing};
+ghost use Rattle.ras_recover.specs.OpeningCalls.{IsRecoveryOf, ReadsTo};
+ghost use Rattle.ras_recover.specs.Switching.{CanSwitch, Switching, after_switch, switch_acts, switched};
 
 use board_core::Board;
+
+/// What a switch comes to: laws of its acts, of a journal that can be switched.
+pub fn switch_laws()
+    // Whatever a stop leaves at any moment of it recovers the account.
+    ensures moments { (standing : Standing) (account : State) (t : Told) (left : Left)
+        → CanSwitch standing account → IsAt standing account t.here
+        → Moment (switch_acts standing account) t left → Switching standing account t.here left }
+
+    // Once it is done, the files hold the account at the next standing.
+    ensures done { (standing : Standing) (account : State) (t : Told)
+        → CanSwitch standing account → IsAt standing account t.here
+        → IsAt (switched standing account) account (after_switch standing account t).here }
+{}
+
+/// What a whole recovery reads of a journal: each place of its file, up to and with the closed gate
+/// at which it stands.
+pub fn recovery_laws()
+    ensures reads { (standing : Standing) (account : State) (here : Left) (calls : List DiskCall)
+        → IsAt standing account here → IsRecoveryOf here calls
+        → ReadsTo standing.file standing.length calls }
+{}
 
 /// Over any appends, switches and openings of a journal, and any stops of the machine in them and
 /// between them, no link whose append was answered `Ok` is lost, and no other counts than one whose
@@ -21,26 +47,29 @@ use board_core::Board;
 ///
 /// Each begins with an account: at a machine that was started over files which give it, whether
 /// none of them stands or one of either version; or at a journal that is open and holds it, as
-/// after an opening that answered it.
+/// after an opening that answered it. That the calls of a journal are such calls is said by
+/// [`crate::live_append`], [`crate::live_switch`] and [`crate::live_opening`].
 pub fn life_laws<B: Board>()
     // Whatever a stop leaves at any moment of a call, the files give the account continued by the
     // links of all appends that were answered `Ok` before. Where the call is an append, its link
     // counts or doesn't. So the files are never damaged.
     ensures in_a_call { (account : State) (life : Life) (call : JournalCall)
         (first last : Site B) (board : B) (left : Left)
-        → BeginsWith B.told B.clock account first
-        → Lives B.told B.clock life first last → Works B.told B.clock call last board
+        → BeginsWith (looks B.told B.clock B.faults) account first
+        → Lives (looks B.told B.clock B.faults) life first last
+        → Works (looks B.told B.clock B.faults) call last board
         → (B.clock board).may_leave_since (B.clock last.board).now left
         → RecoversBehind account (cut life call) left }
     ensures between_calls { (account : State) (life : Life) (first last : Site B) (left : Left)
-        → BeginsWith B.told B.clock account first
-        → Lives B.told B.clock life first last → LeftNow (B.clock last.board) left
+        → BeginsWith (looks B.told B.clock B.faults) account first
+        → Lives (looks B.told B.clock B.faults) life first last → LeftNow (B.clock last.board) left
         → RecoversBehind account life left }
 
     // An opening that is answered `Ok` answers that account.
     ensures opened { (account now : State) (life : Life) (first last opened : Site B)
-        → BeginsWith B.told B.clock account first
-        → Lives B.told B.clock life first last → Opens B.told B.clock now last opened
+        → BeginsWith (looks B.told B.clock B.faults) account first
+        → Lives (looks B.told B.clock B.faults) life first last
+        → Opens (looks B.told B.clock B.faults) now last opened
         → Continues account life now }
 
     // The account of a history, continued by links, is that of the history with the entries of the

@@ -1,11 +1,13 @@
 //! Recovery: the account and the journal from two files, opening them, and switching the journal to
-//! its other file so that a stop at any moment leaves the account.
+//! its other file so that a stop at any moment leaves the account. Laws say what becomes of a
+//! journal over any calls and stops.
 #![tactic(auto)]
 
 mod fields;
 mod file;
 mod formatting;
 mod laws;
+mod life;
 mod links;
 mod opening;
 mod pair;
@@ -16,7 +18,8 @@ mod switching;
 mod walking;
 mod window;
 
-pub use laws::life_laws;
+pub use laws::{life_laws, recovery_laws, switch_laws};
+pub use life::{live_append, live_opening, live_switch};
 pub use opening::open_journal;
 pub use pair::Recovered;
 pub use recovering::recover;

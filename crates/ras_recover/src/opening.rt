@@ -1,17 +1,20 @@
 //! Opening the journal.
-ghost use Rattle.std.specs.Prelude.{◌≡◌, Result, None, Some, Err, Ok, false, IfSome, IfOk, IfErr, OnOk};
+ghost use Rattle.std.specs.Prelude.{◌≡◌, Result, Err, false, IfSome, IfOk, IfErr, OnOk};
 ghost use Rattle.board_core.specs.Cause.{disk_call, FailsAs};
-ghost use Rattle.board_core.specs.Clock.{Adds, Rests};
+ghost use Rattle.board_core.specs.Clock.{Adds};
+ghost use Rattle.board_core.specs.Doing.{Does, IsMade, looks};
 ghost use Rattle.board_core.specs.Told.{Told, Relates, file_of};
 ghost use Rattle.board_core.specs.declared.board.FileNo.TheVariants.{Zero};
+ghost use Rattle.entry_format.specs.declared.version.Version.TheVariants.{Two};
+ghost use Rattle.journal_format.specs.Checkpoints.{IsCheckpoint, checkpoint_bytes};
 ghost use Rattle.ras_account.specs.Account.{State};
 ghost use Rattle.ras_account.specs.View.{nothing};
 ghost use Rattle.ras_journal.specs.Recovered.{Refusal, recovered, is_shut};
-ghost use Rattle.ras_recover.specs.Recovering.{Refuses, Tells, open_failure};
-ghost use Rattle.ras_recover.specs.DiskCalls.{Makes};
-ghost use Rattle.ras_recover.specs.Looking.{WritesIn, standing_begun};
-ghost use Rattle.ras_recover.specs.Opening.{FormatsFirst, Opening, IsOpened, HoldsNone, standing_opened};
-ghost use Rattle.ras_recover.specs.OpeningCalls.{IsOpening, ReadsBoth, AfterOpening, AfterRecovery};
+ghost use Rattle.ras_recover.specs.Formatting.{behind_gate, formatting_acts};
+ghost use Rattle.ras_recover.specs.Recovering.{Refuses, Tells, open_end, open_failure};
+ghost use Rattle.ras_recover.specs.Looking.{standing_begun};
+ghost use Rattle.ras_recover.specs.Opening.{Opening, IsOpened, standing_opened};
+ghost use Rattle.ras_recover.specs.OpeningCalls.{AfterOpening, AfterRecovery, MakesOpening};
 
 use crate::formatting::{format_file, next_bytes};
 use crate::recovering::recover_files;
@@ -35,19 +38,16 @@ fn format_first<B: Board>(
     board: &mut B,
 ) -> Result<Journal, OpenRefused>
     requires { IfSome (B.told board.old) (λ t. shut.0 ≡ is_shut (file_of Zero t)) }
-    ensures stops { (t : Told) → HoldsNone account.now.state t.here
-        → Rests t (B.told board.old) (B.clock board.old)
-        → Adds (FormatsFirst t.here) (B.clock board.old) (B.clock board.new) }
-    ensures opened { IfOk result (λ journal. (t : Told) → HoldsNone account.now.state t.here
-        → shut.1 ≡ is_shut t.here.file1 → Rests t (B.told board.old) (B.clock board.old)
-        → IsOpened journal.standing account.now.state (B.told board.new) (B.clock board.new)) }
-    ensures standing { IfOk result (λ journal. journal.standing
-        ≡ standing_begun account.now.state shut.1) }
-    ensures usable { IfOk result (λ journal. journal.failed ≡ false) }
-    ensures writes { Relates (WritesIn Zero 6) (B.told board.old) (B.told board.new) }
-    ensures kept { result ≡ Err OpenRefused.NoMemory → board.new ≡ board.old }
+    ensures does { Does (looks B.told B.clock B.faults)
+        (formatting_acts Zero shut.0 (behind_gate 1 (checkpoint_bytes Two account.now.state)))
+        (open_end result) board.old board.new }
+    ensures can { IsMade (open_end result)
+        → IsCheckpoint Two account.now.state (checkpoint_bytes Two account.now.state) }
+    ensures journal { IfOk result (λ journal. journal ≡ record {
+      standing = standing_begun account.now.state shut.1;
+      failed = false;
+    }) }
     ensures refuses { IfErr result (λ refused. (held : Result State Refusal) → Refuses refused held) }
-    ensures cause { FailsAs disk_call (B.faults board.old) (B.faults board.new) (open_failure result) }
 {
     let Ok(bytes) = next_bytes(alloc, 1, account) else {
         return Err(OpenRefused::NoMemory);
@@ -92,13 +92,11 @@ pub fn open_journal<B: Board>(
         → IsOpened r.1.standing r.0.state (B.told board.new) (B.clock board.new)) }
 
     // Whatever it answers, all is told as before, but for file 0 where no file stands; and its disk
-    // calls are those of an opening or a beginning of them. Once it has answered `Ok` they are all
-    // of these, and all that counts of the files was read.
+    // calls are those of an opening or a beginning of them. Once it has answered `Ok`, all that
+    // counts of the files was read, and if no file stands generation 1 was written to file 0 and
+    // nothing else.
     ensures told { Relates AfterOpening (B.told board.old) (B.told board.new) }
-    ensures calls { OnOk result (Relates (λ old. Makes (IsOpening old.here) old) (B.told board.old)
-        (B.told board.new)) }
-    ensures reads { OnOk result (Relates (λ old. Makes (ReadsBoth old.here) old) (B.told board.old)
-        (B.told board.new)) }
+    ensures opens { OnOk result (Relates MakesOpening (B.told board.old) (B.told board.new)) }
     // Where memory runs out nothing was written.
     ensures kept { result ≡ Err OpenRefused.NoMemory
         → Relates AfterRecovery (B.told board.old) (B.told board.new) }

@@ -6,9 +6,9 @@ ghost use Rattle.ras_account.specs.Account.{State};
 ghost use Rattle.ras_account.specs.View.{nothing};
 ghost use Rattle.ras_journal.specs.declared.limits.TheConstants.{LONGEST_FILE};
 ghost use Rattle.ras_journal.specs.Recovered.{Refusal, too_long, is_shut, recovered, position_of};
-ghost use Rattle.ras_recover.specs.DiskCalls.{IsReading, Makes};
-ghost use Rattle.ras_recover.specs.Looking.{Calls, AreSyncs, AreReads};
-ghost use Rattle.ras_recover.specs.OpeningCalls.{IsRecovery, ReadsBoth, AfterRecovery};
+ghost use Rattle.ras_recover.specs.DiskCalls.{Calls, IsReading};
+ghost use Rattle.ras_recover.specs.Looking.{AreSyncs, AreReads};
+ghost use Rattle.ras_recover.specs.OpeningCalls.{AfterRecovery, IsRecoveryOf, ReadsBoth};
 ghost use Rattle.ras_recover.specs.Recovering.{Refuses, Tells, Keeps, RestsHere, UnlessDisk, open_failure};
 
 use crate::pair::{read_both, recovered_of};
@@ -116,9 +116,8 @@ pub(crate) fn recover_files<B: Board>(
     ensures rests { UnlessDisk result ((t : Told) → B.told board.old ≡ Some t
         → RestsHere t.here (B.told board.new) (B.clock board.new)) }
     ensures told { Relates AfterRecovery (B.told board.old) (B.told board.new) }
-    ensures calls { OnOk result (Relates (Makes IsRecovery) (B.told board.old) (B.told board.new)) }
-    ensures reads { OnOk result (Relates (λ old. Makes (ReadsBoth old.here) old) (B.told board.old)
-        (B.told board.new)) }
+    ensures reads { OnOk result (Relates (λ old. Calls (IsRecoveryOf old.here) old)
+        (B.told board.old) (B.told board.new)) }
     ensures cause { FailsAs disk_call (B.faults board.old) (B.faults board.new) (open_failure result) }
 {
     match sync_both(board) {
@@ -154,9 +153,8 @@ pub fn recover<B: Board>(alloc: Global, board: &mut B) -> Result<Recovered, Open
     // of a recovery or a beginning of them. Once it has answered `Ok` they are all of these, and
     // all that counts of the files was read.
     ensures told { Relates AfterRecovery (B.told board.old) (B.told board.new) }
-    ensures calls { OnOk result (Relates (Makes IsRecovery) (B.told board.old) (B.told board.new)) }
-    ensures reads { OnOk result (Relates (λ old. Makes (ReadsBoth old.here) old) (B.told board.old)
-        (B.told board.new)) }
+    ensures reads { OnOk result (Relates (λ old. Calls (IsRecoveryOf old.here) old)
+        (B.told board.old) (B.told board.new)) }
 
     ensures cause { FailsAs disk_call (B.faults board.old) (B.faults board.new)
         (open_failure result) }

@@ -1,15 +1,10 @@
 //! Switching the journal to its other file.
-ghost use Rattle.std.specs.Prelude.{◌≡◌, ◌+◌, ◌<◌, ◌≤◌, IsTrue, length, ◌↔◌, None, true, false, IfSome, IfOk, OnOk, OnErr};
-ghost use Rattle.board_core.specs.Cause.{disk_call, FailsAs};
-ghost use Rattle.board_core.specs.Clock.{Adds, Rests};
-ghost use Rattle.board_core.specs.Told.{Told, Steps, Relates, file_of};
-ghost use Rattle.entry_format.specs.declared.version.Version.TheVariants.{Two};
-ghost use Rattle.journal_format.specs.Checkpoints.{checkpoint_bytes, IsCheckpoint};
-ghost use Rattle.ras_account.specs.Account.{State};
+ghost use Rattle.std.specs.Prelude.{◌≡◌, ◌+◌, ◌<◌, ◌≤◌, ◌↔◌, false, IfSome, IsTrue, None};
+ghost use Rattle.board_core.specs.Doing.{Does, IsMade, looks};
+ghost use Rattle.board_core.specs.Told.{file_of};
 ghost use Rattle.ras_journal.specs.Recovered.{other, is_shut};
-ghost use Rattle.ras_journal.specs.Appending.{Before};
-ghost use Rattle.ras_recover.specs.Formatting.{behind_gate, MakesAtMost};
-ghost use Rattle.ras_recover.specs.Switching.{switched, next_bytes, after_switch, FailsSwitch, has_no_room, IsFullBy, disk_failure, OnNothingCalled, OnDisk, Switching};
+ghost use Rattle.ras_recover.specs.Switching.{CanSwitch, IsFullBy, MovesOver, has_no_room};
+ghost use Rattle.ras_recover.specs.Switching.{switch_acts, switch_end, switched};
 
 use crate::SwitchRefused;
 use crate::formatting::{format_file, next_bytes};
@@ -65,7 +60,8 @@ fn switched(standing: Standing, account: &Account, link: &Link) -> Option<Standi
 /// call. It needs a journal that hasn't failed, and whose standing tells whether the other file is
 /// shut.
 ///
-/// While it is at work, whatever a stop leaves recovers the account that the files hold.
+/// While it is at work, whatever a stop leaves recovers the account that the files hold: that
+/// stands at [`crate::switch_laws`].
 ///
 /// # Errors
 ///
@@ -83,37 +79,14 @@ pub fn switch_file<B: Board>(
     requires usable { journal.old.failed ≡ false }
     requires shut { IfSome (B.told board.old)
         (λ t. journal.old.standing.shut ≡ is_shut (file_of (other journal.old.standing.file) t)) }
-
-    // Whatever a stop leaves of it recovers the account.
-    ensures stops { (t : Told)
-        → Before journal.old.standing account.now.state t (B.told board.old) (B.clock board.old)
-        → Adds (Switching journal.old.standing account.now.state t.here) (B.clock board.old)
-        (B.clock board.new) }
-    // Once it has answered `Ok`, it recovers the account at the new standing.
-    ensures switched { OnOk result ((t : Told)
-        → Before journal.old.standing account.now.state t (B.told board.old) (B.clock board.old)
-        → Before journal.new.standing account.now.state
-        (after_switch journal.old.standing account.now.state t) (B.told board.new)
-        (B.clock board.new)) }
-
-    ensures standing { OnOk result (journal.new ≡ record {
-      standing = switched journal.old.standing account.now.state;
-      failed = false;
-    }) }
-    ensures gate { OnOk result (IfSome (B.told board.new)
-        (λ t. journal.new.standing.length < length (file_of journal.new.standing.file t))) }
-    ensures told { OnOk result (Steps (after_switch journal.old.standing account.now.state)
-        (B.told board.old) (B.told board.new)) }
-    ensures calls { Relates (MakesAtMost 6) (B.told board.old) (B.told board.new) }
-
+    ensures does { Does (looks B.told B.clock B.faults)
+        (switch_acts journal.old.standing account.now.state) (switch_end result)
+        board.old board.new }
+    ensures can { IsMade (switch_end result)
+        → CanSwitch journal.old.standing account.now.state }
+    ensures journal { MovesOver result (switched journal.old.standing account.now.state)
+        journal.old journal.new }
     ensures full { IsFullBy result (has_no_room journal.old.standing account.now.state link.now) }
-    ensures nothing_called { OnNothingCalled result (board.new ≡ board.old) }
-    ensures kept { OnNothingCalled result (journal.new ≡ journal.old) }
-    ensures disk { OnDisk result (journal.new ≡ record journal.old { failed = true }) }
-    ensures disk_told { OnDisk result (Relates (FailsSwitch journal.old.standing account.now.state)
-        (B.told board.old) (B.told board.new)) }
-    ensures cause { FailsAs disk_call (B.faults board.old) (B.faults board.new)
-        (disk_failure result) }
 {
     let standing = journal.standing();
     let Some(next) = switched(standing, account, link) else {

@@ -2,7 +2,10 @@
 use Rattle.std.proofs.Common.{◌≡◌, ℕ, ◌+◌, ◌≤◌, Bool, true, false, List, [], ◌∷◌, ◌++◌, length, All, Option, None, Some, IfSome, IsTrue, if◌then◌else◌, refl, sym, ap, ◌∙◌, inl, inr, arith}
 use Rattle.std.proofs.lemmas.List.Elements.{All-from_recursion, recursion_from_All}
 use Rattle.std.specs.List.{AllByRecursion}
-use Rattle.board_core.specs.declared.board.FileNo.{FileNo}
+use Rattle.board_core.specs.Cause.{disk_call}
+use Rattle.board_core.specs.Device.{KeepsDevice, LeavesDevice}
+use Rattle.board_core.specs.Doing.{FailsActs}
+use Rattle.board_core.proofs.ActLemmas.{acts_device, acts_out, fails_device, on_disk_off}
 use Rattle.board_core.specs.Clock.{Clock, Adds}
 use Rattle.board_core.specs.ClockLemmas.{adds_weaker}
 use Rattle.board_core.specs.Stop.{Left}
@@ -17,71 +20,31 @@ use Rattle.entry_format.specs.File.{IsEntryOf}
 use Rattle.journal_format.specs.declared.link.TheConstants.{MOST_LINK_ENTRIES, MOST_PAYLOAD}
 use Rattle.journal_format.specs.Links.{CanLink, link_bytes, payload_bytes}
 use Rattle.ras_journal.specs.declared.standing.Standing.{Standing}
-use Rattle.ras_journal.specs.Appending.{Before, Links, after_gate, after_link, needs_switch}
-use Rattle.ras_journal.specs.Recovered.{other}
-use Rattle.ras_recover.specs.Formatting.{FailsFormatting, after_closing, after_formatting, after_writing}
-use Rattle.ras_recover.specs.Switching.{after_switch, next_bytes}
-use Rattle.ras_ledger.specs.Keeping.{FailsKeeping, Keeping, Stands, after_keeping, after_room, lacks_room, standing_kept, standing_roomy}
+use Rattle.ras_journal.specs.Appending.{Before, Links}
+use Rattle.ras_ledger.specs.Keeping.{Keeping, Stands, after_keeping, keeping_acts, lacks_room, standing_kept}
+use Rattle.ras_ledger.proofs.KeepingLemmas.{keeping_on_disk}
 use Rattle.ras_ledger.specs.declared.ledger.Ledger.{Ledger}
 use Rattle.ras_events.specs.declared.preparing.News.{News}
 use Rattle.ras_events.specs.Making.{Pieces}
 use Rattle.ras_events.specs.Preparing.{news_entries}
 use Rattle.ras_events.specs.Sizes.{IsFit}
 use Rattle.ras_events.proofs.NewsLemmas.{few_news, short_news, valid_news}
-use Rattle.ras_exit.specs.Device.{LeavesDevice}
 use Rattle.ras_run.specs.Taking.{CanBeKept, NewsMoment, Prints, has_no_room, standing_behind}
-use Rattle.ras_exit.proofs.DeviceLemmas.{Beside, beside_same, beside_then, device_by, steps_relate, through_beside, through_failed}
+use Rattle.ras_exit.proofs.DeviceLemmas.{Beside, device_by, steps_relate}
 use Rattle.ras_run.proofs.StandsLemmas.{before_of, prints_beside, stands_on}
 
 -- ---- keeping a link leaves text and device
 
-closing_beside : (file : FileNo) (shut : Bool) (t : Told) → Beside t (after_closing file shut t)
-closing_beside file true t = beside_same t
-closing_beside file false t = through_beside file 0 (0 ∷ []) t
-
-writing_beside : (file : FileNo) (shut : Bool) (bytes : List ℕ) (t : Told) → Beside t (after_writing file shut bytes t)
-writing_beside file shut bytes t =
-    beside_then t (after_closing file shut t) (after_writing file shut bytes t) (closing_beside file shut t) (through_beside file 1 bytes (after_closing file shut t))
-
-formatting_beside : (file : FileNo) (shut : Bool) (bytes : List ℕ) (t : Told) → Beside t (after_formatting file shut bytes t)
-formatting_beside file shut bytes t =
-    beside_then t (after_writing file shut bytes t) (after_formatting file shut bytes t) (writing_beside file shut bytes t) (through_beside file 0 (165 ∷ []) (after_writing file shut bytes t))
-
-formatting_failed : (file : FileNo) (shut : Bool) (bytes : List ℕ) (u v : Told) → FailsFormatting file shut bytes u v → Beside u v
-formatting_failed file shut bytes u v (inl closing) = through_failed file 0 (0 ∷ []) u v closing.1
-formatting_failed file shut bytes u v (inr (inl writing)) =
-    beside_then u (after_closing file shut u) v (closing_beside file shut u) (through_failed file 1 bytes (after_closing file shut u) v writing)
-formatting_failed file shut bytes u v (inr (inr gate)) =
-    beside_then u (after_writing file shut bytes u) v (writing_beside file shut bytes u) (through_failed file 0 (165 ∷ []) (after_writing file shut bytes u) v gate)
-
-room_beside : (standing : Standing) (account : State) (link : List ℕ) (t : Told) → Beside t (after_room standing account link t)
-room_beside standing account link t = by (needs_switch standing link)
-  where
-    by : (b : Bool) → Beside t (if b then after_switch standing account t else t)
-    by true = formatting_beside (other standing.file) standing.shut (next_bytes standing account) t
-    by false = beside_same t
-
 pub keeping_beside : (standing : Standing) (account : State) (link : List ℕ) (t : Told) → Beside t (after_keeping standing account link t)
 keeping_beside standing account link t =
-    let roomy : Standing = standing_roomy standing account link in
-    let there : Told = after_room standing account link t in
-    let linked : Told = after_link roomy link there in
-    beside_then t there (after_keeping standing account link t) (room_beside standing account link t)
-    (beside_then there linked (after_gate roomy linked)
-    (through_beside roomy.file (roomy.length + 1) (link ++ 0 ∷ []) there) (through_beside roomy.file roomy.length (165 ∷ []) linked))
+    let acts = keeping_acts standing account link in
+    let on = keeping_on_disk standing account link in
+    record { out = acts_out acts on t; device = acts_device acts (on_disk_off acts on) t }
 
-keeping_failed : (standing : Standing) (account : State) (link : List ℕ) (u v : Told) → FailsKeeping standing account link u v → Beside u v
-keeping_failed standing account link u v (inl room) = formatting_failed (other standing.file) standing.shut (next_bytes standing account) u v room.1
-keeping_failed standing account link u v (inr (inl linking)) =
-    let roomy : Standing = standing_roomy standing account link in
-    let there : Told = after_room standing account link u in
-    beside_then u there v (room_beside standing account link u) (through_failed roomy.file (roomy.length + 1) (link ++ 0 ∷ []) there v linking)
-keeping_failed standing account link u v (inr (inr gate)) =
-    let roomy : Standing = standing_roomy standing account link in
-    let there : Told = after_room standing account link u in
-    let linked : Told = after_link roomy link there in
-    beside_then u there v (room_beside standing account link u)
-    (beside_then there linked v (through_beside roomy.file (roomy.length + 1) (link ++ 0 ∷ []) there) (through_failed roomy.file roomy.length (165 ∷ []) linked v gate))
+keeping_failed : (standing : Standing) (account : State) (link : List ℕ) (u v : Told) → FailsActs disk_call (keeping_acts standing account link) u v → KeepsDevice u v
+keeping_failed standing account link u v fails =
+    let acts = keeping_acts standing account link in
+    fails_device disk_call acts (on_disk_off acts (keeping_on_disk standing account link)) u v fails
 
 pub kept_device : (standing : Standing) (account : State) (link : List ℕ) (t : Told) (u : Told) → u ≡ after_keeping standing account link t → Beside t u
 kept_device standing account link t u is = rw is (keeping_beside standing account link t)
@@ -100,9 +63,8 @@ module _ (standing : Standing) (account : State) (entries : List Entry) (link : 
       device_by (λ old now. now ≡ after_keeping standing account link old) told told' clock clock' (λ u v is. (kept_device standing account link u v is).device)
       (steps_relate (after_keeping standing account link) told told' steps) stores
 
-  pub device_not_kept : Relates (FailsKeeping standing account link) told told' → LeavesDevice told told' clock clock'
-  device_not_kept fails =
-      device_by (FailsKeeping standing account link) told told' clock clock' (λ u v failed. (keeping_failed standing account link u v failed).device) fails stores
+  pub device_not_kept : Relates (FailsActs disk_call (keeping_acts standing account link)) told told' → LeavesDevice told told' clock clock'
+  device_not_kept fails = device_by (FailsActs disk_call (keeping_acts standing account link)) told told' clock clock' (keeping_failed standing account link) fails stores
 
 -- ---- what it comes to
 

@@ -17,7 +17,7 @@ use Rattle.ras_events.specs.Reports.{NumberedLine, Place, event_at}
 use Rattle.ras_events.specs.Sizes.{IsFit, IsFitEvent}
 use Rattle.ras_recover.specs.DiskCalls.{IsBeginning, IsReading, Makes}
 use Rattle.ras_recover.specs.OpeningCalls.{IsRecovery}
-use Rattle.ras_ledger.proofs.KeepingCallsLemmas.{is_some_keeping, some_keeping}
+use Rattle.ras_ledger.proofs.KeepingLaws.{is_some_keeping, some_keeping}
 use Rattle.ras_exit.specs.declared.exit.Exit.{Exit}
 use Rattle.ras_exit.specs.declared.exit.Exit.TheVariants.{Full}
 use Rattle.ras_run.specs.declared.run.Run.{Run}

@@ -26,7 +26,7 @@ use Rattle.ras_exit.specs.declared.exit.Exit.TheVariants.{PrintFault, Damaged, N
 use Rattle.ras_exit.specs.Endings.{AnyFault, IsStop, OnlyFault}
 use Rattle.ras_exit.proofs.EndingLemmas.{ends_weaker}
 use Rattle.ras_exit.specs.Causes.{BoardCause}
-use Rattle.ras_exit.specs.Device.{KeepsDevice, LeavesDevice}
+use Rattle.board_core.specs.Device.{KeepsDevice, LeavesDevice}
 use Rattle.ras_run.specs.Files.{KeepsFiles, KeepsRefused, refusal_exit}
 use Rattle.ras_run.specs.Taking.{Opens, Prints, ReopenMoment, Reopens, reopen_output, unopened_exit}
 use Rattle.ras_exit.proofs.DeviceLemmas.{StoreIsLeft, device_by}

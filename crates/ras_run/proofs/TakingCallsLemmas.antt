@@ -14,6 +14,7 @@ use Rattle.ras_journal.specs.declared.standing.Standing.{Standing}
 use Rattle.ras_journal.specs.Recovered.{position_of}
 use Rattle.ras_recover.specs.DiskCalls.{IsBeginning, Makes}
 use Rattle.ras_recover.specs.OpeningCalls.{AfterOpening, IsOpening, IsRecovery}
+use Rattle.ras_recover.proofs.OpeningCallsLemmas.{standing_recovers}
 use Rattle.ras_recover.proofs.CallsLemmas.{makes_weaker, relates_if, relates_same, relates_steps, relates_then, relates_weaker}
 use Rattle.ras_ledger.specs.declared.ledger.Ledger.{Ledger}
 use Rattle.ras_ledger.specs.Keeping.{Stands, lacks_room}
@@ -80,13 +81,7 @@ opening_calls a b after = relates_weaker AfterOpening BeginsOpening (λ x y open
 
 -- a journal that stands is recovered alone
 opening_recovers : (s : Standing) (here : Left) (calls : List DiskCall) → position_of here.file0 here.file1 ≡ Some s → IsOpening here calls → IsRecovery calls
-opening_recovers s here calls stands opening = elim opening.only [
-  | inl none ↦ subst IsRecovery (sym (opening.is ∙ (ap (λ (l : List DiskCall). opening.recovery ++ l) none ∙ append-nil opening.recovery))) opening.recovers
-  | inr none ↦ absurd (no_position (sym none.none ∙ stands))
-]
-  where
-    no_position : ◌≡◌ {A = Option Standing} None (Some s) → ⊥
-    no_position e = cc
+opening_recovers s here calls stands opening = (standing_recovers s here calls stands opening).recovery
 
 stands_at : (s : Standing) (a : State) (told : Option Told) (clock : Clock) → Stands s a told clock → IfSome told (λ t. position_of t.here.file0 t.here.file1 ≡ Some s)
 stands_at s a None clock stands = tt

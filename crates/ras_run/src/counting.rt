@@ -10,7 +10,7 @@ ghost use Rattle.ras_events.specs.Preparing.{CanTake, news_entries, orders_along
 ghost use Rattle.ras_events.specs.Sizes.{IsFit};
 ghost use Rattle.ras_recover.specs.DiskCalls.{Makes};
 ghost use Rattle.ras_exit.specs.Causes.{BoardCause, Causes};
-ghost use Rattle.ras_exit.specs.Device.{LeavesDevice};
+ghost use Rattle.board_core.specs.Device.{LeavesDevice};
 ghost use Rattle.ras_exit.specs.Endings.{IsStop};
 ghost use Rattle.ras_run.specs.LineCalls.{AreNewsCalls};
 ghost use Rattle.ras_run.specs.Taking.{CanBeKept, LedgerStands, MadeMoment};

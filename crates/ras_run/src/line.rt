@@ -9,7 +9,7 @@ ghost use Rattle.ras_recover.specs.DiskCalls.{IsBeginning, Makes};
 ghost use Rattle.ras_recover.specs.OpeningCalls.{IsRecovery};
 ghost use Rattle.ras_script.specs.declared.reader.TheConstants.{LONGEST_LINE};
 ghost use Rattle.ras_exit.specs.Causes.{BoardCause, Causes};
-ghost use Rattle.ras_exit.specs.Device.{LeavesDevice};
+ghost use Rattle.board_core.specs.Device.{LeavesDevice};
 ghost use Rattle.ras_exit.specs.Endings.{IsStop};
 ghost use Rattle.ras_run.specs.LaterKinds.{taken_line};
 ghost use Rattle.ras_run.specs.Places.{Start};

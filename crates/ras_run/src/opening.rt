@@ -12,7 +12,7 @@ ghost use Rattle.ras_ledger.specs.Keeping.{Stands};
 ghost use Rattle.ras_recover.specs.Opening.{Opening, standing_opened};
 ghost use Rattle.ras_texts.specs.Orders.{standing_lines};
 ghost use Rattle.ras_exit.specs.Causes.{BoardCause, Causes};
-ghost use Rattle.ras_exit.specs.Device.{LeavesDevice};
+ghost use Rattle.board_core.specs.Device.{LeavesDevice};
 ghost use Rattle.ras_exit.specs.Endings.{IsStop};
 ghost use Rattle.ras_run.specs.Files.{KeepsFiles, KeepsRefused};
 ghost use Rattle.ras_run.specs.Taking.{IsPrintExit, LedgerStands, Opens, Prints, unopened_exit};

@@ -11,7 +11,7 @@ ghost use Rattle.board_core.specs.ChangeLemmas.{told_left, text_left, store_left
 ghost use Rattle.board_core.specs.Clock.{Passes, Leads, IsSynced};
 ghost use Rattle.board_core.specs.MomentLemmas.{since_earlier};
 ghost use Rattle.board_core.specs.MemBoard.{told_of, clock_of, settled_disk, calls_of, wrote, synced, acted, printed, wrote_register, wrote_range, put_record, past_after};
-ghost use Rattle.board_core.specs.MemBoard.{Does, ListsCall, ListsAccess, ListsNone};
+ghost use Rattle.board_core.specs.MemBoard.{Performs, ListsCall, ListsAccess, ListsNone};
 ghost use Rattle.board_core.specs.Stop.{Same, InFile, InStore, InOut, Begins, Appends};
 ghost use Rattle.board_core.specs.Told.{Reads, Torn, MayList, FailsWrite, FailsPrint, file_of, with_call, after_write, after_print};
 ghost use Rattle.board_core.specs.Told.{device_of, on_device, with_access, register_in, after_reg_write, after_range_write, after_put, AnswersPut, KeepsAtRefusal, StoreBy, MayListAccess, MayAct, FailsAccess};
@@ -43,7 +43,7 @@ impl Board for MemBoard {
         ensures failed { OnErr result (MayList (Size file) (told_of self.old) (told_of self.new)) }
         ensures stops { Passes Same (clock_of self.old.past) (clock_of self.new.past) }
         ensures cause { FailsAs disk_call self.old.faults self.new.faults result }
-        ensures does { Does disk_call self.old.past self.old self.new result }
+        ensures does { Performs disk_call self.old.past self.old self.new result }
         ensures listed { ListsCall (Size file) self.old self.new result }
     {
         self.begin(DiskCall::Size(file))?;
@@ -59,7 +59,7 @@ impl Board for MemBoard {
             (MayList (ReadAt file place (length buf.old)) (told_of self.old) (told_of self.new)) }
         ensures stops { Passes Same (clock_of self.old.past) (clock_of self.new.past) }
         ensures cause { FailsAs disk_call self.old.faults self.new.faults result }
-        ensures does { Does disk_call self.old.past self.old self.new result }
+        ensures does { Performs disk_call self.old.past self.old self.new result }
         ensures listed { ListsCall (ReadAt file place (length buf.old)) self.old self.new result }
     {
         self.begin(DiskCall::ReadAt(file, place, buf.len() as u64))?;
@@ -77,7 +77,7 @@ impl Board for MemBoard {
             (clock_of self.new.past) }
         ensures cause { FailsAs disk_call self.old.faults self.new.faults result }
         // Where it failed it has written nothing.
-        ensures does { Does disk_call
+        ensures does { Performs disk_call
             (past_after result (wrote file place bytes.now) self.old.past) self.old self.new
             result }
         ensures listed { ListsCall
@@ -95,7 +95,7 @@ impl Board for MemBoard {
             (IsSynced file (file_of file (told_of self.old)) (clock_of self.new.past)) }
         ensures cause { FailsAs disk_call self.old.faults self.new.faults result }
         // Where it failed it has settled nothing.
-        ensures does { Does disk_call
+        ensures does { Performs disk_call
             (past_after result (synced file) self.old.past) self.old self.new result }
         ensures listed { ListsCall (Sync file) self.old self.new result }
     {
@@ -111,7 +111,7 @@ impl Board for MemBoard {
         ensures stops { Passes Same (clock_of self.old.past) (clock_of self.new.past) }
         ensures cause { FailsAs device_call self.old.faults self.new.faults result }
         ensures device { IsDevice (device_of (told_of self.old)) }
-        ensures does { Does device_call self.old.past self.old self.new result }
+        ensures does { Performs device_call self.old.past self.old self.new result }
         // A read that failed is listed with the number 0.
         ensures listed { ListsAccess
             (Read reg (result_unwrap_or result 0)) self.old self.new result }
@@ -134,7 +134,7 @@ impl Board for MemBoard {
         ensures cause { FailsAs device_call self.old.faults self.new.faults result }
         ensures device { IsDevice (device_of (told_of self.old)) }
         // Where it failed the device has done nothing.
-        ensures does { Does device_call
+        ensures does { Performs device_call
             (past_after result (acted (wrote_register reg value)) self.old.past) self.old
             self.new result }
         ensures listed { ListsAccess (Write reg value) self.old self.new result }
@@ -154,7 +154,7 @@ impl Board for MemBoard {
         ensures stops { Passes Same (clock_of self.old.past) (clock_of self.new.past) }
         ensures cause { FailsAs device_call self.old.faults self.new.faults result }
         ensures device { IsDevice (device_of (told_of self.old)) }
-        ensures does { Does device_call self.old.past self.old self.new result }
+        ensures does { Performs device_call self.old.past self.old self.new result }
         ensures listed { ListsAccess (RangeRead place (length buf.old)) self.old self.new result }
     {
         self.begin_access(Access::RangeRead(place, buf.len() as u32))?;
@@ -174,7 +174,7 @@ impl Board for MemBoard {
         ensures cause { FailsAs device_call self.old.faults self.new.faults result }
         ensures device { IsDevice (device_of (told_of self.old)) }
         // Where it failed it has written nothing.
-        ensures does { Does device_call
+        ensures does { Performs device_call
             (past_after result (acted (wrote_range place bytes.now)) self.old.past)
             self.old self.new result }
         ensures listed { ListsAccess
@@ -198,7 +198,7 @@ impl Board for MemBoard {
         ensures cause { FailsAs device_call self.old.faults self.new.faults (put_failure result) }
         ensures device { IsDevice (device_of (told_of self.old)) }
         // Where it failed nothing was put.
-        ensures does { Does device_call
+        ensures does { Performs device_call
             (past_after result (acted (put_record id bytes.now)) self.old.past) self.old
             self.new (put_failure result) }
         ensures listed { ListsNone self.old self.new }
@@ -216,7 +216,7 @@ impl Board for MemBoard {
             (clock_of self.new.past)) }
         ensures cause { FailsAs print_call self.old.faults self.new.faults result }
         // Where it failed it has printed nothing.
-        ensures does { Does print_call
+        ensures does { Performs print_call
             (past_after result (printed bytes.now) self.old.past) self.old self.new result }
         ensures listed { ListsNone self.old self.new }
     {

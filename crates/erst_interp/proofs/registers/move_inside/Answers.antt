@@ -1,6 +1,6 @@
 use Rattle.std.proofs.Common.{arith}
 use Rattle.std.proofs.lemmas.Grind.{common_steps}
-use Rattle.erst_interp.proofs.BreakLemmas.{range_unread, range_unwritten}
+use Rattle.erst_interp.proofs.BreakLemmas.{range_unread}
 use Rattle.erst_interp.proofs.registers.move_inside.Goals as goal
 
 pub returns-in-Err-clause-breaks : goal.returns-in-Err-clause-breaks

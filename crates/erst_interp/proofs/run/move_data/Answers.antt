@@ -1,4 +1,4 @@
-use Rattle.erst_interp.proofs.BreakLemmas.{move_unread, move_refused}
+use Rattle.erst_interp.proofs.ShiftedLemmas.{move_refused}
 use Rattle.erst_interp.proofs.FieldLemmas.{stays_in_turn, more_in_turn, refused_after}
 use Rattle.erst_interp.specs.declared.machine.Use.TheVariants.{Moves}
 use Rattle.erst_interp.specs.Parts.{used_by}

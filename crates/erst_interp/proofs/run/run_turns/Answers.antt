@@ -1,11 +1,15 @@
 use Rattle.std.proofs.Common.{◌≡◌, ◌-◌, ◌+◌, ◌∙◌, ◌<◌, ℕ, zero, suc, List, [], ◌∷◌, Some, subst, sym, ap, arith, get_or, length}
-use Rattle.std.specs.Prelude.{◌⊎◌, IfSome, Option, slice_get}
+use Rattle.std.specs.Prelude.{◌⊎◌, IfSome, Option, slice_get, Err, refl}
+use Rattle.erst_interp.specs.Faithful.{IsRegisterAlone}
+use Rattle.erst_interp.specs.declared.refusals.RunRefused.{RunRefused}
+use Rattle.erst_interp.specs.declared.refusals.RunRefused.TheVariants.{Register, Fuel, BadInstruction, BadRegister, BadRange}
 use Rattle.std.proofs.Common.{inl, inr}
 use Rattle.board_core.specs.Told.{Told, device_of}
 use Rattle.erst_store.specs.DeviceLaws.{IsDevice}
 use Rattle.std.proofs.lemmas.Option.{slice_get_past}
 use Rattle.erst_interp.specs.declared.entries.Entry.{Entry}
 use Rattle.erst_interp.proofs.RunLemmas.{Way, way_on, run_on, run_refused, run_ended, run_out, turn_refused}
+use Rattle.erst_interp.proofs.ReachLemmas.{Reaches, reaches_next, reaches_failed, reaches_end}
 use Rattle.erst_interp.proofs.StraightLemmas.{at_place, refused_alone}
 use Rattle.erst_interp.proofs.run.run_turns.Goals as goal
 
@@ -66,6 +70,9 @@ loop-preserved g c =
           next way c.in-Ok.ensures.turns c.in-Ok.ensures.touches.kept;
       touches = run_on c.args.turns list (c.args.turns - (c.loop.counter + 1)) c.args.input e v _ _ _ next way c.loop.invariant.touches c.in-Ok.ensures.touches;
       device = still_device _ _ _ c.loop.invariant.device c.turn.ensures.device;
+      reached = λ are. (let on = c.in-Ok.ensures.straight (at_place list v.index e next are) in
+          subst (λ (i : ℕ). Reaches list i (g.B.Board.told c.args.board.now) (g.B.Board.told c.turn.new.board)) (omega (arith, on))
+          (reaches_next list v.index e _ _ _ next (c.loop.invariant.reached are) c.turn.ensures.reached c.turn.ensures.device));
       straight = λ are. (let here = c.loop.invariant.straight are in let on = c.in-Ok.ensures.straight (at_place list v.index e next are) in omega (arith, here, on));
     }
 
@@ -95,5 +102,33 @@ returns-in-Err-clause-straight g c = λ are short.
 
 pub returns-in-Some-get-clause-straight : goal.returns-in-Some-get-clause-straight
 returns-in-Some-get-clause-straight g c = λ are short.
+    let here = c.loop.invariant.straight are in
+    absurd (omega (arith, here, short, c.loop-test.false, c.in-Some-get.ensures.lookup.3.0))
+
+register_alone : (why : RunRefused) → IsRegisterAlone (Err why) → why ≡ Register
+register_alone Register is = refl
+register_alone Fuel is = absurd is
+register_alone BadInstruction is = absurd is
+register_alone BadRegister is = absurd is
+register_alone BadRange is = absurd is
+
+pub returns-in-Err-clause-reached : goal.returns-in-Err-clause-reached
+returns-in-Err-clause-reached g c = λ are short some.
+    let list = c.args.list.now in
+    let v = c.loop.variables in
+    let e = c.in-Some.entry.now in
+    let alone = refused_alone v c.in-Err.why (c.in-Err.ensures.straight (at_place list v.index e (found list v.index e c.in-Some.ensures.lookup.3.0 c.in-Some.ensures.lookup.1) are)) in
+    reaches_failed list v.index _ _ (c.loop.invariant.reached are) (c.in-Err.ensures.failed (ap (λ w. Err w) (register_alone c.in-Err.why alone)))
+
+pub returns-in-None-clause-reached : goal.returns-in-None-clause-reached
+returns-in-None-clause-reached g c = λ are short some.
+    reaches_end c.args.list.now c.loop.variables.index _ _ (c.loop.invariant.reached are) c.in-None.ensures.lookup.3 some
+
+pub returns-in_default-clause-reached : goal.returns-in_default-clause-reached
+returns-in_default-clause-reached g c = λ are short some.
+    reaches_end c.args.list.now c.loop.variables.index _ _ (c.loop.invariant.reached are) c.in_default.ensures.lookup.3 some
+
+pub returns-in-Some-get-clause-reached : goal.returns-in-Some-get-clause-reached
+returns-in-Some-get-clause-reached g c = λ are short some.
     let here = c.loop.invariant.straight are in
     absurd (omega (arith, here, short, c.loop-test.false, c.in-Some-get.ensures.lookup.3.0))

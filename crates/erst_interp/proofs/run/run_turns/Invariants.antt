@@ -7,14 +7,17 @@ use Rattle.board_core.specs.Told.{device_of}
 use Rattle.erst_store.specs.DeviceLaws.{IsDevice}
 use Rattle.erst_interp.specs.Steps.{GoesWell, StoreWithin}
 use Rattle.erst_interp.proofs.RunLemmas.{Way}
+use Rattle.erst_interp.proofs.ReachLemmas.{Reaches}
+use Rattle.board_core.specs.Doing.{looks}
 use Rattle.erst_interp.proofs.run.run_turns.Given as goal
 
 abbrev pub invariant-loop : goal.invariant-loop
 invariant-loop g l = record {
   way : Way l.turns l.list (l.turns - l.counter) l.input l.variables (g.B.Board.told l.fn.board) (g.B.Board.told l.board);
   touches : GoesWell (StoreWithin l.turns l.list l.input (g.B.Board.told l.fn.board))
-      (record { told = g.B.Board.told l.fn.board; clock = g.B.Board.clock l.fn.board; faults = g.B.Board.faults l.fn.board })
-      (record { told = g.B.Board.told l.board; clock = g.B.Board.clock l.board; faults = g.B.Board.faults l.board });
+      (looks g.B.Board.told g.B.Board.clock g.B.Board.faults l.fn.board)
+      (looks g.B.Board.told g.B.Board.clock g.B.Board.faults l.board);
   device : (g.B.Board.told l.board ≡ g.B.Board.told l.fn.board) ⊎ IfSome (g.B.Board.told l.fn.board) (λ t. IsDevice (device_of t));
   straight : IsTrue (list_all is_straight l.list) → l.variables.index ≡ l.counter;
+  reached : IsTrue (list_all is_straight l.list) → Reaches l.list l.variables.index (g.B.Board.told l.fn.board) (g.B.Board.told l.board);
 }

@@ -4,7 +4,7 @@ use Rattle.board_core.specs.ClockLemmas.{adds_both}
 use Rattle.ras_account.specs.Account.{account_of}
 use Rattle.ras_account.specs.Accounts.{IsAccount}
 use Rattle.ras_exit.specs.declared.exit.Exit.TheVariants.{SourceFault}
-use Rattle.ras_exit.specs.Device.{LeavesDevice}
+use Rattle.board_core.specs.Device.{LeavesDevice}
 use Rattle.board_core.specs.Told.{Relates}
 use Rattle.ras_run.specs.Files.{KeepsFiles}
 use Rattle.ras_run.specs.Taking.{Prints}

@@ -2,7 +2,7 @@ use Rattle.std.proofs.Common.{[], refl, subst, inl, inr, ◌≡◌, Err, sym, �
 use Rattle.board_core.specs.ClockLemmas.{adds_both, adds_none}
 use Rattle.ras_account.specs.Accounts.{IsAccount}
 use Rattle.ras_exit.specs.declared.exit.Exit.TheVariants.{Done, SourceFault}
-use Rattle.ras_exit.specs.Device.{LeavesDevice}
+use Rattle.board_core.specs.Device.{LeavesDevice}
 use Rattle.ras_run.specs.Taking.{IsRunAfter}
 use Rattle.ras_daemon.specs.Running.{EndsAhead, lines_from}
 use Rattle.ras_recover.specs.DiskCalls.{IsBeginning}

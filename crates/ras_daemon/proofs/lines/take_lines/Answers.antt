@@ -5,7 +5,7 @@ use Rattle.ras_exit.specs.declared.reason.Reason.TheVariants.{LongLine}
 use Rattle.ras_script.specs.declared.reader.NextRefused.TheVariants as refused
 use Rattle.ras_script.specs.Lines.{line_too_long, script_ended, script_too_long}
 use Rattle.ras_exit.specs.declared.exit.Exit.TheVariants.{BadLine, TooLong}
-use Rattle.ras_exit.specs.Device.{LeavesDevice}
+use Rattle.board_core.specs.Device.{LeavesDevice}
 use Rattle.ras_run.specs.LaterKinds.{taken_line}
 use Rattle.ras_run.specs.Taking.{LineMoment}
 use Rattle.ras_daemon.specs.Script.{reads_in}

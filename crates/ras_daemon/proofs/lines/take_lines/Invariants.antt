@@ -3,7 +3,7 @@ use Rattle.board_core.specs.Clock.{Adds}
 use Rattle.board_core.specs.Told.{Told}
 use Rattle.ras_script.specs.declared.reader.TheConstants.{LONGEST_SCRIPT}
 use Rattle.ras_script.specs.Reader.{given_count}
-use Rattle.ras_exit.specs.Device.{LeavesDevice}
+use Rattle.board_core.specs.Device.{LeavesDevice}
 use Rattle.ras_run.specs.Places.{Start}
 use Rattle.ras_run.specs.Taking.{IsRunAfter, LedgerStands}
 use Rattle.ras_daemon.specs.Running.{LinesMoment}

@@ -1,35 +1,33 @@
-use Rattle.std.proofs.Common.{[], ◌∷◌, arith}
-use Rattle.ras_journal.specs.declared.limits.TheConstants.{OPEN_GATE}
-use Rattle.ras_recover.specs.Formatting.{after_closing, after_writing}
-use Rattle.ras_recover.proofs.CountingLemmas.{wider, written_then, written_through}
-use Rattle.ras_recover.proofs.FormattingLemmas.{stops_writing, stops_opening}
+use Rattle.std.proofs.Common.{[], ◌∷◌}
+use Rattle.std.proofs.lemmas.Result.{err_from_is_err_and}
+use Rattle.board_core.specs.Cause.{disk_call}
+use Rattle.board_core.specs.Doing.{broke, looks, one_end, through}
+use Rattle.board_core.proofs.DoingLemmas.{does_first, does_then, made_one}
+use Rattle.ras_recover.specs.Formatting.{closing_acts}
 use Rattle.ras_recover.proofs.formatting.format_file.Goals as goal
 
-pub returns-in_err-write_through-clause-stops : goal.returns-in_err-write_through-clause-stops
-returns-in_err-write_through-clause-stops g c = λ t rests.
-    stops_writing c.args.file c.args.shut c.args.bytes.now t _ _ _ (c.close_gate.ensures.at_rest t rests)
-    (c.write_through.ensures.at_rest (after_closing c.args.file c.args.shut t) (c.in_ok-close_gate.ensures.rests t rests))
+pub returns-in_err-close_gate : goal.returns-in_err-close_gate
+returns-in_err-close_gate g c =
+    let see = looks g.B.Board.told g.B.Board.clock g.B.Board.faults in
+    let p = err_from_is_err_and c.from_residual.result c.from_residual.ensures.1 in
+    record {
+      does = rw p.1 (does_first see (closing_acts c.args.file c.args.shut) (through c.args.file 1 c.args.bytes.now ∷ through c.args.file 0 (165 ∷ []) ∷ []) (broke disk_call) _ _ tt c.in_err-close_gate.ensures.does);
+    }
 
-pub returns-clause-stops : goal.returns-clause-stops
-returns-clause-stops g c = λ t rests.
-    let closed = c.in_ok-close_gate.ensures.rests t rests in
-    let written = c.in_ok-write_through.ensures.rests (after_closing c.args.file c.args.shut t) closed in
-    stops_opening c.args.file c.args.shut c.args.bytes.now t _ _ _
-    (stops_writing c.args.file c.args.shut c.args.bytes.now t _ _ _ (c.close_gate.ensures.at_rest t rests)
-    (c.write_through.ensures.at_rest (after_closing c.args.file c.args.shut t) closed))
-    (c.write_through-2.ensures.at_rest (after_writing c.args.file c.args.shut c.args.bytes.now t) written)
+pub returns-in_err-write_through : goal.returns-in_err-write_through
+returns-in_err-write_through g c =
+    let see = looks g.B.Board.told g.B.Board.clock g.B.Board.faults in
+    let p = err_from_is_err_and c.from_residual-in_err-write_through.result c.from_residual-in_err-write_through.ensures.1 in
+    record {
+      does = rw p.1 (does_then see (closing_acts c.args.file c.args.shut) (through c.args.file 1 c.args.bytes.now ∷ through c.args.file 0 (165 ∷ []) ∷ []) (broke disk_call) _ _ _ c.in_ok-close_gate.ensures.does tt
+          (does_first see (through c.args.file 1 c.args.bytes.now ∷ []) (through c.args.file 0 (165 ∷ []) ∷ []) (broke disk_call) _ _ tt c.in_err-write_through.ensures.does));
+    }
 
-pub returns-in_err-close_gate-clause-writes : goal.returns-in_err-close_gate-clause-writes
-returns-in_err-close_gate-clause-writes g c = wider c.args.file 2 6 _ _ (omega arith) c.close_gate.ensures.writes
-
-pub returns-in_err-write_through-clause-writes : goal.returns-in_err-write_through-clause-writes
-returns-in_err-write_through-clause-writes g c =
-    written_then c.args.file 2 2 6 _ _ _ (omega arith) c.close_gate.ensures.writes
-    (written_through c.args.file 1 c.args.bytes.now c.write_through.result _ _ c.write_through.ensures.told c.write_through.ensures.failed)
-
-pub returns-clause-writes : goal.returns-clause-writes
-returns-clause-writes g c =
-    written_then c.args.file 4 2 6 _ _ _ (omega arith)
-    (written_then c.args.file 2 2 4 _ _ _ (omega arith) c.close_gate.ensures.writes
-    (written_through c.args.file 1 c.args.bytes.now c.write_through.result _ _ c.write_through.ensures.told c.write_through.ensures.failed))
-    (written_through c.args.file 0 (OPEN_GATE ∷ []) c.write_through-2.result _ _ c.write_through-2.ensures.told c.write_through-2.ensures.failed)
+pub returns : goal.returns
+returns g c =
+    let see = looks g.B.Board.told g.B.Board.clock g.B.Board.faults in
+    let end = one_end disk_call c.write_through-2.result in
+    record {
+      does = does_then see (closing_acts c.args.file c.args.shut) (through c.args.file 1 c.args.bytes.now ∷ through c.args.file 0 (165 ∷ []) ∷ []) end _ _ _ c.in_ok-close_gate.ensures.does (made_one disk_call c.write_through-2.result)
+          (does_then see (through c.args.file 1 c.args.bytes.now ∷ []) (through c.args.file 0 (165 ∷ []) ∷ []) end _ _ _ c.in_ok-write_through.ensures.does (made_one disk_call c.write_through-2.result) c.write_through-2.ensures.does);
+    }

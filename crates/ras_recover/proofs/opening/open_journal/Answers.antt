@@ -1,13 +1,32 @@
-use Rattle.std.proofs.Common.{ap, ◌∙◌}
+use Rattle.std.proofs.Common.{◌≡◌, ap, ◌∙◌}
+use Rattle.board_core.specs.Doing.{looks}
+use Rattle.ras_account.specs.declared.account.Account.{Account}
+use Rattle.ras_journal.specs.declared.journal.Journal.{Journal}
 use Rattle.ras_journal.specs.View.{JournalView}
-use Rattle.ras_recover.proofs.OpeningLemmas.{is_opened, shut_still, zero_is_shut, opening_stops, opening_opens, holds_nothing, stands_first}
-use Rattle.ras_recover.proofs.OpeningCallsLemmas.{same_refusal, told_opened, calls_opened, recovery_whole, formats, told_formatted, calls_formatted, reads_still}
+use Rattle.ras_recover.specs.Recovering.{open_end}
+use Rattle.ras_recover.specs.declared.refused.OpenRefused.TheVariants.{NoMemory}
+use Rattle.ras_recover.proofs.KeepingLemmas.{no_faults, same_faults}
+use Rattle.ras_recover.proofs.OpeningLemmas.{first_acts, is_opened, opening_opens, opening_stops, shut_still, stands_first, zero_is_shut}
+use Rattle.ras_recover.proofs.OpeningCallsLemmas.{none_called, opens_formatted, opens_standing, recovered_none, refusal_cause, told_formatted, told_opened}
 use Rattle.ras_recover.proofs.opening.open_journal.Goals as goal
+
+pub returns-in-Err-clause-told : goal.returns-in-Err-clause-told
+returns-in-Err-clause-told g c = told_opened _ _ c.recover_files.ensures.told
+
+-- a file stands
 
 pub returns-in-Some-clause-opened : goal.returns-in-Some-clause-opened
 returns-in-Some-clause-opened g c = λ t told.
     let standing = ap (λ (v : JournalView). v.standing) c.at.ensures in
     rw standing (is_opened c.in-Ok.recovered.0.account.state c.in-Some.standing t _ _ _ told c.in-Ok.ensures.recovers (rw (← c.in-Some.is) c.in-Ok.ensures.standing) (c.in-Ok.ensures.rests t told))
+
+pub returns-in-Some-clause-told : goal.returns-in-Some-clause-told
+returns-in-Some-clause-told g c = told_opened _ _ c.recover_files.ensures.told
+
+pub returns-in-Some-clause-opens : goal.returns-in-Some-clause-opens
+returns-in-Some-clause-opens g c = opens_standing c.in-Some.standing _ _ (rw (← c.in-Some.is) c.in-Ok.ensures.standing) c.in-Ok.ensures.reads
+
+-- none stands
 
 pub format_first-requires : goal.format_first-requires
 format_first-requires g c =
@@ -15,49 +34,57 @@ format_first-requires g c =
 
 pub returns-in-Ok-format_first-clause-stops : goal.returns-in-Ok-format_first-clause-stops
 returns-in-Ok-format_first-clause-stops g c = λ t told.
-    opening_stops c.in-Ok.recovered.0.account.state t _ _ _ _ _ told c.in-Ok.ensures.keeps c.in-Ok.ensures.recovers (rw (← c.in_default.is) c.in-Ok.ensures.standing) (c.in-Ok.ensures.rests t told) c.format_first.ensures.stops
-
-pub returns-in-Ok-format_first-clause-opened : goal.returns-in-Ok-format_first-clause-opened
-returns-in-Ok-format_first-clause-opened g c = λ t told.
-    opening_opens c.in-Ok.recovered.0.account.state c.in-Ok.recovered.1.0 c.in-Ok.recovered.1.1 c.in-Ok-format_first.journal.standing t _ _ _ _ _ told c.in-Ok.ensures.recovers (rw (← c.in_default.is) c.in-Ok.ensures.standing)
-    c.in-Ok.ensures.shut (c.in-Ok.ensures.rests t told) c.in-Ok-format_first.ensures.opened
+    opening_stops (looks g.B.Board.told g.B.Board.clock g.B.Board.faults) c.in-Ok.recovered.0.account.state c.in-Ok.recovered.1.0 c.in-Ok.recovered.1.1 _ _ _ t told c.in-Ok.ensures.recovers (rw (← c.in_default.is) c.in-Ok.ensures.standing)
+    c.in-Ok.ensures.shut (c.in-Ok.ensures.rests t told) (open_end c.format_first.result) c.format_first.ensures.can c.format_first.ensures.does c.in-Ok.ensures.keeps
 
 pub returns-in-Err-format_first-clause-stops : goal.returns-in-Err-format_first-clause-stops
 returns-in-Err-format_first-clause-stops g c = λ t told.
-    opening_stops c.in-Ok.recovered.0.account.state t _ _ _ _ _ told c.in-Ok.ensures.keeps c.in-Ok.ensures.recovers (rw (← c.in_default.is) c.in-Ok.ensures.standing) (c.in-Ok.ensures.rests t told) c.format_first.ensures.stops
+    opening_stops (looks g.B.Board.told g.B.Board.clock g.B.Board.faults) c.in-Ok.recovered.0.account.state c.in-Ok.recovered.1.0 c.in-Ok.recovered.1.1 _ _ _ t told c.in-Ok.ensures.recovers (rw (← c.in_default.is) c.in-Ok.ensures.standing)
+    c.in-Ok.ensures.shut (c.in-Ok.ensures.rests t told) (open_end c.format_first.result) c.format_first.ensures.can c.format_first.ensures.does c.in-Ok.ensures.keeps
 
-pub returns-in-Err-clause-told : goal.returns-in-Err-clause-told
-returns-in-Err-clause-told g c = told_opened _ _ c.recover_files.ensures.told
+pub returns-in-Ok-format_first-clause-opened : goal.returns-in-Ok-format_first-clause-opened
+returns-in-Ok-format_first-clause-opened g c = λ t told.
+    let standing = ap (λ (v : JournalView). v.standing) c.in-Ok-format_first.ensures.journal in
+    rw standing
+    (opening_opens (looks g.B.Board.told g.B.Board.clock g.B.Board.faults) c.in-Ok.recovered.0.account.state c.in-Ok.recovered.1.0 c.in-Ok.recovered.1.1 c.args.board.now _ _ t told c.in-Ok.ensures.recovers (rw (← c.in_default.is) c.in-Ok.ensures.standing)
+    c.in-Ok.ensures.shut (c.in-Ok.ensures.rests t told) (c.in-Ok-format_first.ensures.can tt) c.in-Ok-format_first.ensures.does)
 
-pub returns-in-Some-clause-told : goal.returns-in-Some-clause-told
-returns-in-Some-clause-told g c = told_opened _ _ c.recover_files.ensures.told
-
-pub returns-in-Some-clause-calls : goal.returns-in-Some-clause-calls
-returns-in-Some-clause-calls g c = calls_opened _ _ c.in-Ok.ensures.calls
+pub returns-in-Ok-format_first-clause-usable : goal.returns-in-Ok-format_first-clause-usable
+returns-in-Ok-format_first-clause-usable g c = ap (λ (v : JournalView). v.failed) c.in-Ok-format_first.ensures.journal
 
 pub returns-in-Ok-format_first-clause-standing : goal.returns-in-Ok-format_first-clause-standing
 returns-in-Ok-format_first-clause-standing g c =
-    rw c.in-Ok-format_first.ensures.standing
+    let standing = ap (λ (v : JournalView). v.standing) c.in-Ok-format_first.ensures.journal in
+    rw standing
     (stands_first c.in-Ok.recovered.0.account.state c.in-Ok.recovered.1.0 c.in-Ok.recovered.1.1 _ c.in-Ok.ensures.recovers (rw (← c.in_default.is) c.in-Ok.ensures.standing) c.in-Ok.ensures.shut)
 
 pub returns-in-Ok-format_first-clause-told : goal.returns-in-Ok-format_first-clause-told
 returns-in-Ok-format_first-clause-told g c =
-    told_formatted _ _ (formats _ _ _ (holds_nothing c.in-Ok.recovered.0.account.state _ c.in-Ok.ensures.recovers (rw (← c.in_default.is) c.in-Ok.ensures.standing))
-    (recovery_whole _ _ c.recover_files.ensures.told c.in-Ok.ensures.calls) c.format_first.ensures.writes)
-
-pub returns-in-Ok-format_first-clause-calls : goal.returns-in-Ok-format_first-clause-calls
-returns-in-Ok-format_first-clause-calls g c =
-    calls_formatted _ _ (formats _ _ _ (holds_nothing c.in-Ok.recovered.0.account.state _ c.in-Ok.ensures.recovers (rw (← c.in_default.is) c.in-Ok.ensures.standing))
-    (recovery_whole _ _ c.recover_files.ensures.told c.in-Ok.ensures.calls) c.format_first.ensures.writes)
-
-pub returns-in-Ok-format_first-clause-reads : goal.returns-in-Ok-format_first-clause-reads
-returns-in-Ok-format_first-clause-reads g c = reads_still _ _ _ c.in-Ok.ensures.reads c.format_first.ensures.writes
+    told_formatted (looks g.B.Board.told g.B.Board.clock g.B.Board.faults) c.in-Ok.recovered.0.account.state c.in-Ok.recovered.1.0 (open_end c.format_first.result) _ _ _
+    (recovered_none c.in-Ok.recovered.0.account.state c.in-Ok.recovered.1.0 c.in-Ok.recovered.1.1 _ _ c.in-Ok.ensures.recovers (rw (← c.in_default.is) c.in-Ok.ensures.standing) c.in-Ok.ensures.shut c.in-Ok.ensures.reads)
+    c.recover_files.ensures.told c.format_first.ensures.does
 
 pub returns-in-Err-format_first-clause-told : goal.returns-in-Err-format_first-clause-told
 returns-in-Err-format_first-clause-told g c =
-    told_formatted _ _ (formats _ _ _ (holds_nothing c.in-Ok.recovered.0.account.state _ c.in-Ok.ensures.recovers (rw (← c.in_default.is) c.in-Ok.ensures.standing))
-    (recovery_whole _ _ c.recover_files.ensures.told c.in-Ok.ensures.calls) c.format_first.ensures.writes)
+    told_formatted (looks g.B.Board.told g.B.Board.clock g.B.Board.faults) c.in-Ok.recovered.0.account.state c.in-Ok.recovered.1.0 (open_end c.format_first.result) _ _ _
+    (recovered_none c.in-Ok.recovered.0.account.state c.in-Ok.recovered.1.0 c.in-Ok.recovered.1.1 _ _ c.in-Ok.ensures.recovers (rw (← c.in_default.is) c.in-Ok.ensures.standing) c.in-Ok.ensures.shut c.in-Ok.ensures.reads)
+    c.recover_files.ensures.told c.format_first.ensures.does
+
+pub returns-in-Ok-format_first-clause-opens : goal.returns-in-Ok-format_first-clause-opens
+returns-in-Ok-format_first-clause-opens g c =
+    opens_formatted c.in-Ok.recovered.0.account.state c.in-Ok.recovered.1.0 _ _ _
+    (recovered_none c.in-Ok.recovered.0.account.state c.in-Ok.recovered.1.0 c.in-Ok.recovered.1.1 _ _ c.in-Ok.ensures.recovers (rw (← c.in_default.is) c.in-Ok.ensures.standing) c.in-Ok.ensures.shut c.in-Ok.ensures.reads)
+    c.in-Ok-format_first.ensures.does.told
 
 pub returns-in-Err-format_first-clause-kept : goal.returns-in-Err-format_first-clause-kept
 returns-in-Err-format_first-clause-kept g c = λ is.
-    rw (c.format_first.ensures.kept (c.in-Err-format_first.is ∙ same_refusal _ _ _ _ is)) c.recover_files.ensures.told
+    let e : c.in-Err-format_first.refused ≡ NoMemory = cc in
+    rw (none_called (looks g.B.Board.told g.B.Board.clock g.B.Board.faults) (first_acts c.in-Ok.recovered.1.0 c.in-Ok.recovered.0.account.state) c.in-Err-format_first.refused _ _ e c.in-Err-format_first.ensures.does) c.recover_files.ensures.told
+
+pub returns-in-Ok-format_first-clause-cause : goal.returns-in-Ok-format_first-clause-cause
+returns-in-Ok-format_first-clause-cause g c = no_faults _ _ tt (c.in-Ok-format_first.ensures.does.faults ∙ same_faults _ _ tt c.in-Ok.ensures.cause)
+
+pub returns-in-Err-format_first-clause-cause : goal.returns-in-Err-format_first-clause-cause
+returns-in-Err-format_first-clause-cause g c =
+    refusal_cause (Account × Journal) (looks g.B.Board.told g.B.Board.clock g.B.Board.faults) (first_acts c.in-Ok.recovered.1.0 c.in-Ok.recovered.0.account.state) c.in-Err-format_first.refused _ _ _ (same_faults _ _ tt c.in-Ok.ensures.cause)
+    c.in-Err-format_first.ensures.does

@@ -1,5 +1,5 @@
 use Rattle.ras_recover.proofs.KeepingLemmas.{rests_still, unless_disk}
-use Rattle.ras_recover.proofs.OpeningCallsLemmas.{recovers, told_unsynced, told_recovered, calls_recovered, reads_recovered}
+use Rattle.ras_recover.proofs.OpeningCallsLemmas.{recovers, told_unsynced, told_recovered, reads_recovered}
 use Rattle.ras_recover.proofs.recovering.recover_files.Goals as goal
 
 pub returns-in-Ok-clause-rests : goal.returns-in-Ok-clause-rests
@@ -8,9 +8,6 @@ returns-in-Ok-clause-rests g c = unless_disk c.recover_synced.result _ (λ t tol
 
 pub returns-in-Ok-clause-told : goal.returns-in-Ok-clause-told
 returns-in-Ok-clause-told g c = told_recovered c.recover_synced.result _ _ (recovers _ _ c.recover_synced.result _ _ _ c.in-Ok.ensures.syncs c.recover_synced.ensures.reads)
-
-pub returns-in-Ok-clause-calls : goal.returns-in-Ok-clause-calls
-returns-in-Ok-clause-calls g c = calls_recovered c.recover_synced.result _ _ (recovers _ _ c.recover_synced.result _ _ _ c.in-Ok.ensures.syncs c.recover_synced.ensures.reads)
 
 pub returns-in-Ok-clause-reads : goal.returns-in-Ok-clause-reads
 returns-in-Ok-clause-reads g c = reads_recovered c.recover_synced.result _ _ (recovers _ _ c.recover_synced.result _ _ _ c.in-Ok.ensures.syncs c.recover_synced.ensures.reads)

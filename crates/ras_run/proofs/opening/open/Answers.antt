@@ -4,6 +4,7 @@ use Rattle.ras_account.specs.declared.account.Account.{Account}
 use Rattle.ras_journal.specs.declared.journal.Journal.{Journal}
 use Rattle.ras_exit.specs.declared.exit.Exit.TheVariants.{NoMemory}
 use Rattle.ras_exit.proofs.FaultLemmas.{same_faults}
+use Rattle.ras_recover.proofs.OpeningCallsLemmas.{calls_opened}
 use Rattle.ras_run.proofs.OpenLemmas.{cause_refused, memory_kept, opened_stands, opening_device, opening_prints, opening_refused, opening_stands, stop_refused, told_refused}
 use Rattle.ras_run.proofs.opening.open.Goals as goal
 
@@ -52,3 +53,6 @@ returns-in-Ok-clause-device g c = opening_device _ _ _ _ (g.met.B.Board.store_is
 
 pub returns-in-Err-clause-device : goal.returns-in-Err-clause-device
 returns-in-Err-clause-device g c = opening_device _ _ _ _ (g.met.B.Board.store_is_left c.args.board.now) c.in-Err.ensures.told c.in-Err.ensures.stops
+
+pub returns-in-Ok-clause-whole : goal.returns-in-Ok-clause-whole
+returns-in-Ok-clause-whole g c = calls_opened _ _ c.in-Ok.ensures.opens

@@ -3,29 +3,40 @@ use Rattle.std.proofs.lemmas.Bool.Decides.{nat_tests}
 use Rattle.std.proofs.lemmas.Result.{err_from_is_err_and}
 use Rattle.erst_driver.proofs.WaitLemmas.{wait_begins, wait_refused, waits_on, wait_ends, wait_gives_up}
 use Rattle.erst_driver.proofs.PlanLemmas.{nothing_done}
+use Rattle.erst_driver.proofs.DeviceLemmas.{called_none, called_next, called_device, called_some}
 use Rattle.erst_driver.proofs.driver.Driver.check.Goals as goal
 
 pub loop-init : goal.loop-init
-loop-init g c = wait_begins c.args.self.now _ (nothing_done c.args.self.now _)
-
-pub returns-in_err-act : goal.returns-in_err-act
-returns-in_err-act g c =
-    let p = err_from_is_err_and c.from_residual.result c.from_residual.ensures.1 in
-    record {
-      waits = rw (p.1, p.2) (wait_refused c.args.most c.args.self.now c.loop.counter _ _ _ c.loop.invariant c.loop-test.true
-          c.in_err-act.field-0.0 c.in_err-act.ensures.acts);
-    }
-
-pub returns-then-branch-eq0 : goal.returns-then-branch-eq0
-returns-then-branch-eq0 g c = record {
-  waits = wait_ends c.args.most c.args.self.now c.loop.counter _ _ _ c.loop.invariant c.loop-test.true c.in_ok-act.field-0 c.in_ok-act.ensures.acts
-      (grind (arith, nat_tests, c.if-branch-eq0.true));
+loop-init g c = record {
+  waiting = wait_begins c.args.self.now _ (nothing_done c.args.self.now _);
+  called = called_none c.args.self.now (g.B.Board.told c.args.board.now);
 }
 
-pub loop-preserved : goal.loop-preserved
-loop-preserved g c =
-    waits_on c.args.most c.args.self.now c.loop.counter _ _ _ c.loop.invariant c.loop-test.true c.in_ok-act.field-0 c.in_ok-act.ensures.acts
-    (λ zero_is. grind (arith, nat_tests, c.if-branch-eq0.false, zero_is))
+pub returns-in_err-act-clause-waits : goal.returns-in_err-act-clause-waits
+returns-in_err-act-clause-waits g c =
+    let p = err_from_is_err_and c.from_residual.result c.from_residual.ensures.1 in
+    rw (p.1, p.2) (wait_refused c.args.most c.args.self.now c.loop.counter _ _ _ c.loop.invariant.waiting c.loop-test.true
+    c.in_err-act.field-0.0 c.in_err-act.ensures.acts)
 
-pub returns : goal.returns
-returns g c = record { waits = wait_gives_up c.args.most c.args.self.now c.loop.counter _ _ c.loop.invariant (omega (arith, c.loop-test.false, c.loop.auto.counter-end)) }
+pub returns-then-branch-eq0-clause-waits : goal.returns-then-branch-eq0-clause-waits
+returns-then-branch-eq0-clause-waits g c = wait_ends c.args.most c.args.self.now c.loop.counter _ _ _ c.loop.invariant.waiting c.loop-test.true c.in_ok-act.field-0 c.in_ok-act.ensures.acts
+    (grind (arith, nat_tests, c.if-branch-eq0.true))
+
+pub loop-preserved : goal.loop-preserved
+loop-preserved g c = record {
+  waiting = waits_on c.args.most c.args.self.now c.loop.counter _ _ _ c.loop.invariant.waiting c.loop-test.true c.in_ok-act.field-0 c.in_ok-act.ensures.acts
+      (λ zero_is. grind (arith, nat_tests, c.if-branch-eq0.false, zero_is));
+  called = called_next c.args.self.now c.loop.counter _ _ _ c.loop.invariant.called c.in_ok-act.ensures.device;
+}
+
+pub returns-clause-waits : goal.returns-clause-waits
+returns-clause-waits g c = wait_gives_up c.args.most c.args.self.now c.loop.counter _ _ c.loop.invariant.waiting (omega (arith, c.loop-test.false, c.loop.auto.counter-end))
+
+pub returns-in_err-act-clause-device : goal.returns-in_err-act-clause-device
+returns-in_err-act-clause-device g c = λ some. called_device c.args.self.now c.loop.counter _ _ c.loop.invariant.called c.in_err-act.ensures.device
+
+pub returns-then-branch-eq0-clause-device : goal.returns-then-branch-eq0-clause-device
+returns-then-branch-eq0-clause-device g c = λ some. called_device c.args.self.now c.loop.counter _ _ c.loop.invariant.called c.in_ok-act.ensures.device
+
+pub returns-clause-device : goal.returns-clause-device
+returns-clause-device g c = λ some. called_some c.args.self.now c.loop.counter _ _ (omega (arith, some, c.loop-test.false, c.loop.auto.counter-end)) c.loop.invariant.called

@@ -24,7 +24,7 @@ returns-then-id g c = record {
 
 pub returns-in-Err : goal.returns-in-Err
 returns-in-Err g c = record {
-  collects = collect_starves c.args.self.now c.loop.counter c.loop.found.items _ _ _ c.loop.invariant c.in_ok-id.id c.in_ok-id.ensures.acts;
+  collects = collect_starves c.args.self.now c.loop.counter c.loop.found.items _ _ _ c.loop.invariant c.in_ok-id.id c.in_ok-id.ensures.acts c.loop-test.true c.in_ok-id.ensures.device.admitted;
 }
 
 pub loop-preserved : goal.loop-preserved

@@ -2,24 +2,37 @@ use Rattle.std.proofs.Common.{arith}
 use Rattle.std.proofs.lemmas.Bool.Decides.{nat_tests}
 use Rattle.std.proofs.lemmas.Result.{err_from_is_err_and}
 use Rattle.erst_driver.proofs.PlanLemmas.{nothing_done}
-use Rattle.erst_driver.proofs.ListLemmas.{listing_begins, list_refused, listing_next, listing_ends, listing_gives_up}
+use Rattle.erst_driver.proofs.ListLemmas.{listing_begins, list_refused, listing_next, listing_ends}
+use Rattle.erst_driver.proofs.DeviceLemmas.{called_none, called_next, called_device, called_some}
 use Rattle.erst_driver.proofs.driver.Driver.list_to_end.Goals as goal
 
 pub loop-init : goal.loop-init
-loop-init g c = listing_begins c.args.self.now _ (nothing_done c.args.self.now _)
+loop-init g c = record {
+  listing = listing_begins c.args.self.now _ (nothing_done c.args.self.now _);
+  called = called_none c.args.self.now (g.B.Board.told c.args.board.now);
+}
 
-pub returns-in_err-act : goal.returns-in_err-act
-returns-in_err-act g c =
+pub returns-in_err-act-clause-lists : goal.returns-in_err-act-clause-lists
+returns-in_err-act-clause-lists g c =
     let p = err_from_is_err_and c.from_residual.result c.from_residual.ensures.1 in
-    record { lists = rw (p.1, p.2) (list_refused c.args.self.now c.loop.counter _ _ _ c.loop.invariant c.in_err-act.field-0.0 c.in_err-act.ensures.acts) }
+    rw (p.1, p.2) (list_refused c.args.self.now c.loop.counter _ _ _ c.loop.invariant.listing c.in_err-act.field-0.0 c.in_err-act.ensures.acts)
 
 pub loop-preserved : goal.loop-preserved
-loop-preserved g c =
-    listing_next c.args.self.now c.loop.counter _ _ _ c.loop.invariant c.in_ok-act.field-0 c.in_ok-act.ensures.acts
-    (λ end. grind (arith, nat_tests, c.if-branch.false, end))
-
-pub returns-then-branch : goal.returns-then-branch
-returns-then-branch g c = record {
-  lists = listing_ends c.args.self.now c.loop.counter _ _ _ c.loop.invariant c.in_ok-act.field-0 c.in_ok-act.ensures.acts
-      (grind (arith, nat_tests, c.if-branch.true));
+loop-preserved g c = record {
+  listing = listing_next c.args.self.now c.loop.counter _ _ _ c.loop.invariant.listing c.in_ok-act.field-0 c.in_ok-act.ensures.acts
+      (λ end. grind (arith, nat_tests, c.if-branch.false, end));
+  called = called_next c.args.self.now c.loop.counter _ _ _ c.loop.invariant.called c.in_ok-act.ensures.device;
 }
+
+pub returns-then-branch-clause-lists : goal.returns-then-branch-clause-lists
+returns-then-branch-clause-lists g c = listing_ends c.args.self.now c.loop.counter _ _ _ c.loop.invariant.listing c.in_ok-act.field-0 c.in_ok-act.ensures.acts
+    (grind (arith, nat_tests, c.if-branch.true))
+
+pub returns-in_err-act-clause-device : goal.returns-in_err-act-clause-device
+returns-in_err-act-clause-device g c = called_device c.args.self.now c.loop.counter _ _ c.loop.invariant.called c.in_err-act.ensures.device
+
+pub returns-then-branch-clause-device : goal.returns-then-branch-clause-device
+returns-then-branch-clause-device g c = called_device c.args.self.now c.loop.counter _ _ c.loop.invariant.called c.in_ok-act.ensures.device
+
+pub returns-clause-device : goal.returns-clause-device
+returns-clause-device g c = called_some c.args.self.now c.loop.counter _ _ (omega (arith, c.loop-test.false, c.loop.auto.counter-end)) c.loop.invariant.called

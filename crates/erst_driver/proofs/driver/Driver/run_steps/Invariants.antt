@@ -1,9 +1,14 @@
 -- The steps so far were done.
-use Rattle.std.proofs.Common.{List, [], ◌∷◌, take}
+use Rattle.std.proofs.Common.{take}
 use Rattle.erst_driver.specs.Steps.{Done}
+use Rattle.erst_driver.specs.Steps.{Called}
+use Rattle.board_core.specs.Doing.{looks}
 use Rattle.erst_driver.proofs.driver.Driver.run_steps.Given as goal
 
 abbrev pub invariant-loop-step : goal.invariant-loop-step
-invariant-loop-step g l = Done l.self (λ d. take l.step-index l.steps)
-    (record { told = g.B.Board.told l.fn.board; clock = g.B.Board.clock l.fn.board; faults = g.B.Board.faults l.fn.board })
-    (record { told = g.B.Board.told l.board; clock = g.B.Board.clock l.board; faults = g.B.Board.faults l.board })
+invariant-loop-step g l = record {
+  done : Done l.self (λ d. take l.step-index l.steps)
+      (looks g.B.Board.told g.B.Board.clock g.B.Board.faults l.fn.board)
+      (looks g.B.Board.told g.B.Board.clock g.B.Board.faults l.board);
+  called : Called l.self l.step-index (g.B.Board.told l.fn.board) (g.B.Board.told l.board);
+}

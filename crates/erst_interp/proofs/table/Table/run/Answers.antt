@@ -8,8 +8,8 @@ use Rattle.erst_interp.specs.Admission.{IsAdmitted}
 use Rattle.erst_interp.specs.Machine.{end_of}
 use Rattle.erst_interp.specs.Run.{StoreInRun, IsRun}
 use Rattle.erst_interp.specs.Steps.{StoreOver}
-use Rattle.erst_interp.proofs.AdmittedRunLemmas.{does_run, stores_run}
-use Rattle.erst_interp.proofs.ShiftedLemmas.{runs_alone, store_alone}
+use Rattle.erst_interp.proofs.AdmittedRunLemmas.{does_run, store_alone, stores_run}
+use Rattle.erst_interp.proofs.ReachLemmas.{admitted_uses}
 use Rattle.erst_interp.proofs.StraightLemmas.{admitted_straight}
 use Rattle.erst_interp.proofs.TouchLemmas.{passes_more}
 use Rattle.erst_interp.proofs.TurnLemmas.{stops_of}
@@ -19,8 +19,7 @@ pub returns-clause-runs : goal.returns-clause-runs
 returns-clause-runs g c =
     let told = g.B.Board.told c.args.board.now in
     let new = g.B.Board.told c.run_list.new.board in
-    subst (λ (list : List Entry). IfSome told (λ t. IsRun c.run_list.result (end_of list c.args.input (device_of t)) t new)) c.list.ensures
-    (runs_alone c.list.result.now c.args.input c.run_list.result told new c.run_list.ensures.runs)
+    subst (λ (list : List Entry). IfSome told (λ t. IsRun c.run_list.result (end_of list c.args.input (device_of t)) t new)) c.list.ensures c.run_list.ensures.runs
 
 pub returns-clause-stops : goal.returns-clause-stops
 returns-clause-stops g c =
@@ -34,8 +33,9 @@ pub returns-clause-does : goal.returns-clause-does
 returns-clause-does g c = λ is inside.
     let list = c.list.result.now in
     let fits : c.args.action < 2 ^ 64 = omega (arith, c.ranges.action.fits) in
-    does_run list c.args.action c.args.input fits inside (rw c.list.ensures is) (g.B.Board.told c.args.board.now) (g.B.Board.told c.run_list.new.board) c.run_list.result
-    c.run_list.ensures.runs c.run_list.ensures.device
+    let admitted : IsAdmitted c.args.action list = rw c.list.ensures is in
+    does_run list c.args.action c.args.input fits inside admitted (g.B.Board.told c.args.board.now) (g.B.Board.told c.run_list.new.board) c.run_list.result
+    c.run_list.ensures.runs (c.run_list.ensures.reached (admitted_straight c.args.action list admitted) admitted.short (admitted_uses c.args.action list admitted))
 
 pub returns-clause-stores : goal.returns-clause-stores
 returns-clause-stores g c = λ is inside.
@@ -51,3 +51,9 @@ returns-clause-only_register g c = λ is.
     let list = c.list.result.now in
     let admitted : IsAdmitted c.args.action list = rw c.list.ensures is in
     c.run_list.ensures.straight (admitted_straight c.args.action list admitted) admitted.short
+
+pub returns-clause-device : goal.returns-clause-device
+returns-clause-device g c = λ is.
+    let list = c.list.result.now in
+    let admitted : IsAdmitted c.args.action list = rw c.list.ensures is in
+    c.run_list.ensures.reached (admitted_straight c.args.action list admitted) admitted.short (admitted_uses c.args.action list admitted)

@@ -1,38 +1,52 @@
-use Rattle.std.proofs.Common.{ap}
-use Rattle.ras_account.specs.View.{View}
+use Rattle.std.proofs.lemmas.Result.{err_from_is_err_and}
+use Rattle.std.proofs.Common.{ap, subst}
 use Rattle.ras_journal.specs.View.{JournalView}
-use Rattle.ras_ledger.proofs.KeepingCallsLemmas.{kept_begun, kept_whole, unroomed_begun}
-use Rattle.ras_ledger.proofs.KeepingLemmas.{keep_kept, keep_stops}
+use Rattle.ras_journal.specs.Appending.{append_acts}
+use Rattle.board_core.specs.Doing.{Does, looks}
+use Rattle.ras_journal.specs.declared.standing.Standing.{Standing}
+use Rattle.board_core.proofs.DoingLemmas.{does_first, does_then}
+use Rattle.ras_ledger.specs.Keeping.{keep_end, refusal_end, room_acts, standing_roomy}
+use Rattle.ras_ledger.proofs.KeepingLemmas.{is_bad, keeps_not, keeps_then, roomy, roomy_gate}
 use Rattle.ras_ledger.proofs.ledger.Ledger.keep.Goals as goal
 
-pub returns-clause-stops : goal.returns-clause-stops
-returns-clause-stops g c = λ entries t before links.
-    keep_stops c.args.self.now.account.state c.make_room.new.self.account.state c.args.self.now.journal.standing c.make_room.new.self.journal.standing
-    c.args.link.now (g.B.Board.told c.make_room.new.board) (g.B.Board.clock c.args.board.now) (g.B.Board.clock c.make_room.new.board) (g.B.Board.clock c.append.new.board)
-    (ap (λ (v : View). v.state) c.in_ok-make_room.ensures.account) c.append.ensures.stops entries t
-    (c.in_ok-make_room.ensures.stops t before) (c.in_ok-make_room.ensures.made t before) links
+pub append-requires-clause-usable : goal.append-requires-clause-usable
+append-requires-clause-usable g c = ap (λ (v : JournalView). v.failed) c.in_ok-make_room.ensures.ledger.1
 
-pub returns-clause-kept : goal.returns-clause-kept
-returns-clause-kept g c =
-    keep_kept c.append.result c.args.self.now.account.state c.make_room.new.self.account.state c.args.self.now.journal.standing c.make_room.new.self.journal.standing
-    c.append.new.self.journal.standing c.args.link.now (g.B.Board.told c.args.board.now) (g.B.Board.told c.make_room.new.board) (g.B.Board.told c.append.new.board)
-    (g.B.Board.clock c.args.board.now) (g.B.Board.clock c.make_room.new.board) (g.B.Board.clock c.append.new.board)
-    (ap (λ (v : View). v.state) c.in_ok-make_room.ensures.account) (ap (λ (v : JournalView). v.standing) c.in_ok-make_room.ensures.journal)
-    c.append.ensures.kept c.in_ok-make_room.ensures.made
+pub append-requires-clause-version : goal.append-requires-clause-version
+append-requires-clause-version g c =
+    rw (ap (λ (v : JournalView). v.standing) c.in_ok-make_room.ensures.ledger.1) (roomy c.args.self.now.journal.standing c.args.self.now.account.state c.args.link.now c.in_ok-make_room.ensures.full).version
 
-pub returns-in_err-make_room-clause-calls : goal.returns-in_err-make_room-clause-calls
-returns-in_err-make_room-clause-calls g c =
-    unroomed_begun g.B.Board.told c.in_err-make_room.field-0.0 c.args.self.now.journal.standing c.args.self.now.account.state c.args.link.now c.args.board.now c.make_room.new.board
-    c.in_err-make_room.ensures.nothing_called c.in_err-make_room.ensures.disk_told
+pub append-requires-clause-room : goal.append-requires-clause-room
+append-requires-clause-room g c =
+    rw (ap (λ (v : JournalView). v.standing) c.in_ok-make_room.ensures.ledger.1) (roomy c.args.self.now.journal.standing c.args.self.now.account.state c.args.link.now c.in_ok-make_room.ensures.full).room
 
-pub returns-clause-calls : goal.returns-clause-calls
-returns-clause-calls g c =
-    kept_begun c.append.result c.args.self.now.journal.standing c.make_room.new.self.journal.standing c.args.self.now.account.state c.args.link.now
-    (g.B.Board.told c.args.board.now) (g.B.Board.told c.make_room.new.board) (g.B.Board.told c.append.new.board)
-    (ap (λ (v : JournalView). v.standing) c.in_ok-make_room.ensures.journal) c.in_ok-make_room.ensures.told c.append.ensures.told c.append.ensures.disk c.append.ensures.disk_told
+pub append-requires-clause-gate : goal.append-requires-clause-gate
+append-requires-clause-gate g c =
+    rw (ap (λ (v : JournalView). v.standing) c.in_ok-make_room.ensures.ledger.1)
+    (roomy_gate _ _ _ _ _ _ (c.in_ok-make_room.ensures.can tt) c.requires.stands c.in_ok-make_room.ensures.does.told)
 
-pub returns-clause-whole : goal.returns-clause-whole
-returns-clause-whole g c =
-    kept_whole c.append.result c.args.self.now.journal.standing c.make_room.new.self.journal.standing c.args.self.now.account.state c.args.link.now
-    (g.B.Board.told c.args.board.now) (g.B.Board.told c.make_room.new.board) (g.B.Board.told c.append.new.board)
-    (ap (λ (v : JournalView). v.standing) c.in_ok-make_room.ensures.journal) c.in_ok-make_room.ensures.told c.append.ensures.told
+pub returns-in_err-make_room-clause-does : goal.returns-in_err-make_room-clause-does
+returns-in_err-make_room-clause-does g c =
+    let p = err_from_is_err_and c.from_residual.result c.from_residual.ensures.1 in
+    let s = c.args.self.now.journal.standing in
+    let a = c.args.self.now.account.state in
+    rw (p.1, p.2) (does_first (looks g.B.Board.told g.B.Board.clock g.B.Board.faults) (room_acts s a c.args.link.now) (append_acts (standing_roomy s a c.args.link.now) c.args.link.now) (refusal_end c.in_err-make_room.field-0.0) _ _
+    (is_bad c.in_err-make_room.field-0.0) c.in_err-make_room.ensures.does)
+
+pub returns-in_err-make_room-clause-ledger : goal.returns-in_err-make_room-clause-ledger
+returns-in_err-make_room-clause-ledger g c =
+    let p = err_from_is_err_and c.from_residual.result c.from_residual.ensures.1 in
+    rw (p.1, p.2) (keeps_not c.in_err-make_room.field-0.0 _ _ _ _ c.in_err-make_room.ensures.ledger)
+
+pub returns-clause-does : goal.returns-clause-does
+returns-clause-does g c =
+    let see = looks g.B.Board.told g.B.Board.clock g.B.Board.faults in
+    let s = c.args.self.now.journal.standing in
+    let a = c.args.self.now.account.state in
+    let link = c.args.link.now in
+    does_then see (room_acts s a link) (append_acts (standing_roomy s a link) link) (keep_end c.append.result) _ _ _ c.in_ok-make_room.ensures.does c.append.ensures.made
+    (subst (λ (n : Standing). Does see (append_acts n link) (keep_end c.append.result) c.make_room.new.board c.append.new.board) (ap (λ (v : JournalView). v.standing) c.in_ok-make_room.ensures.ledger.1) c.append.ensures.does)
+
+pub returns-clause-ledger : goal.returns-clause-ledger
+returns-clause-ledger g c =
+    keeps_then c.append.result _ _ _ _ _ c.append.ensures.made c.in_ok-make_room.ensures.ledger.0 c.in_ok-make_room.ensures.ledger.1 c.append.ensures.ledger

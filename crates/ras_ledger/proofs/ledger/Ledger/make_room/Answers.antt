@@ -1,9 +1,5 @@
-use Rattle.ras_ledger.proofs.KeepingLemmas.{stands_gate, stands_shut}
+use Rattle.ras_ledger.proofs.KeepingLemmas.{stands_shut}
 use Rattle.ras_ledger.proofs.ledger.Ledger.make_room.Goals as goal
-
-pub returns-then-not-needs_switch-clause-gate : goal.returns-then-not-needs_switch-clause-gate
-returns-then-not-needs_switch-clause-gate g c =
-    stands_gate c.args.self.now.journal.standing c.args.self.now.account.state (g.B.Board.told c.args.board.now) (g.B.Board.clock c.args.board.now) c.requires.stands
 
 pub switch_file-requires-clause-shut : goal.switch_file-requires-clause-shut
 switch_file-requires-clause-shut g c =

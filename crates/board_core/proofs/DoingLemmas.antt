@@ -1,0 +1,204 @@
+-- Acts one after another, and what calls that do them come to.
+use Rattle.std.proofs.Common.{◌≡◌, ◌∙◌, List, [], ◌∷◌, ◌++◌, Option, None, Some, Result, Ok, Err, OnOk, OnErr, refl, sym, ap, subst, inl, inr, ◌⊎◌}
+use Rattle.std.specs.Option.{option_map}
+use Rattle.erst_store.specs.Device.{Device}
+use Rattle.erst_store.specs.Store.{Stored}
+use Rattle.board_core.specs.declared.board.DiskCall.{DiskCall}
+use Rattle.board_core.specs.Cause.{Faults, FailsAs, Kind, disk_call, device_call, print_call, count_of, with_count}
+use Rattle.board_core.specs.Clock.{Clock, Adds, LeftNow, Passes, Rests}
+use Rattle.board_core.specs.ClockLemmas.{adds_at_rest, adds_both, adds_none, adds_weaker, rests_listed, rests_on, rests_stored}
+use Rattle.board_core.specs.Stop.{Becomes, InStore, Left, Same}
+use Rattle.board_core.specs.Told.{Told, MayList, Relates, Steps, StoreBy, device_of, with_call}
+use Rattle.board_core.specs.Doing.{Act, DeviceCall, Does, Ended, FailsAct, FailsActs, FailsDevice, GoesWell, IsBad, IsMade, Moment, Raises, Seen, TornAct, TornDevice, after_act, after_acts, after_device, broke, calls, device, gave_up, kind_of, one_end, went_well}
+
+-- ---- lists of acts
+
+pub after-append : (xs ys : List Act) (t : Told) → after_acts (xs ++ ys) t ≡ after_acts ys (after_acts xs t)
+after-append [] ys t = refl
+after-append (x ∷ xs) ys t = after-append xs ys (after_act x t)
+
+pub moment_first : (xs ys : List Act) (t : Told) (left : Left) → Moment xs t left → Moment (xs ++ ys) t left
+moment_first [] ys t left m = absurd m
+moment_first (x ∷ xs) ys t left (inl torn) = inl torn
+moment_first (x ∷ xs) ys t left (inr later) = inr (moment_first xs ys (after_act x t) left later)
+
+pub moment_then : (xs ys : List Act) (t : Told) (left : Left) → Moment ys (after_acts xs t) left → Moment (xs ++ ys) t left
+moment_then [] ys t left m = m
+moment_then (x ∷ xs) ys t left m = inr (moment_then xs ys (after_act x t) left m)
+
+pub moment_parts : (xs ys : List Act) (t : Told) (left : Left) → Moment (xs ++ ys) t left → Moment xs t left ⊎ Moment ys (after_acts xs t) left
+moment_parts [] ys t left m = inr m
+moment_parts (x ∷ xs) ys t left (inl torn) = inl (inl torn)
+moment_parts (x ∷ xs) ys t left (inr later) = elim (moment_parts xs ys (after_act x t) left later) [ inl a ↦ inl (inr a) | inr b ↦ inr b ]
+
+pub fails_first : (kind : Kind) (xs ys : List Act) (old new : Told) → FailsActs kind xs old new → FailsActs kind (xs ++ ys) old new
+fails_first kind [] ys old new f = absurd f
+fails_first kind (x ∷ xs) ys old new (inl now) = inl now
+fails_first kind (x ∷ xs) ys old new (inr later) = inr (fails_first kind xs ys (after_act x old) new later)
+
+pub fails_then : (kind : Kind) (xs ys : List Act) (old new : Told) → FailsActs kind ys (after_acts xs old) new → FailsActs kind (xs ++ ys) old new
+fails_then kind [] ys old new f = f
+fails_then kind (x ∷ xs) ys old new f = inr (fails_then kind xs ys (after_act x old) new f)
+
+pub fails_parts : (kind : Kind) (xs ys : List Act) (old new : Told) → FailsActs kind (xs ++ ys) old new → FailsActs kind xs old new ⊎ FailsActs kind ys (after_acts xs old) new
+fails_parts kind [] ys old new f = inr f
+fails_parts kind (x ∷ xs) ys old new (inl now) = inl (inl now)
+fails_parts kind (x ∷ xs) ys old new (inr later) = elim (fails_parts kind xs ys (after_act x old) new later) [ inl a ↦ inl (inr a) | inr b ↦ inr b ]
+
+-- ---- the law of sequence
+
+pub steps_then : (f g : Told → Told) (a b c : Option Told) → Steps f a b → Steps g b c → Steps (λ t. g (f t)) a c
+steps_then f g None b c first second = second ∙ ap (option_map g) first
+steps_then f g (Some t) b c first second = second ∙ ap (option_map g) first
+
+pub steps_as : (f g : Told → Told) → ((t : Told) → f t ≡ g t) → (a b : Option Told) → Steps f a b → Steps g a b
+steps_as f g same None b steps = steps
+steps_as f g same (Some t) b steps = steps ∙ ap Some (same t)
+
+acts_then : (xs ys : List Act) (a b c : Option Told) → Steps (after_acts xs) a b → Steps (after_acts ys) b c → Steps (after_acts (xs ++ ys)) a c
+acts_then xs ys a b c first second =
+    steps_as (λ t. after_acts ys (after_acts xs t)) (after_acts (xs ++ ys)) (λ t. sym (after-append xs ys t)) a c
+    (steps_then (after_acts xs) (after_acts ys) a b c first second)
+
+fails_behind : (kind : Kind) (xs ys : List Act) (a b c : Option Told) → Steps (after_acts xs) a b → Relates (FailsActs kind ys) b c → Relates (FailsActs kind (xs ++ ys)) a c
+fails_behind kind xs ys None b c first second = subst (λ (o : Option Told). Relates (FailsActs kind ys) o c) first second
+fails_behind kind xs ys (Some t) b None first second = subst (λ (o : Option Told). Relates (FailsActs kind ys) o None) first second
+fails_behind kind xs ys (Some t) b (Some u) first second = fails_then kind xs ys t u (subst (λ (o : Option Told). Relates (FailsActs kind ys) o (Some u)) first second)
+
+fails_before : (kind : Kind) (xs ys : List Act) (a b : Option Told) → Relates (FailsActs kind xs) a b → Relates (FailsActs kind (xs ++ ys)) a b
+fails_before kind xs ys None b f = f
+fails_before kind xs ys (Some t) None f = f
+fails_before kind xs ys (Some t) (Some u) f = fails_first kind xs ys t u f
+
+stops_then : (xs ys : List Act) (a b : Seen) (c : Clock) → GoesWell xs a b → ((t : Told) → Rests t b.told b.clock → Adds (Moment ys t) b.clock c) → (t : Told) → Rests t a.told a.clock → Adds (Moment (xs ++ ys) t) a.clock c
+stops_then xs ys a b c first second t rests = adds_both (Moment (xs ++ ys) t) a.clock b.clock c
+    (adds_weaker (Moment xs t) (Moment (xs ++ ys) t) a.clock b.clock (first.stops t rests) (moment_first xs ys t))
+    (adds_weaker (Moment ys (after_acts xs t)) (Moment (xs ++ ys) t) b.clock c (second (after_acts xs t) (first.rests t rests)) (moment_then xs ys t))
+
+pub does_nothing : {X : Type 0} (see : X → Seen) (x : X) → Does see [] went_well x x
+does_nothing see x = record {
+  told = still (see x).told;
+  stops = λ t rests. adds_none (Moment [] t) (see x).clock;
+  rests = λ t rests. rests;
+  faults = refl;
+}
+  where
+    still : (a : Option Told) → Steps (after_acts []) a a
+    still None = refl
+    still (Some t) = refl
+
+-- acts that went well, and then others
+pub does_then : {X : Type 0} (see : X → Seen) (xs ys : List Act) (ended : Ended) (a b c : X) → Does see xs went_well a b → IsMade ended → Does see ys ended b c → Does see (xs ++ ys) ended a c
+does_then see xs ys went_well a b c first made second = record {
+  told = acts_then xs ys (see a).told (see b).told (see c).told first.told second.told;
+  stops = stops_then xs ys (see a) (see b) (see c).clock first second.stops;
+  rests = λ t rests. subst (λ (u : Told). Rests u (see c).told (see c).clock) (sym (after-append xs ys t)) (second.rests (after_acts xs t) (first.rests t rests));
+  faults = second.faults ∙ first.faults;
+}
+does_then see xs ys (broke kind) a b c first made second = record {
+  told = fails_behind kind xs ys (see a).told (see b).told (see c).told first.told second.told;
+  stops = stops_then xs ys (see a) (see b) (see c).clock first second.stops;
+  faults = subst (λ (f : Faults). Raises kind f (see c).faults) first.faults second.faults;
+}
+does_then see xs ys gave_up a b c first made second = absurd made
+
+-- acts whose first ones didn't go well
+pub does_first : {X : Type 0} (see : X → Seen) (xs ys : List Act) (ended : Ended) (a b : X) → IsBad ended → Does see xs ended a b → Does see (xs ++ ys) ended a b
+does_first see xs ys went_well a b bad first = absurd bad
+does_first see xs ys (broke kind) a b bad first = record {
+  told = fails_before kind xs ys (see a).told (see b).told first.told;
+  stops = λ t rests. adds_weaker (Moment xs t) (Moment (xs ++ ys) t) (see a).clock (see b).clock (first.stops t rests) (moment_first xs ys t);
+  faults = first.faults;
+}
+does_first see xs ys gave_up a b bad first = first
+
+-- ---- however a call ended
+
+pub made_one : {T E : Type 0} (kind : Kind) (result : Result T E) → IsMade (one_end kind result)
+made_one kind (Ok x) = tt
+made_one kind (Err e) = tt
+
+pub does_stops : {X : Type 0} (see : X → Seen) (acts : List Act) (ended : Ended) (a b : X) → Does see acts ended a b → (t : Told) → Rests t (see a).told (see a).clock → Adds (Moment acts t) (see a).clock (see b).clock
+does_stops see acts went_well a b does t rests = does.stops t rests
+does_stops see acts (broke kind) a b does t rests = does.stops t rests
+does_stops see acts gave_up a b does t rests = subst (λ x. Adds (Moment acts t) (see a).clock (see x).clock) (sym does) (adds_none (Moment acts t) (see a).clock)
+
+-- ---- one act
+
+same_count : (kind : Kind) (faults : Faults) → with_count kind (count_of kind faults) faults ≡ faults
+same_count disk_call faults = refl
+same_count device_call faults = refl
+same_count print_call faults = refl
+
+pub well_faults : {T E : Type 0} (kind : Kind) (a b : Faults) {x : T} → FailsAs {T = T} {E = E} kind a b (Ok x) → b ≡ a
+well_faults kind a b cause = cause.others ∙ (ap (λ n. with_count kind n a) cause.own.same ∙ same_count kind a)
+
+pub broke_faults : {T E : Type 0} (kind : Kind) (a b : Faults) {e : E} → FailsAs {T = T} {E = E} kind a b (Err e) → Raises kind a b
+broke_faults kind a b cause = record { later = cause.own.later; own = cause.own.failed; others = cause.others }
+
+one_fails : (act : Act) (a b : Option Told) → Relates (FailsAct act) a b → Relates (FailsActs (kind_of act) (act ∷ [])) a b
+one_fails act None b f = f
+one_fails act (Some t) None f = f
+one_fails act (Some t) (Some u) f = inl (refl, f)
+
+stops_one : {X : Type 0} (see : X → Seen) (act : Act) (a b : X) → ((t : Told) → Rests t (see a).told (see a).clock → Adds (TornAct act t) (see a).clock (see b).clock)
+    → (t : Told) → Rests t (see a).told (see a).clock → Adds (Moment (act ∷ []) t) (see a).clock (see b).clock
+stops_one see act a b stops t at_rest = adds_weaker (TornAct act t) (Moment (act ∷ []) t) (see a).clock (see b).clock (stops t at_rest) (λ left torn. inl torn)
+
+pub does_act : {X T E : Type 0} (see : X → Seen) (act : Act) (result : Result T E) (a b : X) → OnOk result (Steps (after_act act) (see a).told (see b).told) → OnErr result (Relates (FailsAct act) (see a).told (see b).told)
+    → ((t : Told) → Rests t (see a).told (see a).clock → Adds (TornAct act t) (see a).clock (see b).clock)
+    → OnOk result ((t : Told) → Rests t (see a).told (see a).clock → Rests (after_act act t) (see b).told (see b).clock) → FailsAs (kind_of act) (see a).faults (see b).faults result
+    → Does see (act ∷ []) (one_end (kind_of act) result) a b
+does_act see act (Ok x) a b told failed stops rests cause = record {
+  told = told;
+  stops = stops_one see act a b stops;
+  rests = rests;
+  faults = well_faults (kind_of act) (see a).faults (see b).faults cause;
+}
+does_act see act (Err e) a b told failed stops rests cause = record {
+  told = one_fails act (see a).told (see b).told failed;
+  stops = stops_one see act a b stops;
+  faults = broke_faults (kind_of act) (see a).faults (see b).faults cause;
+}
+
+on_ok : {T E : Type 0} {P Q : Type 0} (result : Result T E) → OnOk result P → (P → Q) → OnOk result Q
+on_ok (Ok x) holds f = f holds
+on_ok (Err e) holds f = tt
+
+-- a disk call that writes nothing
+pub does_call : {X T E : Type 0} (see : X → Seen) (call : DiskCall) (result : Result T E) (a b : X) → OnOk result (Steps (with_call call) (see a).told (see b).told)
+    → OnErr result (Relates (MayList call) (see a).told (see b).told) → Passes Same (see a).clock (see b).clock → FailsAs disk_call (see a).faults (see b).faults result
+    → Does see (calls call ∷ []) (one_end disk_call result) a b
+does_call see call result a b told failed passes cause =
+    does_act see (calls call) result a b told failed
+    (λ t rests. adds_at_rest Same (Same t.here) t (see a).told (see a).clock (see b).clock rests passes (λ left is. is))
+    (on_ok result told (λ steps t rests. rests_listed call t (see a).told (see b).told (see a).clock (see b).clock rests steps passes)) cause
+
+-- ---- a call of the device
+
+-- one that leaves the store as it is: an access that only reads, and one that writes to the range
+pub does_access : {X T E : Type 0} (see : X → Seen) (call : DeviceCall) (result : Result T E) (a b : X) → ((t : Told) → (after_device call t).here ≡ t.here) → ((t : Told) (left : Left) → Same t.here left → TornDevice call t left)
+    → OnOk result (Steps (after_device call) (see a).told (see b).told) → OnErr result (Relates (FailsDevice call) (see a).told (see b).told) → Passes Same (see a).clock (see b).clock
+    → FailsAs device_call (see a).faults (see b).faults result → Does see (device call ∷ []) (one_end device_call result) a b
+does_access see call result a b still same told failed passes cause =
+    does_act see (device call) result a b told failed
+    (λ t rests. adds_at_rest Same (TornDevice call t) t (see a).told (see a).clock (see b).clock rests passes (same t))
+    (on_ok result told (λ steps t rests. rests_on (after_device call) Same t (see a).told (see b).told (see a).clock (see b).clock rests steps passes.ends (λ left is. is ∙ sym (still t)))) cause
+
+-- one that may change the store: a stop between calls leaves the store that is told
+pub does_store : {X T E : Type 0} (see : X → Seen) (call : DeviceCall) (step : Device → Device) (result : Result T E) (a b : X)
+    → ((t : Told) → (after_device call t).here ≡ record t.here { store = (step (device_of t)).store }) → ((t : Told) (left : Left) → InStore (Becomes (step (device_of t)).store) t.here left → TornDevice call t left)
+    → OnOk result (Steps (after_device call) (see a).told (see b).told) → OnErr result (Relates (FailsDevice call) (see a).told (see b).told) → Passes (InStore (StoreBy step (see a).told)) (see a).clock (see b).clock
+    → FailsAs device_call (see a).faults (see b).faults result → ((t : Told) (left : Left) → (see b).told ≡ Some t → LeftNow (see b).clock left → left.store ≡ t.here.store)
+    → Does see (device call ∷ []) (one_end device_call result) a b
+does_store see call step result a b frame torn told failed passes cause left_is =
+    does_act see (device call) result a b told failed
+    (λ t rests. adds_at_rest (InStore (Becomes (step (device_of t)).store)) (TornDevice call t) t (see a).told (see a).clock (see b).clock rests (told_passes t rests) (torn t))
+    (on_ok result told (λ steps t rests.
+    (let there : (see b).told ≡ Some (after_device call t) = steps ∙ ap (option_map (after_device call)) rests.is in
+    rests_stored (Becomes (step (device_of t)).store) t (after_device call t) (see a).told (see b).told (see a).clock (see b).clock rests there (told_passes t rests)
+    (λ left now. left_is (after_device call t) left there now)
+    (frame t ∙ ap (λ (records : List Stored). record t.here { store = records }) (ap (λ (l : Left). l.store) (sym (frame t))))))) cause
+  where
+    told_passes : (t : Told) → Rests t (see a).told (see a).clock → Passes (InStore (Becomes (step (device_of t)).store)) (see a).clock (see b).clock
+    told_passes t rests = subst (λ (o : Option Told). Passes (InStore (StoreBy step o)) (see a).clock (see b).clock) rests.is passes

@@ -1,0 +1,87 @@
+//! What the tests go through, and the lines that many of them give.
+//!
+//! Nothing here states anything, so that the clauses of the daemon's top call come into the proof
+//! of one short function, `exit_over`. A test sees plain bytes and an exit.
+
+mod board;
+mod calls;
+mod exchanged;
+mod faults;
+mod journals;
+mod stops;
+
+use board::TestBoard;
+use board_core::MemSource;
+use ras_daemon::{Exit, RasWord, rasd};
+use std::alloc::Global;
+use std::test::Fail;
+
+// A processor and a module of its socket.
+const MODULE: &[u8] = b"cpu 0 0\nmodule DIMM_A1 0 7 0\n";
+
+// The everyday bank line, and another one.
+const EVERYDAY: &[u8] = b"bank 1 100 0 7 1000 1000c14 0 8c00004000010090 12345040 86\n";
+
+const ANOTHER: &[u8] = b"bank 1 100 0 7 1001 1000c14 0 8c00004000010090 12345040 86\n";
+
+// What is printed of the everyday line as long as no module is known.
+const LOGGED: &[u8] = b"log bank=1/0/7/1000 t=100 class=CE weight=1 label=- \
+page=0000000012345000 code=memory:RD:0 threshold=none over=0 mark=- ripv=0 eipv=0 mcip=0\n";
+
+// The only call of the daemon.
+fn exit_over(
+    alloc: Global,
+    words: &[RasWord],
+    source: &mut MemSource,
+    board: &mut TestBoard,
+) -> Exit {
+    rasd(alloc, words, source, board)
+}
+
+// Pieces one behind the other.
+fn joined(alloc: Global, pieces: &[&[u8]]) -> Result<Vec<u8>, Fail> {
+    Ok(pieces.concat(alloc)?)
+}
+
+// The words of a run.
+fn words(alloc: Global) -> Option<Vec<RasWord>> {
+    let word = RasWord::new(alloc, b"run").ok()?;
+    vec![in alloc; word].ok()
+}
+
+// A run over a script, given in parts, and a board; None if memory runs out before it.
+fn play(alloc: Global, script: &[&[u8]], board: &mut TestBoard) -> Option<Exit> {
+    let words = words(alloc)?;
+    let bytes = script.concat(alloc).ok()?;
+    let mut source = MemSource::new(bytes, 7, Vec::new(alloc));
+    Some(exit_over(alloc, &words, &mut source, board))
+}
+
+// The same, of which the board alone is wanted.
+fn play_on(alloc: Global, script: &[&[u8]], mut board: TestBoard) -> TestBoard {
+    play(alloc, script, &mut board);
+    board
+}
+
+// Whether a run ends so and prints this.
+fn ends_so(
+    alloc: Global,
+    script: &[&[u8]],
+    board: &mut TestBoard,
+    exit: Exit,
+    output: &[&[u8]],
+) -> bool {
+    play(alloc, script, board) == Some(exit) && are_joined(board.out(), output)
+}
+
+// Whether bytes are these, one behind the other.
+fn are_joined(bytes: &[u8], parts: &[&[u8]]) -> bool {
+    let mut rest = bytes;
+    for part in parts {
+        match rest.strip_prefix(*part) {
+            Some(after) => rest = after,
+            None => return false,
+        }
+    }
+    rest.is_empty()
+}

@@ -1,0 +1,202 @@
+//! The board that all runs go over.
+
+ghost use Rattle.std.specs.Prelude.{◌≡◌, None, IfOk, OnErr, IsErr};
+ghost use Rattle.board_core.specs.Cause.{HasCause};
+ghost use Rattle.board_core.specs.Clock.{untold};
+ghost use Rattle.board_core.specs.ClockLemmas.{not_told};
+
+use board_core::{Board, BoardPut, DiskCall, Failed, FileNo, MemBoard, Pick, Reg};
+use erst_store::Store;
+use std::alloc::Global;
+use std::test::Fail;
+
+/// A board that tells nothing, as one over real files does, so that the clauses of a run say little
+/// of it, and whose device fails at each call.
+///
+/// It has one disk in memory, or two: then its disk is exchanged for the second at the second sync
+/// of file 1, and that call and every later disk call go there. All is printed to the first.
+#[derive(Drop)]
+pub struct TestBoard {
+    disks: Disks,
+    disk_faults: u64,
+    device_faults: u64,
+    print_faults: u64,
+}
+
+// The two disks, apart from the counts, which so stay as they are when a disk is used.
+#[derive(Drop)]
+struct Disks {
+    first: MemBoard,
+    second: MemBoard,
+    is_to_be_exchanged: bool,
+    syncs_of_one: u64,
+}
+
+impl TestBoard {
+    /// A board whose disk has these files.
+    pub fn new(alloc: Global, zero: Vec<u8>, one: Vec<u8>) -> Result<TestBoard, Fail> {
+        let first = disk_with(alloc, zero, one)?;
+        Ok(over(first, disk_with(alloc, Vec::new(alloc), Vec::new(alloc))?))
+    }
+
+    /// A board whose disk is empty, and is to be exchanged for one that has this file 0.
+    pub fn exchanging(alloc: Global, zero: Vec<u8>) -> Result<TestBoard, Fail> {
+        let first = disk_with(alloc, Vec::new(alloc), Vec::new(alloc))?;
+        let mut board = over(first, disk_with(alloc, zero, Vec::new(alloc))?);
+        board.disks.is_to_be_exchanged = true;
+        Ok(board)
+    }
+
+    /// The call of this number fails, from 1, as long as memory is left.
+    pub fn fail_at(&mut self, call: u64) {
+        let _ = self.disks.first.fail_at(call);
+    }
+
+    /// Every call after so many fails.
+    pub fn stop_after(&mut self, calls: u64) {
+        self.disks.first.stop_after(calls);
+    }
+
+    /// A board over what a stop now leaves of the first disk.
+    pub fn left(self, alloc: Global, pick: Pick) -> Result<TestBoard, Fail> {
+        let TestBoard { disks, .. } = self;
+        let Disks { first, second, .. } = disks;
+        Ok(over(first.left(alloc, pick)?, second))
+    }
+
+    /// What was printed.
+    pub fn out(&self) -> &[u8] {
+        self.disks.first.out()
+    }
+
+    /// The calls on the first disk.
+    pub fn disk_calls(&self) -> &[DiskCall] {
+        self.disks.first.disk_calls()
+    }
+}
+
+fn over(first: MemBoard, second: MemBoard) -> TestBoard {
+    TestBoard {
+        disks: Disks {
+            first,
+            second,
+            is_to_be_exchanged: false,
+            syncs_of_one: 0,
+        },
+        disk_faults: 0,
+        device_faults: 0,
+        print_faults: 0,
+    }
+}
+
+fn disk_with(alloc: Global, zero: Vec<u8>, one: Vec<u8>) -> Result<MemBoard, Fail> {
+    let mut disk = MemBoard::new(alloc, Store::new(alloc), 0)?;
+    disk.set_file(FileNo::Zero, zero);
+    disk.set_file(FileNo::One, one);
+    Ok(disk)
+}
+
+impl Disks {
+    // The disk that is there.
+    fn disk(&mut self) -> &mut MemBoard {
+        if self.is_to_be_exchanged && self.syncs_of_one > 1 {
+            &mut self.second
+        } else {
+            &mut self.first
+        }
+    }
+
+    fn sync(&mut self, file: FileNo) -> Result<(), Failed> {
+        if let FileNo::One = file {
+            self.syncs_of_one = self.syncs_of_one.saturating_add(1);
+        }
+        self.disk().sync(file)
+    }
+}
+
+impl Board for TestBoard {
+    ghost told = { λ _. None };
+
+    ghost clock = { λ _. untold };
+
+    ghost faults = { λ b. record { disk = b.disk_faults; registers = b.device_faults; prints = b.print_faults } };
+
+    ghost told_may_be_left = { λ _ t told. not_told t told };
+
+    ghost text_is_left = { λ _ t left told now. absurd now };
+
+    ghost store_is_left = { λ _ t left told now. absurd now };
+
+    ghost counts_earlier = { λ _ s t left within may. may };
+
+    fn size(&mut self, file: FileNo) -> Result<u64, Failed> {
+        count_failure(self.disks.disk().size(file), &mut self.disk_faults)
+    }
+
+    fn read_at(&mut self, file: FileNo, place: u64, buf: &mut [u8]) -> Result<usize, Failed> {
+        let read = self.disks.disk().read_at(file, place, buf);
+        count_failure(read, &mut self.disk_faults)
+    }
+
+    fn write_at(&mut self, file: FileNo, place: u64, bytes: &[u8]) -> Result<(), Failed> {
+        let written = write_inside(self.disks.disk(), file, place, bytes);
+        count_failure(written, &mut self.disk_faults)
+    }
+
+    fn sync(&mut self, file: FileNo) -> Result<(), Failed> {
+        count_failure(self.disks.sync(file), &mut self.disk_faults)
+    }
+
+    fn reg_read(&mut self, _: Reg) -> Result<u64, Failed> {
+        count_failure(Err(Failed), &mut self.device_faults)
+    }
+
+    fn reg_write(&mut self, _: Reg, _: u64) -> Result<(), Failed> {
+        count_failure(Err(Failed), &mut self.device_faults)
+    }
+
+    fn range_read(&mut self, _: u32, _: &mut [u8]) -> Result<(), Failed> {
+        count_failure(Err(Failed), &mut self.device_faults)
+    }
+
+    fn range_write(&mut self, _: u32, _: &[u8]) -> Result<(), Failed> {
+        count_failure(Err(Failed), &mut self.device_faults)
+    }
+
+    fn put(&mut self, _: u64, _: &[u8]) -> Result<(), BoardPut> {
+        self.device_faults = self.device_faults.saturating_add(1);
+        Err(BoardPut::Failed)
+    }
+
+    fn print(&mut self, bytes: &[u8]) -> Result<(), Failed> {
+        count_failure(self.disks.first.print(bytes), &mut self.print_faults)
+    }
+}
+
+// A write that begins past the file's end fails.
+fn write_inside(
+    board: &mut MemBoard,
+    file: FileNo,
+    place: u64,
+    bytes: &[u8],
+) -> Result<(), Failed> {
+    if place > board.file(file).len() as u64 {
+        return Err(Failed);
+    }
+    board.write_at(file, place, bytes)
+}
+
+// What a call answered, with the count of its faults raised where it failed.
+fn count_failure<T>(answer: Result<T, Failed>, faults: &mut u64) -> Result<T, Failed>
+    ensures ok { IfOk answer (λ value. result ≡ Ok value) }
+    ensures err { OnErr answer (IsErr result) }
+    ensures cause { HasCause faults.old faults.new result }
+{
+    match answer {
+        Ok(value) => Ok(value),
+        Err(Failed) => {
+            *faults = faults.saturating_add(1);
+            Err(Failed)
+        }
+    }
+}

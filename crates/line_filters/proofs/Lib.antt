@@ -1,0 +1,4 @@
+pub mod ReadingLemmas
+pub mod StepLemmas
+pub mod EndLemmas
+pub mod CallLemmas

@@ -1,0 +1,112 @@
+-- What a filter prints of a script, how its call ends, and how far ahead it reads.
+use Rattle.std.specs.Prelude.{◌≡◌, ℕ, ◌+◌, ◌-◌, ◌≤◌, List, [], ◌∷◌, ◌++◌, length, nat_lt, take, Option, None, Some, IfSome, IsSomeAnd, Result, Ok, Err, if◌then◌else◌, ⊤}
+use Rattle.std.specs.List.{flat_map}
+use Rattle.std.specs.Option.{option_map}
+use Rattle.board_core.specs.Told.{Told}
+use Rattle.ras_script.specs.declared.line.LineRefused.{LineRefused}
+use Rattle.ras_script.specs.declared.reader.TheConstants.{LONGEST_LINE, LONGEST_SCRIPT}
+use Rattle.ras_script.specs.Lines.{Lines, script_lines}
+use Rattle.ras_exit.specs.declared.exit.Exit.{Exit}
+use Rattle.ras_exit.specs.declared.exit.Exit.TheVariants.{Done, BadLine, SourceFault, PrintFault, NoMemory, TooLong}
+use Rattle.ras_exit.specs.Endings.{unread_exit}
+use Rattle.ras_exit.specs.ScriptEnd.{ending_exit}
+use Rattle.ras_exit.specs.StopLine.{stop_line}
+use Rattle.ras_exit.specs.Telling.{OnlyText, Tells}
+use Rattle.line_filters.specs.Filter.{Filter}
+
+-- the texts before the first refused line, and why that one is refused
+abbrev pub texts_in : List (Result (List ℕ) LineRefused) → List (List ℕ)
+texts_in [] = []
+texts_in (Ok text ∷ answers) = text ∷ texts_in answers
+texts_in (Err why ∷ answers) = []
+
+abbrev pub refusal_in : List (Result (List ℕ) LineRefused) → Option LineRefused
+refusal_in [] = None
+refusal_in (Ok text ∷ answers) = refusal_in answers
+refusal_in (Err why ∷ answers) = Some why
+
+-- ---- the exit
+
+-- the exit if the line of this number is refused so, and the exit if none is
+abbrev pub exit_unless : Option LineRefused → ℕ → Exit → Exit
+exit_unless None number exit = exit
+exit_unless (Some why) number exit = unread_exit number why
+
+-- how a call ends that took so many lines, with these to come
+abbrev pub exit_among : ℕ → Filter → Lines → Exit
+exit_among count filter lines =
+    let answers = filter.answers lines.whole in
+    exit_unless (refusal_in answers) (count + length (texts_in answers) + 1) (ending_exit (count + length lines.whole) lines.ending)
+
+-- It ends at the first line that is refused, or as the list of the script's lines does.
+abbrev pub filter_exit : Filter → List ℕ → Exit
+filter_exit filter script = exit_among 0 filter (script_lines script)
+
+-- ---- the text
+
+-- what is printed after the last text of a line: the last text, or the stop line of a refusal
+abbrev pub closing_text : Filter → List (List ℕ) → Exit → List ℕ
+closing_text filter taken Done = filter.rest taken ++ filter.last taken
+closing_text filter taken exit = filter.rest taken ++ stop_line exit
+
+-- what is printed of the lines to come after so many
+abbrev pub output_among : ℕ → Filter → Lines → List ℕ
+output_among count filter lines =
+    let texts = texts_in (filter.answers lines.whole) in
+    flat_map (λ text. text) texts ++ closing_text filter (take (length texts) lines.whole) (exit_among count filter lines)
+
+abbrev pub filter_output : Filter → List ℕ → List ℕ
+filter_output filter script = output_among 0 filter (script_lines script)
+
+-- ---- how far ahead
+
+-- Where the first of these lines ends whose text isn't printed whole if so many bytes are printed.
+-- A line without a text is passed over; a line after the last text is refused, and counts.
+abbrev pub end_unprinted : ℕ → List (List ℕ) → List (List ℕ) → Option ℕ
+end_unprinted printed [] texts = None
+end_unprinted printed (line ∷ lines) [] = Some (length line + 1)
+end_unprinted printed (line ∷ lines) (text ∷ texts) =
+    if nat_lt printed (length text) then Some (length line + 1)
+    else option_map (λ end. length line + 1 + end) (end_unprinted (printed - length text) lines texts)
+
+-- the same of a script's lines
+abbrev pub script_unprinted : Filter → List ℕ → ℕ → Option ℕ
+script_unprinted filter script printed =
+    end_unprinted printed (script_lines script).whole (texts_in (filter.answers (script_lines script).whole))
+
+-- ---- a call
+
+-- What a call of a filter prints of a script, of which this is left, and how it ends. Of what is
+-- told the printed text alone changed. The bytes taken reach at most 40,001 past the end of the
+-- first line whose text isn't empty and wasn't printed whole.
+pub record Filters (filter : Filter) (result : Exit) (script left : List ℕ) (before now : Told) : Type 0 where
+  pub tells : Tells (filter_exit filter script) (filter_output filter script) result before now
+  pub only : OnlyText before now
+  pub taken : List ℕ
+  pub splits : taken ++ left ≡ script
+  pub printed : List ℕ
+  pub text : now.here.out ≡ before.here.out ++ printed
+  pub ahead : IfSome (script_unprinted filter script (length printed)) (λ end. length taken ≤ end + (LONGEST_LINE + 1))
+
+-- if source and board tell, they go on telling, and this holds of both
+abbrev pub OfBoth : (List ℕ → List ℕ → Told → Told → Type 0) → Option (List ℕ) → Option (List ℕ) → Option Told → Option Told → Type 0
+OfBoth P (Some script) left (Some before) now = IsSomeAnd left (λ rest. IsSomeAnd now (P script rest before))
+OfBoth P script left before now = ⊤
+
+-- What is taken of a script, of which this is left: one byte past the longest script at most, and
+-- all of it if the call is done.
+pub record TakesOf (result : Exit) (script left : List ℕ) : Type 0 where
+  pub taken : List ℕ
+  pub splits : taken ++ left ≡ script
+  pub few : length taken ≤ LONGEST_SCRIPT + 1
+  pub all : result ≡ Done → left ≡ []
+
+-- the exits of a filter's call
+abbrev pub IsFilterExit : Exit → Type 0
+IsFilterExit Done = ⊤
+IsFilterExit (BadLine line reason) = ⊤
+IsFilterExit SourceFault = ⊤
+IsFilterExit PrintFault = ⊤
+IsFilterExit NoMemory = ⊤
+IsFilterExit TooLong = ⊤
+IsFilterExit exit = ⊥

@@ -1,0 +1,4 @@
+pub mod Filter
+pub mod Filters
+pub mod Reading
+pub mod Steps

@@ -1,0 +1,101 @@
+-- Words by the places of spaces, and what follows a marker.
+use Rattle.std.proofs.Common.{◌≡◌, ℕ, zero, suc, ◌+◌, ◌-◌, ◌<◌, ◌≤◌, ◌==◌, ◌&&◌, Bool, true, false, cond, if◌then◌else◌, nat_eq, nat_lt, List, [], ◌∷◌, length, take, drop, refl, sym, ap, ◌∙◌, arith, Some, None, length-drop, length-take}
+use Rattle.std.proofs.Math.Seq.{take-length}
+use Rattle.std.proofs.lemmas.Bool.Decides.{nat_tests}
+use Rattle.std.proofs.lemmas.List.Splits.{slice_split_first, slice_split_none}
+use Rattle.std.proofs.lemmas.List.Sums.{fails_before_first}
+use Rattle.std.specs.List.{All, list_all, onto_first, position, position_or_len, slice_split, starts_with}
+use Rattle.std.proofs.lemmas.Slice.Eq.{bytes_eq-Decides}
+use Rattle.memchr.specs.Find.{OccursAt, NoneBefore, Nowhere}
+use Rattle.memchr.proofs.lemmas.MatchLemmas.{OccursAt-part, OccursAt-from_part}
+use Rattle.ras_klog.specs.Reading.{after_marker, is_empty, marker, parts_of}
+
+-- ---- words
+
+-- the place that a search tells
+found_place : (place size end : ℕ) → Some end ≡ cond (nat_lt place size) (Some place) None → (end ≡ place) × (place < size)
+found_place place size end h = (grind (arith, nat_tests, h), grind (arith, nat_tests, h))
+
+no_place : (place size : ℕ) → None ≡ cond (nat_lt place size) (Some place) None → size ≤ place
+no_place place size h = grind (arith, nat_tests, h)
+
+-- the rest as the code cuts it
+pub rest_is : (n : ℕ) (text : List ℕ) → take (length text - n) (drop n text) ≡ drop n text
+rest_is n text = ap (λ k. take k (drop n text)) (sym (length-drop n text)) ∙ take-length (drop n text)
+
+-- a text with a space: the first word ends at the first one
+pub parts_cut : (text : List ℕ) (end : ℕ) → Some end ≡ position (λ b. b == 32) text → parts_of text ≡ take end text ∷ parts_of (take (length text - (end + 1)) (drop (end + 1) text))
+parts_cut text end h =
+    let found : (end ≡ position_or_len (λ b. b == 32) text) × (position_or_len (λ b. b == 32) text < length text) = found_place _ _ _ h in
+    let parts : slice_split (λ b. b == 32) text ≡ take (position_or_len (λ b. b == 32) text) text ∷ slice_split (λ b. b == 32) (drop (position_or_len (λ b. b == 32) text + 1) text) = slice_split_first (λ b. b == 32) text 0 found.1 in
+    (rw (← found.0) at parts) ∙ ap (λ rest. take end text ∷ parts_of rest) (sym (rest_is (end + 1) text))
+
+-- a text without one is its only word
+pub parts_whole : (text : List ℕ) → None ≡ position (λ b. b == 32) text → parts_of text ≡ text ∷ []
+parts_whole text h =
+    let late : length text ≤ position_or_len (λ b. b == 32) text = no_place _ _ h in
+    let none : All (λ b. (b == 32) ≡ false) text = λ k d inside. fails_before_first (λ b. b == 32) text k d (omega arith) in
+    slice_split_none (λ b. b == 32) text none
+
+not_zero : (n : ℕ) → nat_eq (suc n) 0 ≡ false
+not_zero n = grind (arith, nat_tests)
+
+-- empty words alone stand between spaces alone
+pub empty_parts : (text : List ℕ) → list_all is_empty (parts_of text) ≡ list_all (λ b. b == 32) text
+empty_parts [] = refl
+empty_parts (b ∷ text) = by (b == 32) (parts_of text) (empty_parts text)
+  where
+    by : (is_space : Bool) (parts : List (List ℕ)) → list_all is_empty parts ≡ list_all (λ b. b == 32) text
+        → list_all is_empty (cond is_space ([] ∷ parts) (onto_first b parts)) ≡ (is_space && list_all (λ b. b == 32) text)
+    by true parts ih = ih
+    by false [] ih = refl
+    by false (part ∷ parts) ih = ap (λ empty. empty && list_all is_empty parts) (not_zero (length part))
+
+-- ---- the marker
+
+starts-occurs : (line : List ℕ) → starts_with nat_eq line marker ≡ true → OccursAt line marker 0
+starts-occurs line is =
+    let front : marker ≡ take (length marker) line = (bytes_eq-Decides marker (take (length marker) line)).0 is in
+    OccursAt-from_part line marker 0 (omega (arith, ap length front, length-take (length marker) line)) (sym front)
+
+occurs-starts : (line : List ℕ) → OccursAt line marker 0 → starts_with nat_eq line marker ≡ true
+occurs-starts line occurs = (bytes_eq-Decides marker (take (length marker) line)).1 (sym (OccursAt-part line marker 0 occurs))
+
+-- a place in a line and the place in the line with a byte before it
+further : (b : ℕ) (line : List ℕ) (k : ℕ) → OccursAt line marker k → OccursAt (b ∷ line) marker (suc k)
+further b line k occurs = OccursAt-from_part (b ∷ line) marker (suc k) (omega (arith, occurs.fits)) (OccursAt-part line marker k occurs)
+
+nearer : (b : ℕ) (line : List ℕ) (k : ℕ) → OccursAt (b ∷ line) marker (suc k) → OccursAt line marker k
+nearer b line k occurs = OccursAt-from_part line marker k (omega (arith, occurs.fits)) (OccursAt-part (b ∷ line) marker (suc k) occurs)
+
+pub after-none : (line : List ℕ) → Nowhere (OccursAt line marker) 0 (length line + 1) → after_marker line ≡ None
+after-none [] nowhere = refl
+after-none (b ∷ line) nowhere = by (starts_with nat_eq (b ∷ line) marker) refl (after-none line)
+  where
+    by : (starts : Bool) → starts_with nat_eq (b ∷ line) marker ≡ starts
+        → (Nowhere (OccursAt line marker) 0 (length line + 1) → after_marker line ≡ None)
+        → (if starts then Some (drop (length marker) (b ∷ line)) else after_marker line) ≡ None
+    by true is ih = absurd (nowhere 0 (omega arith) (omega arith) (starts-occurs (b ∷ line) is))
+    by false is ih = ih (λ k low high occurs. nowhere (suc k) (omega arith) (omega (arith, high)) (further b line k occurs))
+
+pub after-at : (line : List ℕ) (k : ℕ) → NoneBefore (OccursAt line marker) 0 (length line + 1) k → OccursAt line marker k
+    → after_marker line ≡ Some (drop (k + 18) line)
+after-at [] k first occurs = absurd (omega (arith, occurs.fits))
+after-at (b ∷ line) zero first occurs =
+    ap (λ starts. if starts then Some (drop (length marker) (b ∷ line)) else after_marker line) (occurs-starts (b ∷ line) occurs)
+after-at (b ∷ line) (suc k) first occurs = by (starts_with nat_eq (b ∷ line) marker) refl (after-at line k)
+  where
+    moved : drop (k + 18) line ≡ drop (suc k + 18) (b ∷ line)
+    moved = let next : suc (k + 18) ≡ suc k + 18 = omega arith in ap (λ n. drop n (b ∷ line)) next
+
+    by : (starts : Bool) → starts_with nat_eq (b ∷ line) marker ≡ starts
+        → (NoneBefore (OccursAt line marker) 0 (length line + 1) k → OccursAt line marker k → after_marker line ≡ Some (drop (k + 18) line))
+        → (if starts then Some (drop (length marker) (b ∷ line)) else after_marker line) ≡ Some (drop (suc k + 18) (b ∷ line))
+    by true is ih = absurd (first.before 0 (omega arith) (omega arith) (starts-occurs (b ∷ line) is))
+    by false is ih =
+        ih (record {
+          low = omega arith;
+          high = omega (arith, first.high);
+          before = λ j low high earlier. first.before (suc j) (omega arith) (omega (arith, high)) (further b line j earlier);
+        }) (nearer b line k occurs)
+        ∙ ap Some moved

@@ -1,0 +1,66 @@
+-- The reports of a kernel log: its lines are cut before each line that begins one.
+use Rattle.std.specs.Prelude.{ℕ, List, [], ◌∷◌, Option, None, Some, map}
+use Rattle.ras_klog.specs.declared.line.KlogLine.{KlogLine}
+use Rattle.ras_klog.specs.declared.line.KlogLine.TheVariants.{Start, Tsc, Processor}
+use Rattle.ras_klog.specs.declared.state.Head.{Head}
+use Rattle.ras_klog.specs.declared.state.KlogOut.{KlogOut}
+use Rattle.ras_klog.specs.declared.state.KlogOut.TheVariants.{Whole, Partial}
+
+-- a line that begins a report, and the lines after it up to the next such line
+pub record Group : Type 0 where
+  pub head : Head
+  pub rest : List KlogLine
+
+-- the lines up to the first that begins a report
+abbrev pub up_to_start : List KlogLine → List KlogLine
+up_to_start [] = []
+up_to_start (Start cpu mcg bank status ∷ lines) = []
+up_to_start (line ∷ lines) = line ∷ up_to_start lines
+
+-- the groups of lines; lines before the first group are left out
+abbrev pub groups_of : List KlogLine → List Group
+groups_of [] = []
+groups_of (Start cpu mcg bank status ∷ lines) =
+    record { head = record { cpu = cpu; mcg = mcg; bank = bank; status = status }; rest = up_to_start lines }
+    ∷ groups_of lines
+groups_of (line ∷ lines) = groups_of lines
+
+-- the first time that lines tell
+abbrev pub first_seconds : List KlogLine → Option ℕ
+first_seconds [] = None
+first_seconds (Processor seconds ∷ lines) = Some seconds
+first_seconds (line ∷ lines) = first_seconds lines
+
+-- the report of a group, if it has a time after its first counter
+abbrev pub with_seconds : ℕ → ℕ → Head → ℕ → ℕ → ℕ → Option ℕ → KlogOut
+with_seconds boot cap head tsc addr misc None = Partial head.cpu head.bank
+with_seconds boot cap head tsc addr misc (Some seconds) = Whole (record {
+  boot = boot;
+  seconds = seconds;
+  cpu = head.cpu;
+  bank = head.bank;
+  tsc = tsc;
+  cap = cap;
+  mcg = head.mcg;
+  status = head.status;
+  addr = addr;
+  misc = misc;
+})
+
+-- what a group tells: its report, by its first counter and the first time after that, or that it
+-- isn't whole
+abbrev pub told_of : ℕ → ℕ → Head → List KlogLine → KlogOut
+told_of boot cap head [] = Partial head.cpu head.bank
+told_of boot cap head (Tsc tsc addr misc ∷ lines) = with_seconds boot cap head tsc addr misc (first_seconds lines)
+told_of boot cap head (line ∷ lines) = told_of boot cap head lines
+
+-- what the groups of a log tell, in order
+abbrev pub told_of_groups : ℕ → ℕ → List KlogLine → List KlogOut
+told_of_groups boot cap lines = map (λ (g : Group). told_of boot cap g.head g.rest) (groups_of lines)
+
+-- what of the groups is told before the log is known to have ended: all but the last, and the last
+-- if it is whole
+abbrev pub without_open : List KlogOut → List KlogOut
+without_open [] = []
+without_open (Partial cpu bank ∷ []) = []
+without_open (out ∷ outs) = out ∷ without_open outs

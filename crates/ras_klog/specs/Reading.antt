@@ -1,0 +1,113 @@
+-- What a line of a kernel log tells.
+use Rattle.std.specs.Prelude.{ℕ, ◌+◌, ◌-◌, ◌^◌, ◌==◌, ◌&&◌, Bool, List, [], ◌∷◌, codes, drop, take, length, slice_index_or, nat_eq, Option, None, Some, is_some, unwrap_or, if◌then◌else◌}
+use Rattle.std.specs.List.{ends_with, list_all, position_or_len, slice_split, starts_with}
+use Rattle.std.specs.Str.{bytes_eq}
+use Rattle.ras_script.specs.Number.{decimal_of, hexadecimal_of}
+use Rattle.ras_klog.specs.declared.line.KlogLine.{KlogLine}
+use Rattle.ras_klog.specs.declared.line.KlogLine.TheVariants.{Start, Tsc, Processor, Other}
+
+-- ---- words
+
+-- words between single spaces: two spaces have an empty word between them
+abbrev pub parts_of : List ℕ → List (List ℕ)
+parts_of text = slice_split (λ b. b == 32) text
+
+abbrev pub is_empty : List ℕ → Bool
+is_empty word = length word == 0
+
+-- the word at a place, an empty one after the last
+abbrev pub word : List (List ℕ) → ℕ → List ℕ
+word words place = slice_index_or words place []
+
+-- ---- numbers
+
+-- one number read after another, if the one reads
+infixl 10 ◌>>=◌
+abbrev pub ◌>>=◌ : {A B : Type 0} → Option A → (A → Option B) → Option B
+None >>= next = None
+(Some x) >>= next = next x
+
+-- an answer, if something holds
+abbrev pub provided : {A : Type 0} → Bool → Option A → Option A
+provided holds answer = if holds then answer else None
+
+-- a decimal number with a colon after it
+abbrev pub colon_number : ℕ → List ℕ → Option ℕ
+colon_number most word =
+    if ends_with nat_eq word (codes ":") then decimal_of most (take (length word - 1) word) else None
+
+-- whether a word is a decimal number, a colon and a hexadecimal number
+abbrev pub is_vendor_and_model : List ℕ → Bool
+is_vendor_and_model word =
+    let colon = position_or_len (λ b. b == 58) word in
+    is_some (decimal_of (2 ^ 64 - 1) (take colon word)) && is_some (hexadecimal_of (drop (colon + 1) word))
+
+-- ---- lines
+
+-- `<mcg> Bank <bank>: <status>`, and then nothing but spaces
+unfoldable pub bank_of : ℕ → List (List ℕ) → Option KlogLine
+bank_of cpu words = do
+  mcg ← hexadecimal_of (word words 0)
+  provided (bytes_eq (word words 1) (codes "Bank")) (do
+    bank ← colon_number 255 (word words 2)
+    status ← hexadecimal_of (word words 3)
+    provided (list_all is_empty (drop 4 words)) (Some (Start cpu mcg bank status)))
+
+-- `Check: ` or `Check Exception: `, and then the bank
+unfoldable pub check_of : ℕ → List (List ℕ) → Option KlogLine
+check_of cpu words =
+    if bytes_eq (word words 0) (codes "Check:") then bank_of cpu (drop 1 words)
+    else provided (bytes_eq (word words 0) (codes "Check"))
+    (provided (bytes_eq (word words 1) (codes "Exception:")) (bank_of cpu (drop 2 words)))
+
+-- `<cpu>: Machine `, and then what is checked
+unfoldable pub start_of : List (List ℕ) → Option KlogLine
+start_of words = do
+  cpu ← colon_number 65535 (word words 0)
+  provided (bytes_eq (word words 1) (codes "Machine")) (check_of cpu (drop 2 words))
+
+-- a hexadecimal number after its name, 0 if that doesn't read, and the words after it
+unfoldable pub named : List ℕ → List (List ℕ) → ℕ × List (List ℕ)
+named name words =
+    if bytes_eq (word words 0) name then told (hexadecimal_of (word words 1)) else (0, words)
+  where
+    told : Option ℕ → ℕ × List (List ℕ)
+    told None = (0, words)
+    told (Some number) = (number, drop 2 words)
+
+-- `<tsc>`, then ` ADDR <addr>` if that reads, then ` MISC <misc>` if that reads, then anything
+unfoldable pub tsc_of : List (List ℕ) → Option KlogLine
+tsc_of words = do
+  tsc ← hexadecimal_of (word words 0)
+  Some (with_addr tsc (named (codes "ADDR") (drop 1 words)))
+  where
+    with_addr : ℕ → ℕ × List (List ℕ) → KlogLine
+    with_addr tsc addr = Tsc tsc addr.0 (named (codes "MISC") addr.1).0
+
+-- `<n>:<m> TIME <seconds>`, then anything
+unfoldable pub processor_of : List (List ℕ) → Option KlogLine
+processor_of words =
+    provided (is_vendor_and_model (word words 0)) (provided (bytes_eq (word words 1) (codes "TIME")) (do
+      seconds ← decimal_of (2 ^ 64 - 1) (word words 2)
+      Some (Processor seconds)))
+
+-- a line by its words: the first says which kind it is
+abbrev pub told_by_words : List (List ℕ) → Option KlogLine
+told_by_words words =
+    if bytes_eq (word words 0) (codes "CPU") then start_of (drop 1 words)
+    else (if bytes_eq (word words 0) (codes "TSC") then tsc_of (drop 1 words)
+    else provided (bytes_eq (word words 0) (codes "PROCESSOR")) (processor_of (drop 1 words)))
+
+-- what stands before the words that tell of a machine check
+abbrev pub marker : List ℕ
+marker = codes "[Hardware Error]: "
+
+-- what follows the first marker of a line, if it has one
+abbrev pub after_marker : List ℕ → Option (List ℕ)
+after_marker [] = None
+after_marker (b ∷ line) =
+    if starts_with nat_eq (b ∷ line) marker then Some (drop (length marker) (b ∷ line)) else after_marker line
+
+-- a line of a kernel log: only what follows its first marker counts
+abbrev pub klog_line_of : List ℕ → KlogLine
+klog_line_of bytes = unwrap_or (after_marker bytes >>= λ text. told_by_words (parts_of text)) Other

@@ -1,0 +1,200 @@
+//! What a line of a kernel log tells.
+
+ghost use Rattle.std.specs.Prelude.{◌≡◌, ◌≤◌, IfSome};
+ghost use Rattle.std.specs.Option.{option_map};
+ghost use Rattle.ras_klog.specs.Reading.{after_marker, bank_of, check_of, colon_number, is_vendor_and_model, klog_line_of, named, parts_of, processor_of, start_of, told_by_words, tsc_of};
+ghost use Rattle.ras_klog.specs.Words.{words_in};
+
+use crate::words::{Words, position_of};
+use memchr::memmem;
+use ras_script::{decimal, hexadecimal};
+
+/// What a line of a kernel log tells.
+#[derive(Clone, Copy, Debug, PartialEq, Eq)]
+pub enum KlogLine {
+    /// A report begins: the processor's number, IA32_MCG_STATUS, the bank's number and its
+    /// IA32_MCi_STATUS.
+    Start {
+        cpu: u16,
+        mcg: u64,
+        bank: u8,
+        status: u64,
+    },
+    /// The processor's time-stamp counter, and the bank's IA32_MCi_ADDR and IA32_MCi_MISC. What
+    /// isn't told of the last two is 0.
+    Tsc {
+        tsc: u64,
+        addr: u64,
+        misc: u64,
+    },
+    /// When the bank was read, in seconds.
+    Processor {
+        seconds: u64,
+    },
+    /// Anything else.
+    Other,
+}
+
+// What stands before the words that tell of a machine check.
+const MARKER: &[u8] = b"[Hardware Error]: ";
+
+/// What a line of a kernel log tells, by what follows the first `[Hardware Error]: ` in it. It
+/// takes no memory.
+///
+/// These are the lines, in which words are separated by one space:
+///
+/// - `CPU <cpu>: Machine Check: <mcg> Bank <bank>: <status>`, or with `Machine Check Exception:`,
+///   and then nothing but spaces
+/// - `TSC <tsc>`, then ` ADDR <addr>` if that reads, then ` MISC <misc>` if that reads, and then
+///   nothing, or a space and anything
+/// - `PROCESSOR <n>:<m> TIME <seconds>`, and then nothing, or a space and anything
+///
+/// `<cpu>` up to 65,535, `<bank>` up to 255, `<n>` and `<seconds>` are decimal; the other numbers
+/// are hexadecimal.
+pub fn klog_line(bytes: &[u8]) -> KlogLine
+    ensures { result ≡ klog_line_of bytes.now }
+{
+    match after_marker(bytes) {
+        Some(text) => told_by(text).unwrap_or(KlogLine::Other),
+        None => KlogLine::Other,
+    }
+}
+
+// What follows the first marker of a line, if it has one.
+fn after_marker(line: &[u8]) -> Option<&[u8]>
+    ensures { option_map (λ text. text.now) result ≡ after_marker line.now }
+{
+    match memmem::find(line, MARKER) {
+        Some(place) => Some(&line[place + MARKER.len()..]),
+        None => None,
+    }
+}
+
+// What a text tells after a marker.
+fn told_by(text: &[u8]) -> Option<KlogLine>
+    ensures { result ≡ told_by_words (parts_of text.now) }
+{
+    let mut words = Words::new(text);
+    let kind = words.next();
+    if kind == b"CPU".as_slice() {
+        start_of(&mut words)
+    } else if kind == b"TSC".as_slice() {
+        tsc_of(&mut words)
+    } else if kind == b"PROCESSOR".as_slice() {
+        processor_of(&mut words)
+    } else {
+        None
+    }
+}
+
+// `<cpu>: Machine `, and then what is checked.
+#[tactic(auto, unfolding(crate::specs::Reading::start_of))]
+fn start_of(words: &mut Words<'_>) -> Option<KlogLine>
+    ensures { result ≡ start_of (words_in words.old) }
+{
+    let cpu = colon_number(words.next(), u64::from(u16::MAX))? as u16;
+    if words.next() != b"Machine".as_slice() {
+        return None;
+    }
+    check_of(cpu, words)
+}
+
+// `Check: ` or `Check Exception: `, and then the bank.
+#[tactic(auto, unfolding(crate::specs::Reading::check_of))]
+fn check_of(cpu: u16, words: &mut Words<'_>) -> Option<KlogLine>
+    ensures { result ≡ check_of cpu (words_in words.old) }
+{
+    let check = words.next();
+    if check == b"Check:".as_slice() {
+        return bank_of(cpu, words);
+    }
+    if check != b"Check".as_slice() || words.next() != b"Exception:".as_slice() {
+        return None;
+    }
+    bank_of(cpu, words)
+}
+
+// `<mcg> Bank <bank>: <status>`, and then nothing but spaces.
+#[tactic(auto, unfolding(crate::specs::Reading::bank_of))]
+fn bank_of(cpu: u16, words: &mut Words<'_>) -> Option<KlogLine>
+    ensures { result ≡ bank_of cpu (words_in words.old) }
+{
+    let mcg = hexadecimal(words.next())?;
+    if words.next() != b"Bank".as_slice() {
+        return None;
+    }
+    let bank = colon_number(words.next(), u64::from(u8::MAX))? as u8;
+    let status = hexadecimal(words.next())?;
+    if words.are_empty() {
+        Some(KlogLine::Start {
+            cpu,
+            mcg,
+            bank,
+            status,
+        })
+    } else {
+        None
+    }
+}
+
+// `<tsc>`, then the address and the miscellaneous register if they read, then anything.
+#[tactic(auto, unfolding(crate::specs::Reading::tsc_of))]
+fn tsc_of(words: &mut Words<'_>) -> Option<KlogLine>
+    ensures { result ≡ tsc_of (words_in words.old) }
+{
+    let tsc = hexadecimal(words.next())?;
+    let addr = named(b"ADDR", words);
+    let misc = named(b"MISC", words);
+    Some(KlogLine::Tsc { tsc, addr, misc })
+}
+
+// A hexadecimal number after its name. If they don't read it is 0, and the words stay.
+#[tactic(auto, unfolding(crate::specs::Reading::named))]
+fn named(name: &[u8], words: &mut Words<'_>) -> u64
+    ensures value { result ≡ (named name.now (words_in words.old)).0 }
+    ensures rest { words_in words.new ≡ (named name.now (words_in words.old)).1 }
+{
+    let mut ahead = *words;
+    if ahead.next() != name {
+        return 0;
+    }
+    match hexadecimal(ahead.next()) {
+        Some(number) => {
+            *words = ahead;
+            number
+        }
+        None => 0,
+    }
+}
+
+// `<n>:<m> TIME <seconds>`, then anything.
+#[tactic(auto, unfolding(crate::specs::Reading::processor_of))]
+fn processor_of(words: &mut Words<'_>) -> Option<KlogLine>
+    ensures { result ≡ processor_of (words_in words.old) }
+{
+    if !is_vendor_and_model(words.next()) || words.next() != b"TIME".as_slice() {
+        return None;
+    }
+    let seconds = decimal(words.next(), u64::MAX)?;
+    Some(KlogLine::Processor { seconds })
+}
+
+// A decimal number of at most `most` with a colon after it.
+fn colon_number(word: &[u8], most: u64) -> Option<u64>
+    ensures value { result ≡ colon_number most word.now }
+    ensures within { IfSome result (λ n. n ≤ most) }
+{
+    decimal(word.strip_suffix(b":")?, most)
+}
+
+// Whether a word is a decimal number, a colon and a hexadecimal number.
+fn is_vendor_and_model(word: &[u8]) -> bool
+    ensures { result ≡ is_vendor_and_model word.now }
+{
+    match position_of(b':', word) {
+        Some(colon) => {
+            decimal(&word[..colon], u64::MAX).is_some() && hexadecimal(&word[colon + 1..]).is_some()
+        }
+        None => false,
+    }
+}

@@ -1,0 +1,87 @@
+//! The calls of a journal as the laws over any list of them have it: what each call's clauses say
+//! is what those laws take for a call that is at work, and for one that was answered `Ok`.
+
+ghost use Rattle.std.specs.Prelude.{◌≡◌, ◌<◌, List, Option, Some, false, length, IfOk, IfSome, OnOk};
+ghost use Rattle.board_core.specs.Doing.{looks};
+ghost use Rattle.board_core.specs.Told.{Told, file_of};
+ghost use Rattle.entry_format.specs.declared.version.Version.TheVariants.{Two};
+ghost use Rattle.ras_facts.specs.declared.entry.Entry.{Entry};
+ghost use Rattle.ras_journal.specs.declared.standing.Standing.{Standing};
+ghost use Rattle.ras_journal.specs.Recovered.{is_shut, other};
+ghost use Rattle.ras_recover.specs.Life.{CanLinkHere, IsAnswered, IsHeld, Opens, Works};
+ghost use Rattle.ras_recover.specs.Life.{a_switch, an_append, an_opening, open_site};
+
+use crate::{OpenRefused, SwitchRefused, open_journal, switch_file};
+use board_core::Board;
+use journal_format::Link;
+use ras_account::Account;
+use ras_journal::{AppendRefused, Journal};
+use std::alloc::Global;
+
+/// Appends a link, by [`Journal::append`].
+///
+/// # Errors
+///
+/// As that call.
+pub fn live_append<B: Board>(
+    journal: &mut Journal,
+    link: &Link,
+    board: &mut B,
+) -> Result<(), AppendRefused>
+    requires usable { journal.old.failed ≡ false }
+    requires version { journal.old.standing.version ≡ Two }
+    requires gate { IfSome (B.told board.old)
+        (λ t. journal.old.standing.length < length (file_of journal.old.standing.file t)) }
+    ensures works { (entries : List Entry) → CanLinkHere (B.told board.old) entries link.now
+        → Works (looks B.told B.clock B.faults) (an_append entries)
+        (open_site board.old journal.old.standing) board.new }
+    ensures answered { OnOk result ((entries : List Entry)
+        → CanLinkHere (B.told board.old) entries link.now
+        → IsAnswered (looks B.told B.clock B.faults) (an_append entries)
+        (open_site board.old journal.old.standing) (open_site board.new journal.new.standing)) }
+{
+    journal.append(link, board)
+}
+
+/// Switches a journal to its other file, by [`switch_file`], with the account that the files hold.
+///
+/// # Errors
+///
+/// As that call.
+pub fn live_switch<B: Board>(
+    alloc: Global,
+    account: &Account,
+    journal: &mut Journal,
+    link: &Link,
+    board: &mut B,
+) -> Result<(), SwitchRefused>
+    requires usable { journal.old.failed ≡ false }
+    requires shut { IfSome (B.told board.old)
+        (λ t. journal.old.standing.shut ≡ is_shut (file_of (other journal.old.standing.file) t)) }
+    requires held { IsHeld (B.told board.old) account.now.state }
+    ensures works { Works (looks B.told B.clock B.faults) a_switch
+        (open_site board.old journal.old.standing) board.new }
+    ensures answered { OnOk result (IsAnswered (looks B.told B.clock B.faults) a_switch
+        (open_site board.old journal.old.standing) (open_site board.new journal.new.standing)) }
+{
+    switch_file(alloc, account, journal, link, board)
+}
+
+/// Opens the journal, by [`open_journal`], whether one was open or not.
+///
+/// # Errors
+///
+/// As that call.
+pub fn live_opening<B: Board>(
+    alloc: Global,
+    board: &mut B,
+) -> Result<(Account, Journal), OpenRefused>
+    ensures works { (journal : Option Standing) (t : Told) → B.told board.old ≡ Some t
+        → Works (looks B.told B.clock B.faults) an_opening
+        (record { board = board.old; journal = journal }) board.new }
+    ensures answered { IfOk result (λ r. (journal : Option Standing) (t : Told)
+        → B.told board.old ≡ Some t → Opens (looks B.told B.clock B.faults) r.0.state
+        (record { board = board.old; journal = journal }) (open_site board.new r.1.standing)) }
+{
+    open_journal(alloc, board)
+}
