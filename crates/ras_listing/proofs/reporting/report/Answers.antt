@@ -1,0 +1,45 @@
+use Rattle.std.proofs.Common.{◌≡◌}
+use Rattle.ras_exit.specs.declared.exit.Exit.TheVariants.{PrintFault}
+use Rattle.ras_exit.proofs.DeviceLemmas.{device_goes_on}
+use Rattle.ras_listing.proofs.ReportLemmas.{cut_reports, fault_is, is_cut, printed_moments, printed_reports, read_device, says_here, unless_disk, unprinted_reports}
+use Rattle.ras_listing.proofs.reporting.report.Goals as goal
+
+pub returns-in-Err-clause-reports : goal.returns-in-Err-clause-reports
+returns-in-Err-clause-reports g c = cut_reports c.args.listing c.in-Err.exit _ _ (is_cut _ _ c.in-Err.ensures.cut) c.recover.ensures.told
+
+pub returns-in-Ok-print-clause-reports : goal.returns-in-Ok-print-clause-reports
+returns-in-Ok-print-clause-reports g c =
+    printed_reports c.args.listing c.in-Ok.answer.0 c.deref.result.now _ _ _
+    (says_here _ _ c.args.listing c.in-Ok.answer.0 c.deref.result.now c.recover.ensures.recovers (λ t tells. rw c.deref.ensures.value (c.in-Ok.ensures.said _ tells)))
+    c.recover.ensures.told c.in-Ok-print.ensures.told
+
+pub returns-in-Ok-print-clause-stops : goal.returns-in-Ok-print-clause-stops
+returns-in-Ok-print-clause-stops g c = λ t is.
+    printed_moments c.args.listing c.in-Ok.answer.0 c.deref.result.now t _ _ _ _
+    (rw c.deref.ensures.value (c.in-Ok.ensures.said _ (rw is at c.recover.ensures.recovers)))
+    c.recover.ensures.keeps.stops
+    (unless_disk c.recover.result _ c.in-Ok.ensures.whole c.recover.ensures.rests t is)
+    c.print.ensures.stops
+
+pub returns-in-Ok-print-clause-device : goal.returns-in-Ok-print-clause-device
+returns-in-Ok-print-clause-device g c =
+    device_goes_on _ _ _ _ _ _ (read_device _ _ _ _ (g.met.B.Board.store_is_left c.args.board.now) c.recover.ensures.told c.recover.ensures.keeps.stops) c.print.ensures.device
+
+pub returns-clause-reports : goal.returns-clause-reports
+returns-clause-reports g c =
+    let same : c.in-Err-print.fault ≡ PrintFault = fault_is c.in-Err-print.fault c.in-Err-print.ensures.exit in
+    rw same (unprinted_reports c.args.listing c.in-Ok.answer.0 c.deref.result.now _ _ _
+    (says_here _ _ c.args.listing c.in-Ok.answer.0 c.deref.result.now c.recover.ensures.recovers (λ t tells. rw c.deref.ensures.value (c.in-Ok.ensures.said _ tells)))
+    c.recover.ensures.told c.in-Err-print.ensures.failed)
+
+pub returns-clause-stops : goal.returns-clause-stops
+returns-clause-stops g c = λ t is.
+    printed_moments c.args.listing c.in-Ok.answer.0 c.deref.result.now t _ _ _ _
+    (rw c.deref.ensures.value (c.in-Ok.ensures.said _ (rw is at c.recover.ensures.recovers)))
+    c.recover.ensures.keeps.stops
+    (unless_disk c.recover.result _ c.in-Ok.ensures.whole c.recover.ensures.rests t is)
+    c.print.ensures.stops
+
+pub returns-clause-device : goal.returns-clause-device
+returns-clause-device g c =
+    device_goes_on _ _ _ _ _ _ (read_device _ _ _ _ (g.met.B.Board.store_is_left c.args.board.now) c.recover.ensures.told c.recover.ensures.keeps.stops) c.print.ensures.device

@@ -1,0 +1,97 @@
+//! A report of what the journal's files hold.
+
+ghost use Rattle.std.specs.Prelude.{◌≡◌, ◌++◌, IfErr, IfOk, Ok, OnOk, Result, Some};
+ghost use Rattle.board_core.specs.Clock.{Adds};
+ghost use Rattle.board_core.specs.Told.{Relates, Told};
+ghost use Rattle.ras_account.specs.Account.{State};
+ghost use Rattle.ras_journal.specs.Recovered.{Refusal};
+ghost use Rattle.ras_recover.specs.Recovering.{Tells, open_failure};
+ghost use Rattle.ras_texts.specs.Listing.{listing_lines};
+ghost use Rattle.ras_texts.specs.Text.{end_line};
+ghost use Rattle.ras_exit.specs.Causes.{BoardCause};
+ghost use Rattle.board_core.specs.Device.{LeavesDevice};
+ghost use Rattle.ras_listing.specs.Answering.{IsCutBy, IsReportAnswer, IsSaid, unrecovered};
+ghost use Rattle.ras_listing.specs.Reporting.{IsReportExit, ReportMoment, Reports, report_output};
+
+use board_core::Board;
+use ras_account::Account;
+use ras_base::NoMemory;
+use ras_exit::{Exit, print, stop_line};
+use ras_recover::{OpenRefused, Recovered, recover};
+use ras_texts::{Listing, end_line, push_listing};
+use std::alloc::Global;
+
+/// Prints a listing of the account that the journal's files hold, and its end line, by one call. If
+/// a file is damaged or too long, it prints the stop line in place of them. It writes nothing, and
+/// reads no script.
+pub fn report<B: Board>(alloc: Global, listing: Listing, board: &mut B) -> Exit
+    // The exit and the text are those of the files. Files and device stay.
+    ensures reports { Relates (Reports listing result) (B.told board.old) (B.told board.new) }
+    // A stop leaves what one before may have left, or else all as it was told with a beginning of
+    // the text.
+    ensures stops { (t : Told) → B.told board.old ≡ Some t
+        → Adds (ReportMoment (B.clock board.old) (report_output listing t.here) t.here)
+        (B.clock board.old) (B.clock board.new) }
+    ensures exits { IsReportExit result }
+    ensures board { BoardCause result (B.faults board.old) (B.faults board.new) }
+    ensures device { LeavesDevice (B.told board.old) (B.told board.new)
+        (B.clock board.old) (B.clock board.new) }
+{
+    let (exit, text) = match answer(alloc, listing, recover(alloc, board)) {
+        Ok(answer) => answer,
+        Err(exit) => return exit,
+    };
+    match print(&text, board) {
+        Ok(()) => exit,
+        Err(fault) => fault,
+    }
+}
+
+// The exit and the text of a report by what was found of the files; or by which exit it is cut
+// short.
+fn answer(
+    alloc: Global,
+    listing: Listing,
+    found: Result<Recovered, OpenRefused>,
+) -> Result<(Exit, Vec<u8>), Exit>
+    ensures said { (held : Result State Refusal) → Tells (λ r. r.account.state) found held
+        → IfOk result (λ answer. IsSaid listing held answer.0 answer.1.items) }
+    ensures answers { IfOk result (λ answer. IsReportAnswer answer.0) }
+    ensures whole { OnOk result (open_failure found ≡ Ok tt) }
+    ensures cut { IfErr result (IsCutBy (open_failure found)) }
+{
+    match found {
+        Ok(recovered) => {
+            let text = account_text(alloc, listing, &recovered.account)?;
+            Ok((Exit::Done, text))
+        }
+        Err(refused) => {
+            let exit = unrecovered(refused)?;
+            let text = stop_line(alloc, exit)?;
+            Ok((exit, text))
+        }
+    }
+}
+
+// The lines of a listing of an account, and its end line.
+fn account_text(alloc: Global, listing: Listing, account: &Account) -> Result<Vec<u8>, NoMemory>
+    ensures { IfOk result (λ text. text.items
+        ≡ listing_lines listing account.now.state ++ end_line account.now.state) }
+{
+    let mut text = Vec::new(alloc);
+    push_listing(&mut text, listing, account)?;
+    text.extend_from_slice(&end_line(alloc, account)?)?;
+    Ok(text)
+}
+
+// How a report ends over files that weren't recovered: by an answer, or cut short.
+fn unrecovered(refused: OpenRefused) -> Result<Exit, Exit>
+    ensures { result ≡ unrecovered refused }
+{
+    match refused {
+        OpenRefused::Disk => Err(Exit::DiskFault),
+        OpenRefused::TooLong => Ok(Exit::TooLong),
+        OpenRefused::Damaged { file, place } => Ok(Exit::Damaged { file, place }),
+        OpenRefused::NoMemory => Err(Exit::NoMemory),
+    }
+}
