@@ -6,7 +6,7 @@ use Rattle.board_core.specs.ClockLemmas.{adds_both, adds_weaker}
 use Rattle.board_core.specs.Stop.{Left, Begins, InOut}
 use Rattle.board_core.specs.Told.{FailsPrint, Relates, Steps, Told, after_print}
 use Rattle.ras_account.specs.Account.{State}
-use Rattle.ras_journal.specs.Recovered.{Refusal, recovered, too_long, damaged}
+use Rattle.ras_journal.specs.Recovered.{Refusal, recovered}
 use Rattle.ras_recover.specs.OpeningCalls.{AfterRecovery}
 use Rattle.ras_recover.specs.Recovering.{Refuses, RestsHere, UnlessDisk, file_number, open_failure}
 use Rattle.ras_recover.specs.declared.refused.OpenRefused.{OpenRefused}
@@ -22,7 +22,7 @@ use Rattle.ras_exit.proofs.DeviceLemmas.{StoreIsLeft, device_by}
 use Rattle.ras_exit.proofs.EndingLemmas.{on_answer, on_cut}
 use Rattle.ras_exit.proofs.FaultLemmas.{raised, same_faults}
 use Rattle.ras_listing.specs.Answering.{IsCutBy, IsReportAnswer, IsSaid, unrecovered}
-use Rattle.ras_listing.specs.Reporting.{ReportMoment, Reports, output_by, report_exit, report_output}
+use Rattle.ras_listing.specs.Reporting.{ReportMoment, Reports, report_exit, report_output}
 
 -- ---- what is said
 
