@@ -2,3 +2,4 @@ pub mod Filter
 pub mod Filters
 pub mod Reading
 pub mod Steps
+pub mod Marks

@@ -6,3 +6,6 @@ mod filtering;
 
 pub use filter::LineFilter;
 pub use filtering::filter_lines;
+
+#[cfg(test)]
+mod tests;
