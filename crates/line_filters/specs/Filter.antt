@@ -14,12 +14,14 @@ pub record Filter : Type 0 where
 pub record Took (line : List ℕ) (before after : Filter) (old new : List ℕ) : Type 0 where
   pub text : List ℕ
   pub out : new ≡ old ++ text
-  pub answers : (lines : List (List ℕ)) → before.answers (line ∷ lines) ≡ Ok text ∷ after.answers lines
+  pub answers :
+      (lines : List (List ℕ)) → before.answers (line ∷ lines) ≡ Ok text ∷ after.answers lines
   pub rest : (lines : List (List ℕ)) → before.rest (line ∷ lines) ≡ after.rest lines
   pub last : (lines : List (List ℕ)) → before.last (line ∷ lines) ≡ after.last lines
 
 -- A refused line is where the answers end, and changes nothing. If memory runs out, nothing is said.
-abbrev pub TakesInto : Result (Unit {0}) LineRefused → List ℕ → Filter → Filter → List ℕ → List ℕ → Type 0
+abbrev pub TakesInto :
+    Result (Unit {0}) LineRefused → List ℕ → Filter → Filter → List ℕ → List ℕ → Type 0
 TakesInto (Ok done) line before after old new = Took line before after old new
 TakesInto (Err NoMemory) line before after old new = ⊤
 TakesInto (Err why) line before after old new =

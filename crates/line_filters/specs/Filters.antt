@@ -36,7 +36,8 @@ exit_unless (Some why) number exit = unread_exit number why
 abbrev pub exit_among : ℕ → Filter → Lines → Exit
 exit_among count filter lines =
     let answers = filter.answers lines.whole in
-    exit_unless (refusal_in answers) (count + length (texts_in answers) + 1) (ending_exit (count + length lines.whole) lines.ending)
+    exit_unless (refusal_in answers) (count + length (texts_in answers) + 1)
+    (ending_exit (count + length lines.whole) lines.ending)
 
 -- It ends at the first line that is refused, or as the list of the script's lines does.
 abbrev pub filter_exit : Filter → List ℕ → Exit
@@ -53,7 +54,8 @@ closing_text filter taken exit = filter.rest taken ++ stop_line exit
 abbrev pub output_among : ℕ → Filter → Lines → List ℕ
 output_among count filter lines =
     let texts = texts_in (filter.answers lines.whole) in
-    flat_map (λ text. text) texts ++ closing_text filter (take (length texts) lines.whole) (exit_among count filter lines)
+    let taken = take (length texts) lines.whole in
+    flat_map (λ text. text) texts ++ closing_text filter taken (exit_among count filter lines)
 
 abbrev pub filter_output : Filter → List ℕ → List ℕ
 filter_output filter script = output_among 0 filter (script_lines script)
@@ -72,13 +74,14 @@ end_unprinted printed (line ∷ lines) (text ∷ texts) =
 -- the same of a script's lines
 abbrev pub script_unprinted : Filter → List ℕ → ℕ → Option ℕ
 script_unprinted filter script printed =
-    end_unprinted printed (script_lines script).whole (texts_in (filter.answers (script_lines script).whole))
+    let lines = (script_lines script).whole in
+    end_unprinted printed lines (texts_in (filter.answers lines))
 
 -- ---- a call
 
 -- What a call of a filter prints of a script, of which this is left, and how it ends. Of what is
 -- told the printed text alone changed. The bytes taken reach at most 40,001 past the end of the
--- first line whose text isn't empty and wasn't printed whole.
+-- first line whose text isn't empty and wasn't printed whole, or that is refused.
 pub record Filters (filter : Filter) (result : Exit) (script left : List ℕ) (before now : Told) : Type 0 where
   pub tells : Tells (filter_exit filter script) (filter_output filter script) result before now
   pub only : OnlyText before now
@@ -86,11 +89,15 @@ pub record Filters (filter : Filter) (result : Exit) (script left : List ℕ) (b
   pub splits : taken ++ left ≡ script
   pub printed : List ℕ
   pub text : now.here.out ≡ before.here.out ++ printed
-  pub ahead : IfSome (script_unprinted filter script (length printed)) (λ end. length taken ≤ end + (LONGEST_LINE + 1))
+  pub ahead :
+      IfSome (script_unprinted filter script (length printed))
+      (λ end. length taken ≤ end + (LONGEST_LINE + 1))
 
 -- if source and board tell, they go on telling, and this holds of both
-abbrev pub OfBoth : (List ℕ → List ℕ → Told → Told → Type 0) → Option (List ℕ) → Option (List ℕ) → Option Told → Option Told → Type 0
-OfBoth P (Some script) left (Some before) now = IsSomeAnd left (λ rest. IsSomeAnd now (P script rest before))
+abbrev pub OfBoth : (List ℕ → List ℕ → Told → Told → Type 0)
+    → Option (List ℕ) → Option (List ℕ) → Option Told → Option Told → Type 0
+OfBoth P (Some script) left (Some before) now =
+    IsSomeAnd left (λ rest. IsSomeAnd now (P script rest before))
 OfBoth P script left before now = ⊤
 
 -- What is taken of a script, of which this is left: one byte past the longest script at most, and
