@@ -9,12 +9,10 @@ ghost use Rattle.ras_recover.specs.Reading.{Answers, front_at};
 
 use crate::fields::{checkpoint_at, checkpoint_count_at, generation_at, version_at};
 use crate::place::{Place, Unread};
+use journal_format::CHECKPOINT_PLACE;
 use ras_account::Account;
 use ras_journal::OPEN_GATE;
 use std::alloc::Global;
-
-/// The place of a checkpoint in its file.
-pub(crate) const CHECKPOINT_PLACE: usize = 25;
 
 // Whether a file stands.
 pub(crate) fn has_open_gate(file: &[u8]) -> bool

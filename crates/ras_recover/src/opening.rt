@@ -21,13 +21,10 @@ use crate::recovering::recover_files;
 use crate::{OpenRefused, Recovered};
 use board_core::{Board, Failed, FileNo};
 use entry_format::Version;
-use journal_format::checkpoint_len;
+use journal_format::{CHECKPOINT_PLACE, checkpoint_len};
 use ras_account::Account;
 use ras_journal::{Journal, Standing};
 use std::alloc::Global;
-
-// The place of a checkpoint in its file.
-const CHECKPOINT_PLACE: u64 = 25;
 
 // Formats generation 1 in file 0, with this account as its checkpoint. It is given whether each
 // file is shut.
@@ -59,7 +56,7 @@ fn format_first<B: Board>(
         file: FileNo::Zero,
         version: Version::Two,
         generation: 1,
-        length: CHECKPOINT_PLACE.saturating_add(checkpoint_len(account)),
+        length: (CHECKPOINT_PLACE as u64).saturating_add(checkpoint_len(account)),
         links: 0,
         shut: shut.1,
     }))

@@ -10,13 +10,10 @@ use crate::SwitchRefused;
 use crate::formatting::{format_file, next_bytes};
 use board_core::{Board, Failed, FileNo};
 use entry_format::Version;
-use journal_format::{Link, checkpoint_len};
+use journal_format::{CHECKPOINT_PLACE, Link, checkpoint_len};
 use ras_account::Account;
 use ras_journal::{Journal, LAST_GENERATION, LONGEST_FILE, Standing};
 use std::alloc::Global;
-
-// The place of a checkpoint in its file.
-const CHECKPOINT_PLACE: u64 = 25;
 
 // The other of the two files.
 fn other(file: FileNo) -> FileNo
@@ -36,12 +33,13 @@ fn switched(standing: Standing, account: &Account, link: &Link) -> Option<Standi
     ensures generation { IfSome result (λ _. standing.generation < LAST_GENERATION) }
     ensures fits { IfSome result (λ next. next.length + 2 ≤ LONGEST_FILE) }
 {
+    let place = CHECKPOINT_PLACE as u64;
     let checkpoint = checkpoint_len(account);
     let link = link.bytes().len() as u64;
     if standing.generation >= LAST_GENERATION
         || checkpoint > LONGEST_FILE
         || link > LONGEST_FILE
-        || CHECKPOINT_PLACE + checkpoint + 1 + link + 1 > LONGEST_FILE
+        || place + checkpoint + 1 + link + 1 > LONGEST_FILE
     {
         return None;
     }
@@ -49,7 +47,7 @@ fn switched(standing: Standing, account: &Account, link: &Link) -> Option<Standi
         file: other(standing.file),
         version: Version::Two,
         generation: standing.generation + 1,
-        length: CHECKPOINT_PLACE + checkpoint,
+        length: place + checkpoint,
         links: 0,
         shut: false,
     })

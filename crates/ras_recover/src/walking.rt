@@ -11,11 +11,12 @@ ghost use Rattle.ras_recover.specs.OpeningCalls.{ReadsStanding};
 ghost use Rattle.ras_recover.specs.Reading.{front_at};
 ghost use Rattle.ras_recover.specs.Windows.{end_of, Spans, Sees, IsAnswer, IsNoDamage, Looks, LooksAt, read_failure, LinkHeld, FrontHeld, IsBegun, IsBroken};
 
-use crate::file::{CHECKPOINT_PLACE, first_place, front_len, has_open_gate, is_shut};
+use crate::file::{first_place, front_len, has_open_gate, is_shut};
 use crate::links::{link_len, next_place};
 use crate::place::{Place, ReadRefused, Unread};
 use crate::window::{SizedFile, Window};
 use board_core::Board;
+use journal_format::CHECKPOINT_PLACE;
 use ras_account::Account;
 use std::alloc::Global;
 
