@@ -8,8 +8,8 @@ ghost use Rattle.ras_script.specs.Kinds.{restart_asks, retire_asks};
 ghost use Rattle.ras_script.specs.Line.{Gives, kinds, line_named};
 
 use crate::fields::{
-    BANK_WORDS, hex_bytes_of, hex_u64_of, read_label, read_limit, read_number, read_report, u8_of, u16_of,
-    u64_of,
+    BANK_WORDS, hex_bytes_of, hex_u64_of, read_label, read_limit, read_number, read_report, u8_of,
+    u16_of, u64_of,
 };
 use crate::{ErrorReport, Line, LineRefused, Table};
 use dimm_topology::Row;
