@@ -14,7 +14,9 @@ use Rattle.journal_format.specs.Links.{link_bytes}
 use Rattle.ras_texts.specs.Reports.{entry_lines}
 use Rattle.ras_texts.specs.Text.{repeat_line}
 use Rattle.ras_events.specs.declared.preparing.News.{News}
-use Rattle.ras_events.specs.Preparing.{orders_along_entries}
+use Rattle.ras_events.specs.declared.made.Piece.{Piece}
+use Rattle.ras_events.specs.Making.{entries_in}
+use Rattle.ras_events.specs.Preparing.{orders_along_entries, text_along}
 use Rattle.ras_events.specs.Sizes.{IsFact}
 
 -- entries are facts, or one alone
@@ -26,24 +28,21 @@ abbrev pub has_name_of : List Entry → Entry → Bool
 has_name_of entries (Fact fact) = is_among (names_of entries) fact.name
 has_name_of entries other = false
 
--- whether an entry of an event is news by the account before the event
+-- whether an entry of an event is news by the account before the event and the event's news so far
 abbrev pub is_news_beside : State → List Entry → Entry → Bool
-is_news_beside account earlier entry = is_fresh_in account entry && not (has_name_of earlier entry)
+is_news_beside account news entry = is_fresh_in account entry && not (has_name_of news entry)
 
--- its lines
-abbrev pub lines_beside : State → List Entry → List Detail → Entry → List ℕ
-lines_beside account earlier details entry =
-    if is_news_beside account earlier entry then entry_lines details account entry else repeat_line account entry
+-- a text and news with an entry, which is news or a repeat
+pub record TellsEntry (is_news : Bool) (account : State) (details : List Detail) (entry : Entry) (old new : List ℕ) (before after : List Entry) : Type 0 where
+  pub text : new ≡ old ++ (if is_news then entry_lines details account entry else repeat_line account entry)
+  pub news : after ≡ (if is_news then before ++ entry ∷ [] else before)
 
--- the news of an event with an entry that may be one
-abbrev pub with_news : State → List Entry → Entry → List Entry
-with_news account news entry = if is_news_beside account news entry then news ++ entry ∷ [] else news
-
--- the entries so far and those that are left, and the news of the former
-pub record KeepsNews (account : State) (all taken left : List Entry) (number : ℕ) (news : List Entry) : Type 0 where
-  pub entries : taken ++ left ≡ all
+-- the pieces so far and those that are left, with the news and the lines of the former
+pub record KeepsNews (account : State) (all taken left : List Piece) (number : ℕ) (news : List Entry) (text : List ℕ) : Type 0 where
+  pub pieces : taken ++ left ≡ all
   pub count : number ≡ length left
-  pub news_are : news ≡ fresh_entries_in account taken
+  pub news_are : news ≡ fresh_entries_in account (entries_in taken)
+  pub text_is : text ≡ text_along account taken
 
 -- the news of an event: some entries, their link, and room for so many orders
 pub record IsNewsOf (room : ℕ) (news : News) : Type 0 where

@@ -11,11 +11,12 @@ ghost use Rattle.ras_texts.specs.OrderRoom.{HasOrderRoom};
 ghost use Rattle.ras_texts.specs.Orders.{order_lines};
 ghost use Rattle.ras_events.specs.Beside.{CanTakeAll, IsNewsOf};
 ghost use Rattle.ras_events.specs.Preparing.{CanTake, IsPrepared, IsReady, news_entries};
+ghost use Rattle.ras_events.specs.Making.{entries_in};
 ghost use Rattle.ras_events.specs.Preparing.{orders_along_entries};
 ghost use Rattle.ras_events.specs.Sizes.{IsFit};
 
 use crate::Made;
-use crate::beside::{lines_of, news_of};
+use crate::beside::{TextAndNews, text_and_news};
 use journal_format::{Link, MOST_LINK_ENTRIES, MOST_PAYLOAD, encode_link};
 use ras_account::{Account, Orders, ReserveRefused};
 use ras_base::NoMemory;
@@ -81,14 +82,20 @@ pub fn prepare(
     ensures prepared { IfOk result (IsPrepared account.old.state number made) }
     ensures ready { IfOk result (IsReady account.new) }
     ensures state { account.new.state ≡ account.old.state }
-    ensures room { OnOk result (HasRoomFor account.old.state made.entries) }
-    ensures full { result ≡ Err PrepareRefused.Full → HasNoRoomFor account.old.state made.entries }
+    ensures room { OnOk result (HasRoomFor account.old.state (entries_in made)) }
+    ensures full { result ≡ Err PrepareRefused.Full
+        → HasNoRoomFor account.old.state (entries_in made) }
 {
-    reserve(account, made.entries())?;
-    Ok(prepare_reserved(alloc, number, made, account)?)
+    let TextAndNews { mut text, news } = text_and_news(alloc, account, made)?;
+    reserve(account, &news)?;
+    let done = done_line(alloc, number)?;
+    let orders = orders_len(&news);
+    text.reserve(ORDER_LENGTH * orders)?;
+    let news = link_news(alloc, news, orders)?;
+    Ok(Prepared { news, text, done })
 }
 
-// Makes room in the account for what an event makes.
+// Makes room in the account for what is news of an event.
 fn reserve(account: &mut Account, entries: &[Entry]) -> Result<(), PrepareRefused>
     ensures state { account.new.state ≡ account.old.state }
     ensures waits { OnOk result (account.new.waiting ≡ added_by account.new.state entries.now) }
@@ -100,28 +107,6 @@ fn reserve(account: &mut Account, entries: &[Entry]) -> Result<(), PrepareRefuse
         Err(ReserveRefused::Full) => Err(PrepareRefused::Full),
         Err(ReserveRefused::NoMemory) => Err(PrepareRefused::NoMemory),
     }
-}
-
-// Takes the memory of an event that makes what the account has room for.
-fn prepare_reserved(
-    alloc: Global,
-    number: u64,
-    made: Made,
-    account: &Account,
-) -> Result<Prepared, NoMemory>
-    requires fit { IsFit made }
-    requires waits { account.now.waiting ≡ added_by account.now.state made.entries }
-    requires within { HasRoomFor account.now.state made.entries }
-    ensures prepared { IfOk result (IsPrepared account.now.state number made) }
-    ensures ready { IfOk result (IsReady account.now) }
-{
-    let done = done_line(alloc, number)?;
-    let mut text = lines_of(alloc, account, &made)?;
-    let entries = news_of(alloc, account, made.into_entries())?;
-    let orders = orders_len(&entries);
-    text.reserve(ORDER_LENGTH * orders)?;
-    let news = link_news(alloc, entries, orders)?;
-    Ok(Prepared { news, text, done })
 }
 
 // How many orders the entries of a link give at most.
