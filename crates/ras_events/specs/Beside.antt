@@ -1,5 +1,5 @@
 -- Only for proofs: the entries of an event, each judged by the account before the event.
-use Rattle.std.specs.Prelude.{◌≡◌, ℕ, ◌+◌, ◌≤◌, ◌⊎◌, Bool, false, ◌&&◌, not, if◌then◌else◌, List, [], ◌∷◌, ◌++◌, length, All}
+use Rattle.std.specs.Prelude.{◌≡◌, ℕ, ◌+◌, ◌≤◌, ◌⊎◌, Bool, false, ◌&&◌, not, if◌then◌else◌, List, [], ◌∷◌, ◌++◌, length, All, IfSome}
 use Rattle.std.specs.List.{sum_by, AllByRecursion}
 use Rattle.ras_facts.specs.declared.entry.Entry.{Entry}
 use Rattle.ras_facts.specs.declared.entry.Entry.TheVariants.{Fact}
@@ -12,11 +12,14 @@ use Rattle.ras_account.specs.Numbers.{StaysWithin, fresh_entries_in}
 use Rattle.ras_account.specs.View.{OrderList, View, IsReservedFor}
 use Rattle.journal_format.specs.Links.{link_bytes}
 use Rattle.ras_texts.specs.Reports.{entry_lines}
-use Rattle.ras_texts.specs.Text.{repeat_line}
+use Rattle.ras_texts.specs.OrderRoom.{HasOrderRoom}
+use Rattle.ras_texts.specs.Text.{done_line, repeat_line}
+use Rattle.ras_events.specs.declared.beside.TextAndNews.{TextAndNews}
 use Rattle.ras_events.specs.declared.preparing.News.{News}
+use Rattle.ras_events.specs.declared.preparing.Prepared.{Prepared}
 use Rattle.ras_events.specs.declared.made.Piece.{Piece}
 use Rattle.ras_events.specs.Making.{entries_in}
-use Rattle.ras_events.specs.Preparing.{orders_along_entries, text_along}
+use Rattle.ras_events.specs.Preparing.{news_entries, orders_along_entries, text_along}
 use Rattle.ras_events.specs.Sizes.{IsFact}
 
 -- entries are facts, or one alone
@@ -50,6 +53,15 @@ pub record IsNewsOf (room : ℕ) (news : News) : Type 0 where
   pub link : news.link ≡ link_bytes news.entries.items
   pub none : news.orders.orders ≡ []
   pub room_is : news.orders.room ≡ room
+
+-- an event with the text and the news that it tells has its link, room for the orders, and the line
+-- that it ends with
+pub record IsLinked (number : ℕ) (told : TextAndNews) (event : Prepared) : Type 0 where
+  pub entries : news_entries event.news ≡ told.news.items
+  pub news : IfSome event.news (IsNewsOf (sum_by most_orders told.news.items))
+  pub text : event.text.items ≡ told.text.items
+  pub room : HasOrderRoom (sum_by most_orders told.news.items) event.text
+  pub done : event.done.items ≡ done_line number
 
 -- these entries can be taken in turn, with room for their orders
 pub record CanTakeAll (account : View) (orders : OrderList) (entries : List Entry) : Type 0 where

@@ -9,7 +9,7 @@ ghost use Rattle.ras_account.specs.View.{added_by};
 ghost use Rattle.journal_format.specs.Links.{payload_bytes};
 ghost use Rattle.ras_texts.specs.OrderRoom.{HasOrderRoom};
 ghost use Rattle.ras_texts.specs.Orders.{order_lines};
-ghost use Rattle.ras_events.specs.Beside.{CanTakeAll, IsNewsOf};
+ghost use Rattle.ras_events.specs.Beside.{CanTakeAll, IsLinked, IsNewsOf};
 ghost use Rattle.ras_events.specs.Preparing.{CanTake, IsPrepared, IsReady, news_entries};
 ghost use Rattle.ras_events.specs.Making.{entries_in};
 ghost use Rattle.ras_events.specs.Preparing.{orders_along_entries};
@@ -86,13 +86,9 @@ pub fn prepare(
     ensures full { result ≡ Err PrepareRefused.Full
         → HasNoRoomFor account.old.state (entries_in made) }
 {
-    let TextAndNews { mut text, news } = text_and_news(alloc, account, made)?;
-    reserve(account, &news)?;
-    let done = done_line(alloc, number)?;
-    let orders = orders_len(&news);
-    text.reserve(ORDER_LENGTH * orders)?;
-    let news = link_news(alloc, news, orders)?;
-    Ok(Prepared { news, text, done })
+    let told = text_and_news(alloc, account, made)?;
+    reserve(account, &told.news)?;
+    Ok(link_told(alloc, number, told)?)
 }
 
 // Makes room in the account for what is news of an event.
@@ -107,6 +103,21 @@ fn reserve(account: &mut Account, entries: &[Entry]) -> Result<(), PrepareRefuse
         Err(ReserveRefused::Full) => Err(PrepareRefused::Full),
         Err(ReserveRefused::NoMemory) => Err(PrepareRefused::NoMemory),
     }
+}
+
+// Takes the memory that an event needs besides its text and the room of its news in the account.
+fn link_told(alloc: Global, number: u64, told: TextAndNews) -> Result<Prepared, NoMemory>
+    requires few { length told.news.items ≤ MOST_LINK_ENTRIES }
+    requires valid { All IsValidEntry told.news.items }
+    requires payload { length (payload_bytes told.news.items) ≤ MOST_PAYLOAD }
+    ensures { IfOk result (IsLinked number told) }
+{
+    let TextAndNews { mut text, news } = told;
+    let orders = orders_len(&news);
+    text.reserve(ORDER_LENGTH * orders)?;
+    let news = link_news(alloc, news, orders)?;
+    let done = done_line(alloc, number)?;
+    Ok(Prepared { news, text, done })
 }
 
 // How many orders the entries of a link give at most.

@@ -12,7 +12,6 @@ use ras_base::NoMemory;
 /// # Errors
 ///
 /// `NoMemory` comes only if memory runs out.
-#[tactic(auto, unfolding(crate::specs::Unreadable::unreadable_line))]
 pub fn push_unreadable(text: &mut Vec<u8>, id: u64, why: Unreadable) -> Result<(), NoMemory>
     ensures { OnOk result (text.new.items ≡ text.old.items ++ unreadable_line id why) }
 {
