@@ -8,8 +8,8 @@ use Rattle.ras_facts.specs.declared.entry.Entry.{Entry}
 use Rattle.ras_facts.specs.Entries.{IsValidEntry}
 use Rattle.ras_account.specs.Account.{State}
 use Rattle.ras_account.specs.Continued.{is_fresh_in, account_after}
-use Rattle.ras_account.specs.Numbers.{AreWithin, HasNoRoomFor, HasRoomFor, StaysWithin, are_past, fresh_entries_in, numbers_with}
-use Rattle.ras_account.proofs.NumberLemmas.{stays-within, with_fresh_ones}
+use Rattle.ras_account.specs.Numbers.{AreWithin, HasNoRoomFor, HasRoomFor, are_past, fresh_entries_in, numbers_with}
+use Rattle.ras_account.proofs.NumberLemmas.{with_fresh_ones}
 use Rattle.entry_format.specs.Spelling.{entry_bytes}
 use Rattle.journal_format.specs.Links.{payload_bytes}
 use Rattle.ras_events.proofs.BesideLemmas.{after_if}
@@ -35,12 +35,6 @@ room_news a es news is within = subst AreWithin (ap (numbers_with a) is ∙ numb
 
 pub no_room_news : (a : State) (es news : List Entry) → news ≡ fresh_entries_in a es → HasNoRoomFor a news → HasNoRoomFor a es
 no_room_news a es news is past = subst (λ numbers. IsTrue (are_past numbers)) (ap (numbers_with a) is ∙ numbers_news a es) past
-
--- there is room for each of them in turn
-pub stays_news : (a : State) (es news : List Entry) → news ≡ fresh_entries_in a es → HasRoomFor a news → StaysWithin a news
-stays_news a es news is within =
-    let again : fresh_entries_in a news ≡ news = ap (fresh_entries_in a) is ∙ fresh_again a es ∙ sym is in
-    stays-within a news (subst AreWithin (ap (with_fresh_ones a) again) within)
 
 -- ---- some entries of a list
 

@@ -4,20 +4,20 @@ use Rattle.std.specs.Global.{Vec}
 use Rattle.std.specs.List.{sum_by}
 use Rattle.ras_facts.specs.declared.entry.Entry.{Entry}
 use Rattle.ras_facts.specs.Entries.{IsValidEntry, most_orders}
-use Rattle.ras_account.specs.Numbers.{HasRoomFor, StaysWithin, fresh_entries_in}
+use Rattle.ras_account.specs.Numbers.{HasRoomFor, StaysWithin}
 use Rattle.ras_account.specs.View.{View, added_by}
+use Rattle.ras_account.proofs.NumberLemmas.{stays-within}
 use Rattle.ras_texts.specs.OrderRoom.{HasOrderRoom}
 use Rattle.ras_events.specs.declared.preparing.News.{News}
 use Rattle.ras_events.specs.Beside.{IsNewsOf}
 use Rattle.ras_events.specs.Preparing.{CanTake, IsReady, news_entries}
-use Rattle.ras_events.proofs.NewsLemmas.{stays_news}
 
-module _ (account : View) (made news : List Entry) (waits : account.waiting ≡ added_by account.state news) (within : HasRoomFor account.state news) (news_are : news ≡ fresh_entries_in account.state made) (valid : All IsValidEntry news) where
+module _ (account : View) (news : List Entry) (waits : account.waiting ≡ added_by account.state news) (within : HasRoomFor account.state news) (valid : All IsValidEntry news) where
   can_take : (new : News) → new.entries.items ≡ news → IsNewsOf (sum_by most_orders news) new → CanTake account new
   can_take new same is = record {
     reserved = waits ∙ ap (added_by account.state) (sym same);
     valid = subst (All IsValidEntry) (sym same) valid;
-    within = subst (StaysWithin account.state) (sym same) (stays_news account.state made news news_are within);
+    within = subst (StaysWithin account.state) (sym same) (stays-within account.state news within);
     none = is.none;
     room = omega (arith, is.room_is, ap (sum_by most_orders) same);
   }
