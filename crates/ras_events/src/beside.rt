@@ -45,7 +45,14 @@ pub(crate) fn text_and_news(
     for piece in made.into_pieces() {
         match piece {
             Piece::Counted { entry, details } => {
-                push_counted(alloc, account, entry, details.as_slice(), &mut text, &mut news)?;
+                push_counted(
+                    alloc,
+                    account,
+                    entry,
+                    details.as_slice(),
+                    &mut text,
+                    &mut news,
+                )?;
             }
             Piece::Unread { id, why } => push_unreadable(&mut text, id, why)?,
         }
