@@ -13,14 +13,14 @@ use Rattle.ras_script.specs.declared.line.LineRefused.{LineRefused}
 use Rattle.ras_events.specs.declared.settings.Settings.{Settings}
 use Rattle.ras_events.specs.Events.{event_of, settings_after}
 use Rattle.erst_store.specs.Store.{Stored}
-use Rattle.std.proofs.lemmas.List.Sums.{fold-append}
 use Rattle.ras_events.specs.Making.{entries_in}
 use Rattle.ras_events.specs.Stores.{laid, store_after, store_by}
 use Rattle.ras_run.specs.LaterKinds.{IsTaken}
 use Rattle.ras_run.proofs.LaterKindLemmas.{lines-taken}
 use Rattle.ras_script.specs.declared.line.Line.TheVariants as asks
 use Rattle.ras_events.specs.Reports.{NumberedLine, driver_by, entries_at, last_of, made_in, reports, row_by, rows_told, settings_told, sources_by}
-use Rattle.ras_events.proofs.ReportLemmas.{laid-more, reports-cut, settings-line}
+use Rattle.ras_events.proofs.ReportLemmas.{reports-cut, settings-line}
+use Rattle.ras_events.proofs.StoreLemmas.{laid-cut}
 use Rattle.ras_run.specs.LaterKinds.{taken_line}
 use Rattle.ras_run.specs.Places.{Start}
 use Rattle.ras_daemon.specs.Headline.{account_with, reported}
@@ -117,8 +117,8 @@ lines-lay-none k (line ∷ lines) =
 
 -- a line lays the same whatever its number is
 laid-line-same : (one other : List NumberedLine) (k m : ℕ) (read : ReadLine) → laid [] one ≡ laid [] other → laid [] (one ++ (k, read) ∷ []) ≡ laid [] (other ++ (m, read) ∷ [])
-laid-line-same one other k m (Ok line) same = laid-more [] one (k, Ok line) ∙ ap (λ (store : List Stored). store_by store line) same ∙ sym (laid-more [] other (m, Ok line))
-laid-line-same one other k m (Err why) same = laid-more [] one (k, Err why) ∙ same ∙ sym (laid-more [] other (m, Err why))
+laid-line-same one other k m (Ok line) same = laid-cut [] one ((k, Ok line) ∷ []) ∙ ap (λ (store : List Stored). store_by store line) same ∙ sym (laid-cut [] other ((m, Ok line) ∷ []))
+laid-line-same one other k m (Err why) same = laid-cut [] one ((k, Err why) ∷ []) ∙ same ∙ sym (laid-cut [] other ((m, Err why) ∷ []))
 
 -- ---- what lines report
 
@@ -163,7 +163,7 @@ module _ (one other both : List ℕ) (joined : AreJoined one other both) where
       let untold : settings_told (rows ++ first) ≡ settings_told rows =
       settings-untold rows first (settings-same [] [] k 1 (map taken_line joined.first) refl ∙ joined.untold) in
       let unlaid : laid [] (rows ++ first) ≡ laid [] rows =
-      fold-append store_after [] rows first ∙ ap (λ (store : List Stored). laid store first) (lines-lay-none 1 joined.rows)
+      laid-cut [] rows first ∙ ap (λ (store : List Stored). laid store first) (lines-lay-none 1 joined.rows)
       ∙ lines-lay-none k joined.first ∙ sym (lines-lay-none 1 joined.rows) in
       let reads : reads_of both ≡ (rows ++ first) ++ last =
       ap (λ (lines : List (List ℕ)). reads_in lines) (joined.both_is ∙ sym (append_assoc joined.rows joined.first joined.second))
