@@ -16,7 +16,7 @@ use Rattle.erst_interp.specs.Table.{erst_of}
 use Rattle.erst_store.specs.Store.{Stored}
 use Rattle.dimm_topology.specs.declared.row.Row.{Row}
 use Rattle.ras_events.specs.Events.{Lists, admitted_in, settings_after, with_driver, with_sources}
-use Rattle.ras_events.specs.Reports.{NumberedLine, driver_by, entries_at, last_of, reports, row_by, rows_told, settings_told, sources_by, sources_in_table}
+use Rattle.ras_events.specs.Reports.{NumberedLine, driver_by, entries_at, last_of, reports, row_by, settings_told, sources_by, sources_in_table}
 
 -- the last of a list with one more
 last-snoc : {X : Type 0} (xs : List X) (x : X) → last_of (xs ++ x ∷ []) ≡ Some x

@@ -1,5 +1,5 @@
 -- Which disk calls a part of a run makes.
-use Rattle.std.proofs.Common.{◌≡◌, ◌∙◌, ℕ, ◌≤◌, false, List, [], ◌∷◌, ◌++◌, length, Option, None, Some, IfSome, Result, Ok, Err, OnOk, OnErr, IsTrue, inl, inr, refl, sym, ap, subst, arith}
+use Rattle.std.proofs.Common.{◌≡◌, ◌∙◌, ℕ, ◌≤◌, false, List, [], ◌∷◌, length, Option, None, Some, IfSome, Result, Ok, Err, OnOk, OnErr, IsTrue, inl, inr, refl, sym, ap, subst, arith}
 use Rattle.std.proofs.lemmas.List.{append-nil}
 use Rattle.board_core.specs.Clock.{Clock}
 use Rattle.board_core.specs.declared.board.DiskCall.{DiskCall}
