@@ -1,9 +1,10 @@
 //! The words of a call.
 
 ghost use Rattle.std.specs.Prelude.{◌≡◌, IfOk};
-ghost use Rattle.ras_daemon.specs.Task.{task_of};
+ghost use Rattle.ras_daemon.specs.Task.{listing_of, task_of};
 
 use ras_base::NoMemory;
+use ras_texts::Listing;
 use std::alloc::Global;
 use std::marker::Model;
 
@@ -44,14 +45,37 @@ impl RasWord {
 pub enum Task {
     /// Take a script.
     Run,
+    /// List what the journal's files hold.
+    Report(Listing),
 }
 
-/// What these words ask for, if they are a form of a call: the one word `run`.
+/// What these words ask for, if they are a form of a call: `run`, or `report` with one of `counts`,
+/// `pages`, `names` and `modules`.
 pub fn task_of(words: &[RasWord]) -> Option<Task>
     ensures { result ≡ task_of words.now }
 {
     match words {
         [word] if word.bytes() == b"run".as_slice() => Some(Task::Run),
+        [word, what] if word.bytes() == b"report".as_slice() => {
+            listing_of(what.bytes()).map(Task::Report)
+        }
         _ => None,
+    }
+}
+
+// The listing of this word.
+fn listing_of(word: &[u8]) -> Option<Listing>
+    ensures { result ≡ listing_of word.now }
+{
+    if word == b"counts".as_slice() {
+        Some(Listing::Counts)
+    } else if word == b"pages".as_slice() {
+        Some(Listing::Pages)
+    } else if word == b"names".as_slice() {
+        Some(Listing::Names)
+    } else if word == b"modules".as_slice() {
+        Some(Listing::Modules)
+    } else {
+        None
     }
 }
