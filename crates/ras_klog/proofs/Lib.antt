@@ -1,2 +1,5 @@
 mod LineLemmas
 mod GroupLemmas
+mod FilterLemmas
+mod TakeLemmas
+mod TextLemmas

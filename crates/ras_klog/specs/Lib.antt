@@ -2,3 +2,6 @@ pub mod Reading
 pub mod Words
 pub mod Groups
 pub mod Steps
+pub mod Texts
+pub mod Klog
+pub mod Along
