@@ -4,6 +4,7 @@
 
 mod daemon;
 mod ending;
+mod filters;
 mod laws;
 mod lines;
 mod word;
