@@ -1,2 +1,5 @@
 mod BitLemmas
 mod CountLemmas
+mod ReportLemmas
+mod TotalLemmas
+mod TextLemmas

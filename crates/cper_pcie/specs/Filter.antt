@@ -2,7 +2,6 @@
 -- it.
 use Rattle.std.specs.Prelude.{ℕ, List, [], ◌∷◌, map, Result, Ok, Err}
 use Rattle.std.specs.List.{flat_map}
-use Rattle.std.specs.Result.{result_map}
 use Rattle.line_filters.specs.Filter.{Filter}
 use Rattle.ras_script.specs.Line.{line_of}
 use Rattle.ras_script.specs.declared.line.Line.{Line}
@@ -16,8 +15,12 @@ abbrev pub pcie_text : Place → List ℕ
 pcie_text place = flat_map section_line (taken_at place)
 
 -- a line's text, if it reads, and else why it is refused
+abbrev pub answer_of : Place → Result Line LineRefused → Result (List ℕ) LineRefused
+answer_of place (Ok line) = Ok (pcie_text place)
+answer_of place (Err why) = Err why
+
 abbrev pub place_answer : Place → Result (List ℕ) LineRefused
-place_answer place = result_map (λ (line : Line). pcie_text place) (line_of place.line)
+place_answer place = answer_of place (line_of place.line)
 
 -- answers up to the first refusal
 abbrev pub to_first_refusal : List (Result (List ℕ) LineRefused) → List (Result (List ℕ) LineRefused)

@@ -113,6 +113,7 @@ fn take_section(
         (read_sections (record { name = name.now; severity = severity; bytes = bytes.now } ∷ []))) }
     ensures text { OnOk result (text.new.items ≡ text.old.items
         ++ section_line (record { name = name.now; severity = severity; bytes = bytes.now })) }
+    ensures few { OnOk result (totals.new.sections ≤ totals.old.sections + 1) }
 {
     let section = read_pcie(bytes);
     push_section(text, name, severity, &section)?;

@@ -42,7 +42,11 @@ impl<'a> Sections<'a> {
             severity = result.severity; bytes = result.bytes.now }) }
     {
         match self {
-            Sections::Record(rec) => rec.section(i as u16),
+            Sections::Record(rec) => {
+                // The count of a record's sections bounds the number.
+                let _count = rec.count();
+                rec.section(i as u16)
+            }
             Sections::Block(block) => block.entry(i),
         }
     }

@@ -4,7 +4,7 @@ ghost use Rattle.std.specs.Prelude.{◌≡◌, ◌<◌, ◌++◌, OnOk};
 ghost use Rattle.cper_pcie.specs.Texts.{bit_text, bits_text, device_line, end_line, few_digits};
 ghost use Rattle.cper_pcie.specs.Texts.{four_digits, id_text, place_text, read_text};
 ghost use Rattle.cper_pcie.specs.Texts.{status_text, told_of, two_digits};
-ghost use Rattle.cper_pcie.specs.TextSteps.{end_text, line_of_section, names_of};
+ghost use Rattle.cper_pcie.specs.TextSteps.{end_text, line_of_section, names_of, next_bit_text};
 
 use crate::bits::{correctable_name, uncorrectable_name};
 use crate::section::{PcieDevice, PcieRefused, PcieSection};
@@ -170,10 +170,7 @@ fn push_bits(text: &mut Vec<u8>, kind: Kind, status: u32) -> Result<(), NoMemory
     let mut is_first = true;
     for bit in 0..32 {
         if is_set(bit, u64::from(status)) {
-            if !is_first {
-                text.push(b',')?;
-            }
-            push_bit(text, kind, bit)?;
+            push_next_bit(text, kind, bit, is_first)?;
             is_first = false;
         }
     }
@@ -181,6 +178,22 @@ fn push_bits(text: &mut Vec<u8>, kind: Kind, status: u32) -> Result<(), NoMemory
         text.extend_from_slice(b"-")?;
     }
     Ok(())
+}
+
+// Adds the name of a bit, after a comma unless it is the first.
+fn push_next_bit(
+    text: &mut Vec<u8>,
+    kind: Kind,
+    bit: u32,
+    is_first: bool,
+) -> Result<(), NoMemory>
+    ensures { OnOk result (text.new.items
+        ≡ text.old.items ++ next_bit_text is_first (bit_text (names_of kind) bit)) }
+{
+    if !is_first {
+        text.push(b',')?;
+    }
+    push_bit(text, kind, bit)
 }
 
 // Adds the name of a bit, or its number if it has none.
