@@ -1,6 +1,6 @@
 -- The sections of a report by their numbers, and those of PCI Express among the first ones.
-use Rattle.std.proofs.Common.{◌≡◌, ℕ, zero, suc, ◌+◌, ◌<◌, ◌≤◌, Bool, true, false, ◌||◌, if◌then◌else◌, List, [], ◌∷◌, ◌++◌, length, map, take, get_or, Option, Some, None, refl, sym, ap, subst, ◌∙◌, append-nil, append_assoc, arith}
-use Rattle.std.specs.Prelude.{slice_get}
+use Rattle.std.proofs.Common.{◌≡◌, ℕ, zero, suc, ◌+◌, ◌-◌, ◌<◌, ◌≤◌, Bool, true, false, ◌||◌, if◌then◌else◌, List, [], ◌∷◌, ◌++◌, length, map, take, get_or, Option, Some, None, refl, sym, ap, subst, ◌∙◌, append-nil, append_assoc, arith}
+use Rattle.std.specs.Prelude.{replicate, slice_get}
 use Rattle.std.specs.List.{filter_map, list_any, range_with_len}
 use Rattle.std.specs.Option.{option_map}
 use Rattle.std.proofs.lemmas.List.{length-map, take_more, take_all}
@@ -11,6 +11,7 @@ use Rattle.std.proofs.lemmas.List.Folds.{list_any-append}
 use Rattle.std.proofs.lemmas.List.FromFn.{length-map-range_with_len, get_or-map-range_with_len}
 use Rattle.std.proofs.lemmas.Option.{slice_get-get_or, slice_get-map, slice_get_within, get_or_from_slice_get}
 use Rattle.cper_records.specs.Header.{section_count}
+use Rattle.cper_records.specs.Readable.{filled}
 use Rattle.apei_sources.specs.Blocks.{BlockParts, entry_at}
 use Rattle.ras_facts.specs.declared.name.Name.{Name}
 use Rattle.cper_pcie.specs.Reports.{Found, Taken, record_section, record_sections, block_section, block_sections, is_pcie, pcie_section}
@@ -113,7 +114,7 @@ pub record TookFirst (name : Name) (found : List Found) (i : ℕ) (before after 
   pub text : new ≡ old ++ sections_lines (taken_from name (take i found))
   pub few : after.sections ≤ before.sections + i
 
-read-append : (xs ys : List Taken) → read_sections (xs ++ ys) ≡ read_sections xs ++ read_sections ys
+pub read-append : (xs ys : List Taken) → read_sections (xs ++ ys) ≡ read_sections xs ++ read_sections ys
 read-append xs ys = filter_map-append (λ (section : Taken). result_ok (pcie_of section.bytes)) xs ys
 
 pub took-none : (name : Name) (found : List Found) (before : Totals) (old : List ℕ) → TookFirst name found 0 before before old old
@@ -160,3 +161,13 @@ pub took-text : (name : Name) (found : List Found) (i : ℕ) (before after : Tot
     → TookFirst name found i before after old new → new ≡ old ++ sections_lines (taken_from name found)
 took-text name found i before after old new all took =
     took.text ∙ ap (λ (t : List Taken). old ++ sections_lines t) (taken-all name found i all)
+
+-- ---- a record in the store
+
+-- bytes in a buffer, and zeros after them
+pub filled-is : (bytes held : List ℕ) (n : ℕ) → held ≡ bytes → n ≡ length bytes → length bytes ≤ 16384
+    → take 16384 held ++ replicate (16384 - n) 0 ≡ filled bytes
+filled-is bytes held n same count short =
+    ap (λ (b : List ℕ). take 16384 b ++ replicate (16384 - n) 0) same
+    ∙ ap (λ (b : List ℕ). b ++ replicate (16384 - n) 0) (take_all 16384 bytes short)
+    ∙ ap (λ m. bytes ++ replicate (16384 - m) 0) count

@@ -1,12 +1,14 @@
 -- Only for proofs: the filter of PCI Express sections, line by line.
-use Rattle.std.specs.Prelude.{◌≡◌, ℕ, ◌+◌, ◌*◌, ◌≤◌, List, [], ◌∷◌, ◌++◌, length, Option, None, Some, IfSome, Result, Ok, Err, if◌then◌else◌}
+use Rattle.std.specs.Prelude.{◌≡◌, ℕ, ◌+◌, ◌*◌, ◌≤◌, List, [], ◌∷◌, ◌++◌, length, Option, None, Some, Result, Ok, Err, ⊤, if◌then◌else◌}
 use Rattle.std.specs.List.{AllByRecursion, filter_map, flat_map, list_any}
 use Rattle.std.specs.Option.{option_map_or}
 use Rattle.line_filters.specs.Filter.{Filter}
 use Rattle.ras_facts.specs.Names.{same_name}
 use Rattle.ras_facts.specs.declared.name.Name.{Name}
 use Rattle.ras_script.specs.Line.{line_of}
+use Rattle.ras_script.specs.declared.line.ErrorReport.TheVariants.{Block}
 use Rattle.ras_script.specs.declared.line.Line.{Line}
+use Rattle.ras_script.specs.declared.line.Line.TheVariants.{Report as Reported}
 use Rattle.ras_script.specs.declared.line.LineRefused.{LineRefused}
 use Rattle.row_tables.specs.Tables.{updated_rows}
 use Rattle.cper_pcie.specs.Bits.{error_count}
@@ -31,9 +33,10 @@ sections_in (sections.Block block) = block_sections block
 abbrev pub taken_from : Name → List Found → List Taken
 taken_from name found = filter_map (pcie_section name) found
 
--- a report has at most so many sections
-abbrev pub MostSections : ℕ → Option Report → Type 0
-MostSections most report = IfSome report (λ r. length r.sections ≤ most)
+-- the block of a line has at most so many bytes
+abbrev pub FewBytes : ℕ → Line → Type 0
+FewBytes most (Reported (Block boot seconds source number bytes)) = length bytes ≤ most
+FewBytes most line = ⊤
 
 -- ---- sums
 

@@ -59,6 +59,8 @@ impl Counted {
         ensures text { OnOk result (text.new.items ≡ text.old.items
             ++ sections_lines (fresh_sections self.old.names
             (record { name = name.now; sections = sections_in sections.now }))) }
+        ensures few { OnOk result (self.new.totals.sections
+            ≤ self.old.totals.sections + length (sections_in sections.now)) }
     {
         if !sections.has_pcie() {
             return Ok(());
@@ -90,6 +92,8 @@ fn take_sections(
         (read_sections (taken_from name.now (sections_in sections.now)))) }
     ensures text { OnOk result (text.new.items ≡ text.old.items
         ++ sections_lines (taken_from name.now (sections_in sections.now))) }
+    ensures few { OnOk result (totals.new.sections
+        ≤ totals.old.sections + length (sections_in sections.now)) }
 {
     for i in 0..sections.count() {
         let section = sections.get(i);

@@ -3,9 +3,10 @@
 ghost use Rattle.std.specs.Prelude.{◌≡◌, ◌+◌, ◌<◌, ◌≤◌, ◌^◌, ◌++◌, length, OnOk, refl};
 ghost use Rattle.cper_pcie.specs.Filter.{pcie_filter};
 ghost use Rattle.cper_pcie.specs.Steps.{filter_from};
+ghost use Rattle.ras_script.specs.declared.reader.TheConstants.{LONGEST_LINE};
 ghost use Rattle.apei_sources.specs.Blocks.{block_of};
 ghost use Rattle.cper_pcie.specs.Reports.{block_report, line_report, stored_report};
-ghost use Rattle.cper_pcie.specs.Steps.{MostSections, counted_after, text_with};
+ghost use Rattle.cper_pcie.specs.Steps.{FewBytes, counted_after, text_with};
 
 use crate::counted::Counted;
 use crate::reports::{STORED_LENGTH, Sections, fill};
@@ -22,7 +23,7 @@ use std::marker::Model;
 /// of each function. Of reports of one name, the first with such sections counts, and no other.
 ///
 /// It keeps the names of the reports that count, a row of each function, and one buffer of 16,384
-/// bytes.
+/// bytes. Once memory ran out, none of the lines before counts any more.
 #[derive(Drop)]
 pub struct PcieFilter {
     counted: Counted,
@@ -65,9 +66,17 @@ impl LineFilter for PcieFilter {
 
     fn take(&mut self, alloc: Global, line: &[u8], text: &mut Vec<u8>) -> Result<(), LineRefused> {
         let asked = read_line(alloc, line)?;
-        take_line(&mut self.counted, &mut self.buffer, &asked, text)?;
-        self.taken += 1;
-        Ok(())
+        match take_line(&mut self.counted, &mut self.buffer, &asked, text) {
+            Ok(()) => {
+                self.taken += 1;
+                Ok(())
+            }
+            Err(NoMemory) => {
+                // What was taken of the line is given up, and all before it.
+                self.counted = Counted::new(alloc);
+                Err(LineRefused::NoMemory)
+            }
+        }
     }
 
     fn push_rest(&self, alloc: Global, text: &mut Vec<u8>) -> Result<(), NoMemory> {
@@ -87,10 +96,12 @@ fn take_line(
     text: &mut Vec<u8>,
 ) -> Result<(), NoMemory>
     requires few { counted.old.totals.sections < 2 ^ 57 }
-    requires line { MostSections 65536 (line_report line.now) }
+    requires line { FewBytes LONGEST_LINE line.now }
     ensures counted { OnOk result (counted.new ≡ counted_after counted.old (line_report line.now)) }
     ensures text { OnOk result (text.new.items
         ≡ text.old.items ++ text_with counted.old.names (line_report line.now)) }
+    ensures few { OnOk result
+        (counted.new.totals.sections ≤ counted.old.totals.sections + 65536) }
 {
     match line {
         Line::Put { id, bytes } => take_record(counted, buffer, *id, bytes.bytes(), text),
@@ -125,13 +136,19 @@ fn take_record(
         (counted.new ≡ counted_after counted.old (stored_report id bytes.now)) }
     ensures text { OnOk result (text.new.items
         ≡ text.old.items ++ text_with counted.old.names (stored_report id bytes.now)) }
+    ensures few { OnOk result
+        (counted.new.totals.sections ≤ counted.old.totals.sections + 65536) }
 {
     if bytes.len() > STORED_LENGTH {
         return Ok(());
     }
     fill(buffer, bytes)?;
     match read_stored(id, buffer) {
-        Ok(rec) => counted.take(&Name::Record { id }, &Sections::Record(rec), text),
+        Ok(rec) => {
+            // The count has 16 bits, so that one record can't have too many sections.
+            let _count = rec.count();
+            counted.take(&Name::Record { id }, &Sections::Record(rec), text)
+        }
         Err(_) => Ok(()),
     }
 }
@@ -144,11 +161,13 @@ fn take_block(
     text: &mut Vec<u8>,
 ) -> Result<(), NoMemory>
     requires few { counted.old.totals.sections < 2 ^ 57 }
-    requires line { MostSections 65536 (block_report name.now (block_of bytes.now)) }
+    requires bytes { length bytes.now ≤ LONGEST_LINE }
     ensures counted { OnOk result (counted.new
         ≡ counted_after counted.old (block_report name.now (block_of bytes.now))) }
     ensures text { OnOk result (text.new.items ≡ text.old.items
         ++ text_with counted.old.names (block_report name.now (block_of bytes.now))) }
+    ensures few { OnOk result
+        (counted.new.totals.sections ≤ counted.old.totals.sections + 65536) }
 {
     match read_block(bytes) {
         Ok(block) => counted.take(name, &Sections::Block(block), text),
