@@ -1,12 +1,11 @@
 -- A report that is taken, or isn't.
-use Rattle.std.proofs.Common.{◌≡◌, ℕ, Bool, true, false, ◌||◌, if◌then◌else◌, List, [], ◌∷◌, ◌++◌, Option, None, Some, refl, sym, ap, subst, ◌∙◌, append-nil, true≢false}
-use Rattle.std.specs.List.{filter_map, list_any}
+use Rattle.std.proofs.Common.{◌≡◌, ℕ, Bool, true, false, ◌||◌, if◌then◌else◌, List, [], ◌∷◌, ◌++◌, None, Some, refl, sym, ap, ◌∙◌, append-nil, true≢false}
+use Rattle.std.specs.List.{list_any}
 use Rattle.ras_facts.specs.Names.{same_name}
 use Rattle.ras_facts.specs.declared.name.Name.{Name}
-use Rattle.cper_pcie.specs.Reports.{Found, Report, Taken, is_pcie, pcie_name, pcie_section}
+use Rattle.cper_pcie.specs.Reports.{Found, Report, Taken, is_pcie, pcie_name}
 use Rattle.cper_pcie.specs.Steps.{Counted, counted_with, fresh_sections, named, sections_lines, taken_from, totals_after}
 use Rattle.cper_pcie.specs.Texts.{read_sections}
-use Rattle.cper_pcie.specs.Totals.{Totals}
 
 abbrev report : Name → List Found → Report
 report name found = record { name = name; sections = found }

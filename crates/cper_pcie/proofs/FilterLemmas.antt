@@ -1,5 +1,5 @@
 -- What the filter makes of a script line by line is what it makes of each line at its place.
-use Rattle.std.proofs.Common.{◌≡◌, ℕ, ◌+◌, Bool, true, false, ◌||◌, if◌then◌else◌, List, [], ◌∷◌, ◌++◌, length, map, Option, None, Some, Result, Ok, Err, refl, sym, ap, subst, ◌∙◌, append-nil, append_assoc, length-append, arith}
+use Rattle.std.proofs.Common.{◌≡◌, ℕ, ◌+◌, Bool, true, false, ◌||◌, if◌then◌else◌, List, [], ◌∷◌, ◌++◌, length, map, Option, None, Some, Result, Ok, Err, refl, sym, ap, ◌∙◌, append-nil, append_assoc, length-append, arith}
 use Rattle.std.specs.List.{filter_map, flat_map, list_any, sum_by}
 use Rattle.std.specs.Option.{option_and_then, option_map_or}
 use Rattle.std.proofs.lemmas.List.Elements.{filter_map-append}
@@ -18,10 +18,9 @@ use Rattle.cper_pcie.specs.DeviceLemmas.{same_device-exact, same_device-refl}
 use Rattle.cper_pcie.specs.Devices.{same_device}
 use Rattle.cper_pcie.specs.Filter.{answer_of, pcie_filter, pcie_text, place_answer, to_first_refusal}
 use Rattle.cper_pcie.specs.Reports.{Place, Report, Taken, first_sections, is_known, line_name, line_report, pcie_name, pcie_sections, places_after, read_report, report_of, taken_at}
-use Rattle.cper_pcie.specs.Steps.{Counted, answers_from, counted_after, counted_from, filter_from, fresh_sections, line_answer, named, no_totals, none_counted, sections_lines, sums_with, text_with, then_answers, totals_after, totals_with}
+use Rattle.cper_pcie.specs.Steps.{Counted, answers_from, counted_after, counted_from, filter_from, fresh_sections, line_answer, named, none_counted, sections_lines, sums_with, text_with, then_answers, totals_after, totals_with}
 use Rattle.cper_pcie.specs.Texts.{read_sections, totals_text}
 use Rattle.cper_pcie.specs.Totals.{Totals, sums_in, totals_of}
-use Rattle.cper_pcie.specs.declared.counts.ErrorCounts.{ErrorCounts}
 use Rattle.cper_pcie.specs.declared.section.PcieSection.{PcieSection}
 use Rattle.cper_pcie.proofs.ReportLemmas.{read-append}
 use Rattle.cper_pcie.proofs.TotalLemmas.{totals-append}
@@ -130,7 +129,7 @@ totals-at before (line ∷ lines) counted holds =
     let rest : List Taken = flat_map taken_at (places_after (before ++ line ∷ []) lines) in
     totals-at (before ++ line ∷ []) lines (counted_after counted (report_of line)) (holds-next before line counted holds)
     ∙ ap (λ (t : Totals). totals_after t (read_sections rest))
-      (totals_is counted (report_of line) ∙ ap (λ (t : List Taken). totals_after counted.totals (read_sections t)) (taken_of_report before counted.names (report_of line) holds))
+    (totals_is counted (report_of line) ∙ ap (λ (t : List Taken). totals_after counted.totals (read_sections t)) (taken_of_report before counted.names (report_of line) holds))
     ∙ sym (totals-append counted.totals (read_sections (taken_at place)) (read_sections rest))
     ∙ ap (totals_after counted.totals) (sym (read-append (taken_at place) rest))
 

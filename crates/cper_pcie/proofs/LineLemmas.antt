@@ -1,5 +1,5 @@
 -- The block of a line has no more bytes than the line, and no more entries than bytes.
-use Rattle.std.proofs.Common.{◌≡◌, ℕ, zero, suc, ◌*◌, ◌≤◌, ◌==◌, Bool, true, false, cond, if◌then◌else◌, List, [], ◌∷◌, length, filter, drop, nat_eq, nat_le, nat_lt, ◌+◌, refl, sym, subst, Option, None, Some, Result, Ok, Err, IfOk, arith, length-drop, length-take}
+use Rattle.std.proofs.Common.{◌≡◌, ℕ, zero, suc, ◌*◌, ◌≤◌, ◌==◌, Bool, true, false, cond, if◌then◌else◌, List, [], ◌∷◌, length, filter, drop, nat_eq, nat_le, nat_lt, ◌+◌, refl, subst, Option, None, Some, Result, Ok, Err, IfOk, arith, length-drop, length-take}
 use Rattle.std.specs.List.{AllByRecursion, list_any, onto_first, slice_split}
 use Rattle.std.specs.Option.{ok_or, option_map}
 use Rattle.std.specs.Prelude.{IfSome, OnOk, slice_index}
@@ -11,10 +11,9 @@ use Rattle.hex.proofs.HexLemmas.{decode_of-ok}
 use Rattle.apei_sources.specs.Blocks.{BlockParts, block_of, block_status, block_with, data_length, data_of}
 use Rattle.apei_sources.specs.Entries.{entries_in, entries_of, first_of, has_entry, is_refused, rest_of}
 use Rattle.apei_sources.specs.declared.refusals.BlockRefused.{BlockRefused}
-use Rattle.apei_sources.specs.declared.refusals.BlockRefused.TheVariants.{EntryOut, Section, Short}
+use Rattle.apei_sources.specs.declared.refusals.BlockRefused.TheVariants.{Section, Short}
 use Rattle.ras_base.specs.Chaining.{◌>>=◌}
 use Rattle.ras_base.specs.declared.NoMemory.{NoMemory}
-use Rattle.ras_script.specs.Bytes.{bytes_of}
 use Rattle.ras_script.specs.Fields.{hex_bytes_of, hex_u64_of, read_label, read_limit, read_number, read_report, u16_of, u64_of, u8_of}
 use Rattle.ras_script.specs.Kinds.{Reading, bank_asks, cpu_asks, module_asks, range_asks, place_asks, limit_asks, module_limit_asks, hest_asks, erst_asks, bert_asks, ghes_asks, put_asks, poll_asks, retire_asks, panic_asks, restart_asks}
 use Rattle.ras_script.specs.Line.{kinds, line_named, line_of, line_of_words}

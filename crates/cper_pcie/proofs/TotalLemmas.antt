@@ -1,5 +1,5 @@
 -- What sections add up to: no count comes to its end.
-use Rattle.std.proofs.Common.{◌≡◌, ℕ, ◌+◌, ◌*◌, ◌^◌, ◌<◌, ◌≤◌, Bool, true, false, if◌then◌else◌, List, [], ◌∷◌, ◌++◌, length, filter, Option, Some, None, refl, sym, ap, ◌∙◌, arith}
+use Rattle.std.proofs.Common.{◌≡◌, ℕ, ◌+◌, ◌*◌, ◌^◌, ◌<◌, ◌≤◌, Bool, true, false, if◌then◌else◌, List, [], ◌∷◌, ◌++◌, Option, Some, None, refl, ap, arith}
 use Rattle.std.specs.List.{AllByRecursion, range_with_len}
 use Rattle.std.proofs.lemmas.List.Sums.{length-filter, count_by-le-length}
 use Rattle.ras_base.specs.Bits.{is_set}
@@ -7,7 +7,7 @@ use Rattle.row_tables.specs.Tables.{updated_rows}
 use Rattle.cper_pcie.specs.Bits.{error_count}
 use Rattle.cper_pcie.specs.Counts.{counts_with, errors_with, in_64_bits}
 use Rattle.cper_pcie.specs.Devices.{same_device}
-use Rattle.cper_pcie.specs.Steps.{AreFew, IsFew, no_errors, sums_with, totals_with, totals_after}
+use Rattle.cper_pcie.specs.Steps.{IsFew, no_errors, sums_with, totals_with, totals_after}
 use Rattle.cper_pcie.specs.Totals.{Totals}
 use Rattle.cper_pcie.specs.declared.counts.ErrorCounts.{ErrorCounts}
 use Rattle.cper_pcie.specs.declared.section.PcieDevice.{PcieDevice}

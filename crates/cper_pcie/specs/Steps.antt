@@ -1,5 +1,5 @@
 -- Only for proofs: the filter of PCI Express sections, line by line.
-use Rattle.std.specs.Prelude.{◌≡◌, ℕ, ◌+◌, ◌*◌, ◌≤◌, List, [], ◌∷◌, ◌++◌, length, Option, None, Some, Result, Ok, Err, ⊤, if◌then◌else◌}
+use Rattle.std.specs.Prelude.{ℕ, ◌+◌, ◌*◌, ◌≤◌, List, [], ◌∷◌, ◌++◌, length, Option, None, Some, Result, Ok, Err, ⊤, if◌then◌else◌}
 use Rattle.std.specs.List.{AllByRecursion, filter_map, flat_map, list_any}
 use Rattle.std.specs.Option.{option_map_or}
 use Rattle.line_filters.specs.Filter.{Filter}
@@ -14,14 +14,12 @@ use Rattle.row_tables.specs.Tables.{updated_rows}
 use Rattle.cper_pcie.specs.Bits.{error_count}
 use Rattle.cper_pcie.specs.Devices.{same_device}
 use Rattle.cper_pcie.specs.Reports.{Found, Report, Taken, block_sections, line_report, pcie_name, pcie_section, pcie_sections, read_report, record_sections}
-use Rattle.cper_pcie.specs.Section.{pcie_of}
 use Rattle.cper_pcie.specs.Texts.{read_sections, section_line, totals_text}
 use Rattle.cper_pcie.specs.Totals.{Totals}
 use Rattle.cper_pcie.specs.declared.counts.ErrorCounts.{ErrorCounts}
 use Rattle.cper_pcie.specs.declared.reports.Sections.{Sections}
 use Rattle.cper_pcie.specs.declared.reports.Sections.TheVariants as sections
 use Rattle.cper_pcie.specs.declared.section.PcieDevice.{PcieDevice}
-use Rattle.cper_pcie.specs.declared.section.PcieRefused.{PcieRefused}
 use Rattle.cper_pcie.specs.declared.section.PcieSection.{PcieSection}
 
 -- the sections of a record or a block that was read

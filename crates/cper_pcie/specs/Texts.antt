@@ -10,7 +10,7 @@ use Rattle.ras_texts.specs.Text.{class_text, line_with, name_text}
 use Rattle.cper_pcie.specs.Bits.{bits_of, correctable_names, uncorrectable_names}
 use Rattle.cper_pcie.specs.Reports.{Taken}
 use Rattle.cper_pcie.specs.Section.{pcie_of}
-use Rattle.cper_pcie.specs.Totals.{Totals, totals_of}
+use Rattle.cper_pcie.specs.Totals.{Totals}
 use Rattle.cper_pcie.specs.declared.counts.ErrorCounts.{ErrorCounts}
 use Rattle.cper_pcie.specs.declared.section.PcieDevice.{PcieDevice}
 use Rattle.cper_pcie.specs.declared.section.PcieRefused.{PcieRefused}

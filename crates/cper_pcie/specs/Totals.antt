@@ -1,5 +1,5 @@
 -- What sections add up to: for each function the sums of their errors, and how many sections.
-use Rattle.std.specs.Prelude.{ℕ, ◌+◌, length, List, Option}
+use Rattle.std.specs.Prelude.{ℕ, length, List, Option}
 use Rattle.std.specs.List.{sum_by}
 use Rattle.row_tables.specs.Tables.{table}
 use Rattle.cper_pcie.specs.declared.section.PcieDevice.{PcieDevice}

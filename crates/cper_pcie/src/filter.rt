@@ -105,13 +105,15 @@ fn take_line(
 {
     match line {
         Line::Put { id, bytes } => take_record(counted, buffer, *id, bytes.bytes(), text),
-        Line::Report(ErrorReport::Block {
-            boot,
-            source,
-            number,
-            bytes,
-            ..
-        }) => {
+        Line::Report(
+            ErrorReport::Block {
+                boot,
+                source,
+                number,
+                bytes,
+                ..
+            },
+        ) => {
             let name = Name::Block {
                 boot: *boot,
                 source: *source,

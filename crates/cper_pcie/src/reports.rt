@@ -38,8 +38,11 @@ impl<'a> Sections<'a> {
     // A section by its number, from 0.
     pub(crate) fn get(&self, i: usize) -> Descriptor<'a>
         requires { i < length (sections_in self.now) }
-        ensures { slice_get (sections_in self.now) i ≡ Some (record { guid = result.guid;
-            severity = result.severity; bytes = result.bytes.now }) }
+        ensures { slice_get (sections_in self.now) i ≡ Some (record {
+          guid = result.guid;
+          severity = result.severity;
+          bytes = result.bytes.now;
+        }) }
     {
         match self {
             Sections::Record(rec) => {

@@ -181,12 +181,7 @@ fn push_bits(text: &mut Vec<u8>, kind: Kind, status: u32) -> Result<(), NoMemory
 }
 
 // Adds the name of a bit, after a comma unless it is the first.
-fn push_next_bit(
-    text: &mut Vec<u8>,
-    kind: Kind,
-    bit: u32,
-    is_first: bool,
-) -> Result<(), NoMemory>
+fn push_next_bit(text: &mut Vec<u8>, kind: Kind, bit: u32, is_first: bool) -> Result<(), NoMemory>
     ensures { OnOk result (text.new.items
         ≡ text.old.items ++ next_bit_text is_first (bit_text (names_of kind) bit)) }
 {

@@ -10,13 +10,13 @@ loop-i-preserved c =
     let found : List Found = sections_in c.args.sections.now in
     let section : Found = record { guid = c.get-section.result.guid; severity = c.get-section.result.severity; bytes = c.get-section.result.bytes.now } in
     elim c.if-is_pcie.branch [
-      then-is_pcie+in_ok-take_section w ↦
-        took-next c.args.name.now found c.loop-i.i c.args.totals.now c.loop-i.totals c.if-is_pcie.totals c.args.text.now.items c.loop-i.text.items c.if-is_pcie.text.items
-        section c.get-section.ensures (sym c.is_pcie.ensures ∙ w.if-is_pcie.true) c.loop-i.invariant
-        (w.totals-is ∙ w.in_ok-take_section.ensures.totals) (ap (λ (t : _). t.items) w.text-is ∙ w.in_ok-take_section.ensures.text)
-        (rw w.totals-is w.in_ok-take_section.ensures.few)
+      | then-is_pcie+in_ok-take_section w ↦
+          took-next c.args.name.now found c.loop-i.i c.args.totals.now c.loop-i.totals c.if-is_pcie.totals c.args.text.now.items c.loop-i.text.items c.if-is_pcie.text.items
+          section c.get-section.ensures (sym c.is_pcie.ensures ∙ w.if-is_pcie.true) c.loop-i.invariant
+          (w.totals-is ∙ w.in_ok-take_section.ensures.totals) (ap (λ (t : _). t.items) w.text-is ∙ w.in_ok-take_section.ensures.text)
+          (rw w.totals-is w.in_ok-take_section.ensures.few)
       | else-is_pcie w ↦
-        took-same c.args.name.now found c.loop-i.i c.args.totals.now c.loop-i.totals c.if-is_pcie.totals c.args.text.now.items c.loop-i.text.items c.if-is_pcie.text.items
-        section c.get-section.ensures (sym c.is_pcie.ensures ∙ w.if-is_pcie.false) c.loop-i.invariant
-        w.totals-is (ap (λ (t : _). t.items) w.text-is)
+          took-same c.args.name.now found c.loop-i.i c.args.totals.now c.loop-i.totals c.if-is_pcie.totals c.args.text.now.items c.loop-i.text.items c.if-is_pcie.text.items
+          section c.get-section.ensures (sym c.is_pcie.ensures ∙ w.if-is_pcie.false) c.loop-i.invariant
+          w.totals-is (ap (λ (t : _). t.items) w.text-is)
     ]

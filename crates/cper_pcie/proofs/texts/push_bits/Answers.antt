@@ -1,4 +1,4 @@
-use Rattle.std.proofs.Common.{◌≡◌, ℕ, Bool, List, true, false, sym, subst, ap, ◌∙◌, ◌++◌, codes, arith}
+use Rattle.std.proofs.Common.{◌≡◌, ℕ, Bool, List, sym, subst, ap, ◌∙◌, arith}
 use Rattle.ras_base.specs.Bits.{is_set}
 use Rattle.cper_pcie.specs.Texts.{bit_text}
 use Rattle.cper_pcie.specs.TextSteps.{names_of}
@@ -12,12 +12,12 @@ loop-bit-preserved c =
     let name : ℕ → List ℕ = bit_text (names_of c.args.kind) in
     let tested : c.is_set.result ≡ p c.loop-bit.bit = c.is_set.ensures ∙ ap (is_set c.loop-bit.bit) c.from.ensures in
     elim c.if-is_set.branch [
-      then-is_set+in_ok-push_next_bit w ↦
-        names-more p name c.loop-bit.bit c.loop-bit.is_first c.if-is_set.is_first c.args.text.now.items c.loop-bit.text.items c.if-is_set.text.items
-        (sym tested ∙ w.if-is_set.true) c.loop-bit.invariant w.is_first-is (ap (λ (t : _). t.items) w.text-is ∙ w.in_ok-push_next_bit.ensures)
+      | then-is_set+in_ok-push_next_bit w ↦
+          names-more p name c.loop-bit.bit c.loop-bit.is_first c.if-is_set.is_first c.args.text.now.items c.loop-bit.text.items c.if-is_set.text.items
+          (sym tested ∙ w.if-is_set.true) c.loop-bit.invariant w.is_first-is (ap (λ (t : _). t.items) w.text-is ∙ w.in_ok-push_next_bit.ensures)
       | else-is_set w ↦
-        names-same p name c.loop-bit.bit c.loop-bit.is_first c.if-is_set.is_first c.args.text.now.items c.loop-bit.text.items c.if-is_set.text.items
-        (sym tested ∙ w.if-is_set.false) c.loop-bit.invariant w.is_first-is (ap (λ (t : _). t.items) w.text-is)
+          names-same p name c.loop-bit.bit c.loop-bit.is_first c.if-is_set.is_first c.args.text.now.items c.loop-bit.text.items c.if-is_set.text.items
+          (sym tested ∙ w.if-is_set.false) c.loop-bit.invariant w.is_first-is (ap (λ (t : _). t.items) w.text-is)
     ]
 
 pub returns-in_ok-extend_from_slice : goal.returns-in_ok-extend_from_slice
