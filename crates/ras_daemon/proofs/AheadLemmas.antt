@@ -190,6 +190,4 @@ pub run-ahead : (exit : Exit) (task : Option Task) (script : Option (List ℕ)) 
     → OverRun (λ start text t. IsSomeAnd now (λ n. PrintsPart (run_output start text) t.here.out n.here.out)) task script told
     → OverRun (λ start text t. IsSomeAnd left (λ rest. IsSomeAnd now (TakesAhead exit text rest t))) task script told
 run-ahead exit (Some Run) (Some text) (Some t) left now ahead printed = λ history recovers. ahead_told exit (start_of history t.here) text t left now (ahead history recovers) (printed history recovers)
-run-ahead exit None script told left now ahead printed = tt
-run-ahead exit (Some Run) None told left now ahead printed = tt
-run-ahead exit (Some Run) (Some text) None left now ahead printed = tt
+run-ahead exit task script told left now ahead printed = tt

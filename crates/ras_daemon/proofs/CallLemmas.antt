@@ -120,16 +120,12 @@ pub over-run : (P Q : Start → List ℕ → Told → Type 0) (task : Option Tas
     → ((start : Start) (text : List ℕ) (t : Told) → told ≡ Some t → P start text t → Q start text t)
     → OverRun P task script told → OverRun Q task script told
 over-run P Q (Some Run) (Some text) (Some t) gives has = λ history recovers. gives (start_of history t.here) text t refl (has history recovers)
-over-run P Q None script told gives has = tt
-over-run P Q (Some Run) None told gives has = tt
-over-run P Q (Some Run) (Some text) None gives has = tt
+over-run P Q task script told gives has = tt
 
 pub over-both : (P Q : Start → List ℕ → Told → Type 0) (task : Option Task) (script : Option (List ℕ)) (told : Option Told)
     → OverRun P task script told → OverRun Q task script told → OverRun (λ start text t. P start text t × Q start text t) task script told
 over-both P Q (Some Run) (Some text) (Some t) one other = λ history recovers. (one history recovers, other history recovers)
-over-both P Q None script told one other = tt
-over-both P Q (Some Run) None told one other = tt
-over-both P Q (Some Run) (Some text) None one other = tt
+over-both P Q task script told one other = tt
 
 -- what holds of what is told now
 pub some-weaker : (P Q : Told → Type 0) (told : Option Told) → ((t : Told) → P t → Q t) → IsSomeAnd told P → IsSomeAnd told Q

@@ -19,4 +19,5 @@ pub mod SameLemmas
 pub mod AgainLemmas
 pub mod CompleteLemmas
 pub mod UsageLemmas
+pub mod FilterLemmas
 pub mod JoinedLemmas

@@ -1,46 +1,40 @@
--- A call that only says its last line changes nothing else that is told, and prints it whole where
--- it answers its exit.
-use Rattle.std.proofs.Common.{◌≡◌, ℕ, List, [], Option, Some, None, refl, sym, ap, append-nil, inl, inr}
-use Rattle.std.specs.Prelude.{IfNone}
-use Rattle.board_core.specs.Told.{FailsPrint, Relates, Steps, Told, after_print}
+-- A call that only says its last line changes nothing else that is told, and prints it whole if it
+-- answers its exit.
+use Rattle.std.proofs.Common.{◌≡◌, ℕ, List, [], Option, Some, None, refl, sym, append-nil, inl, inr}
+use Rattle.board_core.specs.Told.{Relates, Told, after_print}
+use Rattle.ras_base.specs.Prefix.{IsPrefixOf}
 use Rattle.ras_exit.specs.declared.exit.Exit.{Exit}
 use Rattle.ras_exit.specs.declared.exit.Exit.TheVariants.{NoMemory, PrintFault, Usage}
-use Rattle.ras_exit.specs.Telling.{OnlyPrints}
+use Rattle.ras_exit.specs.StopLine.{stop_line}
+use Rattle.ras_daemon.specs.Commands.{ByTask, TellsUsage}
 use Rattle.ras_daemon.specs.Running.{Says}
 use Rattle.ras_daemon.specs.declared.word.Task.{Task}
 
--- what holds in every case holds where words are of no listed form
-pub if-none : (task : Option Task) (P : Type 0) → P → IfNone task P
-if-none None P has = has
-if-none (Some task) P has = tt
+told_all : (t : Told) → TellsUsage Usage t (after_print (stop_line Usage) t)
+told_all t = record {
+  tells = record { answers = refl; begun = (stop_line Usage, ([], append-nil (stop_line Usage)), refl); whole = refl };
+  only = refl;
+}
 
-printed-all : (line : List ℕ) (old new : Option Told) → Steps (after_print line) old new → Relates (OnlyPrints line) old new
-printed-all line None new steps = steps
-printed-all line (Some t) new steps = rw steps (record { part = line; begins = ([], append-nil line); is = refl })
+told_part : (part : List ℕ) (t : Told) → IsPrefixOf part (stop_line Usage) → TellsUsage PrintFault t (after_print part t)
+told_part part t begins = record { tells = record { answers = tt; begun = (part, begins, refl); whole = tt }; only = refl }
 
-printed-part : (line : List ℕ) (old new : Option Told) → Relates (FailsPrint line) old new → Relates (OnlyPrints line) old new
-printed-part line None new same = same
-printed-part line (Some t) None fails = absurd fails
-printed-part line (Some t) (Some now) fails = record { part = fails.0; begins = (fails.1, fails.2); is = fails.3 }
+told_none : (t : Told) → TellsUsage NoMemory t t
+told_none t = record {
+  tells = record { answers = tt; begun = ([], (stop_line Usage, refl), sym (append-nil t.here.out)); whole = tt };
+  only = refl;
+}
 
-printed-none : (line : List ℕ) (old new : Option Told) → new ≡ old → Relates (OnlyPrints line) old new
-printed-none line None new same = same
-printed-none line (Some t) new same =
-    rw same (record { part = []; begins = (line, refl); is = sym (ap (λ (out : List ℕ). record t { here = record t.here { out = out } }) (append-nil t.here.out)) })
+usage_told : (result : Exit) (old new : Option Told) → Says Usage result (stop_line Usage) old new → Relates (TellsUsage result) old new
+usage_told result None new (inl said) = said.1
+usage_told result (Some t) new (inl said) = rw (said.1, said.0) (told_all t)
+usage_told result None new (inr (inl failed)) = failed.1
+usage_told result (Some t) None (inr (inl failed)) = absurd failed.1
+usage_told result (Some t) (Some now) (inr (inl failed)) =
+    rw (failed.1.3, failed.0) (told_part failed.1.0 t (failed.1.1, failed.1.2))
+usage_told result None new (inr (inr none)) = none.1
+usage_told result (Some t) new (inr (inr none)) = rw (none.1, none.0) (told_none t)
 
-pub only-prints : (exit result : Exit) (line : List ℕ) (old new : Option Told) → Says exit result line old new → Relates (OnlyPrints line) old new
-only-prints exit result line old new (inl said) = printed-all line old new said.1
-only-prints exit result line old new (inr (inl failed)) = printed-part line old new failed.1
-only-prints exit result line old new (inr (inr none)) = printed-none line old new none.1
-
-no-print : (exit : Exit) → exit ≡ PrintFault → exit ≡ Usage → ⊥
-no-print exit one other = cc
-
-no-memory : (exit : Exit) → exit ≡ NoMemory → exit ≡ Usage → ⊥
-no-memory exit one other = cc
-
--- at `Usage` the line was printed
-pub usage-said : (result : Exit) (line : List ℕ) (old new : Option Told) → Says Usage result line old new → result ≡ Usage → Steps (after_print line) old new
-usage-said result line old new (inl said) is = said.1
-usage-said result line old new (inr (inl failed)) is = absurd (no-print result failed.0 is)
-usage-said result line old new (inr (inr none)) is = absurd (no-memory result none.0 is)
+pub usage_commands : (result : Exit) (task : Option Task) (script left : Option (List ℕ)) (old new : Option Told) → task ≡ None
+    → Says Usage result (stop_line Usage) old new → ByTask result task script left old new
+usage_commands result task script left old new none said = rw none (usage_told result old new said)

@@ -1,4 +1,5 @@
 pub mod Task
+pub mod Commands
 pub mod Script
 pub mod RunStatus
 pub mod RunOutput

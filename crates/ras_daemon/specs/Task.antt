@@ -1,11 +1,46 @@
 -- What the words of a call ask for.
-use Rattle.std.specs.Prelude.{ℕ, List, [], ◌∷◌, codes, Option, None, Some, if◌then◌else◌}
+use Rattle.std.specs.Prelude.{ℕ, ◌-◌, ◌^◌, List, [], ◌∷◌, codes, Option, None, Some, if◌then◌else◌, ⊤}
+use Rattle.std.specs.Option.{option_and_then, option_map}
 use Rattle.std.specs.Str.{bytes_eq}
+use Rattle.ras_script.specs.Number.{decimal_of, hexadecimal_of}
+use Rattle.ras_texts.specs.declared.listing.Listing.{Listing}
+use Rattle.ras_texts.specs.declared.listing.Listing.TheVariants.{Counts, Pages, Names, Modules}
 use Rattle.ras_daemon.specs.declared.word.Task.{Task}
-use Rattle.ras_daemon.specs.declared.word.Task.TheVariants.{Run}
+use Rattle.ras_daemon.specs.declared.word.Task.TheVariants.{Run, Report, Klog}
 
--- the one word `run`; other words are no form of a call
+-- the listings by their words
+abbrev pub listing_of : List ℕ → Option Listing
+listing_of word =
+    if bytes_eq word (codes "counts") then Some Counts
+    else if bytes_eq word (codes "pages") then Some Pages
+    else if bytes_eq word (codes "names") then Some Names
+    else if bytes_eq word (codes "modules") then Some Modules
+    else None
+
+-- a boot's number in decimal digits and IA32_MCG_CAP in hexadecimal ones, as a script writes them
+abbrev pub klog_of : List ℕ → List ℕ → Option Task
+klog_of one other =
+    option_and_then (λ boot. option_map (λ cap. Klog boot cap) (hexadecimal_of other))
+    (decimal_of (2 ^ 64 - 1) one)
+
+-- The forms of a call: `run`; `report` with a listing; `klog` with a boot and IA32_MCG_CAP. Other
+-- words are no form.
 abbrev pub task_of : List (List ℕ) → Option Task
 task_of [] = None
 task_of (word ∷ []) = if bytes_eq word (codes "run") then Some Run else None
-task_of (word ∷ other ∷ words) = None
+task_of (word ∷ what ∷ []) =
+    if bytes_eq word (codes "report") then option_map Report (listing_of what) else None
+task_of (word ∷ one ∷ other ∷ []) = if bytes_eq word (codes "klog") then klog_of one other else None
+task_of (word ∷ one ∷ other ∷ more ∷ words) = None
+
+-- P holds if what the words ask for reads the source
+abbrev pub IfReads : Option Task → Type 0 → Type 0
+IfReads (Some Run) P = P
+IfReads (Some (Klog boot cap)) P = P
+IfReads task P = ⊤
+
+-- P holds if it doesn't
+abbrev pub UnlessReads : Option Task → Type 0 → Type 0
+UnlessReads (Some Run) P = ⊤
+UnlessReads (Some (Klog boot cap)) P = ⊤
+UnlessReads task P = P

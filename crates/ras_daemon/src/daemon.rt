@@ -1,21 +1,21 @@
 //! The top call.
 
 ghost use Rattle.std.specs.Prelude.{◌≡◌, ◌⊎◌, ◌++◌, ℕ, List, [], length, false, Some, None};
-ghost use Rattle.std.specs.Prelude.{IfSome, IfNone, IsSomeAnd};
+ghost use Rattle.std.specs.Prelude.{IfSome, IsSomeAnd};
 ghost use Rattle.board_core.specs.Clock.{Adds, Always};
-ghost use Rattle.board_core.specs.Told.{Relates, Steps, Told, after_print};
+ghost use Rattle.board_core.specs.Told.{Told};
 ghost use Rattle.ras_account.specs.Accounts.{IsAccount};
 ghost use Rattle.ras_recover.specs.DiskCalls.{IsBeginning, Makes};
 ghost use Rattle.ras_exit.specs.Causes.{BoardCause, SourceCause};
 ghost use Rattle.board_core.specs.Device.{LeavesDevice};
 ghost use Rattle.ras_exit.specs.Endings.{OnAnswer, OnWhole};
 ghost use Rattle.ras_run.specs.Places.{Start};
-ghost use Rattle.ras_exit.specs.StopLine.{stop_line};
-ghost use Rattle.ras_exit.specs.Telling.{OnlyPrints, PrintsPart};
+ghost use Rattle.ras_exit.specs.Telling.{PrintsPart};
 ghost use Rattle.ras_run.specs.Files.{files_refusal};
 ghost use Rattle.ras_run.specs.Taking.{LedgerStands};
 ghost use Rattle.text_laws.specs.DoneLines.{done_count};
 ghost use Rattle.ras_daemon.specs.Ahead.{TakesAhead};
+ghost use Rattle.ras_daemon.specs.Commands.{ByTask, MayEnd};
 ghost use Rattle.ras_daemon.specs.Ended.{IsQuiet, IsQuietBoard, OverFiles, RefusesFiles};
 ghost use Rattle.ras_daemon.specs.Headline.{Headline, IsWhole, OverRun, StopsRecover};
 ghost use Rattle.ras_daemon.specs.RunCalls.{AreRunCalls};
@@ -23,9 +23,10 @@ ghost use Rattle.ras_daemon.specs.RunOutput.{run_output};
 ghost use Rattle.ras_daemon.specs.RunStatus.{run_exit};
 ghost use Rattle.ras_daemon.specs.Running.{IsStart, MakesAlong, OpenMoment, RunAhead, RunEnds, RunMoment};
 ghost use Rattle.ras_daemon.specs.Script.{events_of};
-ghost use Rattle.ras_daemon.specs.Task.{task_of};
+ghost use Rattle.ras_daemon.specs.Task.{IfReads, UnlessReads, task_of};
 
 use crate::ending::{end_run, last_line};
+use crate::filters::print_kernel_log;
 use crate::lines::take_lines;
 use crate::{RasWord, Task, task_of};
 use board_core::{Board, Source};
@@ -34,6 +35,7 @@ use ras_base::NoMemory;
 use ras_events::Settings;
 use ras_exit::Exit;
 use ras_ledger::Ledger;
+use ras_listing::report;
 use ras_run::{Run, open, print_standing};
 use ras_script::LineReader;
 use std::alloc::Global;
@@ -87,10 +89,11 @@ pub fn rasd<S: Source, B: Board>(
         (λ before now. RefusesFiles (files_refusal before.here) result before now)
         (task_of words.now) (B.told board.old) (B.told board.new) }
 
-    // A run is done once its source is read to its end. If no count of faults rose, a run that is
-    // refused nowhere is done, unless memory ran out.
-    ensures ended { result ≡ Exit.Done
-        → IfSome (S.left source.old) (λ script. S.left source.new ≡ Some []) }
+    // What reads the source is done once that is read to its end; all else leaves it alone. If no
+    // count of faults rose, a run that is refused nowhere is done, unless memory ran out.
+    ensures ended { IfReads (task_of words.now) (result ≡ Exit.Done
+        → IfSome (S.left source.old) (λ script. S.left source.new ≡ Some [])) }
+    ensures untouched { UnlessReads (task_of words.now) (source.new ≡ source.old) }
     ensures complete { OverRun (λ start script told.
         IsQuiet (S.faults source.old) (S.faults source.new)
         → IsQuietBoard (B.faults board.old) (B.faults board.new)
@@ -104,16 +107,11 @@ pub fn rasd<S: Source, B: Board>(
     ensures device { LeavesDevice (B.told board.old) (B.told board.new)
         (B.clock board.old) (B.clock board.new) }
 
-    // Words of no listed form take no memory and leave the source alone, and no other words are
-    // such. They print the usage line, or a beginning of it at a fault, and change nothing else.
-    ensures usage { IfNone (task_of words.now)
-        ((result ≡ Exit.Usage) ⊎ (result ≡ Exit.PrintFault)) }
-    ensures listed { IfSome (task_of words.now) (λ task. result ≡ Exit.Usage → ⊥) }
-    ensures untouched { IfNone (task_of words.now) (source.new ≡ source.old) }
-    ensures alone { IfNone (task_of words.now)
-        (Relates (OnlyPrints (stop_line Exit.Usage)) (B.told board.old) (B.told board.new)) }
-    ensures said { IfNone (task_of words.now) (result ≡ Exit.Usage
-        → Steps (after_print (stop_line Exit.Usage)) (B.told board.old) (B.told board.new)) }
+    // Every other command tells what the source and the files ask for, and so do words of no form.
+    // Each has its own exits: only words of no form end with the usage line, and take no memory.
+    ensures commands { ByTask result (task_of words.now) (S.left source.old) (S.left source.new)
+        (B.told board.old) (B.told board.new) }
+    ensures exits { MayEnd (task_of words.now) result }
 {
     call(alloc, words, source, board)
 }
@@ -143,23 +141,21 @@ fn call<S: Source, B: Board>(
     ensures refused { OverFiles
         (λ before now. RefusesFiles (files_refusal before.here) result before now)
         (task_of words.now) (B.told board.old) (B.told board.new) }
-    ensures ended { result ≡ Exit.Done
-        → IfSome (S.left source.old) (λ script. S.left source.new ≡ Some []) }
+    ensures ended { IfReads (task_of words.now) (result ≡ Exit.Done
+        → IfSome (S.left source.old) (λ script. S.left source.new ≡ Some [])) }
+    ensures untouched { UnlessReads (task_of words.now) (source.new ≡ source.old) }
     ensures source { SourceCause result (S.faults source.old) (S.faults source.new) }
     ensures board { BoardCause result (B.faults board.old) (B.faults board.new) }
     ensures device { LeavesDevice (B.told board.old) (B.told board.new)
         (B.clock board.old) (B.clock board.new) }
-    ensures usage { IfNone (task_of words.now)
-        ((result ≡ Exit.Usage) ⊎ (result ≡ Exit.PrintFault)) }
-    ensures listed { IfSome (task_of words.now) (λ task. result ≡ Exit.Usage → ⊥) }
-    ensures untouched { IfNone (task_of words.now) (source.new ≡ source.old) }
-    ensures alone { IfNone (task_of words.now)
-        (Relates (OnlyPrints (stop_line Exit.Usage)) (B.told board.old) (B.told board.new)) }
-    ensures said { IfNone (task_of words.now) (result ≡ Exit.Usage
-        → Steps (after_print (stop_line Exit.Usage)) (B.told board.old) (B.told board.new)) }
+    ensures commands { ByTask result (task_of words.now) (S.left source.old) (S.left source.new)
+        (B.told board.old) (B.told board.new) }
+    ensures exits { MayEnd (task_of words.now) result }
 {
     match task_of(words) {
         Some(Task::Run) => run(alloc, source, board),
+        Some(Task::Report(listing)) => report(alloc, listing, board),
+        Some(Task::Klog { boot, cap }) => print_kernel_log(alloc, boot, cap, source, board),
         None => last_line(b"stop 1 usage\n", Exit::Usage, board),
     }
 }

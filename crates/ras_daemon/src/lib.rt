@@ -4,6 +4,7 @@
 
 mod daemon;
 mod ending;
+mod filters;
 mod laws;
 mod lines;
 mod word;
@@ -11,4 +12,5 @@ mod word;
 pub use daemon::rasd;
 pub use laws::run_laws;
 pub use ras_exit::{Exit, Reason};
+pub use ras_texts::Listing;
 pub use word::{RasWord, Task, task_of};

@@ -1,9 +1,11 @@
 //! The words of a call.
 
 ghost use Rattle.std.specs.Prelude.{◌≡◌, IfOk};
-ghost use Rattle.ras_daemon.specs.Task.{task_of};
+ghost use Rattle.ras_daemon.specs.Task.{klog_of, listing_of, task_of};
 
 use ras_base::NoMemory;
+use ras_script::{decimal, hexadecimal};
+use ras_texts::Listing;
 use std::alloc::Global;
 use std::marker::Model;
 
@@ -44,14 +46,61 @@ impl RasWord {
 pub enum Task {
     /// Take a script.
     Run,
+    /// List what the journal's files hold.
+    Report(Listing),
+    /// Print the machine checks of a kernel log.
+    Klog {
+        /// The number of the boot.
+        boot: u64,
+        /// The processors' IA32_MCG_CAP.
+        cap: u64,
+    },
 }
 
-/// What these words ask for, if they are a form of a call: the one word `run`.
+/// What these words ask for, if they are a form of a call:
+///
+/// - `run`
+/// - `report` with one of `counts`, `pages`, `names` and `modules`
+/// - `klog` with the number of the boot in decimal digits and IA32_MCG_CAP in hexadecimal ones, as
+///   a script writes them
 pub fn task_of(words: &[RasWord]) -> Option<Task>
     ensures { result ≡ task_of words.now }
 {
     match words {
         [word] if word.bytes() == b"run".as_slice() => Some(Task::Run),
+        [word, what] if word.bytes() == b"report".as_slice() => {
+            listing_of(what.bytes()).map(Task::Report)
+        }
+        [word, boot, cap] if word.bytes() == b"klog".as_slice() => {
+            klog_of(boot.bytes(), cap.bytes())
+        }
         _ => None,
+    }
+}
+
+// The kernel log of this boot and this IA32_MCG_CAP.
+fn klog_of(boot: &[u8], cap: &[u8]) -> Option<Task>
+    ensures { result ≡ klog_of boot.now cap.now }
+{
+    Some(Task::Klog {
+        boot: decimal(boot, u64::MAX)?,
+        cap: hexadecimal(cap)?,
+    })
+}
+
+// The listing of this word.
+fn listing_of(word: &[u8]) -> Option<Listing>
+    ensures { result ≡ listing_of word.now }
+{
+    if word == b"counts".as_slice() {
+        Some(Listing::Counts)
+    } else if word == b"pages".as_slice() {
+        Some(Listing::Pages)
+    } else if word == b"names".as_slice() {
+        Some(Listing::Names)
+    } else if word == b"modules".as_slice() {
+        Some(Listing::Modules)
+    } else {
+        None
     }
 }

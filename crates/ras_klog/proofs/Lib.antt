@@ -1,2 +1,6 @@
 mod LineLemmas
 mod GroupLemmas
+mod FilterLemmas
+mod TakeLemmas
+mod TextLemmas
+mod OutputLemmas

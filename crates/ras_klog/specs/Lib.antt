@@ -2,3 +2,7 @@ pub mod Reading
 pub mod Words
 pub mod Groups
 pub mod Steps
+pub mod Texts
+pub mod Klog
+pub mod Output
+pub mod Along

@@ -1,10 +1,16 @@
-//! The lines of a kernel log that tell of machine checks, and the reports that they make. The form
-//! of the lines is this project's own, after what Linux prints.
+//! The lines of a kernel log that tell of machine checks, the reports that they make, and the
+//! filter of lines that prints these. The form of the lines is this project's own, after what Linux
+//! prints.
 #![tactic(auto)]
 
+mod filter;
+mod laws;
 mod line;
 mod state;
+mod texts;
 mod words;
 
+pub use filter::KlogFilter;
+pub use laws::klog_is_told_by_groups;
 pub use line::{KlogLine, klog_line};
 pub use state::{KlogOut, KlogState};

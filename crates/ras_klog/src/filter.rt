@@ -1,0 +1,119 @@
+//! The command `klog` as a filter of lines.
+
+ghost use Rattle.std.specs.Prelude.{◌≡◌, ◌+◌, ◌<◌, ◌^◌};
+ghost use Rattle.ras_klog.specs.Along.{counts_with, makes_of};
+ghost use Rattle.ras_klog.specs.Klog.{klog_filter};
+
+use crate::texts::{push_counts, push_out};
+use crate::{KlogOut, KlogState, klog_line};
+use line_filters::LineFilter;
+use mca_status::Status;
+use ras_base::NoMemory;
+use ras_script::LineRefused;
+use std::alloc::Global;
+use std::marker::Model;
+
+// How many reports were told: by a log line, and as partial.
+#[derive(Clone, Copy)]
+struct Counts {
+    reports: u64,
+    partial: u64,
+}
+
+impl Counts {
+    // The counts with what is told counted too: a whole report only if its bank holds an error.
+    fn with(self, out: &KlogOut) -> Counts
+        requires { self.reports + self.partial < 2 ^ 63 }
+        ensures { result ≡ counts_with self out.now }
+    {
+        let Counts { reports, partial } = self;
+        match out {
+            KlogOut::Whole(bank) if Status(bank.status).is_valid() => Counts {
+                reports: reports + 1,
+                partial,
+            },
+            KlogOut::Partial { .. } => Counts {
+                reports,
+                partial: partial + 1,
+            },
+            _ => self,
+        }
+    }
+}
+
+/// Makes of the lines of a kernel log the log lines of its machine checks.
+///
+/// A report that is whole is told at the line that makes it whole, by its log line, or by nothing
+/// if the bank holds no error (VAL is 0). One that isn't whole is told as partial, at the line that
+/// begins the next one or after all lines. No line is refused.
+#[derive(Drop)]
+pub struct KlogFilter {
+    state: KlogState,
+    boot: u64,
+    cap: u64,
+    counts: Counts,
+    taken: u64,
+}
+
+impl Model for KlogFilter {
+    ghost use Rattle.std.specs.Prelude.{◌+◌, ◌≤◌};
+    ghost use Rattle.ras_klog.specs.Along.{Progress};
+
+    ghost Value = { Progress };
+
+    ghost view = { λ f. record { boot = f.boot; cap = f.cap; stage = f.state; counts = f.counts; taken = f.taken } };
+
+    ghost invariant = { λ f. f.counts.reports + f.counts.partial ≤ f.taken };
+}
+
+impl KlogFilter {
+    /// Before the first line of a log of this boot and of processors with this IA32_MCG_CAP.
+    pub fn new(boot: u64, cap: u64) -> KlogFilter
+        ensures makes { makes_of result ≡ klog_filter boot cap }
+        ensures taken { result.taken ≡ 0 }
+    {
+        KlogFilter {
+            state: KlogState::new(),
+            boot,
+            cap,
+            counts: Counts {
+                reports: 0,
+                partial: 0,
+            },
+            taken: 0,
+        }
+    }
+}
+
+impl LineFilter for KlogFilter {
+    ghost use Rattle.std.specs.Prelude.{refl};
+
+    ghost makes = { λ f. makes_of f };
+
+    ghost taken = { λ f. f.taken };
+
+    ghost none = { λ _. refl };
+
+    fn take(&mut self, alloc: Global, line: &[u8], text: &mut Vec<u8>) -> Result<(), LineRefused> {
+        let out = self.state.step(klog_line(line), self.boot, self.cap);
+        match push_out(alloc, text, &out) {
+            Ok(()) => {
+                self.taken += 1;
+                self.counts = self.counts.with(&out);
+                Ok(())
+            }
+            Err(NoMemory) => Err(LineRefused::NoMemory),
+        }
+    }
+
+    fn push_rest(&self, alloc: Global, text: &mut Vec<u8>) -> Result<(), NoMemory> {
+        let mut state = self.state;
+        push_out(alloc, text, &state.end())
+    }
+
+    fn push_last(&self, _: Global, text: &mut Vec<u8>) -> Result<(), NoMemory> {
+        let mut state = self.state;
+        let counts = self.counts.with(&state.end());
+        push_counts(text, counts.reports, counts.partial)
+    }
+}

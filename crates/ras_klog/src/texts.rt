@@ -1,0 +1,61 @@
+//! The lines that tell of the reports of a kernel log.
+
+ghost use Rattle.std.specs.Prelude.{◌≡◌, ◌++◌, decimal, OnOk};
+ghost use Rattle.ras_klog.specs.Texts.{bank_text, counts_line, out_text, partial_line};
+
+use crate::KlogOut;
+use dimm_topology::Topology;
+use ras_base::NoMemory;
+use ras_facts::BankReport;
+use ras_reports::report_of_bank;
+use ras_texts::{push_number, push_report};
+use std::alloc::Global;
+
+// Adds the text of what is to be told.
+pub(crate) fn push_out(alloc: Global, text: &mut Vec<u8>, out: &KlogOut) -> Result<(), NoMemory>
+    ensures { OnOk result (text.new.items ≡ text.old.items ++ out_text out.now) }
+{
+    match out {
+        KlogOut::Nothing => Ok(()),
+        KlogOut::Whole(bank) => push_bank(alloc, text, bank),
+        KlogOut::Partial { cpu, bank } => push_partial(text, *cpu, *bank),
+    }
+}
+
+// Adds the log line of a whole report, over no rows of a machine: none if the bank holds no error.
+fn push_bank(alloc: Global, text: &mut Vec<u8>, bank: &BankReport) -> Result<(), NoMemory>
+    ensures { OnOk result (text.new.items ≡ text.old.items ++ bank_text bank.now) }
+{
+    match report_of_bank(alloc, bank, &Topology::new(alloc))? {
+        Some(report) => push_report(alloc, text, &report.fact, report.details.as_slice()),
+        None => Ok(()),
+    }
+}
+
+// Adds the line of a report that isn't whole.
+fn push_partial(text: &mut Vec<u8>, cpu: u16, bank: u8) -> Result<(), NoMemory>
+    ensures { OnOk result (text.new.items ≡ text.old.items ++ partial_line cpu bank) }
+{
+    push_named(text, b"partial cpu=", u64::from(cpu))?;
+    push_named(text, b" bank=", u64::from(bank))?;
+    text.push(b'\n')?;
+    Ok(())
+}
+
+// Adds the line that a whole log ends with.
+pub(crate) fn push_counts(text: &mut Vec<u8>, reports: u64, partial: u64) -> Result<(), NoMemory>
+    ensures { OnOk result (text.new.items ≡ text.old.items ++ counts_line reports partial) }
+{
+    push_named(text, b"end reports=", reports)?;
+    push_named(text, b" partial=", partial)?;
+    text.push(b'\n')?;
+    Ok(())
+}
+
+// Adds a number after its name.
+fn push_named(text: &mut Vec<u8>, name: &[u8], number: u64) -> Result<(), NoMemory>
+    ensures { OnOk result (text.new.items ≡ text.old.items ++ name.now ++ decimal number) }
+{
+    text.extend_from_slice(name)?;
+    push_number(text, number)
+}
