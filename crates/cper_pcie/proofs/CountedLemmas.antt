@@ -4,7 +4,8 @@ use Rattle.std.specs.List.{list_any}
 use Rattle.ras_facts.specs.Names.{same_name}
 use Rattle.ras_facts.specs.declared.name.Name.{Name}
 use Rattle.cper_pcie.specs.Reports.{Found, Report, Taken, is_pcie, pcie_name}
-use Rattle.cper_pcie.specs.Steps.{Counted, counted_with, fresh_sections, named, sections_lines, taken_from, totals_after}
+use Rattle.cper_pcie.specs.Along.{Counted, counted_with, fresh_sections, named, sections_lines, totals_after}
+use Rattle.cper_pcie.specs.Steps.{taken_from}
 use Rattle.cper_pcie.specs.Texts.{read_sections}
 
 abbrev report : Name → List Found → Report

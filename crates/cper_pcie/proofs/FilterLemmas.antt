@@ -17,8 +17,9 @@ use Rattle.cper_pcie.specs.Counts.{device_in}
 use Rattle.cper_pcie.specs.DeviceLemmas.{same_device-exact, same_device-refl}
 use Rattle.cper_pcie.specs.Devices.{same_device}
 use Rattle.cper_pcie.specs.Filter.{answer_of, pcie_filter, pcie_text, place_answer, to_first_refusal}
-use Rattle.cper_pcie.specs.Reports.{Place, Report, Taken, first_sections, is_known, line_name, line_report, pcie_name, pcie_sections, places_after, read_report, report_of, taken_at}
-use Rattle.cper_pcie.specs.Steps.{Counted, answers_from, counted_after, counted_from, filter_from, fresh_sections, line_answer, named, none_counted, sections_lines, sums_with, text_with, then_answers, totals_after, totals_with}
+use Rattle.cper_pcie.specs.Reports.{Place, Report, Taken, first_sections, is_known, line_name, line_report, pcie_name, pcie_sections, places_after, report_read, report_of, taken_at}
+use Rattle.cper_pcie.specs.Along.{Counted, answers_from, counted_after, counted_from, filter_from, fresh_sections, line_answer, named, sections_lines, sums_with, text_with, then_answers, totals_after, totals_with}
+use Rattle.cper_pcie.specs.Steps.{none_counted}
 use Rattle.cper_pcie.specs.Texts.{read_sections, totals_text}
 use Rattle.cper_pcie.specs.Totals.{Totals, sums_in, totals_of}
 use Rattle.cper_pcie.specs.declared.section.PcieSection.{PcieSection}
@@ -116,7 +117,7 @@ answers-at before (line ∷ lines) counted holds =
       where
         text : text_with counted.names (line_report asked) ≡ pcie_text place
         text = text_is counted.names (line_report asked)
-            ∙ ap (λ read. sections_lines (option_map_or (fresh_sections counted.names) (read_report read) [])) (sym is)
+            ∙ ap (λ read. sections_lines (option_map_or (fresh_sections counted.names) (report_read read) [])) (sym is)
             ∙ ap sections_lines (taken_of_report before counted.names (report_of line) holds)
 
 -- ---- totals

@@ -79,12 +79,12 @@ line_report (Reported (Block boot seconds source number bytes)) =
     block_report (names.Block boot source number) (block_of bytes)
 line_report line = None
 
-abbrev pub read_report : Result Line LineRefused → Option Report
-read_report (Ok line) = line_report line
-read_report (Err why) = None
+abbrev pub report_read : Result Line LineRefused → Option Report
+report_read (Ok line) = line_report line
+report_read (Err why) = None
 
 abbrev pub report_of : List ℕ → Option Report
-report_of line = read_report (line_of line)
+report_of line = report_read (line_of line)
 
 -- ---- the sections that are taken
 

@@ -2,11 +2,12 @@
 
 ghost use Rattle.std.specs.Prelude.{◌≡◌, ◌+◌, ◌<◌, ◌≤◌, ◌^◌, ◌++◌, length, OnOk, refl};
 ghost use Rattle.cper_pcie.specs.Filter.{pcie_filter};
-ghost use Rattle.cper_pcie.specs.Steps.{filter_from};
+ghost use Rattle.cper_pcie.specs.Along.{filter_from};
 ghost use Rattle.ras_script.specs.declared.reader.TheConstants.{LONGEST_LINE};
 ghost use Rattle.apei_sources.specs.Blocks.{block_of};
 ghost use Rattle.cper_pcie.specs.Reports.{block_report, line_report, stored_report};
-ghost use Rattle.cper_pcie.specs.Steps.{FewBytes, counted_after, text_with};
+ghost use Rattle.cper_pcie.specs.Along.{counted_after, text_with};
+ghost use Rattle.cper_pcie.specs.Steps.{FewBytes};
 
 use crate::counted::Counted;
 use crate::reports::{STORED_LENGTH, Sections, fill};
@@ -32,7 +33,7 @@ pub struct PcieFilter {
 }
 
 impl Model for PcieFilter {
-    ghost use Rattle.cper_pcie.specs.Steps.{Filtering, IsFiltering};
+    ghost use Rattle.cper_pcie.specs.Along.{Filtering, IsFiltering};
 
     ghost Value = { Filtering };
 
@@ -56,7 +57,7 @@ impl PcieFilter {
 }
 
 impl LineFilter for PcieFilter {
-    ghost use Rattle.cper_pcie.specs.Steps.{filter_from};
+    ghost use Rattle.cper_pcie.specs.Along.{filter_from};
 
     ghost makes = { λ filter. filter_from filter.counted };
 
