@@ -12,7 +12,7 @@ use Rattle.ras_script.specs.declared.line.LineRefused.{LineRefused}
 use Rattle.row_tables.specs.Tables.{updated_rows}
 use Rattle.cper_pcie.specs.Bits.{error_count}
 use Rattle.cper_pcie.specs.Devices.{same_device}
-use Rattle.cper_pcie.specs.Reports.{Report, Taken, line_report, pcie_name, pcie_sections, report_read}
+use Rattle.cper_pcie.specs.Reports.{FirmwareReport, Taken, line_report, pcie_name, pcie_sections, report_read}
 use Rattle.cper_pcie.specs.Texts.{read_sections, section_line, totals_text}
 use Rattle.cper_pcie.specs.Totals.{Totals}
 use Rattle.cper_pcie.specs.declared.counts.ErrorCounts.{ErrorCounts}
@@ -45,28 +45,28 @@ pub record Counted : Type 0 where
   pub totals : Totals
 
 -- a name that is held, or is held now after the others
-abbrev pub named : List Name → Option Name → List Name
-named names None = names
-named names (Some name) = if list_any (same_name name) names then names else names ++ name ∷ []
+abbrev pub names_with : List Name → Option Name → List Name
+names_with names None = names
+names_with names (Some name) = if list_any (same_name name) names then names else names ++ name ∷ []
 
 -- the sections that are taken of a report if these names are held
-abbrev pub fresh_sections : List Name → Report → List Taken
+abbrev pub fresh_sections : List Name → FirmwareReport → List Taken
 fresh_sections names report =
     if list_any (same_name report.name) names then [] else pcie_sections report
 
-abbrev pub counted_with : Counted → Report → Counted
+abbrev pub counted_with : Counted → FirmwareReport → Counted
 counted_with counted report = record {
-  names = named counted.names (pcie_name report);
+  names = names_with counted.names (pcie_name report);
   totals = totals_after counted.totals (read_sections (fresh_sections counted.names report));
 }
 
-abbrev pub counted_after : Counted → Option Report → Counted
+abbrev pub counted_after : Counted → Option FirmwareReport → Counted
 counted_after counted report = option_map_or (counted_with counted) report counted
 
 abbrev pub sections_lines : List Taken → List ℕ
 sections_lines taken = flat_map section_line taken
 
-abbrev pub text_with : List Name → Option Report → List ℕ
+abbrev pub text_with : List Name → Option FirmwareReport → List ℕ
 text_with names report = option_map_or (λ r. sections_lines (fresh_sections names r)) report []
 
 abbrev pub line_answer : List Name → Result Line LineRefused → Result (List ℕ) LineRefused
