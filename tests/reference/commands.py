@@ -169,7 +169,7 @@ TSC = re.compile(rb"TSC %s(?: ADDR %s)?(?: MISC %s)?(?: .*)?" % (3 * (HEX + WORD
 PROCESSOR = re.compile(rb"PROCESSOR %s:%s TIME %s(?: .*)?" % (DECIMAL, HEX, DECIMAL), re.S)
 
 
-def number(digits, most=2**64 - 1):
+def decimal_of(digits, most=2**64 - 1):
     """A decimal word, or None where it is above the most."""
     return int(digits) if int(digits) <= most else None
 
@@ -181,12 +181,12 @@ def klog_line(line):
         return None
     if found := START.fullmatch(text):
         cpu, mcg, bank, status = found.groups()
-        numbers = (number(cpu, 65_535), int(mcg, 16), number(bank, 255), int(status, 16))
+        numbers = (decimal_of(cpu, 65_535), int(mcg, 16), decimal_of(bank, 255), int(status, 16))
         return None if None in numbers else ("start", *numbers)
     if found := TSC.fullmatch(text):
         return ("tsc", *(int(it or b"0", 16) for it in found.groups()))
     if found := PROCESSOR.fullmatch(text):
-        numbers = (number(found[1]), number(found[3]))
+        numbers = (decimal_of(found[1]), decimal_of(found[3]))
         return None if None in numbers else ("processor", numbers[1])
     return None
 
@@ -238,6 +238,6 @@ def answer(words, data, files):
     if words == [b"pcie"]:
         return pcie(data)
     if len(words) == 3 and words[0] == b"klog" and BOOT.fullmatch(words[1]) and CAP.fullmatch(words[2]):
-        boot = number(words[1])
+        boot = decimal_of(words[1])
         return None if boot is None else klog(boot, int(words[2], 16), data)
     return None
