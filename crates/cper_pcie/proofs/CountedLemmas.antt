@@ -3,11 +3,12 @@ use Rattle.std.proofs.Common.{◌≡◌, ℕ, Bool, true, false, ◌||◌, if◌
 use Rattle.std.specs.List.{list_any}
 use Rattle.ras_facts.specs.Names.{same_name}
 use Rattle.ras_facts.specs.declared.name.Name.{Name}
-use Rattle.cper_pcie.specs.Reports.{Found, Report, Taken, is_pcie, pcie_name}
-use Rattle.cper_pcie.specs.Steps.{Counted, counted_with, fresh_sections, named, sections_lines, taken_from, totals_after}
+use Rattle.cper_pcie.specs.Reports.{Found, FirmwareReport, Taken, is_pcie, pcie_name}
+use Rattle.cper_pcie.specs.Along.{Counted, counted_with, fresh_sections, names_with, sections_lines, totals_after}
+use Rattle.cper_pcie.specs.Steps.{taken_from}
 use Rattle.cper_pcie.specs.Texts.{read_sections}
 
-abbrev report : Name → List Found → Report
+abbrev report : Name → List Found → FirmwareReport
 report name found = record { name = name; sections = found }
 
 none-taken : (name : Name) (found : List Found) → list_any is_pcie found ≡ false → taken_from name found ≡ []
@@ -29,8 +30,8 @@ none-fresh names name found none = by (list_any (same_name name) names) (none-ta
 pub counted-none : (counted : Counted) (name : Name) (found : List Found) → list_any is_pcie found ≡ false → counted ≡ counted_with counted (report name found)
 counted-none counted name found none = sym whole
   where
-    names : named counted.names (pcie_name (report name found)) ≡ counted.names
-    names = ap (λ b. named counted.names (if b then Some name else None)) none
+    names : names_with counted.names (pcie_name (report name found)) ≡ counted.names
+    names = ap (λ b. names_with counted.names (if b then Some name else None)) none
 
     totals : totals_after counted.totals (read_sections (fresh_sections counted.names (report name found))) ≡ counted.totals
     totals = ap (λ (t : List Taken). totals_after counted.totals (read_sections t)) (none-fresh counted.names name found none)
@@ -44,14 +45,14 @@ text-none names text name found none =
     sym (append-nil text) ∙ ap (λ (t : List Taken). text ++ sections_lines t) (sym (none-fresh names name found none))
 
 -- a report whose name is held
-known : (names : List Name) (name : Name) (b : Bool) → list_any (same_name name) names ≡ true → named names (if b then Some name else None) ≡ names
+known : (names : List Name) (name : Name) (b : Bool) → list_any (same_name name) names ≡ true → names_with names (if b then Some name else None) ≡ names
 known names name true is = rw is refl
 known names name false is = refl
 
 pub counted-known : (counted : Counted) (name : Name) (found : List Found) → list_any (same_name name) counted.names ≡ true → counted ≡ counted_with counted (report name found)
 counted-known counted name found is = sym whole
   where
-    names : named counted.names (pcie_name (report name found)) ≡ counted.names
+    names : names_with counted.names (pcie_name (report name found)) ≡ counted.names
     names = known counted.names name (list_any is_pcie found) is
 
     totals : totals_after counted.totals (read_sections (fresh_sections counted.names (report name found))) ≡ counted.totals
@@ -71,9 +72,9 @@ pub counted-fresh : (counted after : Counted) (name : Name) (found : List Found)
     → after ≡ counted_with counted (report name found)
 counted-fresh counted after name found some fresh names-is totals-is = λ i. record { names = names i; totals = totals i }
   where
-    names : after.names ≡ named counted.names (pcie_name (report name found))
+    names : after.names ≡ names_with counted.names (pcie_name (report name found))
     names = names-is ∙ ap (λ b. if b then counted.names else counted.names ++ name ∷ []) (sym fresh)
-        ∙ ap (λ b. named counted.names (if b then Some name else None)) (sym some)
+        ∙ ap (λ b. names_with counted.names (if b then Some name else None)) (sym some)
 
     totals : after.totals ≡ totals_after counted.totals (read_sections (fresh_sections counted.names (report name found)))
     totals = totals-is ∙ ap (λ b. totals_after counted.totals (read_sections (if b then [] else taken_from name found))) (sym fresh)

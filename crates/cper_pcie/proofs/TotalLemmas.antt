@@ -5,9 +5,10 @@ use Rattle.std.proofs.lemmas.List.Sums.{length-filter, count_by-le-length}
 use Rattle.ras_base.specs.Bits.{is_set}
 use Rattle.row_tables.specs.Tables.{updated_rows}
 use Rattle.cper_pcie.specs.Bits.{error_count}
-use Rattle.cper_pcie.specs.Counts.{counts_with, errors_with, in_64_bits}
+use Rattle.cper_pcie.specs.Counts.{pcie_counts_with, errors_with, in_64_bits}
 use Rattle.cper_pcie.specs.Devices.{same_device}
-use Rattle.cper_pcie.specs.Steps.{IsFew, no_errors, sums_with, totals_with, totals_after}
+use Rattle.cper_pcie.specs.Along.{no_errors, sums_with, totals_with, totals_after}
+use Rattle.cper_pcie.specs.Steps.{IsFew}
 use Rattle.cper_pcie.specs.Totals.{Totals}
 use Rattle.cper_pcie.specs.declared.counts.ErrorCounts.{ErrorCounts}
 use Rattle.cper_pcie.specs.declared.section.PcieDevice.{PcieDevice}
@@ -33,13 +34,13 @@ abbrev summed_rows : PcieSection → List Row → List Row
 summed_rows section rows = updated_rows same_device section.device (sums_with no_errors section) (λ errors. sums_with errors section) rows
 
 pub rows-summed : (n : ℕ) (rows : List Row) (section : PcieSection) → AllByRecursion (IsFew n) rows → n < 2 ^ 58
-    → counts_with rows section ≡ summed_rows section rows
+    → pcie_counts_with rows section ≡ summed_rows section rows
 rows-summed n [] section few small = ap (λ errors. (section.device, errors) ∷ []) (summed 0 no_errors section (omega arith) (omega arith) (omega arith))
 rows-summed n (row ∷ rows) section few small =
     by (same_device section.device row.0) (summed n row.1 section few.0.0 few.0.1 small) (rows-summed n rows section few.1 small)
   where
-    by : (b : Bool) → errors_with row.1 section ≡ sums_with row.1 section → counts_with rows section ≡ summed_rows section rows
-        → (if b then (row.0, errors_with row.1 section) ∷ rows else row ∷ counts_with rows section)
+    by : (b : Bool) → errors_with row.1 section ≡ sums_with row.1 section → pcie_counts_with rows section ≡ summed_rows section rows
+        → (if b then (row.0, errors_with row.1 section) ∷ rows else row ∷ pcie_counts_with rows section)
         ≡ (if b then (row.0, sums_with row.1 section) ∷ rows else row ∷ summed_rows section rows)
     by true here rest = ap (λ errors. (row.0, errors) ∷ rows) here
     by false here rest = ap (λ (more : List Row). row ∷ more) rest

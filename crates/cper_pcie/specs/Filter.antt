@@ -3,24 +3,25 @@
 use Rattle.std.specs.Prelude.{ℕ, List, [], ◌∷◌, map, Result, Ok, Err}
 use Rattle.std.specs.List.{flat_map}
 use Rattle.line_filters.specs.Filter.{Filter}
+use Rattle.ras_base.specs.Places.{places}
 use Rattle.ras_script.specs.Line.{line_of}
 use Rattle.ras_script.specs.declared.line.Line.{Line}
 use Rattle.ras_script.specs.declared.line.LineRefused.{LineRefused}
-use Rattle.cper_pcie.specs.Reports.{Place, places, taken_at, taken_of}
+use Rattle.cper_pcie.specs.Reports.{LinePlace, taken_at, taken_of}
 use Rattle.cper_pcie.specs.Texts.{read_sections, section_line, totals_text}
 use Rattle.cper_pcie.specs.Totals.{totals_of}
 
 -- the text of a line: a line of each section that is taken of it
-abbrev pub pcie_text : Place → List ℕ
+abbrev pub pcie_text : LinePlace → List ℕ
 pcie_text place = flat_map section_line (taken_at place)
 
 -- a line's text, if it reads, and else why it is refused
-abbrev pub answer_of : Place → Result Line LineRefused → Result (List ℕ) LineRefused
-answer_of place (Ok line) = Ok (pcie_text place)
-answer_of place (Err why) = Err why
+abbrev pub text_or_refusal : LinePlace → Result Line LineRefused → Result (List ℕ) LineRefused
+text_or_refusal place (Ok line) = Ok (pcie_text place)
+text_or_refusal place (Err why) = Err why
 
-abbrev pub place_answer : Place → Result (List ℕ) LineRefused
-place_answer place = answer_of place (line_of place.line)
+abbrev pub place_answer : LinePlace → Result (List ℕ) LineRefused
+place_answer place = text_or_refusal place (line_of place.1)
 
 -- answers up to the first refusal
 abbrev pub to_first_refusal : List (Result (List ℕ) LineRefused) → List (Result (List ℕ) LineRefused)

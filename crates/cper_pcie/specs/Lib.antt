@@ -8,4 +8,5 @@ pub mod Totals
 pub mod Texts
 pub mod TextSteps
 pub mod Filter
+pub mod Along
 pub mod Steps

@@ -1,5 +1,5 @@
 -- Which lines of a script are reports of firmware, and which of their sections are taken.
-use Rattle.std.specs.Prelude.{ℕ, nat_le, Bool, List, [], ◌∷◌, ◌++◌, length, map, Option, None, Some, Result, Ok, Err, if◌then◌else◌}
+use Rattle.std.specs.Prelude.{ℕ, nat_le, Bool, List, [], length, map, Option, None, Some, Result, Ok, Err, if◌then◌else◌}
 use Rattle.std.specs.List.{filter_map, flat_map, list_any, range_with_len}
 use Rattle.std.specs.Option.{option_and_then, option_map_or}
 use Rattle.std.specs.Str.{bytes_eq}
@@ -10,6 +10,7 @@ use Rattle.cper_records.specs.declared.refusals.Unreadable.{Unreadable}
 use Rattle.apei_sources.specs.Blocks.{BlockParts, block_of}
 use Rattle.apei_sources.specs.Entries.{entry_data, entry_guid, entry_severity}
 use Rattle.apei_sources.specs.declared.refusals.BlockRefused.{BlockRefused}
+use Rattle.ras_base.specs.Places.{places}
 use Rattle.ras_facts.specs.Names.{same_name}
 use Rattle.ras_facts.specs.declared.name.Name.{Name}
 use Rattle.ras_facts.specs.declared.name.Name.TheVariants as names
@@ -30,7 +31,7 @@ pub record Found : Type 0 where
   pub bytes : List ℕ
 
 -- a report: its name, and its sections in order
-pub record Report : Type 0 where
+pub record FirmwareReport : Type 0 where
   pub name : Name
   pub sections : List Found
 
@@ -55,36 +56,36 @@ abbrev pub block_sections : BlockParts → List Found
 block_sections block = map {B = Found} block_section block.entries
 
 -- the report of a record that was read under its identifier
-abbrev pub record_report : ℕ → Result (List ℕ) Unreadable → Option Report
-record_report id (Ok own) = Some (record { name = names.Record id; sections = record_sections own })
-record_report id (Err why) = None
+abbrev pub report_in_record : ℕ → Result (List ℕ) Unreadable → Option FirmwareReport
+report_in_record id (Ok own) = Some (record { name = names.Record id; sections = record_sections own })
+report_in_record id (Err why) = None
 
 -- A record to be stored is a report if it fits the store and reads there under its identifier: as
 -- the store would give it, with zeros after it.
-abbrev pub stored_report : ℕ → List ℕ → Option Report
-stored_report id bytes =
-    if nat_le (length bytes) STORED_LENGTH then record_report id (read_under id (filled bytes))
+abbrev pub report_in_store : ℕ → List ℕ → Option FirmwareReport
+report_in_store id bytes =
+    if nat_le (length bytes) STORED_LENGTH then report_in_record id (read_under id (filled bytes))
     else None
 
 -- the report of a block of this name
-abbrev pub block_report : Name → Result BlockParts BlockRefused → Option Report
-block_report name (Ok block) = Some (record { name = name; sections = block_sections block })
-block_report name (Err why) = None
+abbrev pub report_in_block : Name → Result BlockParts BlockRefused → Option FirmwareReport
+report_in_block name (Ok block) = Some (record { name = name; sections = block_sections block })
+report_in_block name (Err why) = None
 
 -- A line is a report if it is of such a record, or of a block that reads, whichever error sources
 -- the firmware has. No other line is one.
-abbrev pub line_report : Line → Option Report
-line_report (Put id bytes) = stored_report id bytes
+abbrev pub line_report : Line → Option FirmwareReport
+line_report (Put id bytes) = report_in_store id bytes
 line_report (Reported (Block boot seconds source number bytes)) =
-    block_report (names.Block boot source number) (block_of bytes)
+    report_in_block (names.Block boot source number) (block_of bytes)
 line_report line = None
 
-abbrev pub read_report : Result Line LineRefused → Option Report
-read_report (Ok line) = line_report line
-read_report (Err why) = None
+abbrev pub report_read : Result Line LineRefused → Option FirmwareReport
+report_read (Ok line) = line_report line
+report_read (Err why) = None
 
-abbrev pub report_of : List ℕ → Option Report
-report_of line = read_report (line_of line)
+abbrev pub report_in : List ℕ → Option FirmwareReport
+report_in line = report_read (line_of line)
 
 -- ---- the sections that are taken
 
@@ -103,28 +104,19 @@ pcie_section name found =
     else None
 
 -- the PCI Express sections of a report, in order
-abbrev pub pcie_sections : Report → List Taken
+abbrev pub pcie_sections : FirmwareReport → List Taken
 pcie_sections report = filter_map (pcie_section report.name) report.sections
 
 -- the name of a report that has such a section
-abbrev pub pcie_name : Report → Option Name
+abbrev pub pcie_name : FirmwareReport → Option Name
 pcie_name report = if list_any is_pcie report.sections then Some report.name else None
 
 abbrev pub line_name : List ℕ → Option Name
-line_name line = option_and_then pcie_name (report_of line)
+line_name line = option_and_then pcie_name (report_in line)
 
--- a line of a script, with all lines before it
-pub record Place : Type 0 where
-  pub before : List (List ℕ)
-  pub line : List ℕ
-
-abbrev pub places_after : List (List ℕ) → List (List ℕ) → List Place
-places_after before [] = []
-places_after before (line ∷ lines) =
-    record { before = before; line = line } ∷ places_after (before ++ line ∷ []) lines
-
-abbrev pub places : List (List ℕ) → List Place
-places lines = places_after [] lines
+-- a line of a script, after all lines before it
+abbrev pub LinePlace : Type 0
+LinePlace = List (List ℕ) × List ℕ
 
 -- whether a line among these is of a report of this name that has such a section
 abbrev pub is_known : List (List ℕ) → Name → Bool
@@ -132,11 +124,11 @@ is_known lines name = list_any (same_name name) (filter_map line_name lines)
 
 -- All such sections of a line's report are taken if it is the first report of its name that has
 -- some, and else none.
-abbrev pub first_sections : List (List ℕ) → Report → List Taken
+abbrev pub first_sections : List (List ℕ) → FirmwareReport → List Taken
 first_sections before report = if is_known before report.name then [] else pcie_sections report
 
-abbrev pub taken_at : Place → List Taken
-taken_at place = option_map_or (first_sections place.before) (report_of place.line) []
+abbrev pub taken_at : LinePlace → List Taken
+taken_at place = option_map_or (first_sections place.0) (report_in place.1) []
 
 -- all that are taken of a script's lines
 abbrev pub taken_of : List (List ℕ) → List Taken

@@ -1,26 +1,17 @@
--- Only for proofs: the filter of PCI Express sections, line by line.
-use Rattle.std.specs.Prelude.{ℕ, ◌+◌, ◌*◌, ◌≤◌, List, [], ◌∷◌, ◌++◌, length, Option, None, Some, Result, Ok, Err, ⊤, if◌then◌else◌}
-use Rattle.std.specs.List.{AllByRecursion, filter_map, flat_map, list_any}
-use Rattle.std.specs.Option.{option_map_or}
-use Rattle.line_filters.specs.Filter.{Filter}
-use Rattle.ras_facts.specs.Names.{same_name}
+-- Only for proofs: the steps of the filter of PCI Express sections.
+use Rattle.std.specs.Prelude.{ℕ, ◌*◌, ◌≤◌, List, [], length, Option, ⊤}
+use Rattle.std.specs.List.{AllByRecursion, filter_map}
 use Rattle.ras_facts.specs.declared.name.Name.{Name}
-use Rattle.ras_script.specs.Line.{line_of}
 use Rattle.ras_script.specs.declared.line.ErrorReport.TheVariants.{Block}
 use Rattle.ras_script.specs.declared.line.Line.{Line}
 use Rattle.ras_script.specs.declared.line.Line.TheVariants.{Report as Reported}
-use Rattle.ras_script.specs.declared.line.LineRefused.{LineRefused}
-use Rattle.row_tables.specs.Tables.{updated_rows}
-use Rattle.cper_pcie.specs.Bits.{error_count}
-use Rattle.cper_pcie.specs.Devices.{same_device}
-use Rattle.cper_pcie.specs.Reports.{Found, Report, Taken, block_sections, line_report, pcie_name, pcie_section, pcie_sections, read_report, record_sections}
-use Rattle.cper_pcie.specs.Texts.{read_sections, section_line, totals_text}
+use Rattle.cper_pcie.specs.Reports.{Found, Taken, block_sections, pcie_section, record_sections}
 use Rattle.cper_pcie.specs.Totals.{Totals}
 use Rattle.cper_pcie.specs.declared.counts.ErrorCounts.{ErrorCounts}
 use Rattle.cper_pcie.specs.declared.reports.Sections.{Sections}
 use Rattle.cper_pcie.specs.declared.reports.Sections.TheVariants as sections
 use Rattle.cper_pcie.specs.declared.section.PcieDevice.{PcieDevice}
-use Rattle.cper_pcie.specs.declared.section.PcieSection.{PcieSection}
+use Rattle.cper_pcie.specs.Along.{Counted}
 
 -- the sections of a record or a block that was read
 abbrev pub sections_in : Sections → List Found
@@ -36,29 +27,6 @@ abbrev pub FewBytes : ℕ → Line → Type 0
 FewBytes most (Reported (Block boot seconds source number bytes)) = length bytes ≤ most
 FewBytes most line = ⊤
 
--- ---- sums
-
-abbrev pub no_errors : ErrorCounts
-no_errors = record { uncor = 0; cor = 0 }
-
--- errors with those of one section more
-abbrev pub sums_with : ErrorCounts → PcieSection → ErrorCounts
-sums_with errors section = record {
-  uncor = errors.uncor + error_count section.uncor;
-  cor = errors.cor + error_count section.cor;
-}
-
-abbrev pub totals_with : Totals → PcieSection → Totals
-totals_with totals section = record {
-  rows = updated_rows same_device section.device (sums_with no_errors section)
-      (λ errors. sums_with errors section) totals.rows;
-  sections = totals.sections + 1;
-}
-
-abbrev pub totals_after : Totals → List PcieSection → Totals
-totals_after totals [] = totals
-totals_after totals (section ∷ sections) = totals_after (totals_with totals section) sections
-
 abbrev pub no_totals : Totals
 no_totals = record { rows = []; sections = 0 }
 
@@ -69,81 +37,5 @@ IsFew sections row = (row.1.uncor ≤ 32 * sections) × (row.1.cor ≤ 32 * sect
 abbrev pub AreFew : Totals → Type 0
 AreFew totals = AllByRecursion (IsFew totals.sections) totals.rows
 
--- ---- reports
-
--- the reports that count so far: their names, and what their sections add up to
-pub record Counted : Type 0 where
-  pub names : List Name
-  pub totals : Totals
-
--- a name that is held, or is held now after the others
-abbrev pub named : List Name → Option Name → List Name
-named names None = names
-named names (Some name) = if list_any (same_name name) names then names else names ++ name ∷ []
-
--- the sections that are taken of a report if these names are held
-abbrev pub fresh_sections : List Name → Report → List Taken
-fresh_sections names report =
-    if list_any (same_name report.name) names then [] else pcie_sections report
-
-abbrev pub counted_with : Counted → Report → Counted
-counted_with counted report = record {
-  names = named counted.names (pcie_name report);
-  totals = totals_after counted.totals (read_sections (fresh_sections counted.names report));
-}
-
-abbrev pub counted_after : Counted → Option Report → Counted
-counted_after counted report = option_map_or (counted_with counted) report counted
-
-abbrev pub sections_lines : List Taken → List ℕ
-sections_lines taken = flat_map section_line taken
-
-abbrev pub text_with : List Name → Option Report → List ℕ
-text_with names report = option_map_or (λ r. sections_lines (fresh_sections names r)) report []
-
--- ---- lines
-
-abbrev pub line_answer : List Name → Result Line LineRefused → Result (List ℕ) LineRefused
-line_answer names (Ok line) = Ok (text_with names (line_report line))
-line_answer names (Err why) = Err why
-
--- an answer, and the answers after it if it is no refusal
-abbrev pub then_answers : Result (List ℕ) LineRefused → List (Result (List ℕ) LineRefused) → List (Result (List ℕ) LineRefused)
-then_answers (Ok text) answers = Ok text ∷ answers
-then_answers (Err why) answers = Err why ∷ []
-
-abbrev pub answers_from : Counted → List (List ℕ) → List (Result (List ℕ) LineRefused)
-answers_from counted [] = []
-answers_from counted (line ∷ lines) =
-    then_answers (line_answer counted.names (line_of line))
-    (answers_from (counted_after counted (read_report (line_of line))) lines)
-
-abbrev pub counted_from : Counted → List (List ℕ) → Counted
-counted_from counted [] = counted
-counted_from counted (line ∷ lines) =
-    counted_from (counted_after counted (read_report (line_of line))) lines
-
-abbrev pub last_from : Counted → List (List ℕ) → List ℕ
-last_from counted lines = totals_text (counted_from counted lines).totals
-
--- what is made of lines after those by which these reports count
-abbrev pub filter_from : Counted → Filter
-filter_from counted = record {
-  answers = answers_from counted;
-  rest = λ lines. [];
-  last = last_from counted;
-}
-
 abbrev pub none_counted : Counted
 none_counted = record { names = []; totals = no_totals }
-
--- ---- a filter
-
--- the reports that count so far, and how many lines were taken
-pub record Filtering : Type 0 where
-  pub counted : Counted
-  pub taken : ℕ
-
--- a line has at most 65,536 sections
-abbrev pub IsFiltering : Filtering → Type 0
-IsFiltering filtering = filtering.counted.totals.sections ≤ 65536 * filtering.taken

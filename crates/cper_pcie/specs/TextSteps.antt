@@ -9,9 +9,9 @@ use Rattle.cper_pcie.specs.declared.section.PcieSection.{PcieSection}
 use Rattle.cper_pcie.specs.declared.texts.Kind.{Kind}
 use Rattle.cper_pcie.specs.declared.texts.Kind.TheVariants.{Uncorrectable, Correctable}
 
-abbrev pub names_of : Kind → List (ℕ × List ℕ)
-names_of Uncorrectable = uncorrectable_names
-names_of Correctable = correctable_names
+abbrev pub bit_names_of : Kind → List (ℕ × List ℕ)
+bit_names_of Uncorrectable = uncorrectable_names
+bit_names_of Correctable = correctable_names
 
 abbrev pub line_of_section : Name → ℕ → Result PcieSection PcieRefused → List ℕ
 line_of_section name severity section = line_with (

@@ -37,21 +37,21 @@ place_text device =
 unfoldable pub id_text : PcieDevice → List ℕ
 id_text device = four_digits device.vendor ++ codes ":" ++ four_digits device.id
 
-abbrev pub told_of : (PcieDevice → List ℕ) → Option PcieDevice → List ℕ
-told_of text None = codes "-"
-told_of text (Some device) = text device
+abbrev pub told_device : (PcieDevice → List ℕ) → Option PcieDevice → List ℕ
+told_device text None = codes "-"
+told_device text (Some device) = text device
 
 -- ---- a status
 
 -- a bit by its name; one that has none, by its number
-abbrev pub bit_text : List (ℕ × List ℕ) → ℕ → List ℕ
-bit_text names bit = unwrap_or (lookup (nat_eq bit) names) (codes "bit-" ++ decimal bit)
+abbrev pub bit_name : List (ℕ × List ℕ) → ℕ → List ℕ
+bit_name names bit = unwrap_or (lookup (nat_eq bit) names) (codes "bit-" ++ decimal bit)
 
 -- the bits that are set in rising order, with commas between them
 abbrev pub bits_text : List (ℕ × List ℕ) → ℕ → List ℕ
 bits_text names status =
     if length (bits_of status) == 0 then codes "-"
-    else join_with_byte 44 (map (bit_text names) (bits_of status))
+    else join_with_byte 44 (map (bit_name names) (bits_of status))
 
 abbrev pub status_text : List (ℕ × List ℕ) → Option ℕ → List ℕ
 status_text names None = codes "-"
@@ -61,8 +61,8 @@ status_text names (Some status) = bits_text names status
 
 unfoldable pub read_text : ℕ → PcieSection → List ℕ
 read_text severity section =
-    codes " device=" ++ told_of place_text section.device
-    ++ codes " id=" ++ told_of id_text section.device
+    codes " device=" ++ told_device place_text section.device
+    ++ codes " id=" ++ told_device id_text section.device
     ++ codes " severity=" ++ class_text (severity_class severity)
     ++ codes " uncor=" ++ status_text uncorrectable_names section.uncor
     ++ codes " cor=" ++ status_text correctable_names section.cor
@@ -83,13 +83,13 @@ read_sections taken = filter_map (λ (section : Taken). result_ok (pcie_of secti
 
 abbrev pub device_line : Option PcieDevice × ErrorCounts → List ℕ
 device_line row = line_with (
-    codes "device=" ++ told_of place_text row.0
+    codes "device=" ++ told_device place_text row.0
     ++ codes " uncor=" ++ decimal row.1.uncor ++ codes " cor=" ++ decimal row.1.cor)
 
-abbrev pub end_line : Totals → List ℕ
-end_line totals = line_with (
+abbrev pub pcie_end_line : Totals → List ℕ
+pcie_end_line totals = line_with (
     codes "end sections=" ++ decimal totals.sections
     ++ codes " devices=" ++ decimal (length totals.rows))
 
 abbrev pub totals_text : Totals → List ℕ
-totals_text totals = flat_map device_line totals.rows ++ end_line totals
+totals_text totals = flat_map device_line totals.rows ++ pcie_end_line totals

@@ -6,7 +6,7 @@ use Rattle.cper_pcie.specs.declared.section.PcieDevice.{PcieDevice}
 use Rattle.cper_pcie.specs.declared.section.PcieSection.{PcieSection}
 use Rattle.cper_pcie.specs.declared.counts.ErrorCounts.{ErrorCounts}
 use Rattle.cper_pcie.specs.Bits.{error_count}
-use Rattle.cper_pcie.specs.Counts.{device_in}
+use Rattle.cper_pcie.specs.Counts.{counted_device}
 use Rattle.cper_pcie.specs.Devices.{same_device}
 
 -- each function in first-seen order with the sums of its errors, and the number of sections
@@ -23,6 +23,6 @@ sums_in sections = record {
 
 abbrev pub totals_of : List PcieSection → Totals
 totals_of sections = record {
-  rows = table same_device device_in sums_in sections;
+  rows = table same_device counted_device sums_in sections;
   sections = length sections;
 }

@@ -1,8 +1,10 @@
 //! The reports that count.
 
 ghost use Rattle.std.specs.Prelude.{◌≡◌, ◌+◌, ◌<◌, ◌≤◌, ◌^◌, [], ◌∷◌, ◌++◌, length, OnOk};
-ghost use Rattle.cper_pcie.specs.Steps.{counted_with, fresh_sections, none_counted, sections_in};
-ghost use Rattle.cper_pcie.specs.Steps.{taken_from, sections_lines, totals_after};
+ghost use Rattle.cper_pcie.specs.Along.{counted_with, fresh_sections};
+ghost use Rattle.cper_pcie.specs.Steps.{none_counted, sections_in};
+ghost use Rattle.cper_pcie.specs.Along.{sections_lines, totals_after};
+ghost use Rattle.cper_pcie.specs.Steps.{taken_from};
 ghost use Rattle.cper_pcie.specs.Texts.{read_sections, section_line, totals_text};
 
 use crate::reports::Sections;
@@ -25,7 +27,7 @@ pub(crate) struct Counted {
 impl Model for Counted {
     ghost use Rattle.std.specs.Prelude.{◌≡◌, []};
     ghost use Rattle.std.specs.Map.{keys_of};
-    ghost use Rattle.cper_pcie.specs.Steps.{Counted as Reports};
+    ghost use Rattle.cper_pcie.specs.Along.{Counted as Reports};
 
     ghost Value = { Reports };
 

@@ -2,11 +2,12 @@
 
 ghost use Rattle.std.specs.Prelude.{◌≡◌, ◌+◌, ◌<◌, ◌≤◌, ◌^◌, ◌++◌, length, OnOk, refl};
 ghost use Rattle.cper_pcie.specs.Filter.{pcie_filter};
-ghost use Rattle.cper_pcie.specs.Steps.{filter_from};
+ghost use Rattle.cper_pcie.specs.Along.{filter_from};
 ghost use Rattle.ras_script.specs.declared.reader.TheConstants.{LONGEST_LINE};
 ghost use Rattle.apei_sources.specs.Blocks.{block_of};
-ghost use Rattle.cper_pcie.specs.Reports.{block_report, line_report, stored_report};
-ghost use Rattle.cper_pcie.specs.Steps.{FewBytes, counted_after, text_with};
+ghost use Rattle.cper_pcie.specs.Reports.{report_in_block, line_report, report_in_store};
+ghost use Rattle.cper_pcie.specs.Along.{counted_after, text_with};
+ghost use Rattle.cper_pcie.specs.Steps.{FewBytes};
 
 use crate::counted::Counted;
 use crate::reports::{STORED_LENGTH, Sections, fill};
@@ -32,7 +33,7 @@ pub struct PcieFilter {
 }
 
 impl Model for PcieFilter {
-    ghost use Rattle.cper_pcie.specs.Steps.{Filtering, IsFiltering};
+    ghost use Rattle.cper_pcie.specs.Along.{Filtering, IsFiltering};
 
     ghost Value = { Filtering };
 
@@ -56,7 +57,7 @@ impl PcieFilter {
 }
 
 impl LineFilter for PcieFilter {
-    ghost use Rattle.cper_pcie.specs.Steps.{filter_from};
+    ghost use Rattle.cper_pcie.specs.Along.{filter_from};
 
     ghost makes = { λ filter. filter_from filter.counted };
 
@@ -135,9 +136,9 @@ fn take_record(
 ) -> Result<(), NoMemory>
     requires few { counted.old.totals.sections < 2 ^ 57 }
     ensures counted { OnOk result
-        (counted.new ≡ counted_after counted.old (stored_report id bytes.now)) }
+        (counted.new ≡ counted_after counted.old (report_in_store id bytes.now)) }
     ensures text { OnOk result (text.new.items
-        ≡ text.old.items ++ text_with counted.old.names (stored_report id bytes.now)) }
+        ≡ text.old.items ++ text_with counted.old.names (report_in_store id bytes.now)) }
     ensures few { OnOk result
         (counted.new.totals.sections ≤ counted.old.totals.sections + 65536) }
 {
@@ -165,9 +166,9 @@ fn take_block(
     requires few { counted.old.totals.sections < 2 ^ 57 }
     requires bytes { length bytes.now ≤ LONGEST_LINE }
     ensures counted { OnOk result (counted.new
-        ≡ counted_after counted.old (block_report name.now (block_of bytes.now))) }
+        ≡ counted_after counted.old (report_in_block name.now (block_of bytes.now))) }
     ensures text { OnOk result (text.new.items ≡ text.old.items
-        ++ text_with counted.old.names (block_report name.now (block_of bytes.now))) }
+        ++ text_with counted.old.names (report_in_block name.now (block_of bytes.now))) }
     ensures few { OnOk result
         (counted.new.totals.sections ≤ counted.old.totals.sections + 65536) }
 {

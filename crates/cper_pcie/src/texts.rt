@@ -1,10 +1,10 @@
 //! The lines that are printed of sections, and of what they add up to.
 
 ghost use Rattle.std.specs.Prelude.{◌≡◌, ◌<◌, ◌++◌, OnOk};
-ghost use Rattle.cper_pcie.specs.Texts.{bit_text, bits_text, device_line, end_line, few_digits};
+ghost use Rattle.cper_pcie.specs.Texts.{bit_name, bits_text, device_line, pcie_end_line, few_digits};
 ghost use Rattle.cper_pcie.specs.Texts.{four_digits, id_text, place_text, read_text};
-ghost use Rattle.cper_pcie.specs.Texts.{status_text, told_of, two_digits};
-ghost use Rattle.cper_pcie.specs.TextSteps.{end_text, line_of_section, names_of, next_bit_text};
+ghost use Rattle.cper_pcie.specs.Texts.{status_text, told_device, two_digits};
+ghost use Rattle.cper_pcie.specs.TextSteps.{end_text, line_of_section, bit_names_of, next_bit_text};
 
 use crate::bits::{correctable_name, uncorrectable_name};
 use crate::section::{PcieDevice, PcieRefused, PcieSection};
@@ -91,7 +91,7 @@ pub(crate) fn push_end(text: &mut Vec<u8>, sections: u64, devices: u64) -> Resul
 // Adds where a function stands, if it is told.
 #[tactic(auto, unfolding(crate::specs::Texts::place_text))]
 fn push_place(text: &mut Vec<u8>, device: Option<PcieDevice>) -> Result<(), NoMemory>
-    ensures { OnOk result (text.new.items ≡ text.old.items ++ told_of place_text device) }
+    ensures { OnOk result (text.new.items ≡ text.old.items ++ told_device place_text device) }
 {
     let Some(device) = device else {
         text.extend_from_slice(b"-")?;
@@ -109,7 +109,7 @@ fn push_place(text: &mut Vec<u8>, device: Option<PcieDevice>) -> Result<(), NoMe
 // Adds what a function says that it is, if it is told.
 #[tactic(auto, unfolding(crate::specs::Texts::id_text))]
 fn push_id(text: &mut Vec<u8>, device: Option<PcieDevice>) -> Result<(), NoMemory>
-    ensures { OnOk result (text.new.items ≡ text.old.items ++ told_of id_text device) }
+    ensures { OnOk result (text.new.items ≡ text.old.items ++ told_device id_text device) }
 {
     let Some(device) = device else {
         text.extend_from_slice(b"-")?;
@@ -155,7 +155,7 @@ fn push_few_digits(text: &mut Vec<u8>, number: u8) -> Result<(), NoMemory>
 // Adds the bits of a status, if it is told.
 fn push_status(text: &mut Vec<u8>, kind: Kind, status: Option<u32>) -> Result<(), NoMemory>
     ensures { OnOk result
-        (text.new.items ≡ text.old.items ++ status_text (names_of kind) status) }
+        (text.new.items ≡ text.old.items ++ status_text (bit_names_of kind) status) }
 {
     match status {
         Some(status) => push_bits(text, kind, status),
@@ -165,7 +165,7 @@ fn push_status(text: &mut Vec<u8>, kind: Kind, status: Option<u32>) -> Result<()
 
 // Adds the names of the bits that are set.
 fn push_bits(text: &mut Vec<u8>, kind: Kind, status: u32) -> Result<(), NoMemory>
-    ensures { OnOk result (text.new.items ≡ text.old.items ++ bits_text (names_of kind) status) }
+    ensures { OnOk result (text.new.items ≡ text.old.items ++ bits_text (bit_names_of kind) status) }
 {
     let mut is_first = true;
     for bit in 0..32 {
@@ -183,7 +183,7 @@ fn push_bits(text: &mut Vec<u8>, kind: Kind, status: u32) -> Result<(), NoMemory
 // Adds the name of a bit, after a comma unless it is the first.
 fn push_next_bit(text: &mut Vec<u8>, kind: Kind, bit: u32, is_first: bool) -> Result<(), NoMemory>
     ensures { OnOk result (text.new.items
-        ≡ text.old.items ++ next_bit_text is_first (bit_text (names_of kind) bit)) }
+        ≡ text.old.items ++ next_bit_text is_first (bit_name (bit_names_of kind) bit)) }
 {
     if !is_first {
         text.push(b',')?;
@@ -193,7 +193,7 @@ fn push_next_bit(text: &mut Vec<u8>, kind: Kind, bit: u32, is_first: bool) -> Re
 
 // Adds the name of a bit, or its number if it has none.
 fn push_bit(text: &mut Vec<u8>, kind: Kind, bit: u32) -> Result<(), NoMemory>
-    ensures { OnOk result (text.new.items ≡ text.old.items ++ bit_text (names_of kind) bit) }
+    ensures { OnOk result (text.new.items ≡ text.old.items ++ bit_name (bit_names_of kind) bit) }
 {
     let name = match kind {
         Kind::Uncorrectable => uncorrectable_name(bit),

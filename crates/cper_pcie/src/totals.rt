@@ -1,7 +1,8 @@
 //! What sections add up to.
 
 ghost use Rattle.std.specs.Prelude.{◌≡◌, ◌<◌, ◌^◌, ◌++◌, OnOk};
-ghost use Rattle.cper_pcie.specs.Steps.{no_totals, totals_with};
+ghost use Rattle.cper_pcie.specs.Along.{totals_with};
+ghost use Rattle.cper_pcie.specs.Steps.{no_totals};
 ghost use Rattle.cper_pcie.specs.Texts.{device_line, totals_text};
 
 use crate::counts::PcieCounts;

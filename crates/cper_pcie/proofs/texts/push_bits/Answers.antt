@@ -1,7 +1,7 @@
 use Rattle.std.proofs.Common.{◌≡◌, ℕ, Bool, List, sym, subst, ap, ◌∙◌, arith}
 use Rattle.ras_base.specs.Bits.{is_set}
-use Rattle.cper_pcie.specs.Texts.{bit_text}
-use Rattle.cper_pcie.specs.TextSteps.{names_of}
+use Rattle.cper_pcie.specs.Texts.{bit_name}
+use Rattle.cper_pcie.specs.TextSteps.{bit_names_of}
 use Rattle.cper_pcie.proofs.TextLemmas.{Names, names-more, names-same, names-none, names-some}
 use Rattle.cper_pcie.proofs.texts.push_bits.Goals as goal
 use Rattle.cper_pcie.proofs.texts.push_bits.Goals.{then-is_set+in_ok-push_next_bit, else-is_set}
@@ -9,7 +9,7 @@ use Rattle.cper_pcie.proofs.texts.push_bits.Goals.{then-is_set+in_ok-push_next_b
 pub loop-bit-preserved : goal.loop-bit-preserved
 loop-bit-preserved c =
     let p : ℕ → Bool = λ bit. is_set bit c.args.status in
-    let name : ℕ → List ℕ = bit_text (names_of c.args.kind) in
+    let name : ℕ → List ℕ = bit_name (bit_names_of c.args.kind) in
     let tested : c.is_set.result ≡ p c.loop-bit.bit = c.is_set.ensures ∙ ap (is_set c.loop-bit.bit) c.from.ensures in
     elim c.if-is_set.branch [
       | then-is_set+in_ok-push_next_bit w ↦
@@ -23,7 +23,7 @@ loop-bit-preserved c =
 pub returns-in_ok-extend_from_slice : goal.returns-in_ok-extend_from_slice
 returns-in_ok-extend_from_slice c =
     let p : ℕ → Bool = λ bit. is_set bit c.args.status in
-    let name : ℕ → List ℕ = bit_text (names_of c.args.kind) in
+    let name : ℕ → List ℕ = bit_name (bit_names_of c.args.kind) in
     let all : c.loop-bit.bit ≡ 32 = omega (arith, c.loop-bit-test.false, c.loop-bit.auto.bit-end) in
     c.in_ok-extend_from_slice.ensures.items
     ∙ names-none p name c.loop-bit.bit c.args.text.now.items c.loop-bit.text.items all
@@ -32,7 +32,7 @@ returns-in_ok-extend_from_slice c =
 pub returns-else-is_first : goal.returns-else-is_first
 returns-else-is_first c =
     let p : ℕ → Bool = λ bit. is_set bit c.args.status in
-    let name : ℕ → List ℕ = bit_text (names_of c.args.kind) in
+    let name : ℕ → List ℕ = bit_name (bit_names_of c.args.kind) in
     let all : c.loop-bit.bit ≡ 32 = omega (arith, c.loop-bit-test.false, c.loop-bit.auto.bit-end) in
     names-some p name c.loop-bit.bit c.args.text.now.items c.loop-bit.text.items all
     (subst (λ b. Names p name c.loop-bit.bit b c.args.text.now.items c.loop-bit.text.items) c.if-is_first.false c.loop-bit.invariant)

@@ -1,5 +1,5 @@
 use Rattle.std.proofs.Common.{ap, ◌∙◌}
-use Rattle.cper_pcie.specs.Steps.{filter_from}
+use Rattle.cper_pcie.specs.Along.{filter_from}
 use Rattle.cper_pcie.proofs.FilterLemmas.{filter-is}
 use Rattle.cper_pcie.proofs.filter.PcieFilter.new.Goals as goal
 
