@@ -6,7 +6,7 @@ use Rattle.ras_script.specs.Number.{decimal_of, hexadecimal_of}
 use Rattle.ras_texts.specs.declared.listing.Listing.{Listing}
 use Rattle.ras_texts.specs.declared.listing.Listing.TheVariants.{Counts, Pages, Names, Modules}
 use Rattle.ras_daemon.specs.declared.word.Task.{Task}
-use Rattle.ras_daemon.specs.declared.word.Task.TheVariants.{Run, Report, Klog}
+use Rattle.ras_daemon.specs.declared.word.Task.TheVariants.{Run, Report, Pcie, Klog}
 
 -- the listings by their words
 abbrev pub listing_of : List ℕ → Option Listing
@@ -23,11 +23,14 @@ klog_of one other =
     option_and_then (λ boot. option_map (λ cap. Klog boot cap) (hexadecimal_of other))
     (decimal_of (2 ^ 64 - 1) one)
 
--- The forms of a call: `run`; `report` with a listing; `klog` with a boot and IA32_MCG_CAP. Other
--- words are no form.
+-- The forms of a call: `run`; `pcie`; `report` with a listing; `klog` with a boot and IA32_MCG_CAP.
+-- Other words are no form.
 abbrev pub task_of : List (List ℕ) → Option Task
 task_of [] = None
-task_of (word ∷ []) = if bytes_eq word (codes "run") then Some Run else None
+task_of (word ∷ []) =
+    if bytes_eq word (codes "run") then Some Run
+    else if bytes_eq word (codes "pcie") then Some Pcie
+    else None
 task_of (word ∷ what ∷ []) =
     if bytes_eq word (codes "report") then option_map Report (listing_of what) else None
 task_of (word ∷ one ∷ other ∷ []) = if bytes_eq word (codes "klog") then klog_of one other else None
@@ -36,11 +39,13 @@ task_of (word ∷ one ∷ other ∷ more ∷ words) = None
 -- P holds if what the words ask for reads the source
 abbrev pub IfReads : Option Task → Type 0 → Type 0
 IfReads (Some Run) P = P
+IfReads (Some Pcie) P = P
 IfReads (Some (Klog boot cap)) P = P
 IfReads task P = ⊤
 
 -- P holds if it doesn't
 abbrev pub UnlessReads : Option Task → Type 0 → Type 0
 UnlessReads (Some Run) P = ⊤
+UnlessReads (Some Pcie) P = ⊤
 UnlessReads (Some (Klog boot cap)) P = ⊤
 UnlessReads task P = P

@@ -48,6 +48,8 @@ pub enum Task {
     Run,
     /// List what the journal's files hold.
     Report(Listing),
+    /// Print the PCI Express sections of a script's records and blocks.
+    Pcie,
     /// Print the machine checks of a kernel log.
     Klog {
         /// The number of the boot.
@@ -60,6 +62,7 @@ pub enum Task {
 /// What these words ask for, if they are a form of a call:
 ///
 /// - `run`
+/// - `pcie`
 /// - `report` with one of `counts`, `pages`, `names` and `modules`
 /// - `klog` with the number of the boot in decimal digits and IA32_MCG_CAP in hexadecimal ones, as
 ///   a script writes them
@@ -68,6 +71,7 @@ pub fn task_of(words: &[RasWord]) -> Option<Task>
 {
     match words {
         [word] if word.bytes() == b"run".as_slice() => Some(Task::Run),
+        [word] if word.bytes() == b"pcie".as_slice() => Some(Task::Pcie),
         [word, what] if word.bytes() == b"report".as_slice() => {
             listing_of(what.bytes()).map(Task::Report)
         }

@@ -11,7 +11,7 @@ use Rattle.ras_klog.specs.Along.{answers_along, last_along, rest_along, stage_ov
 use Rattle.ras_klog.specs.Klog.{added, answers_after, early_text, klog_answers, klog_filter, klog_last, klog_rest, klog_text}
 use Rattle.ras_klog.specs.Reading.{klog_line_of}
 use Rattle.ras_klog.specs.Steps.{at_start, out_at, out_at_end, outs_along, outs_to_end, some_out, stage_after}
-use Rattle.ras_klog.specs.Texts.{counts_line, end_line, is_logged, is_partial, out_text}
+use Rattle.ras_klog.specs.Texts.{klog_counts_line, klog_end_line, is_logged, is_partial, out_text}
 use Rattle.ras_klog.proofs.GroupLemmas.{at_once, to_end}
 
 -- what a text adds to its beginning
@@ -98,9 +98,9 @@ module _ (boot cap : ℕ) where
   last_is : (lines : List (List ℕ)) → last_along boot cap at_start 0 0 lines ≡ klog_last boot cap lines
   last_is lines =
       let outs : List KlogOut = outs_to_end boot cap at_start (map klog_line_of lines) in
-      ap (λ (n : ℕ). counts_line n (0 + count_by is_partial outs)) (from_zero (count_by is_logged outs))
-      ∙ ap (counts_line (count_by is_logged outs)) (from_zero (count_by is_partial outs))
-      ∙ ap end_line (to_end boot cap at_start (map klog_line_of lines))
+      ap (λ (n : ℕ). klog_counts_line n (0 + count_by is_partial outs)) (from_zero (count_by is_logged outs))
+      ∙ ap (klog_counts_line (count_by is_logged outs)) (from_zero (count_by is_partial outs))
+      ∙ ap klog_end_line (to_end boot cap at_start (map klog_line_of lines))
 
   pub filter_is : record { answers = answers_along boot cap at_start; rest = rest_along at_start; last = last_along boot cap at_start 0 0 } ≡ klog_filter boot cap
   filter_is =

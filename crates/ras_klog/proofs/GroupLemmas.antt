@@ -6,7 +6,7 @@ use Rattle.ras_klog.specs.declared.state.KlogOut.{KlogOut}
 use Rattle.ras_klog.specs.declared.state.KlogOut.TheVariants.{Partial}
 use Rattle.ras_klog.specs.declared.state.Stage.{Stage}
 use Rattle.ras_klog.specs.declared.state.Stage.TheVariants.{Idle, Begun, Timed}
-use Rattle.ras_klog.specs.Groups.{told_of, told_of_groups, with_seconds, first_seconds, up_to_start, without_open}
+use Rattle.ras_klog.specs.Groups.{told_of, told_of_groups, with_seconds, told_seconds, up_to_start, without_open}
 use Rattle.ras_klog.specs.Steps.{outs_along, outs_to_end}
 
 module _ (boot cap : ℕ) where
@@ -15,7 +15,7 @@ module _ (boot cap : ℕ) where
   told_from Idle lines = told_of_groups boot cap lines
   told_from (Begun head) lines = told_of boot cap head (up_to_start lines) ∷ told_of_groups boot cap lines
   told_from (Timed head tsc addr misc) lines =
-      with_seconds boot cap head tsc addr misc (first_seconds (up_to_start lines)) ∷ told_of_groups boot cap lines
+      with_seconds boot cap head tsc addr misc (told_seconds (up_to_start lines)) ∷ told_of_groups boot cap lines
 
   pub to_end : (stage : Stage) (lines : List KlogLine) → outs_to_end boot cap stage lines ≡ told_from stage lines
   to_end Idle [] = refl

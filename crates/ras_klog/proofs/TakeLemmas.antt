@@ -9,7 +9,7 @@ use Rattle.ras_klog.specs.declared.state.Stage.{Stage}
 use Rattle.ras_klog.specs.Along.{Progress, answers_along, counts_with, last_along, makes_of, rest_along}
 use Rattle.ras_klog.specs.Reading.{klog_line_of}
 use Rattle.ras_klog.specs.Steps.{out_at, outs_to_end, some_out, stage_after}
-use Rattle.ras_klog.specs.Texts.{counts_line, is_logged, is_partial, out_text}
+use Rattle.ras_klog.specs.Texts.{klog_counts_line, is_logged, is_partial, out_text}
 
 count_by-cons : (p : KlogOut → Bool) (out : KlogOut) (outs : List KlogOut) → count_by p (out ∷ outs) ≡ count_by p (out ∷ []) + count_by p outs
 count_by-cons p out outs =
@@ -44,8 +44,8 @@ took log line stage out counts taken old new out_is stage_is counts_is adds = re
     last_step lines =
         let after : Stage = stage_after log.stage (klog_line_of line) in
         let outs : List KlogOut = outs_to_end log.boot log.cap after (map klog_line_of lines) in
-        ap (λ (o : KlogOut). counts_line (log.counts.reports + count_by is_logged (some_out o ++ outs)) (log.counts.partial + count_by is_partial (some_out o ++ outs))) (sym out_is)
-        ∙ ap (λ (reports : ℕ). counts_line reports (log.counts.partial + count_by is_partial (some_out out ++ outs))) (counted is_logged refl log.counts.reports out outs)
-        ∙ ap (λ (partial : ℕ). counts_line (log.counts.reports + count_by is_logged (out ∷ []) + count_by is_logged outs) partial) (counted is_partial refl log.counts.partial out outs)
+        ap (λ (o : KlogOut). klog_counts_line (log.counts.reports + count_by is_logged (some_out o ++ outs)) (log.counts.partial + count_by is_partial (some_out o ++ outs))) (sym out_is)
+        ∙ ap (λ (reports : ℕ). klog_counts_line reports (log.counts.partial + count_by is_partial (some_out out ++ outs))) (counted is_logged refl log.counts.reports out outs)
+        ∙ ap (λ (partial : ℕ). klog_counts_line (log.counts.reports + count_by is_logged (out ∷ []) + count_by is_logged outs) partial) (counted is_partial refl log.counts.partial out outs)
         ∙ ap (λ (c : Counts). last_along log.boot log.cap after c.reports c.partial lines) (sym counts_is)
         ∙ ap (λ (s : Stage). last_along log.boot log.cap s counts.reports counts.partial lines) (sym stage_is)

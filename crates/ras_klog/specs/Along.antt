@@ -7,7 +7,7 @@ use Rattle.ras_klog.specs.declared.state.KlogOut.{KlogOut}
 use Rattle.ras_klog.specs.declared.state.Stage.{Stage}
 use Rattle.ras_klog.specs.Reading.{klog_line_of}
 use Rattle.ras_klog.specs.Steps.{out_at, out_at_end, outs_to_end, stage_after}
-use Rattle.ras_klog.specs.Texts.{counts_line, is_logged, is_partial, out_text}
+use Rattle.ras_klog.specs.Texts.{klog_counts_line, is_logged, is_partial, out_text}
 
 -- the text of each line
 abbrev pub answers_along : ℕ → ℕ → Stage → List (List ℕ) → List (Result (List ℕ) LineRefused)
@@ -29,7 +29,7 @@ rest_along stage lines = out_text (out_at_end (stage_over stage lines))
 abbrev pub last_along : ℕ → ℕ → Stage → ℕ → ℕ → List (List ℕ) → List ℕ
 last_along boot cap stage reports partial lines =
     let outs = outs_to_end boot cap stage (map klog_line_of lines) in
-    counts_line (reports + count_by is_logged outs) (partial + count_by is_partial outs)
+    klog_counts_line (reports + count_by is_logged outs) (partial + count_by is_partial outs)
 
 -- the counts with what is told counted too
 abbrev pub counts_with : Counts → KlogOut → Counts

@@ -27,14 +27,14 @@ groups_of (Start cpu mcg bank status ∷ lines) =
 groups_of (line ∷ lines) = groups_of lines
 
 -- the first time that lines tell
-abbrev pub first_seconds : List KlogLine → Option ℕ
-first_seconds [] = None
-first_seconds (Processor seconds ∷ lines) = Some seconds
-first_seconds (line ∷ lines) = first_seconds lines
+abbrev pub told_seconds : List KlogLine → Option ℕ
+told_seconds [] = None
+told_seconds (Processor seconds ∷ lines) = Some seconds
+told_seconds (line ∷ lines) = told_seconds lines
 
 -- the report of a group, by its counter, its other two registers and its time
-abbrev pub report_of : ℕ → ℕ → Head → ℕ → ℕ → ℕ → ℕ → BankReport
-report_of boot cap head tsc addr misc seconds = record {
+abbrev pub bank_of_group : ℕ → ℕ → Head → ℕ → ℕ → ℕ → ℕ → BankReport
+bank_of_group boot cap head tsc addr misc seconds = record {
   boot = boot;
   seconds = seconds;
   cpu = head.cpu;
@@ -50,13 +50,13 @@ report_of boot cap head tsc addr misc seconds = record {
 -- that report, if the group has a time after its first counter
 abbrev pub with_seconds : ℕ → ℕ → Head → ℕ → ℕ → ℕ → Option ℕ → KlogOut
 with_seconds boot cap head tsc addr misc None = Partial head.cpu head.bank
-with_seconds boot cap head tsc addr misc (Some seconds) = Whole (report_of boot cap head tsc addr misc seconds)
+with_seconds boot cap head tsc addr misc (Some seconds) = Whole (bank_of_group boot cap head tsc addr misc seconds)
 
 -- what a group tells: its report, by its first counter and the first time after that, or that it
 -- isn't whole
 abbrev pub told_of : ℕ → ℕ → Head → List KlogLine → KlogOut
 told_of boot cap head [] = Partial head.cpu head.bank
-told_of boot cap head (Tsc tsc addr misc ∷ lines) = with_seconds boot cap head tsc addr misc (first_seconds lines)
+told_of boot cap head (Tsc tsc addr misc ∷ lines) = with_seconds boot cap head tsc addr misc (told_seconds lines)
 told_of boot cap head (line ∷ lines) = told_of boot cap head lines
 
 -- what the groups of a log tell, in order

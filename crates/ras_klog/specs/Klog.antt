@@ -6,7 +6,7 @@ use Rattle.line_filters.specs.Filter.{Filter}
 use Rattle.ras_klog.specs.declared.state.KlogOut.{KlogOut}
 use Rattle.ras_klog.specs.Groups.{told_of_groups, without_open}
 use Rattle.ras_klog.specs.Reading.{klog_line_of}
-use Rattle.ras_klog.specs.Texts.{end_line, out_text}
+use Rattle.ras_klog.specs.Texts.{klog_end_line, out_text}
 
 -- what the groups of a log's lines tell, in order
 abbrev pub klog_outs : ℕ → ℕ → List (List ℕ) → List KlogOut
@@ -40,7 +40,7 @@ klog_rest boot cap lines = added (early_text boot cap lines) (klog_text boot cap
 
 -- the line that a whole log ends with
 abbrev pub klog_last : ℕ → ℕ → List (List ℕ) → List ℕ
-klog_last boot cap lines = end_line (klog_outs boot cap lines)
+klog_last boot cap lines = klog_end_line (klog_outs boot cap lines)
 
 -- what is made of a log of this boot and of processors with this IA32_MCG_CAP
 abbrev pub klog_filter : ℕ → ℕ → Filter

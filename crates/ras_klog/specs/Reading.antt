@@ -21,11 +21,10 @@ word words place = slice_index_or words place []
 
 -- ---- numbers
 
--- one number read after another, if the one reads
-infixl 10 ◌>>=◌
-abbrev pub ◌>>=◌ : {A B : Type 0} → Option A → (A → Option B) → Option B
-None >>= next = None
-(Some x) >>= next = next x
+-- what is read after a number, if the number reads
+abbrev pub read_then : {A B : Type 0} → Option A → (A → Option B) → Option B
+read_then None next = None
+read_then (Some x) next = next x
 
 -- an answer, if something holds
 abbrev pub provided : {A : Type 0} → Bool → Option A → Option A
@@ -46,12 +45,12 @@ is_vendor_and_model word =
 
 -- `<mcg> Bank <bank>: <status>`, and then nothing but spaces
 unfoldable pub bank_of : ℕ → List (List ℕ) → Option KlogLine
-bank_of cpu words = do
-  mcg ← hexadecimal_of (word words 0)
-  provided (bytes_eq (word words 1) (codes "Bank")) (do
-    bank ← colon_number 255 (word words 2)
-    status ← hexadecimal_of (word words 3)
-    provided (list_all is_empty (drop 4 words)) (Some (Start cpu mcg bank status)))
+bank_of cpu words =
+    read_then (hexadecimal_of (word words 0)) (λ mcg.
+    provided (bytes_eq (word words 1) (codes "Bank")) (
+    read_then (colon_number 255 (word words 2)) (λ bank.
+    read_then (hexadecimal_of (word words 3)) (λ status.
+    provided (list_all is_empty (drop 4 words)) (Some (Start cpu mcg bank status))))))
 
 -- `Check: ` or `Check Exception: `, and then the bank
 unfoldable pub check_of : ℕ → List (List ℕ) → Option KlogLine
@@ -61,10 +60,10 @@ check_of cpu words =
     (provided (bytes_eq (word words 1) (codes "Exception:")) (bank_of cpu (drop 2 words)))
 
 -- `<cpu>: Machine `, and then what is checked
-unfoldable pub start_of : List (List ℕ) → Option KlogLine
-start_of words = do
-  cpu ← colon_number 65535 (word words 0)
-  provided (bytes_eq (word words 1) (codes "Machine")) (check_of cpu (drop 2 words))
+unfoldable pub start_line_of : List (List ℕ) → Option KlogLine
+start_line_of words =
+    read_then (colon_number 65535 (word words 0)) (λ cpu.
+    provided (bytes_eq (word words 1) (codes "Machine")) (check_of cpu (drop 2 words)))
 
 -- a hexadecimal number after its name, 0 if that doesn't read, and the words after it
 unfoldable pub named : List ℕ → List (List ℕ) → ℕ × List (List ℕ)
@@ -77,26 +76,25 @@ named name words =
 
 -- `<tsc>`, then ` ADDR <addr>` if that reads, then ` MISC <misc>` if that reads, then anything
 unfoldable pub tsc_of : List (List ℕ) → Option KlogLine
-tsc_of words = do
-  tsc ← hexadecimal_of (word words 0)
-  Some (with_addr tsc (named (codes "ADDR") (drop 1 words)))
+tsc_of words =
+    read_then (hexadecimal_of (word words 0)) (λ tsc.
+    Some (with_addr tsc (named (codes "ADDR") (drop 1 words))))
   where
     with_addr : ℕ → ℕ × List (List ℕ) → KlogLine
     with_addr tsc addr = Tsc tsc addr.0 (named (codes "MISC") addr.1).0
 
 -- `<n>:<m> TIME <seconds>`, then anything
-unfoldable pub processor_of : List (List ℕ) → Option KlogLine
-processor_of words =
-    provided (is_vendor_and_model (word words 0)) (provided (bytes_eq (word words 1) (codes "TIME")) (do
-      seconds ← decimal_of (2 ^ 64 - 1) (word words 2)
-      Some (Processor seconds)))
+unfoldable pub processor_line_of : List (List ℕ) → Option KlogLine
+processor_line_of words =
+    provided (is_vendor_and_model (word words 0)) (provided (bytes_eq (word words 1) (codes "TIME")) (
+    read_then (decimal_of (2 ^ 64 - 1) (word words 2)) (λ seconds. Some (Processor seconds))))
 
 -- a line by its words: the first says which kind it is
 abbrev pub told_by_words : List (List ℕ) → Option KlogLine
 told_by_words words =
-    if bytes_eq (word words 0) (codes "CPU") then start_of (drop 1 words)
+    if bytes_eq (word words 0) (codes "CPU") then start_line_of (drop 1 words)
     else (if bytes_eq (word words 0) (codes "TSC") then tsc_of (drop 1 words)
-    else provided (bytes_eq (word words 0) (codes "PROCESSOR")) (processor_of (drop 1 words)))
+    else provided (bytes_eq (word words 0) (codes "PROCESSOR")) (processor_line_of (drop 1 words)))
 
 -- what stands before the words that tell of a machine check
 abbrev pub marker : List ℕ
@@ -110,4 +108,4 @@ after_marker (b ∷ line) =
 
 -- a line of a kernel log: only what follows its first marker counts
 abbrev pub klog_line_of : List ℕ → KlogLine
-klog_line_of bytes = unwrap_or (after_marker bytes >>= λ text. told_by_words (parts_of text)) Other
+klog_line_of bytes = unwrap_or (read_then (after_marker bytes) (λ text. told_by_words (parts_of text))) Other

@@ -33,10 +33,10 @@ is_partial (Partial cpu bank) = true
 is_partial out = false
 
 -- the line that a whole log ends with: how many log lines and how many partial ones it has
-abbrev pub counts_line : ℕ → ℕ → List ℕ
-counts_line reports partial =
+abbrev pub klog_counts_line : ℕ → ℕ → List ℕ
+klog_counts_line reports partial =
     line_with (codes "end reports=" ++ decimal reports ++ codes " partial=" ++ decimal partial)
 
 -- the same of what was told
-abbrev pub end_line : List KlogOut → List ℕ
-end_line outs = counts_line (count_by is_logged outs) (count_by is_partial outs)
+abbrev pub klog_end_line : List KlogOut → List ℕ
+klog_end_line outs = klog_counts_line (count_by is_logged outs) (count_by is_partial outs)

@@ -2,7 +2,7 @@
 
 ghost use Rattle.std.specs.Prelude.{◌≡◌, ◌≤◌, IfSome};
 ghost use Rattle.std.specs.Option.{option_map};
-ghost use Rattle.ras_klog.specs.Reading.{after_marker, bank_of, check_of, colon_number, is_vendor_and_model, klog_line_of, named, parts_of, processor_of, start_of, told_by_words, tsc_of};
+ghost use Rattle.ras_klog.specs.Reading.{after_marker, bank_of, check_of, colon_number, is_vendor_and_model, klog_line_of, named, parts_of, processor_line_of, start_line_of, told_by_words, tsc_of};
 ghost use Rattle.ras_klog.specs.Words.{words_in};
 
 use crate::words::{Words, position_of};
@@ -80,20 +80,20 @@ fn told_by(text: &[u8]) -> Option<KlogLine>
     let mut words = Words::new(text);
     let kind = words.next();
     if kind == b"CPU".as_slice() {
-        start_of(&mut words)
+        start_line_of(&mut words)
     } else if kind == b"TSC".as_slice() {
         tsc_of(&mut words)
     } else if kind == b"PROCESSOR".as_slice() {
-        processor_of(&mut words)
+        processor_line_of(&mut words)
     } else {
         None
     }
 }
 
 // `<cpu>: Machine `, and then what is checked.
-#[tactic(auto, unfolding(crate::specs::Reading::start_of))]
-fn start_of(words: &mut Words<'_>) -> Option<KlogLine>
-    ensures { result ≡ start_of (words_in words.old) }
+#[tactic(auto, unfolding(crate::specs::Reading::start_line_of))]
+fn start_line_of(words: &mut Words<'_>) -> Option<KlogLine>
+    ensures { result ≡ start_line_of (words_in words.old) }
 {
     let cpu = colon_number(words.next(), u64::from(u16::MAX))? as u16;
     if words.next() != b"Machine".as_slice() {
@@ -171,9 +171,9 @@ fn named(name: &[u8], words: &mut Words<'_>) -> u64
 }
 
 // `<n>:<m> TIME <seconds>`, then anything.
-#[tactic(auto, unfolding(crate::specs::Reading::processor_of))]
-fn processor_of(words: &mut Words<'_>) -> Option<KlogLine>
-    ensures { result ≡ processor_of (words_in words.old) }
+#[tactic(auto, unfolding(crate::specs::Reading::processor_line_of))]
+fn processor_line_of(words: &mut Words<'_>) -> Option<KlogLine>
+    ensures { result ≡ processor_line_of (words_in words.old) }
 {
     if !is_vendor_and_model(words.next()) || words.next() != b"TIME".as_slice() {
         return None;

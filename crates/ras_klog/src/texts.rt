@@ -1,7 +1,7 @@
 //! The lines that tell of the reports of a kernel log.
 
 ghost use Rattle.std.specs.Prelude.{◌≡◌, ◌++◌, decimal, OnOk};
-ghost use Rattle.ras_klog.specs.Texts.{bank_text, counts_line, out_text, partial_line};
+ghost use Rattle.ras_klog.specs.Texts.{bank_text, klog_counts_line, out_text, partial_line};
 
 use crate::KlogOut;
 use dimm_topology::Topology;
@@ -44,7 +44,7 @@ fn push_partial(text: &mut Vec<u8>, cpu: u16, bank: u8) -> Result<(), NoMemory>
 
 // Adds the line that a whole log ends with.
 pub(crate) fn push_counts(text: &mut Vec<u8>, reports: u64, partial: u64) -> Result<(), NoMemory>
-    ensures { OnOk result (text.new.items ≡ text.old.items ++ counts_line reports partial) }
+    ensures { OnOk result (text.new.items ≡ text.old.items ++ klog_counts_line reports partial) }
 {
     push_named(text, b"end reports=", reports)?;
     push_named(text, b" partial=", partial)?;
