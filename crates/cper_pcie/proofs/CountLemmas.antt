@@ -11,7 +11,7 @@ use Rattle.cper_pcie.specs.declared.counts.ErrorCounts.{ErrorCounts}
 use Rattle.cper_pcie.specs.Bits.{error_count}
 use Rattle.cper_pcie.specs.Devices.{same_device}
 use Rattle.cper_pcie.specs.DeviceLemmas.{same_device-exact, same_device-refl}
-use Rattle.cper_pcie.specs.Counts.{device_in, in_64_bits, errors_in, errors_with, counts_of, counts_with}
+use Rattle.cper_pcie.specs.Counts.{counted_device, in_64_bits, errors_in, errors_with, counts_of, pcie_counts_with}
 
 abbrev pub none : ErrorCounts
 none = record { uncor = 0; cor = 0 }
@@ -37,14 +37,14 @@ errors_in-none : errors_in [] ≡ none
 unfolding errors_in
 errors_in-none = refl
 
-pub counts_of-more : (sections : List PcieSection) (section : PcieSection) → counts_of (sections ++ section ∷ []) ≡ counts_with (counts_of sections) section
+pub counts_of-more : (sections : List PcieSection) (section : PcieSection) → counts_of (sections ++ section ∷ []) ≡ pcie_counts_with (counts_of sections) section
 counts_of-more sections section =
-    table-more same_device same_device-exact same_device-refl device_in errors_in (λ s. errors_with none s) errors_with
+    table-more same_device same_device-exact same_device-refl counted_device errors_in (λ s. errors_with none s) errors_with
     (λ s. errors_in-more [] s ∙ ap (λ errors. errors_with errors s) errors_in-none) (λ before s some. errors_in-more before s) sections section
 
 -- the row that is put in its place
 pub row_put : (rows : List (Option PcieDevice × ErrorCounts)) (section : PcieSection) (errors : ErrorCounts)
     → errors ≡ errors_with (unwrap_or (lookup (same_device section.device) rows) none) section
-    → updated_rows same_device section.device errors (λ old. errors) rows ≡ counts_with rows section
+    → updated_rows same_device section.device errors (λ old. errors) rows ≡ pcie_counts_with rows section
 row_put rows section errors is =
     updated-looked same_device section.device none (λ (e : ErrorCounts). errors_with e section) errors rows is

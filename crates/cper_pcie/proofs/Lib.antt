@@ -1,2 +1,8 @@
 mod BitLemmas
 mod CountLemmas
+mod ReportLemmas
+mod CountedLemmas
+mod FilterLemmas
+mod LineLemmas
+mod TotalLemmas
+mod TextLemmas

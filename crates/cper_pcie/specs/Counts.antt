@@ -10,8 +10,8 @@ use Rattle.cper_pcie.specs.Bits.{error_count}
 use Rattle.cper_pcie.specs.Devices.{same_device}
 
 -- what a section is counted under: its function, or that it names none
-abbrev pub device_in : PcieSection → Option (Option PcieDevice)
-device_in section = Some section.device
+abbrev pub counted_device : PcieSection → Option (Option PcieDevice)
+counted_device section = Some section.device
 
 -- a sum in a register of 64 bits, which stays at its greatest number
 abbrev pub in_64_bits : ℕ → ℕ
@@ -27,7 +27,7 @@ errors_in sections = record {
 -- the counts of a list of sections: each function in first-seen order, with the errors that its own
 -- sections report
 abbrev pub counts_of : List PcieSection → List (Option PcieDevice × ErrorCounts)
-counts_of sections = table same_device device_in errors_in sections
+counts_of sections = table same_device counted_device errors_in sections
 
 -- errors with those of one section more
 unfoldable pub errors_with : ErrorCounts → PcieSection → ErrorCounts
@@ -37,7 +37,7 @@ errors_with errors section = record {
 }
 
 -- counts with one section more: its function's row grows, or one begins after the others
-abbrev pub counts_with : List (Option PcieDevice × ErrorCounts) → PcieSection → List (Option PcieDevice × ErrorCounts)
-counts_with rows section =
+abbrev pub pcie_counts_with : List (Option PcieDevice × ErrorCounts) → PcieSection → List (Option PcieDevice × ErrorCounts)
+pcie_counts_with rows section =
     updated_rows same_device section.device (errors_with (record { uncor = 0; cor = 0 }) section)
     (λ errors. errors_with errors section) rows

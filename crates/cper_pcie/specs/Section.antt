@@ -19,8 +19,8 @@ pcie_validation bytes = number_at 0 8 bytes
 
 -- The device identification, which stands at 24: the vendor and the device's kind, then the class
 -- code (3), which isn't read, then the numbers of function, device, segment and primary bus.
-unfoldable pub device_of : List ℕ → PcieDevice
-device_of bytes = record {
+unfoldable pub pcie_device_of : List ℕ → PcieDevice
+pcie_device_of bytes = record {
   segment = number_at 33 2 bytes;
   bus = slice_index bytes 35;
   device = slice_index bytes 32;
@@ -43,7 +43,7 @@ unfoldable pub pcie_of : List ℕ → Result PcieSection PcieRefused
 pcie_of bytes =
     if nat_lt (length bytes) PCIE_LENGTH then Err Short
     else Ok (record {
-      device = if_valid 3 (pcie_validation bytes) (device_of bytes);
+      device = if_valid 3 (pcie_validation bytes) (pcie_device_of bytes);
       uncor = if_valid 7 (pcie_validation bytes) (uncorrectable_of bytes);
       cor = if_valid 7 (pcie_validation bytes) (correctable_of bytes);
     })

@@ -7,7 +7,7 @@ ghost use Rattle.cper_pcie.specs.declared.section.PcieSection.{PcieSection};
 ghost use Rattle.cper_pcie.specs.contracts.section.PcieDeviceHash.TheImpl.{hash_input-value as device_input};
 ghost use Rattle.cper_pcie.specs.Devices.{same_device};
 ghost use Rattle.cper_pcie.specs.DeviceLemmas.{same_device-exact, same_device-laws, same_device-fed};
-ghost use Rattle.cper_pcie.specs.Counts.{counts_of, counts_with, errors_with};
+ghost use Rattle.cper_pcie.specs.Counts.{counts_of, pcie_counts_with, errors_with};
 
 use crate::bits::error_count;
 use crate::section::{PcieDevice, PcieSection};
@@ -120,7 +120,7 @@ impl PcieCounts {
 
     /// Counts a section. After `NoMemory` the counts stay.
     pub fn add(&mut self, section: &PcieSection) -> Result<(), NoMemory>
-        ensures ok { OnOk result (self.new ≡ counts_with self.old section.now) }
+        ensures ok { OnOk result (self.new ≡ pcie_counts_with self.old section.now) }
         ensures err { OnErr result (self.new ≡ self.old) }
 
         // The counts of a list of sections become those of the list with this section.

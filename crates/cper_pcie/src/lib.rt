@@ -1,11 +1,19 @@
-//! PCI Express sections of CPER records, and the errors that they count for each device. It follows
-//! the UEFI specification, appendix N, "PCI Express Error Section".
+//! PCI Express sections of CPER records, the errors that they count for each device, and a filter
+//! that tells them of a script. It follows the UEFI specification, appendix N, "PCI Express Error
+//! Section".
 #![tactic(auto)]
 
 mod bits;
+mod counted;
 mod counts;
+mod filter;
+mod reports;
 mod section;
+mod texts;
+mod totals;
 
 pub use bits::{correctable_name, uncorrectable_name};
 pub use counts::{ErrorCounts, PcieCounts};
+pub use filter::PcieFilter;
+pub use reports::STORED_LENGTH;
 pub use section::{PCIE_LENGTH, PcieDevice, PcieRefused, PcieSection, is_pcie, read_pcie};

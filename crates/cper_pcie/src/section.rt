@@ -2,7 +2,7 @@
 
 ghost use Rattle.std.specs.Prelude.{◌≡◌, ◌↔◌, ◌<◌, ◌≤◌, length, Err};
 ghost use Rattle.std.specs.Str.{bytes_eq};
-ghost use Rattle.cper_pcie.specs.Section.{pcie_guid, pcie_of, device_of};
+ghost use Rattle.cper_pcie.specs.Section.{pcie_guid, pcie_of, pcie_device_of};
 ghost use Rattle.cper_pcie.specs.declared.section.PcieRefused.TheVariants.{Short};
 
 use ras_base::is_set;
@@ -86,10 +86,10 @@ pub fn read_pcie(bytes: &[u8]) -> Result<PcieSection, PcieRefused>
 }
 
 // The function that a section names, whether it says that it does or not.
-#[tactic(auto, unfolding(crate::specs::Section::device_of))]
+#[tactic(auto, unfolding(crate::specs::Section::pcie_device_of))]
 fn device_at(bytes: &[u8]) -> PcieDevice
     requires { PCIE_LENGTH ≤ length bytes.now }
-    ensures { result ≡ device_of bytes.now }
+    ensures { result ≡ pcie_device_of bytes.now }
 {
     PcieDevice {
         segment: u16_at(bytes, 33),

@@ -7,7 +7,7 @@ use Rattle.ras_script.specs.Number.{decimal_of, hexadecimal_of}
 use Rattle.ras_texts.specs.declared.listing.Listing.{Listing}
 use Rattle.ras_texts.specs.declared.listing.Listing.TheVariants.{Counts, Pages, Names, Modules}
 use Rattle.ras_daemon.specs.declared.word.Task.{Task}
-use Rattle.ras_daemon.specs.declared.word.Task.TheVariants.{Run, Report, Load, Klog}
+use Rattle.ras_daemon.specs.declared.word.Task.TheVariants.{Run, Report, Load, Pcie, Klog}
 
 -- the listings by their words
 abbrev pub listing_of : List ℕ → Option Listing
@@ -29,11 +29,14 @@ abbrev pub load_of : List ℕ → Option Task
 load_of word =
     option_and_then (λ n. if n == 0 then None else Some (Load n)) (decimal_of MOST_LINES word)
 
--- The forms of a call: `run`; `report` with a listing; `load` with a number; `klog` with a boot and
--- IA32_MCG_CAP. Other words are no form.
+-- The forms of a call: `run`; `pcie`; `report` with a listing; `load` with a number; `klog` with a
+-- boot and IA32_MCG_CAP. Other words are no form.
 abbrev pub task_of : List (List ℕ) → Option Task
 task_of [] = None
-task_of (word ∷ []) = if bytes_eq word (codes "run") then Some Run else None
+task_of (word ∷ []) =
+    if bytes_eq word (codes "run") then Some Run
+    else if bytes_eq word (codes "pcie") then Some Pcie
+    else None
 task_of (word ∷ what ∷ []) =
     if bytes_eq word (codes "report") then option_map Report (listing_of what)
     else if bytes_eq word (codes "load") then load_of what
@@ -49,11 +52,13 @@ IsTask task = ⊤
 -- P holds if what the words ask for reads the source
 abbrev pub IfReads : Option Task → Type 0 → Type 0
 IfReads (Some Run) P = P
+IfReads (Some Pcie) P = P
 IfReads (Some (Klog boot cap)) P = P
 IfReads task P = ⊤
 
 -- P holds if it doesn't
 abbrev pub UnlessReads : Option Task → Type 0 → Type 0
 UnlessReads (Some Run) P = ⊤
+UnlessReads (Some Pcie) P = ⊤
 UnlessReads (Some (Klog boot cap)) P = ⊤
 UnlessReads task P = P

@@ -26,7 +26,7 @@ ghost use Rattle.ras_daemon.specs.Script.{events_of};
 ghost use Rattle.ras_daemon.specs.Task.{IfReads, UnlessReads, task_of};
 
 use crate::ending::{end_run, last_line};
-use crate::filters::print_kernel_log;
+use crate::filters::{print_kernel_log, print_pcie_sections};
 use crate::lines::take_lines;
 use crate::load::load;
 use crate::{RasWord, Task, task_of};
@@ -157,6 +157,7 @@ fn call<S: Source, B: Board>(
         Some(Task::Run) => run(alloc, source, board),
         Some(Task::Report(listing)) => report(alloc, listing, board),
         Some(Task::Load(n)) => load(alloc, n, board),
+        Some(Task::Pcie) => print_pcie_sections(alloc, source, board),
         Some(Task::Klog { boot, cap }) => print_kernel_log(alloc, boot, cap, source, board),
         None => last_line(b"stop 1 usage\n", Exit::Usage, board),
     }

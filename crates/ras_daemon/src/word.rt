@@ -51,6 +51,8 @@ pub enum Task {
     Report(Listing),
     /// Take a script that is made up of so many reports, in memory, and sum up its account.
     Load(u64),
+    /// Print the PCI Express sections of a script's records and blocks.
+    Pcie,
     /// Print the machine checks of a kernel log.
     Klog {
         /// The number of the boot.
@@ -63,6 +65,7 @@ pub enum Task {
 /// What these words ask for, if they are a form of a call:
 ///
 /// - `run`
+/// - `pcie`
 /// - `report` with one of `counts`, `pages`, `names` and `modules`
 /// - `load` with a number of reports from 1 to 50,000 in decimal digits
 /// - `klog` with the number of the boot in decimal digits and IA32_MCG_CAP in hexadecimal ones, as
@@ -73,6 +76,7 @@ pub fn task_of(words: &[RasWord]) -> Option<Task>
 {
     match words {
         [word] if word.bytes() == b"run".as_slice() => Some(Task::Run),
+        [word] if word.bytes() == b"pcie".as_slice() => Some(Task::Pcie),
         [word, what] if word.bytes() == b"report".as_slice() => {
             listing_of(what.bytes()).map(Task::Report)
         }

@@ -15,7 +15,7 @@ use Rattle.ras_klog.specs.Texts.{counts_line, end_line, is_logged, is_partial, o
 use Rattle.ras_klog.proofs.GroupLemmas.{at_once, to_end}
 
 -- what a text adds to its beginning
-added_is : (begun more text : List ℕ) → text ≡ begun ++ more → added begun text ≡ more
+pub added_is : (begun more text : List ℕ) → text ≡ begun ++ more → added begun text ≡ more
 added_is begun more text is = ap (drop (length begun)) is ∙ drop_at begun more (length begun) refl
 
 -- the text of an output, also if it is none
@@ -24,7 +24,7 @@ one_text Nothing = refl
 one_text (Whole bank) = append-nil (out_text (Whole bank))
 one_text (Partial cpu bank) = append-nil (out_text (Partial cpu bank))
 
-from_zero : (n : ℕ) → 0 + n ≡ n
+pub from_zero : (n : ℕ) → 0 + n ≡ n
 from_zero n = omega arith
 
 module _ (boot cap : ℕ) where
@@ -61,7 +61,7 @@ module _ (boot cap : ℕ) where
   text_is lines = ap (flat_map out_text) (sym (to_end boot cap at_start (map klog_line_of lines)))
 
   -- one more line adds its output's text
-  early-push : (before : List (List ℕ)) (line : List ℕ)
+  pub early-push : (before : List (List ℕ)) (line : List ℕ)
       → early_text boot cap (before ++ line ∷ [])
       ≡ early_text boot cap before ++ out_text (out_at boot cap (stage_over at_start before) (klog_line_of line))
   early-push before line =
@@ -92,7 +92,7 @@ module _ (boot cap : ℕ) where
           ∙ ap (λ rest. Ok (out_text (out_at boot cap (stage_over at_start before) (klog_line_of line))) ∷ rest) ih
           ∙ ap (λ text. Ok text ∷ answers_after boot cap (before ++ line ∷ []) lines) (sym (added_is (early_text boot cap before) _ _ (early-push before line)))
 
-  rest_is : (lines : List (List ℕ)) → rest_along at_start lines ≡ klog_rest boot cap lines
+  pub rest_is : (lines : List (List ℕ)) → rest_along at_start lines ≡ klog_rest boot cap lines
   rest_is lines = sym (added_is (early_text boot cap lines) (rest_along at_start lines) (klog_text boot cap lines) (text_ends lines))
 
   last_is : (lines : List (List ℕ)) → last_along boot cap at_start 0 0 lines ≡ klog_last boot cap lines

@@ -3,3 +3,4 @@ mod GroupLemmas
 mod FilterLemmas
 mod TakeLemmas
 mod TextLemmas
+mod OutputLemmas

@@ -1,5 +1,6 @@
 -- The reports of a kernel log: its lines are cut before each line that begins one.
 use Rattle.std.specs.Prelude.{ℕ, List, [], ◌∷◌, Option, None, Some, map}
+use Rattle.ras_facts.specs.declared.bank.BankReport.{BankReport}
 use Rattle.ras_klog.specs.declared.line.KlogLine.{KlogLine}
 use Rattle.ras_klog.specs.declared.line.KlogLine.TheVariants.{Start, Tsc, Processor}
 use Rattle.ras_klog.specs.declared.state.Head.{Head}
@@ -31,10 +32,9 @@ first_seconds [] = None
 first_seconds (Processor seconds ∷ lines) = Some seconds
 first_seconds (line ∷ lines) = first_seconds lines
 
--- the report of a group, if it has a time after its first counter
-abbrev pub with_seconds : ℕ → ℕ → Head → ℕ → ℕ → ℕ → Option ℕ → KlogOut
-with_seconds boot cap head tsc addr misc None = Partial head.cpu head.bank
-with_seconds boot cap head tsc addr misc (Some seconds) = Whole (record {
+-- the report of a group, by its counter, its other two registers and its time
+abbrev pub report_of : ℕ → ℕ → Head → ℕ → ℕ → ℕ → ℕ → BankReport
+report_of boot cap head tsc addr misc seconds = record {
   boot = boot;
   seconds = seconds;
   cpu = head.cpu;
@@ -45,7 +45,12 @@ with_seconds boot cap head tsc addr misc (Some seconds) = Whole (record {
   status = head.status;
   addr = addr;
   misc = misc;
-})
+}
+
+-- that report, if the group has a time after its first counter
+abbrev pub with_seconds : ℕ → ℕ → Head → ℕ → ℕ → ℕ → Option ℕ → KlogOut
+with_seconds boot cap head tsc addr misc None = Partial head.cpu head.bank
+with_seconds boot cap head tsc addr misc (Some seconds) = Whole (report_of boot cap head tsc addr misc seconds)
 
 -- what a group tells: its report, by its first counter and the first time after that, or that it
 -- isn't whole

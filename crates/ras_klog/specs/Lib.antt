@@ -4,4 +4,5 @@ pub mod Groups
 pub mod Steps
 pub mod Texts
 pub mod Klog
+pub mod Output
 pub mod Along

@@ -1,5 +1,6 @@
 -- The report in work, line by line.
 use Rattle.std.specs.Prelude.{ℕ, List, [], ◌∷◌, ◌++◌}
+use Rattle.ras_klog.specs.Groups.{report_of}
 use Rattle.ras_klog.specs.declared.line.KlogLine.{KlogLine}
 use Rattle.ras_klog.specs.declared.line.KlogLine.TheVariants.{Start, Tsc, Processor}
 use Rattle.ras_klog.specs.declared.state.KlogOut.{KlogOut}
@@ -25,18 +26,7 @@ out_at_end (Timed head tsc addr misc) = Partial head.cpu head.bank
 
 abbrev pub out_at : ℕ → ℕ → Stage → KlogLine → KlogOut
 out_at boot cap stage (Start cpu mcg bank status) = out_at_end stage
-out_at boot cap (Timed head tsc addr misc) (Processor seconds) = Whole (record {
-  boot = boot;
-  seconds = seconds;
-  cpu = head.cpu;
-  bank = head.bank;
-  tsc = tsc;
-  cap = cap;
-  mcg = head.mcg;
-  status = head.status;
-  addr = addr;
-  misc = misc;
-})
+out_at boot cap (Timed head tsc addr misc) (Processor seconds) = Whole (report_of boot cap head tsc addr misc seconds)
 out_at boot cap stage line = Nothing
 
 -- an output, unless it is none

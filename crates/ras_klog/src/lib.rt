@@ -4,11 +4,13 @@
 #![tactic(auto)]
 
 mod filter;
+mod laws;
 mod line;
 mod state;
 mod texts;
 mod words;
 
 pub use filter::KlogFilter;
+pub use laws::klog_is_told_by_groups;
 pub use line::{KlogLine, klog_line};
 pub use state::{KlogOut, KlogState};

@@ -51,6 +51,9 @@ const MARKER: &[u8] = b"[Hardware Error]: ";
 ///
 /// `<cpu>` up to 65,535, `<bank>` up to 255, `<n>` and `<seconds>` are decimal; the other numbers
 /// are hexadecimal.
+///
+/// A carriage return isn't a space. So in a log whose lines end in one no report begins, and such
+/// line ends have to be taken off first.
 pub fn klog_line(bytes: &[u8]) -> KlogLine
     ensures { result ≡ klog_line_of bytes.now }
 {

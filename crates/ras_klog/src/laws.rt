@@ -1,0 +1,26 @@
+//! What a kernel log's filter prints, by the groups of the log's lines.
+
+ghost use Rattle.std.specs.Prelude.{◌≡◌, ℕ, List, ◌++◌};
+ghost use Rattle.std.specs.List.{flat_map};
+ghost use Rattle.ras_exit.specs.ScriptEnd.{script_exit};
+ghost use Rattle.line_filters.specs.Filters.{filter_exit, filter_output, texts_in};
+ghost use Rattle.ras_klog.specs.Klog.{early_text, klog_answers, klog_filter, klog_rest, klog_text};
+ghost use Rattle.ras_klog.specs.Output.{klog_output};
+
+/// What is printed of a kernel log is what its groups tell, each once and in order, and then the
+/// counts, or the stop line of a refusal. No line is refused but one that is too long. The function
+/// does nothing: its clauses are what it is for.
+pub fn klog_is_told_by_groups()
+    ensures exit { (boot cap : ℕ) (script : List ℕ)
+        → filter_exit (klog_filter boot cap) script ≡ script_exit script }
+    ensures output { (boot cap : ℕ) (script : List ℕ)
+        → filter_output (klog_filter boot cap) script ≡ klog_output boot cap script }
+
+    // The texts of the lines are what the groups tell before the log is known to have ended, and
+    // the text after them is the rest of it.
+    ensures early { (boot cap : ℕ) (lines : List (List ℕ))
+        → flat_map (λ text. text) (texts_in (klog_answers boot cap lines))
+        ≡ early_text boot cap lines }
+    ensures whole { (boot cap : ℕ) (lines : List (List ℕ))
+        → early_text boot cap lines ++ klog_rest boot cap lines ≡ klog_text boot cap lines }
+{}
