@@ -18,6 +18,7 @@ pub mod AlongLemmas
 pub mod SameLemmas
 pub mod AgainLemmas
 pub mod CompleteLemmas
-pub mod UsageLemmas
+pub mod TellingLemmas
 pub mod FilterLemmas
 pub mod JoinedLemmas
+pub mod LoadLemmas

@@ -9,3 +9,4 @@ pub mod Ahead
 pub mod RunCalls
 pub mod Runs
 pub mod Running
+pub mod Loading

@@ -1,12 +1,13 @@
 -- What the words of a call ask for.
-use Rattle.std.specs.Prelude.{ℕ, ◌-◌, ◌^◌, List, [], ◌∷◌, codes, Option, None, Some, if◌then◌else◌, ⊤}
+use Rattle.std.specs.Prelude.{ℕ, ◌-◌, ◌^◌, ◌==◌, ◌≤◌, List, [], ◌∷◌, codes, Option, None, Some, if◌then◌else◌, ⊤}
 use Rattle.std.specs.Option.{option_and_then, option_map}
 use Rattle.std.specs.Str.{bytes_eq}
+use Rattle.ras_load.specs.declared.script.TheConstants.{MOST_LINES}
 use Rattle.ras_script.specs.Number.{decimal_of, hexadecimal_of}
 use Rattle.ras_texts.specs.declared.listing.Listing.{Listing}
 use Rattle.ras_texts.specs.declared.listing.Listing.TheVariants.{Counts, Pages, Names, Modules}
 use Rattle.ras_daemon.specs.declared.word.Task.{Task}
-use Rattle.ras_daemon.specs.declared.word.Task.TheVariants.{Run, Report, Pcie, Klog}
+use Rattle.ras_daemon.specs.declared.word.Task.TheVariants.{Run, Report, Load, Pcie, Klog}
 
 -- the listings by their words
 abbrev pub listing_of : List ℕ → Option Listing
@@ -23,8 +24,13 @@ klog_of one other =
     option_and_then (λ boot. option_map (λ cap. Klog boot cap) (hexadecimal_of other))
     (decimal_of (2 ^ 64 - 1) one)
 
--- The forms of a call: `run`; `pcie`; `report` with a listing; `klog` with a boot and IA32_MCG_CAP.
--- Other words are no form.
+-- a number from 1 to the most reports that a script may be made up of
+abbrev pub load_of : List ℕ → Option Task
+load_of word =
+    option_and_then (λ n. if n == 0 then None else Some (Load n)) (decimal_of MOST_LINES word)
+
+-- The forms of a call: `run`; `pcie`; `report` with a listing; `load` with a number; `klog` with a
+-- boot and IA32_MCG_CAP. Other words are no form.
 abbrev pub task_of : List (List ℕ) → Option Task
 task_of [] = None
 task_of (word ∷ []) =
@@ -32,9 +38,16 @@ task_of (word ∷ []) =
     else if bytes_eq word (codes "pcie") then Some Pcie
     else None
 task_of (word ∷ what ∷ []) =
-    if bytes_eq word (codes "report") then option_map Report (listing_of what) else None
+    if bytes_eq word (codes "report") then option_map Report (listing_of what)
+    else if bytes_eq word (codes "load") then load_of what
+    else None
 task_of (word ∷ one ∷ other ∷ []) = if bytes_eq word (codes "klog") then klog_of one other else None
 task_of (word ∷ one ∷ other ∷ more ∷ words) = None
+
+-- the number of a script that is made up is in its range
+abbrev pub IsTask : Task → Type 0
+IsTask (Load n) = n ≤ MOST_LINES
+IsTask task = ⊤
 
 -- P holds if what the words ask for reads the source
 abbrev pub IfReads : Option Task → Type 0 → Type 0

@@ -28,6 +28,7 @@ ghost use Rattle.ras_daemon.specs.Task.{IfReads, UnlessReads, task_of};
 use crate::ending::{end_run, last_line};
 use crate::filters::{print_kernel_log, print_pcie_sections};
 use crate::lines::take_lines;
+use crate::load::load;
 use crate::{RasWord, Task, task_of};
 use board_core::{Board, Source};
 use ras_account::Account;
@@ -155,6 +156,7 @@ fn call<S: Source, B: Board>(
     match task_of(words) {
         Some(Task::Run) => run(alloc, source, board),
         Some(Task::Report(listing)) => report(alloc, listing, board),
+        Some(Task::Load(n)) => load(alloc, n, board),
         Some(Task::Pcie) => print_pcie_sections(alloc, source, board),
         Some(Task::Klog { boot, cap }) => print_kernel_log(alloc, boot, cap, source, board),
         None => last_line(b"stop 1 usage\n", Exit::Usage, board),
@@ -162,7 +164,7 @@ fn call<S: Source, B: Board>(
 }
 
 // Opens the journal, and takes a script over it.
-fn run<S: Source, B: Board>(alloc: Global, source: &mut S, board: &mut B) -> Exit
+pub(crate) fn run<S: Source, B: Board>(alloc: Global, source: &mut S, board: &mut B) -> Exit
     ensures runs { OverRun (λ start script told. IsSomeAnd (B.told board.new)
         (RunEnds start script result told)) (Some Task.Run) (S.left source.old) (B.told board.old) }
     ensures moments { OverRun (λ start script told.

@@ -7,6 +7,7 @@ mod ending;
 mod filters;
 mod laws;
 mod lines;
+mod load;
 mod word;
 
 pub use daemon::rasd;

@@ -1,9 +1,10 @@
 //! The words of a call.
 
-ghost use Rattle.std.specs.Prelude.{◌≡◌, IfOk};
-ghost use Rattle.ras_daemon.specs.Task.{klog_of, listing_of, task_of};
+ghost use Rattle.std.specs.Prelude.{◌≡◌, IfOk, IfSome};
+ghost use Rattle.ras_daemon.specs.Task.{IsTask, klog_of, listing_of, load_of, task_of};
 
 use ras_base::NoMemory;
+use ras_load::MOST_LINES;
 use ras_script::{decimal, hexadecimal};
 use ras_texts::Listing;
 use std::alloc::Global;
@@ -48,6 +49,8 @@ pub enum Task {
     Run,
     /// List what the journal's files hold.
     Report(Listing),
+    /// Take a script that is made up of so many reports, in memory, and sum up its account.
+    Load(u64),
     /// Print the PCI Express sections of a script's records and blocks.
     Pcie,
     /// Print the machine checks of a kernel log.
@@ -64,10 +67,12 @@ pub enum Task {
 /// - `run`
 /// - `pcie`
 /// - `report` with one of `counts`, `pages`, `names` and `modules`
+/// - `load` with a number of reports from 1 to 50,000 in decimal digits
 /// - `klog` with the number of the boot in decimal digits and IA32_MCG_CAP in hexadecimal ones, as
 ///   a script writes them
 pub fn task_of(words: &[RasWord]) -> Option<Task>
-    ensures { result ≡ task_of words.now }
+    ensures task { result ≡ task_of words.now }
+    ensures range { IfSome result IsTask }
 {
     match words {
         [word] if word.bytes() == b"run".as_slice() => Some(Task::Run),
@@ -75,10 +80,22 @@ pub fn task_of(words: &[RasWord]) -> Option<Task>
         [word, what] if word.bytes() == b"report".as_slice() => {
             listing_of(what.bytes()).map(Task::Report)
         }
+        [word, count] if word.bytes() == b"load".as_slice() => load_of(count.bytes()),
         [word, boot, cap] if word.bytes() == b"klog".as_slice() => {
             klog_of(boot.bytes(), cap.bytes())
         }
         _ => None,
+    }
+}
+
+// The script of this number of reports.
+fn load_of(count: &[u8]) -> Option<Task>
+    ensures task { result ≡ load_of count.now }
+    ensures range { IfSome result IsTask }
+{
+    match decimal(count, MOST_LINES)? {
+        0 => None,
+        n => Some(Task::Load(n)),
     }
 }
 

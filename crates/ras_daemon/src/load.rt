@@ -1,0 +1,55 @@
+//! A run over a script that is made up, on a board in memory.
+
+ghost use Rattle.std.specs.Prelude.{◌≡◌, ◌≤◌, IfOk};
+ghost use Rattle.board_core.specs.Device.{LeavesDevice};
+ghost use Rattle.board_core.specs.Told.{Relates};
+ghost use Rattle.ras_exit.specs.Causes.{BoardCause};
+ghost use Rattle.ras_load.specs.declared.script.TheConstants.{MOST_LINES};
+ghost use Rattle.ras_daemon.specs.Commands.{IsLoadExit, OnlyTells};
+ghost use Rattle.ras_daemon.specs.Loading.{load_output};
+
+use crate::daemon::run;
+use crate::ending::last_line;
+use board_core::{Board, MemBoard, MemSource};
+use erst_store::Store;
+use ras_base::NoMemory;
+use ras_exit::Exit;
+use ras_load::{load_line, load_script};
+use ras_recover::recover;
+use ras_script::LONGEST_LINE;
+use std::alloc::Global;
+
+/// Takes the script that is made up of `n` reports, over a journal in memory, and prints the line
+/// that sums up its account. It reads no script, and of the board it only prints.
+pub fn load<B: Board>(alloc: Global, n: u64, board: &mut B) -> Exit
+    requires { n ≤ MOST_LINES }
+    ensures loads { Relates (OnlyTells Exit.Done (load_output n) result)
+        (B.told board.old) (B.told board.new) }
+    ensures exits { IsLoadExit result }
+    ensures board { BoardCause result (B.faults board.old) (B.faults board.new) }
+    ensures device { LeavesDevice (B.told board.old) (B.told board.new)
+        (B.clock board.old) (B.clock board.new) }
+{
+    match loaded_line(alloc, n) {
+        Ok(line) => last_line(&line, Exit::Done, board),
+        Err(NoMemory) => Exit::NoMemory,
+    }
+}
+
+// The line that sums up a run over the script of `n` reports. That run has a board of its own, whose
+// calls fail only for want of memory.
+fn loaded_line(alloc: Global, n: u64) -> Result<Vec<u8>, NoMemory>
+    requires { n ≤ MOST_LINES }
+    ensures { IfOk result (λ line. line.items ≡ load_output n) }
+{
+    let script = load_script(alloc, n)?;
+    let mut source = MemSource::new(script, LONGEST_LINE + 1, Vec::new(alloc));
+    let mut board = MemBoard::new(alloc, Store::new(alloc), 0)?;
+    let Exit::Done = run(alloc, &mut source, &mut board) else {
+        return Err(NoMemory);
+    };
+    match recover(alloc, &mut board) {
+        Ok(recovered) => load_line(alloc, n, &recovered.account),
+        Err(_) => Err(NoMemory),
+    }
+}

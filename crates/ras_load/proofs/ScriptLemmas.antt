@@ -1,0 +1,78 @@
+-- The text of a script that is made up, line by line.
+use Rattle.std.proofs.Common.{◌≡◌, ℕ, ◌+◌, ◌-◌, ◌%◌, ◌==◌, suc, cond, Bool, true, false, List, [], ◌∷◌, ◌++◌, map, codes, refl, sym, ap, ◌∙◌, arith, append-nil, append_assoc}
+use Rattle.std.specs.Fmt.{digits}
+use Rattle.std.proofs.lemmas.List.Concat.{flat_map-append}
+use Rattle.ras_load.specs.LoadScript.{bank_line, bank_lines, load_bank, load_script, machine_lines, next_number, number_at, report_of}
+use Rattle.ras_script.specs.LineLaws.{line_text}
+use Rattle.ras_script.specs.SplittingLaws.{script_of}
+use Rattle.ras_script.specs.declared.line.Line.{Line}
+use Rattle.ras_script.specs.declared.line.Line.TheVariants.{Report}
+use Rattle.ras_script.specs.declared.line.ErrorReport.TheVariants.{Bank}
+use Rattle.ras_facts.specs.declared.bank.BankReport.{BankReport}
+use Rattle.ras_texts.specs.Text.{line_with}
+
+-- lines as the text of a script, and those of two lists
+abbrev text_of : List Line → List ℕ
+text_of lines = script_of (map line_text lines)
+
+map_both : (xs ys : List Line) → map line_text (xs ++ ys) ≡ map line_text xs ++ map line_text ys
+map_both [] ys = refl
+map_both (x ∷ xs) ys = ap (λ (l : List (List ℕ)). line_text x ∷ l) (map_both xs ys)
+
+text_both : (xs ys : List Line) → text_of (xs ++ ys) ≡ text_of xs ++ text_of ys
+text_both xs ys = ap script_of (map_both xs ys) ∙ flat_map-append (λ (line : List ℕ). line ++ 10 ∷ []) (map line_text xs) (map line_text ys)
+
+-- the number after that of a place
+pub number_step : (n : ℕ) → number_at (n + 1) ≡ next_number (number_at n)
+unfolding number_at
+number_step n = let is : n + 1 ≡ suc n = omega arith in ap number_at is
+
+lines_step : (n : ℕ) → bank_lines (n + 1) ≡ bank_lines n ++ bank_line (n + 1) ∷ []
+unfolding bank_lines
+lines_step n = let is : n + 1 ≡ suc n = omega arith in ap bank_lines is
+
+pub no_lines : bank_lines 0 ≡ []
+unfolding bank_lines
+no_lines = refl
+
+pub first_number : number_at 0 ≡ 1
+unfolding number_at
+first_number = refl
+
+-- which report a line asks for
+tenth_is : (n : ℕ) (test : Bool) → (n + 1) % 10 ≡ 0 → ((n + 1) % 10 == 0) ≡ test → cond test (n + 1 - 1) (n + 1) ≡ n
+tenth_is n true is t = omega arith
+tenth_is n false is t = grind (arith, is, t)
+
+other_is : (n : ℕ) (test : Bool) → ¬ ((n + 1) % 10 ≡ 0) → ((n + 1) % 10 == 0) ≡ test → cond test (n + 1 - 1) (n + 1) ≡ n + 1
+other_is n true isnt t = grind (arith, isnt, t)
+other_is n false isnt t = refl
+
+-- a line more: its own report, or for every tenth that of the line before it
+module _ (start text new : List ℕ) (n : ℕ) (bank : BankReport) (so_far : text ≡ start ++ text_of (bank_lines n)) (added : new ≡ text ++ line_with (line_text (Report (Bank bank)))) where
+  line_more : bank ≡ load_bank (report_of (n + 1)) (number_at (report_of (n + 1))) → new ≡ start ++ text_of (bank_lines (n + 1))
+  line_more is =
+      added ∙ ap (λ t. t ++ line_with (line_text (Report (Bank bank)))) so_far
+      ∙ append_assoc start (text_of (bank_lines n)) (line_with (line_text (Report (Bank bank))))
+      ∙ ap (λ t. start ++ t) (
+      ap (λ b. text_of (bank_lines n) ++ line_with (line_text (Report (Bank b)))) is
+      ∙ ap (λ t. text_of (bank_lines n) ++ t) (sym (append-nil (line_with (line_text (bank_line (n + 1))))))
+      ∙ sym (text_both (bank_lines n) (bank_line (n + 1) ∷ []))
+      ∙ sym (ap text_of (lines_step n)))
+
+  pub tenth_more : (n + 1) % 10 ≡ 0 → bank ≡ load_bank n (number_at n) → new ≡ start ++ text_of (bank_lines (n + 1))
+  tenth_more tenth is = line_more (is ∙ ap (λ r. load_bank r (number_at r)) (sym (tenth_is n ((n + 1) % 10 == 0) tenth refl)))
+
+  pub other_more : ¬ ((n + 1) % 10 ≡ 0) → bank ≡ load_bank (n + 1) (number_at (n + 1)) → new ≡ start ++ text_of (bank_lines (n + 1))
+  other_more other is = line_more (is ∙ ap (λ r. load_bank r (number_at r)) (sym (other_is n ((n + 1) % 10 == 0) other refl)))
+
+-- the machine as text, and the script
+abbrev pub machine_bytes : List ℕ
+machine_bytes = codes "cpu 0 0\nmodule M0 0 7 0\nmodule M1 0 7 1\nmodule M2 0 7 2\nmodule M3 0 7 3\n"
+
+machine_text : text_of machine_lines ≡ machine_bytes
+unfolding digits
+machine_text = refl
+
+pub script_is : (n : ℕ) → machine_bytes ++ text_of (bank_lines n) ≡ load_script n
+script_is n = ap (λ t. t ++ text_of (bank_lines n)) (sym machine_text) ∙ sym (text_both machine_lines (bank_lines n))
