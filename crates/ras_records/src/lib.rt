@@ -1,0 +1,7 @@
+//! Polls of the record store over a driver: its records are listed and read, and those that could
+//! be read are cleared; and a record is saved.
+#![tactic(auto)]
+
+mod clearing;
+
+pub use clearing::clear_all;
