@@ -3,5 +3,8 @@
 #![tactic(auto)]
 
 mod clearing;
+mod looking;
+mod made;
 
 pub use clearing::clear_all;
+pub use looking::{Looked, look};

@@ -1,0 +1,120 @@
+//! What an event makes.
+
+ghost use Rattle.std.specs.Prelude.{◌≡◌, [], ◌∷◌, ◌++◌, IfOk, OnOk};
+ghost use Rattle.std.specs.Option.{option_map_or};
+ghost use Rattle.ras_records.specs.declared.made.Piece.TheVariants as PieceFor;
+ghost use Rattle.ras_records.specs.Making.{made_by_report, made_of_entry, piece_of_report};
+
+use cper_records::Unreadable;
+use ras_base::NoMemory;
+use ras_facts::Entry;
+use ras_reports::{Details, Report};
+use std::alloc::Global;
+use std::marker::Model;
+
+/// A piece of what an event makes.
+#[derive(Debug, Drop)]
+pub enum Piece {
+    /// An entry for the account, and what is told of each of its items.
+    Counted { entry: Entry, details: Details },
+    /// A record of the store, by its identifier, that can't be read, and why.
+    Unread { id: u64, why: Unreadable },
+}
+
+/// The pieces that an event makes, in order.
+#[derive(Debug, Drop)]
+pub struct Made {
+    pieces: Vec<Piece>,
+}
+
+impl Model for Made {
+    ghost use Rattle.std.specs.Prelude.{List};
+    ghost use Rattle.ras_records.specs.declared.made.Piece.{Piece};
+
+    ghost Value = { List Piece };
+
+    ghost view = { λ m. m.pieces.items };
+}
+
+impl Made {
+    /// What an event makes that makes nothing.
+    pub fn new(alloc: Global) -> Made
+        ensures { result ≡ [] }
+    {
+        Made {
+            pieces: Vec::new(alloc),
+        }
+    }
+
+    /// What an event makes of an entry, of which nothing is told beside it.
+    ///
+    /// # Errors
+    ///
+    /// `NoMemory` comes only if memory runs out.
+    pub fn of_entry(alloc: Global, entry: Entry) -> Result<Made, NoMemory>
+        ensures { IfOk result (λ made. made ≡ made_of_entry entry) }
+    {
+        let mut made = Made::new(alloc);
+        made.push(Piece::Counted {
+            entry,
+            details: Details::new(alloc),
+        })?;
+        Ok(made)
+    }
+
+    /// What an event makes of a report, or of none.
+    ///
+    /// # Errors
+    ///
+    /// `NoMemory` comes only if memory runs out.
+    pub fn of_report(alloc: Global, report: Option<Report>) -> Result<Made, NoMemory>
+        ensures { IfOk result (λ made. made ≡ option_map_or made_by_report report []) }
+    {
+        let mut made = Made::new(alloc);
+        if let Some(report) = report {
+            made.push_report(report)?;
+        }
+        Ok(made)
+    }
+
+    /// Puts the piece of a report behind the others: its fact, and what is told of its items.
+    ///
+    /// # Errors
+    ///
+    /// `NoMemory` comes only if memory runs out.
+    pub fn push_report(&mut self, report: Report) -> Result<(), NoMemory>
+        ensures { OnOk result (self.new ≡ self.old ++ piece_of_report report ∷ []) }
+    {
+        let Report { fact, details } = report;
+        self.push(Piece::Counted {
+            entry: Entry::Fact(fact),
+            details,
+        })
+    }
+
+    /// Puts a record of the store that can't be read behind the other pieces.
+    ///
+    /// # Errors
+    ///
+    /// `NoMemory` comes only if memory runs out.
+    pub fn push_unread(&mut self, id: u64, why: Unreadable) -> Result<(), NoMemory>
+        ensures { OnOk result (self.new ≡ self.old ++ PieceFor.Unread id why ∷ []) }
+    {
+        self.push(Piece::Unread { id, why })
+    }
+
+    // The pieces, in order.
+    pub fn into_pieces(self) -> Vec<Piece>
+        ensures { result.items ≡ self }
+    {
+        self.pieces
+    }
+
+    // Puts a piece behind the others.
+    fn push(&mut self, piece: Piece) -> Result<(), NoMemory>
+        ensures { OnOk result (self.new ≡ self.old ++ piece ∷ []) }
+    {
+        self.pieces.push(piece)?;
+        Ok(())
+    }
+}
