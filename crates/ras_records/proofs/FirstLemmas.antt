@@ -32,7 +32,7 @@ no_cons : {P : Type 0} (x : ℕ) (xs : List ℕ) → [] ≡ (x ∷ xs) → P
 no_cons x xs is = absurd (omega (arith, ap (λ (l : List ℕ). length l) is))
 
 -- all of a list are apart from a number
-abbrev Apart : ℕ → List ℕ → Type 0
+abbrev pub Apart : ℕ → List ℕ → Type 0
 Apart k xs = AllByRecursion (λ y. nat_eq k y ≡ false) xs
 
 without_apart : (k : ℕ) (rs : List Stored) → Apart k (ids rs) → without k rs ≡ rs

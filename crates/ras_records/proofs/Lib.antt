@@ -2,3 +2,5 @@ pub mod EachLemmas
 pub mod FirstLemmas
 pub mod ClearingLemmas
 pub mod ReachLemmas
+pub mod ReadingLemmas
+pub mod LookingLemmas
