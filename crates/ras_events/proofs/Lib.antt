@@ -7,3 +7,4 @@ pub mod ReadyLemmas
 pub mod FitLemmas
 pub mod ReportLemmas
 pub mod RepeatLemmas
+pub mod PollLemmas
