@@ -28,7 +28,7 @@ use Rattle.erst_driver.proofs.MomentLemmas.{clear_here, clear_moment}
 use Rattle.erst_driver.proofs.ToldLemmas.{clear_inside, operation_inside, told_device}
 use Rattle.ras_records.specs.Each.{after_calls, each_calls}
 use Rattle.ras_records.specs.Polls.{LacksFirst, readable_ids}
-use Rattle.ras_records.specs.Stores.{unreadable, without_first}
+use Rattle.ras_events.specs.Stores.{unreadable, without_first}
 use Rattle.ras_records.proofs.FirstLemmas.{first, first_more, none_readable, unreadable_behind}
 
 -- ---- what calls of the device keep

@@ -5,7 +5,7 @@ use Rattle.std.proofs.lemmas.Bool.Decides.{nat_tests}
 use Rattle.std.proofs.lemmas.Map.Keys.{IsDistinct-head, IsDistinct-tail}
 use Rattle.erst_store.specs.Store.{Stored, ids, without, holds}
 use Rattle.ras_records.specs.Polls.{readable_ids}
-use Rattle.ras_records.specs.Stores.{is_readable, readable, unreadable, without_first}
+use Rattle.ras_events.specs.Stores.{is_readable, readable, unreadable, without_first}
 
 -- a record that can be read is the first of them, or it stays in front
 abbrev with_front : Bool → Stored → List Stored → List Stored

@@ -24,7 +24,7 @@ use Rattle.erst_driver.proofs.MomentLemmas.{list_here}
 use Rattle.erst_driver.proofs.ToldLemmas.{listings_inside}
 use Rattle.ras_records.specs.declared.looking.Looked.{Looked}
 use Rattle.ras_records.specs.Each.{after_calls, each_calls}
-use Rattle.ras_records.specs.Making.{polled}
+use Rattle.ras_events.specs.Making.{polled}
 use Rattle.ras_records.specs.Polls.{Looks, is_busy_for_reads, look_calls, readable_ids}
 use Rattle.ras_records.proofs.ClearingLemmas.{calls_keep, is_device_told}
 

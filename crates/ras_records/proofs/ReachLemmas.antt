@@ -34,10 +34,10 @@ use Rattle.entry_format.specs.Spelling.{entry_bytes}
 use Rattle.entry_format.proofs.SizeLemmas.{fact_entry_most}
 use Rattle.journal_format.specs.Links.{payload_bytes}
 use Rattle.ras_records.specs.declared.looking.Looked.{Looked}
-use Rattle.ras_records.specs.declared.made.Piece.{Piece}
-use Rattle.ras_records.specs.declared.made.Piece.TheVariants.{Unread}
-use Rattle.ras_records.specs.Making.{entries_in, entry_in, piece_of_report}
-use Rattle.ras_records.specs.Sizes.{IsFact, IsFit}
+use Rattle.ras_events.specs.declared.made.Piece.{Piece}
+use Rattle.ras_events.specs.declared.made.Piece.TheVariants.{Unread}
+use Rattle.ras_events.specs.Making.{entries_in, entry_in, piece_of_report}
+use Rattle.ras_events.specs.Sizes.{IsFact, IsFit}
 use Rattle.ras_records.specs.Reading.{ReachesTo}
 
 -- ---- a record that was read is no longer than the buffer

@@ -27,11 +27,11 @@ use Rattle.erst_driver.specs.Operations.{is_free_in_time}
 use Rattle.erst_driver.proofs.DoesLemmas.{at_told, over_each}
 use Rattle.erst_driver.proofs.MomentLemmas.{read_here}
 use Rattle.ras_records.specs.declared.looking.Looked.{Looked}
-use Rattle.ras_records.specs.declared.made.Piece.{Piece}
+use Rattle.ras_events.specs.declared.made.Piece.{Piece}
 use Rattle.ras_records.specs.Each.{after_calls, each_calls}
-use Rattle.ras_records.specs.Making.{piece_of, polled}
+use Rattle.ras_events.specs.Making.{piece_of, polled}
 use Rattle.ras_records.specs.Polls.{HasLooked, Looks, is_busy_for_reads, readable_ids}
-use Rattle.ras_records.specs.Stores.{is_readable, read_stored, readable}
+use Rattle.ras_events.specs.Stores.{is_readable, read_stored, readable}
 use Rattle.ras_records.proofs.ClearingLemmas.{calls_keep, held_answer}
 use Rattle.ras_records.proofs.EachLemmas.{DoneTo, done_more, done_none, each_more, each_refused, told_now}
 use Rattle.ras_records.proofs.FirstLemmas.{Apart}

@@ -10,9 +10,9 @@ use Rattle.erst_driver.specs.declared.refusals.DriverRefused.{DriverRefused}
 use Rattle.erst_driver.specs.declared.refusals.DriverRefused.TheVariants.{Busy, Status as EndedWith}
 use Rattle.erst_driver.specs.Answers.{read_calls}
 use Rattle.erst_driver.specs.Operations.{is_free_in_time, list_calls}
-use Rattle.ras_records.specs.Making.{polled}
-use Rattle.ras_records.specs.Sizes.{IsFit}
-use Rattle.ras_records.specs.Stores.{readable, without_first}
+use Rattle.ras_events.specs.Making.{polled}
+use Rattle.ras_events.specs.Sizes.{IsFit}
+use Rattle.ras_events.specs.Stores.{readable, without_first}
 use Rattle.ras_records.specs.declared.looking.Looked.{Looked}
 use Rattle.ras_records.specs.Each.{after_calls, each_calls}
 

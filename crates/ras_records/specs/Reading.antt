@@ -4,8 +4,8 @@ use Rattle.std.specs.List.{flat_map}
 use Rattle.entry_format.specs.Spelling.{entry_bytes}
 use Rattle.ras_facts.specs.Entries.{IsValidEntry}
 use Rattle.ras_records.specs.declared.looking.Looked.{Looked}
-use Rattle.ras_records.specs.Making.{entries_in}
-use Rattle.ras_records.specs.Sizes.{IsFact}
+use Rattle.ras_events.specs.Making.{entries_in}
+use Rattle.ras_events.specs.Sizes.{IsFact}
 
 -- Records of at most 16,384 bytes have at most 225 items each, of 45 bytes.
 pub record ReachesTo (count : ℕ) (looked : Looked) : Type 0 where

@@ -4,7 +4,6 @@
 
 mod clearing;
 mod looking;
-mod made;
 
 pub use clearing::clear_all;
 pub use looking::{Looked, look};

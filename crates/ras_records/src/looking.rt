@@ -10,12 +10,12 @@ ghost use Rattle.erst_store.specs.DeviceLaws.{IsDevice};
 ghost use Rattle.erst_store.specs.Store.{ids as ids_in, most_records};
 ghost use Rattle.erst_interp.specs.Admission.{IsAdmittedTable};
 ghost use Rattle.erst_driver.specs.Answers.{DoesListing, HasCauseIn, read_calls};
-ghost use Rattle.ras_records.specs.Making.{piece_of};
+ghost use Rattle.ras_events.specs.Making.{piece_of};
 ghost use Rattle.ras_records.specs.Each.{each_calls};
 ghost use Rattle.ras_records.specs.Polls.{IsBounded, Looks, look_calls};
 ghost use Rattle.ras_records.specs.Reading.{ReachesTo};
 
-use crate::made::Made;
+use ras_events::Made;
 use board_core::Board;
 use cper_records::read_stored;
 use dimm_topology::Topology;
