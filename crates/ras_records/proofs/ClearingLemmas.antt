@@ -1,18 +1,17 @@
 -- What is told once records are cleared, and what stops leave meanwhile.
-use Rattle.std.proofs.Common.{◌≡◌, ◌∙◌, ℕ, zero, suc, ◌+◌, ◌<◌, ◌≤◌, ◌^◌, ◌||◌, Bool, true, false, nat_eq, List, [], ◌∷◌, ◌++◌, length, Option, None, Some, Result, Ok, Err, inl, inr, refl, sym, ap, subst, arith, if◌then◌else◌}
+use Rattle.std.proofs.Common.{◌≡◌, ◌∙◌, ℕ, suc, ◌<◌, ◌^◌, ◌||◌, Bool, true, false, nat_eq, List, [], ◌∷◌, ◌++◌, length, Option, None, Some, Ok, Err, inl, inr, refl, sym, ap, subst, arith, if◌then◌else◌}
 use Rattle.std.proofs.lemmas.Bool.{false≢true}
 use Rattle.std.specs.Result.{is_ok}
 use Rattle.std.specs.List.{AllByRecursion}
 use Rattle.std.proofs.lemmas.Bool.Decides.{nat_tests}
-use Rattle.erst_store.specs.declared.device.CommandStatus.{CommandStatus}
 use Rattle.erst_store.specs.declared.device.CommandStatus.TheVariants.{Success, StoreEmpty, NotFound}
 use Rattle.erst_store.specs.declared.store.PutRefused.{PutRefused}
 use Rattle.erst_store.specs.Device.{Device, with_put}
 use Rattle.erst_store.specs.DeviceLaws.{IsDevice}
 use Rattle.erst_store.specs.Store.{Fits, Stored, holds, refusal_of, without}
 use Rattle.board_core.specs.Doing.{Act, DeviceCall, Moment, after_device, put, range_read, range_write, reg_read, reg_write}
-use Rattle.board_core.specs.Stop.{Becomes, InStore, Left}
-use Rattle.board_core.specs.Told.{Told, after_put, device_of, unless_refused}
+use Rattle.board_core.specs.Stop.{InStore, Left}
+use Rattle.board_core.specs.Told.{Told, device_of, unless_refused}
 use Rattle.board_core.proofs.DoingLemmas.{moment_parts}
 use Rattle.erst_interp.specs.declared.entries.Entry.{Entry}
 use Rattle.erst_interp.specs.Admission.{IsAdmittedTable}
@@ -26,7 +25,7 @@ use Rattle.erst_driver.specs.Operations.{AreInside, actions_of, after_step, afte
 use Rattle.erst_driver.proofs.ActLemmas.{is_device_after}
 use Rattle.erst_driver.proofs.MomentLemmas.{clear_here, clear_moment}
 use Rattle.erst_driver.proofs.ToldLemmas.{clear_inside, operation_inside, told_device}
-use Rattle.ras_records.specs.Each.{after_calls, each_calls}
+use Rattle.ras_records.specs.Each.{after_calls, each_answer, after_answer, each_calls}
 use Rattle.ras_records.specs.Polls.{LacksFirst, readable_ids}
 use Rattle.ras_events.specs.Stores.{unreadable, without_first}
 use Rattle.ras_records.proofs.FirstLemmas.{first, first_more, none_readable, unreadable_behind}
@@ -93,6 +92,7 @@ module _ (lists : List (List Entry)) (admitted : IsAdmittedTable lists) where
   -- the first readable record is cleared, and then the later ones
   record OneCleared (id : ℕ) (later : List ℕ) (t : Told) : Type 0 where
     calls : each_calls (clear_calls lists) (id ∷ later) t ≡ clear_calls lists id (device_of t) ++ each_calls (clear_calls lists) later (after_calls (clear_calls lists id (device_of t)) t)
+    answer : answer_on_found id (device_of t) ≡ Ok tt
     fits : id < 2 ^ 64
     here : (after_calls (clear_calls lists id (device_of t)) t).here ≡ record t.here { store = without_first 1 t.here.store }
     store : without id t.here.store ≡ without_first 1 t.here.store
@@ -107,9 +107,10 @@ module _ (lists : List (List Entry)) (admitted : IsAdmittedTable lists) where
       let front = first id later t.here.store device.store.distinct is in
       let fits : id < 2 ^ 64 = held_fits id t.here.store device.store.each front.holds_it in
       let there : u.here ≡ record t.here { store = without_first 1 t.here.store } =
-        clear_here lists t admitted device id fits ∙ ap (λ (s : List Stored). record t.here { store = s }) front.without_is in
+      clear_here lists t admitted device id fits ∙ ap (λ (s : List Stored). record t.here { store = s }) front.without_is in
       record {
         calls = ap (λ (answer : Answer). own ++ (if is_ok answer then each_calls (clear_calls lists) later u else [])) (held_answer id t free front.holds_it);
+        answer = held_answer id t free front.holds_it;
         fits = fits;
         here = there;
         store = front.without_is;
@@ -156,3 +157,10 @@ module _ (lists : List (List Entry)) (admitted : IsAdmittedTable lists) where
               rest = by.rest ∙ ap (λ (l : Left). record l { store = by.store }) one.here;
             })
       ]
+
+  pub clears_answer : (ids : List ℕ) (t : Told) → IsDevice (device_of t) → is_free_in_time t.volatile.slow ≡ true → readable_ids t.here.store ≡ ids → each_answer (clear_calls lists) ids t ≡ Ok tt
+  clears_answer [] t device free is = refl
+  clears_answer (id ∷ later) t device free is =
+      let u = after_calls (clear_calls lists id (device_of t)) t in
+      let one = one_cleared id later t device free is in
+      ap (λ (answer : Answer). after_answer answer (each_answer (clear_calls lists) later u)) one.answer ∙ clears_answer later u one.device one.free one.next

@@ -1,12 +1,11 @@
 -- Operations on several records, as a loop does them.
-use Rattle.std.proofs.Common.{◌⊎◌, inl, inr, ◌≡◌, ◌≢◌, ◌∙◌, ℕ, zero, suc, ◌+◌, ◌<◌, Bool, true, false, List, [], ◌∷◌, ◌++◌, length, drop, get_or, Option, Some, None, Result, Ok, Err, refl, sym, ap, subst, arith, append_assoc, append-nil, if◌then◌else◌}
+use Rattle.std.proofs.Common.{◌⊎◌, inl, inr, ◌≡◌, ◌∙◌, ℕ, ◌+◌, ◌<◌, Bool, List, [], ◌++◌, length, drop, get_or, Some, Ok, Err, refl, sym, ap, subst, append_assoc, append-nil, if◌then◌else◌}
 use Rattle.std.specs.Prelude.{IfSome}
 use Rattle.std.specs.Result.{is_ok}
 use Rattle.std.specs.Option.{option_map}
 use Rattle.std.proofs.lemmas.List.{at_drop_more}
-use Rattle.erst_store.specs.Device.{Device}
-use Rattle.board_core.specs.Cause.{Faults, device_call}
-use Rattle.board_core.specs.Doing.{Act, DeviceCall, Does, Ended, IsMade, Seen, after_acts, broke, ended_by, went_well}
+use Rattle.board_core.specs.Cause.{device_call}
+use Rattle.board_core.specs.Doing.{Act, DeviceCall, Does, Ended, IsMade, Seen, broke, went_well}
 use Rattle.board_core.specs.Told.{Told, device_of}
 use Rattle.board_core.proofs.DoingLemmas.{does_first, does_nothing, does_then}
 use Rattle.erst_interp.specs.Run.{acts_of}
@@ -15,7 +14,7 @@ use Rattle.erst_driver.specs.declared.refusals.DriverRefused.{DriverRefused}
 use Rattle.erst_driver.specs.declared.refusals.DriverRefused.TheVariants.{Register, Busy, NoMemory, Status as EndedWith}
 use Rattle.erst_driver.specs.Answers.{Answer, Gives, IsAnswered, answer_on_found, refusal_end}
 use Rattle.erst_driver.proofs.DoesLemmas.{at_told, over_each}
-use Rattle.ras_records.specs.Each.{Operation, after_calls, each_answer, each_calls, unless_refused}
+use Rattle.ras_records.specs.Each.{Operation, after_calls, each_answer, each_calls, after_answer}
 
 -- Operations on these records, of which those on the first ones are done.
 pub record DoneTo {X : Type 0} (see : X → Seen) (operation : Operation) (ids : List ℕ) (count : ℕ) (t : Told) (old new : X) : Type 0 where
@@ -50,7 +49,7 @@ module _ {X : Type 0} (see : X → Seen) (operation : Operation) (ids : List ℕ
     calls_now : each_calls operation ids t ≡ so_far.done ++ (own ++ rest_if (is_ok (answer_on_found id (device_of now))))
     calls_now = so_far.calls ∙ ap (λ (l : List DeviceCall). so_far.done ++ l) (at_drop_more (λ (xs : List ℕ). each_calls operation xs now) ids count d within)
 
-    answer_now : each_answer operation ids t ≡ unless_refused (answer_on_found id (device_of now)) (each_answer operation (drop (count + 1) ids) (after_calls own now))
+    answer_now : each_answer operation ids t ≡ after_answer (answer_on_found id (device_of now)) (each_answer operation (drop (count + 1) ids) (after_calls own now))
     answer_now = so_far.answer ∙ at_drop_more (λ (xs : List ℕ). each_answer operation xs now) ids count d within
 
     both : so_far.done ++ (own ++ rest) ≡ (so_far.done ++ own) ++ each_calls operation (drop (count + 1) ids) (after_calls (so_far.done ++ own) t)
@@ -62,7 +61,7 @@ module _ {X : Type 0} (see : X → Seen) (operation : Operation) (ids : List ℕ
       done = so_far.done ++ own;
       does = subst (λ (acts : List Act). Does see acts went_well a c) (sym (acts_both so_far.done own)) (does_then see (acts_of so_far.done) (acts_of own) went_well a b c so_far.does tt does);
       calls = calls_now ∙ (ap (λ (answer : Answer). so_far.done ++ (own ++ rest_if (is_ok answer))) ok ∙ both);
-      answer = answer_now ∙ (ap (λ (answer : Answer). unless_refused answer (each_answer operation (drop (count + 1) ids) (after_calls own now))) ok
+      answer = answer_now ∙ (ap (λ (answer : Answer). after_answer answer (each_answer operation (drop (count + 1) ids) (after_calls own now))) ok
           ∙ ap (λ (u : Told). each_answer operation (drop (count + 1) ids) u) (sym (after_both so_far.done own t)));
     }
 
@@ -88,7 +87,7 @@ module _ {X : Type 0} (see : X → Seen) (operation : Operation) (ids : List ℕ
     does_refused NoMemory does gives answered = absurd answered
 
     refused_with : (why : DriverRefused) → Err why ≡ answer_on_found id (device_of now) → each_answer operation ids t ≡ Err why
-    refused_with why gives = answer_now ∙ ap (λ (answer : Answer). unless_refused answer (each_answer operation (drop (count + 1) ids) (after_calls own now))) (sym gives)
+    refused_with why gives = answer_now ∙ ap (λ (answer : Answer). after_answer answer (each_answer operation (drop (count + 1) ids) (after_calls own now))) (sym gives)
 
     pub gives_refused : (why : DriverRefused) → Gives (Err why) (answer_on_found id (device_of now)) → IsAnswered {T = Unit {0}} (Err why) → Gives (Err why) (each_answer operation ids t)
     gives_refused Register gives answered = tt

@@ -4,3 +4,5 @@ pub mod ClearingLemmas
 pub mod ReachLemmas
 pub mod ReadingLemmas
 pub mod LookingLemmas
+pub mod QuietLemmas
+pub mod SavingLemmas

@@ -1,5 +1,5 @@
 -- A listing, and then the reading of what it listed.
-use Rattle.std.proofs.Common.{◌≡◌, ◌∙◌, ℕ, ◌&&◌, not, nat_eq, List, ◌++◌, length, min, ◌+◌, Option, Some, Result, Ok, Err, IsTrue, append_assoc, refl, sym, ap, subst}
+use Rattle.std.proofs.Common.{◌≡◌, ◌∙◌, ℕ, ◌&&◌, not, nat_eq, List, ◌++◌, length, min, ◌+◌, Some, Result, Ok, Err, IsTrue, append_assoc, sym, ap, subst}
 use Rattle.std.specs.Prelude.{IfSome}
 use Rattle.std.specs.Option.{option_map}
 use Rattle.dimm_topology.specs.declared.row.Row.{Row}
@@ -7,7 +7,7 @@ use Rattle.erst_store.specs.DeviceLaws.{IsDevice, left_to_list}
 use Rattle.erst_store.specs.Store.{Stored, most_records}
 use Rattle.erst_store.specs.Store.{ids as ids_in}
 use Rattle.board_core.specs.Cause.{device_call}
-use Rattle.board_core.specs.Doing.{Act, DeviceCall, Does, Ended, IsMade, Seen, broke, ended_by, went_well}
+use Rattle.board_core.specs.Doing.{Act, DeviceCall, Does, Ended, IsMade, Seen, broke, went_well}
 use Rattle.board_core.specs.Stop.{Left}
 use Rattle.board_core.specs.Told.{Told, device_of}
 use Rattle.board_core.proofs.DoingLemmas.{does_first, does_then}
@@ -17,7 +17,7 @@ use Rattle.erst_interp.specs.Run.{acts_of}
 use Rattle.erst_interp.proofs.BreakLemmas.{acts_both}
 use Rattle.erst_driver.specs.declared.refusals.DriverRefused.{DriverRefused}
 use Rattle.erst_driver.specs.declared.refusals.DriverRefused.TheVariants.{Busy, NoMemory, Register, Status as EndedWith}
-use Rattle.erst_driver.specs.Answers.{DoesListing, DoesSome, IsMemoryOnly, read_calls, refusal_end}
+use Rattle.erst_driver.specs.Answers.{DoesListing, IsMemoryOnly, read_calls}
 use Rattle.erst_driver.specs.Operations.{AreInside, ids_steps, is_free_in_time, list_calls, listings}
 use Rattle.erst_driver.proofs.DoesLemmas.{at_told, inside_both, over_each}
 use Rattle.erst_driver.proofs.MomentLemmas.{list_here}

@@ -1,6 +1,6 @@
 -- How large what is made of records is.
-use Rattle.std.proofs.Common.{◌≡◌, ◌∙◌, ◌⊎◌, ◌≤◌, ℕ, ◌+◌, ◌*◌, ◌==◌, Bool, true, false, List, [], ◌∷◌, ◌++◌, length, append-nil, Option, Some, None, Result, Ok, Err, All, unwrap_or, inl, refl, sym, ap, subst, arith, length-append, if◌then◌else◌}
-use Rattle.std.specs.List.{filter_map, flat_map}
+use Rattle.std.proofs.Common.{◌≡◌, ◌∙◌, ◌≤◌, ℕ, ◌+◌, ◌==◌, Bool, true, false, List, [], ◌∷◌, ◌++◌, length, append-nil, Option, Some, None, Result, Ok, Err, All, unwrap_or, inl, sym, ap, subst, arith, length-append, if◌then◌else◌}
+use Rattle.std.specs.List.{flat_map}
 use Rattle.std.specs.Option.{option_map, option_and_then}
 use Rattle.std.proofs.lemmas.Grind.{flat_map-append}
 use Rattle.std.proofs.lemmas.List.Elements.{All-append, All-from_recursion, filter_map-append}
@@ -34,7 +34,6 @@ use Rattle.entry_format.specs.Spelling.{entry_bytes}
 use Rattle.entry_format.proofs.SizeLemmas.{fact_entry_most}
 use Rattle.journal_format.specs.Links.{payload_bytes}
 use Rattle.ras_records.specs.declared.looking.Looked.{Looked}
-use Rattle.ras_events.specs.declared.made.Piece.{Piece}
 use Rattle.ras_events.specs.declared.made.Piece.TheVariants.{Unread}
 use Rattle.ras_events.specs.Making.{entries_in, entry_in, piece_of_report}
 use Rattle.ras_events.specs.Sizes.{IsFact, IsFit}
@@ -102,8 +101,16 @@ reaches_report count old new rows seconds id buffer own report read short is val
       valid = subst (All IsValidEntry) (sym entries) (All-append IsValidEntry (entries_in old.made) (entry ∷ []) reaches.valid (All-from_recursion IsValidEntry (entry ∷ []) (valid, tt)));
       facts = subst (All IsFact) (sym entries) (All-append IsFact (entries_in old.made) (entry ∷ []) reaches.facts (All-from_recursion IsFact (entry ∷ []) (tt, tt)));
       few = omega (arith, reaches.few, ap (λ (es : List Entry). length es) entries, length-append (entries_in old.made) (entry ∷ []));
-      short = omega (arith, reaches.short, size, items, ap (λ (es : List Entry). length (flat_map entry_bytes es)) entries, ap (λ (xs : List ℕ). length xs) (flat_map-append entry_bytes (entries_in old.made) (entry ∷ [])),
-          length-append (flat_map entry_bytes (entries_in old.made)) (entry_bytes entry ++ []), length-append (entry_bytes entry) []);
+      short = omega (
+        arith,
+        reaches.short,
+        size,
+        items,
+        ap (λ (es : List Entry). length (flat_map entry_bytes es)) entries,
+        ap (λ (xs : List ℕ). length xs) (flat_map-append entry_bytes (entries_in old.made) (entry ∷ [])),
+        length-append (flat_map entry_bytes (entries_in old.made)) (entry_bytes entry ++ []),
+        length-append (entry_bytes entry) [],
+      );
       readable = omega (arith, reaches.readable, ap (λ (ids : List ℕ). length ids) readable, length-append old.readable.items (id ∷ []));
     }
 

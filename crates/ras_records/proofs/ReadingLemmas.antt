@@ -1,20 +1,18 @@
 -- Reading the records of a store, one after another.
-use Rattle.std.proofs.Common.{◌≡◌, ◌∙◌, ◌⊎◌, ◌≤◌, ◌<◌, ◌^◌, ℕ, zero, suc, ◌+◌, ◌&&◌, ◌||◌, Bool, true, false, not, cond, nat_eq, List, [], ◌∷◌, ◌++◌, length, map, drop, get_or, Option, Some, None, Result, Ok, Err, IsTrue, append_assoc, append-nil, inl, inr, refl, sym, ap, subst, arith, if◌then◌else◌}
+use Rattle.std.proofs.Common.{◌≡◌, ◌∙◌, ◌⊎◌, ◌≤◌, ◌<◌, ◌^◌, ℕ, zero, suc, ◌+◌, ◌&&◌, ◌||◌, Bool, true, false, not, cond, nat_eq, List, [], ◌∷◌, ◌++◌, length, drop, get_or, Some, Ok, Err, IsTrue, append_assoc, append-nil, inl, inr, refl, sym, ap, subst, arith, if◌then◌else◌}
 use Rattle.std.specs.Prelude.{IfSome}
 use Rattle.std.specs.List.{AllByRecursion, IsDistinct}
 use Rattle.std.specs.Option.{option_map}
 use Rattle.std.specs.Result.{is_ok}
-use Rattle.std.proofs.lemmas.Bool.{false≢true}
 use Rattle.std.proofs.lemmas.Bool.Decides.{nat_tests}
-use Rattle.std.proofs.lemmas.List.{drop-map, drop_all, drop_more, get_or-map, length-map}
+use Rattle.std.proofs.lemmas.List.{drop_all, drop_more, get_or-map, length-map}
 use Rattle.std.proofs.lemmas.Map.Keys.{IsDistinct-head, IsDistinct-tail}
 use Rattle.cper_records.specs.Readable.{filled, read_under}
 use Rattle.dimm_topology.specs.declared.row.Row.{Row}
 use Rattle.erst_store.specs.DeviceLaws.{IsDevice}
 use Rattle.erst_store.specs.Store.{Fits, Stored, all_ones, bytes_under, holds}
 use Rattle.erst_store.specs.Store.{ids as ids_in}
-use Rattle.erst_store.specs.declared.device.CommandStatus.{CommandStatus}
-use Rattle.board_core.specs.Doing.{Act, DeviceCall, Does, Seen, after_acts, went_well}
+use Rattle.board_core.specs.Doing.{DeviceCall, Does, Seen, went_well}
 use Rattle.board_core.specs.Stop.{Left}
 use Rattle.board_core.specs.Told.{Told, device_of}
 use Rattle.erst_interp.specs.declared.entries.Entry.{Entry}

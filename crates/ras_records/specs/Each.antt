@@ -1,5 +1,5 @@
 -- Operations on several records, one after another: their calls of the device, and how they end.
-use Rattle.std.specs.Prelude.{ℕ, List, [], ◌∷◌, ◌++◌, Result, Ok, Err, if◌then◌else◌}
+use Rattle.std.specs.Prelude.{ℕ, List, [], ◌∷◌, ◌++◌, Ok, Err, if◌then◌else◌}
 use Rattle.std.specs.Result.{is_ok}
 use Rattle.erst_store.specs.Device.{Device}
 use Rattle.board_core.specs.Doing.{DeviceCall, after_acts}
@@ -24,12 +24,12 @@ each_calls operation (id ∷ ids) t =
     ++ (if is_ok (answer_on_found id (device_of t))
     then each_calls operation ids (after_calls (operation id (device_of t)) t) else [])
 
-abbrev pub unless_refused : Answer → Answer → Answer
-unless_refused (Ok done) later = later
-unless_refused (Err why) later = Err why
+abbrev pub after_answer : Answer → Answer → Answer
+after_answer (Ok done) later = later
+after_answer (Err why) later = Err why
 
 abbrev pub each_answer : Operation → List ℕ → Told → Answer
 each_answer operation [] t = Ok tt
 each_answer operation (id ∷ ids) t =
-    unless_refused (answer_on_found id (device_of t))
+    after_answer (answer_on_found id (device_of t))
     (each_answer operation ids (after_calls (operation id (device_of t)) t))

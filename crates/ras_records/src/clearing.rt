@@ -20,11 +20,7 @@ use erst_driver::{Driver, DriverRefused};
 /// The first clearing that is refused is the last: `Register` comes exactly if a call of the board
 /// failed, `Busy` if the device was busy at each of the most checks, and `Status` if the store has
 /// no such record.
-pub fn clear_all<B: Board>(
-    driver: &Driver,
-    ids: &[u64],
-    board: &mut B,
-) -> Result<(), DriverRefused>
+pub fn clear_all<B: Board>(driver: &Driver, ids: &[u64], board: &mut B) -> Result<(), DriverRefused>
     ensures does { IfSome (B.told board.old) (λ t. Does (looks B.told B.clock B.faults)
         (acts_of (each_calls (clear_calls driver.now) ids.now t)) (ended_by refusal_end result)
         board.old board.new) }

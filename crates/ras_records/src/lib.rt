@@ -3,7 +3,14 @@
 #![tactic(auto)]
 
 mod clearing;
+mod laws;
 mod looking;
+mod saving;
 
 pub use clearing::clear_all;
+pub use laws::{
+    clears_take_the_readable_records, device_calls_change_the_store_alone, looks_leave_the_store,
+    savings_are_puts,
+};
 pub use looking::{Looked, look};
+pub use saving::save;

@@ -15,12 +15,12 @@ ghost use Rattle.ras_records.specs.Each.{each_calls};
 ghost use Rattle.ras_records.specs.Polls.{IsBounded, Looks, look_calls};
 ghost use Rattle.ras_records.specs.Reading.{ReachesTo};
 
-use ras_events::Made;
 use board_core::Board;
 use cper_records::read_stored;
 use dimm_topology::Topology;
 use erst_driver::{Driver, DriverRefused};
 use ras_base::NoMemory;
+use ras_events::Made;
 use ras_reports::report_of_stored;
 use std::alloc::Global;
 
@@ -93,7 +93,7 @@ pub fn look<B: Board>(
     requires { length buffer.old ≡ range_length }
     ensures does { IfSome (B.told board.old) (λ t. DoesListing (looks B.told B.clock B.faults)
         (look_calls driver.now t) result board.old board.new) }
-    ensures looks { IsAdmittedTable driver.now → IfSome (B.told board.old)
+    ensures looked { IsAdmittedTable driver.now → IfSome (B.told board.old)
         (λ t. Looks topology.now seconds result t) }
     ensures bounded { IsBounded result }
     ensures cause { HasCauseIn result (B.faults board.old) (B.faults board.new) }
@@ -117,7 +117,7 @@ fn read_all<B: Board>(
     requires few { length ids.now ≤ most_records }
     ensures does { IfSome (B.told board.old) (λ t. DoesListing (looks B.told B.clock B.faults)
         (each_calls (read_calls driver.now) ids.now t) result board.old board.new) }
-    ensures looks { IsAdmittedTable driver.now → IfSome (B.told board.old) (λ t.
+    ensures looked { IsAdmittedTable driver.now → IfSome (B.told board.old) (λ t.
         IsDevice (device_of t) → ids.now ≡ ids_in t.here.store
         → Looks topology.now seconds result t) }
     ensures bounded { IsBounded result }

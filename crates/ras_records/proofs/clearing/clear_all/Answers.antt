@@ -4,7 +4,7 @@ use Rattle.board_core.specs.Doing.{looks}
 use Rattle.board_core.specs.Told.{device_of}
 use Rattle.erst_store.specs.DeviceLaws.{IsDevice}
 use Rattle.erst_driver.specs.Operations.{clear_calls}
-use Rattle.ras_records.proofs.EachLemmas.{called_once, each_more, each_refused, each_refusal}
+use Rattle.ras_records.proofs.EachLemmas.{called_once, each_more, each_refused}
 use Rattle.ras_records.proofs.clearing.clear_all.Goals as goal
 
 pub returns-in_err-clear-clause-does : goal.returns-in_err-clear-clause-does

@@ -12,7 +12,7 @@ pub returns-clause-does : goal.returns-clause-does
 returns-clause-does g c =
     look_does (looks g.B.Board.told g.B.Board.clock g.B.Board.faults) c.args.driver.now _ _ _ c.deref.result.now c.in_ok-ids.ensures.does (rw c.deref.ensures.value c.in_ok-ids.ensures.ids) c.read_all.result c.read_all.ensures.does
 
-pub returns-clause-looks : goal.returns-clause-looks
-returns-clause-looks g c =
+pub returns-clause-looked : goal.returns-clause-looked
+returns-clause-looked g c =
     look_looks (looks g.B.Board.told g.B.Board.clock g.B.Board.faults) c.args.driver.now _ _ c.read_all.new.board c.deref.result.now c.in_ok-ids.ensures.does (rw c.deref.ensures.value c.in_ok-ids.ensures.ids) c.read_all.result
-    c.args.topology.now c.args.seconds c.in_ok-ids.ensures.device c.read_all.ensures.looks
+    c.args.topology.now c.args.seconds c.in_ok-ids.ensures.device c.read_all.ensures.looked

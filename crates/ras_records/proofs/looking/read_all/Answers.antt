@@ -18,8 +18,8 @@ returns-in_err-read-clause-does g c =
     rw (p.1, p.2) (read_refused (looks g.B.Board.told g.B.Board.clock g.B.Board.faults) c.args.driver.now c.args.topology.now c.args.seconds c.args.ids.now c.loop-id.id-index c.loop-id-test.true _ _ _ _ c.loop-id.invariant.read
     c.in_err-read.field-0.0 c.in_err-read.ensures.does c.in_err-read.ensures.answers c.in_err-read.ensures.refused)
 
-pub returns-in_err-read-clause-looks : goal.returns-in_err-read-clause-looks
-returns-in_err-read-clause-looks g c =
+pub returns-in_err-read-clause-looked : goal.returns-in_err-read-clause-looked
+returns-in_err-read-clause-looked g c =
     let p = err_from_is_err_and c.from_residual.result c.from_residual.ensures.1 in
     rw (p.1, p.2) (refused_looks (looks g.B.Board.told g.B.Board.clock g.B.Board.faults) c.args.driver.now c.args.topology.now c.args.seconds c.args.ids.now c.loop-id.id-index c.loop-id-test.true _ _ c.read.new.board _ c.loop-id.invariant.read
     c.in_err-read.field-0.0 c.in_err-read.ensures.answers c.in_err-read.ensures.refused)
@@ -37,8 +37,8 @@ loop-id-preserved g c = record {
   reaches = c.in-Ok.ensures.reaches c.loop-id.id-index c.loop-id.invariant.reaches;
 }
 
-pub returns-clause-looks : goal.returns-clause-looks
-returns-clause-looks g c =
+pub returns-clause-looked : goal.returns-clause-looked
+returns-clause-looked g c =
     done_looks (looks g.B.Board.told g.B.Board.clock g.B.Board.faults) c.args.driver.now c.args.topology.now c.args.seconds c.args.ids.now c.loop-id.id-index _ _ c.loop-id.looked c.loop-id-test.false c.loop-id.invariant.read
 
 pub returns-clause-bounded : goal.returns-clause-bounded
