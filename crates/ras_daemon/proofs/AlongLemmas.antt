@@ -1,5 +1,5 @@
 -- The disk calls of lines one after another, and that each line has some.
-use Rattle.std.proofs.Common.{◌≡◌, ℕ, ◌+◌, List, [], ◌∷◌, ◌++◌, length, Option, None, Some, IsSomeAnd, Result, Ok, Err, refl, ap, sym, ◌∙◌, subst, append_assoc, append-nil, arith, inl, inr}
+use Rattle.std.proofs.Common.{◌≡◌, ℕ, ◌+◌, List, [], ◌∷◌, ◌++◌, length, Option, None, Some, IsSomeAnd, Result, Ok, Err, refl, ap, sym, ◌∙◌, subst, append_assoc, append-nil, inl, inr}
 use Rattle.std.proofs.lemmas.List.Elements.{All-nil}
 use Rattle.board_core.specs.declared.board.DiskCall.{DiskCall}
 use Rattle.board_core.specs.declared.board.DiskCall.TheVariants.{Sync}
@@ -15,9 +15,10 @@ use Rattle.ras_recover.specs.OpeningCalls.{IsOpening, IsRecovery}
 use Rattle.ras_recover.proofs.OpeningCallsLemmas.{an_opening}
 use Rattle.ras_ledger.specs.KeepingCalls.{IsKeeping, write_through_calls}
 use Rattle.ras_events.specs.declared.event.Event.{Event}
-use Rattle.ras_events.specs.declared.event.Event.TheVariants.{Nothing, Settled, Counted, Reopened}
-use Rattle.ras_exit.specs.declared.reason.Reason.{Reason}
+use Rattle.ras_events.specs.declared.event.Event.TheVariants.{Nothing, Settled, Counted, Put, Saved, Polled, Reopened}
+use Rattle.ras_events.specs.declared.event.Refusal.{Refusal}
 use Rattle.ras_events.specs.Reports.{NumberedLine, Place, event_at}
+use Rattle.ras_events.specs.Making.{entries_in}
 use Rattle.ras_exit.specs.declared.exit.Exit.{Exit}
 use Rattle.ras_run.specs.LineCalls.{AreCallsAt, AreEventCalls, AreNewsCalls}
 use Rattle.ras_run.specs.Places.{Start, history_at, news_after}
@@ -54,11 +55,14 @@ news_calls (entry ∷ entries) = keep_calls _
 recovery : IsRecovery (Sync Zero ∷ Sync One ∷ [])
 recovery = record { reading = []; is = refl; alone = All-nil IsReading }
 
-event_calls : (start : Start) (place : Place) (event : Result Event Reason) → (calls : List DiskCall) × AreEventCalls start place event calls
+event_calls : (start : Start) (place : Place) (event : Result Event Refusal) → (calls : List DiskCall) × AreEventCalls start place event calls
 event_calls start place (Ok Nothing) = ([], refl)
 event_calls start place (Ok Settled) = ([], refl)
-event_calls start place (Ok (Counted made)) = news_calls (news_after (history_at start place.0) made.entries)
+event_calls start place (Ok (Counted made)) = news_calls (news_after (history_at start place.0) (entries_in made))
 event_calls start place (Ok Reopened) = (Sync Zero ∷ Sync One ∷ [], recovery)
+event_calls start place (Ok (Put id bytes)) = ([], refl)
+event_calls start place (Ok (Saved id bytes)) = ([], refl)
+event_calls start place (Ok (Polled seconds)) = ([], refl)
 event_calls start place (Err why) = ([], refl)
 
 along_calls : (start : Start) (ps : List Place) → (calls : List DiskCall) × AreCallsAlong start ps calls

@@ -58,7 +58,7 @@ silent-not : (start : Start) (p : Place) → Tells start p → is_event p ≡ fa
 silent-not start p (inl event) is = absurd (cc (event.event, is))
 silent-not start p (inr none) is = none.silent
 
-reports-not : (start : Start) (p : Place) → Tells start p → is_event p ≡ false → entries_at p ≡ []
+reports-not : (start : Start) (p : Place) → Tells start p → is_event p ≡ false → entries_at [] p ≡ []
 reports-not start p (inl event) is = absurd (cc (event.event, is))
 reports-not start p (inr none) is = none.reports
 
@@ -77,8 +77,8 @@ module _ (start : Start) (script : List ℕ) (before : List NumberedLine) (first
   pub account-first : account_with start script (events_among (places before)) ≡ account_at start before
   account-first =
       ap (λ (es : List Entry). account_of (with_entries start.history es))
-      (ap (flat_map entries_at) first-events
-      ∙ flat_map-passing is_event entries_at (places before) (all-weaker (Tells start) (λ p. is_event p ≡ false → entries_at p ≡ []) (reports-not start) (places before) told))
+      (ap (flat_map (entries_at [])) first-events
+      ∙ flat_map-passing is_event (entries_at []) (places before) (all-weaker (Tells start) (λ p. is_event p ≡ false → entries_at [] p ≡ []) (reports-not start) (places before) told))
 
   -- what they have printed
   pub output-first : output_upto start script (events_among (places before)) ≡ standing_lines (account_of start.history) ++ outputs start before

@@ -36,7 +36,7 @@ use Rattle.ras_script.specs.declared.line.Table.TheVariants.{Hest, Erst}
 use Rattle.ras_texts.specs.Orders.{standing_lines}
 use Rattle.ras_texts.specs.Text.{done_line}
 use Rattle.ras_events.specs.declared.event.Event.{Event}
-use Rattle.ras_events.specs.declared.event.Event.TheVariants.{Nothing, Settled, Counted, Reopened}
+use Rattle.ras_events.specs.declared.event.Event.TheVariants.{Nothing, Settled, Counted, Put, Saved, Polled, Reopened}
 use Rattle.ras_exit.specs.declared.reason.Reason.{Reason}
 use Rattle.ras_exit.specs.declared.reason.Reason.TheVariants as reason
 use Rattle.ras_events.specs.declared.settings.Settings.{Settings}
@@ -44,6 +44,10 @@ use Rattle.ras_events.specs.Events.{block_event, counts_report, has_source, hest
 use Rattle.ras_events.specs.Reports.{NumberedLine, Place, entries_at, event_at, made_in, reports, settings_told}
 use Rattle.ras_events.specs.Sizes.{IsFitEvent}
 use Rattle.ras_events.specs.Texts.{event_text}
+use Rattle.ras_events.specs.Making.{entries_in}
+use Rattle.ras_events.specs.Stores.{laid}
+use Rattle.ras_events.specs.declared.event.Refusal.{Refusal}
+use Rattle.ras_events.specs.declared.event.Refusal.TheVariants.{Bad}
 use Rattle.text_laws.specs.QuietLines.{AreQuietLines}
 use Rattle.ras_exit.specs.declared.exit.Exit.TheVariants.{BadLine, Full}
 use Rattle.ras_run.specs.LaterKinds.{IsTaken, taken_line}
@@ -65,31 +69,34 @@ full-past : (b : Bool) (rest : Bool) → (if b || rest then Some Full else None)
 full-past true rest is = cc
 full-past false rest is = refl
 
-pub reports-snoc : (before : List NumberedLine) (read : NumberedLine) → reports (before ++ read ∷ []) ≡ reports before ++ entries_at (before, read)
+pub reports-snoc : (before : List NumberedLine) (read : NumberedLine) → reports [] (before ++ read ∷ []) ≡ reports [] before ++ entries_at [] (before, read)
 reports-snoc before read =
-    ap (flat_map entries_at) (places-snoc before read)
-    ∙ flat_map-append entries_at (places before) ((before, read) ∷ [])
-    ∙ ap (λ (es : List Entry). reports before ++ es) (append-nil (entries_at (before, read)))
+    ap (flat_map (entries_at [])) (places-snoc before read)
+    ∙ flat_map-append (entries_at []) (places before) ((before, read) ∷ [])
+    ∙ ap (λ (es : List Entry). reports [] before ++ es) (append-nil (entries_at [] (before, read)))
 
 module _ (start : Start) (before : List NumberedLine) (read : NumberedLine) where
-  along : (event : Result Event Reason) → event_refusal start (before, read) event ≡ None → IfOk event IsFitEvent → IsAccount (account_at start before)
-      → IsAccount (account_after_all (account_at start before) (made_in event).entries)
+  along : (event : Result Event Refusal) → event_refusal start (before, read) event ≡ None → IfOk event IsFitEvent → IsAccount (account_at start before)
+      → IsAccount (account_after_all (account_at start before) (entries_in (made_in (settings_told before).topology (laid [] before) event)))
   along (Err why) taken fit account = account
   along (Ok Nothing) taken fit account = account
   along (Ok Settled) taken fit account = account
+  along (Ok (Put id bytes)) taken fit account = account
+  along (Ok (Saved id bytes)) taken fit account = account
+  along (Ok (Polled seconds)) taken fit account = cc taken
   along (Ok Reopened) taken fit account = account
   along (Ok (Counted made)) taken fit account =
       let history = history_at start before in
-      let within = full-past (are_past (numbers_with (account_of history) made.entries))
-      (lacks_room_for history (standing_at start before) (news_after history made.entries)) taken in
-      entries-sound (account_of history) made.entries account fit.valid
-      (stays-within (account_of history) made.entries ((past-within (numbers_with (account_of history) made.entries)).0 within))
+      let within = full-past (are_past (numbers_with (account_of history) (entries_in made)))
+      (lacks_room_for history (standing_at start before) (news_after history (entries_in made))) taken in
+      entries-sound (account_of history) (entries_in made) account fit.valid
+      (stays-within (account_of history) (entries_in made) ((past-within (numbers_with (account_of history) (entries_in made))).0 within))
 
-  pub account-more : account_at start (before ++ read ∷ []) ≡ account_after_all (account_at start before) (entries_at (before, read))
+  pub account-more : account_at start (before ++ read ∷ []) ≡ account_after_all (account_at start before) (entries_at [] (before, read))
   account-more =
       ap (λ (es : List Entry). account_of (with_entries start.history es)) (reports-snoc before read)
-      ∙ ap account_of (fold-append with_entry start.history (reports before) (entries_at (before, read)))
-      ∙ account_of-entries (history_at start before) (entries_at (before, read))
+      ∙ ap account_of (fold-append with_entry start.history (reports [] before) (entries_at [] (before, read)))
+      ∙ account_of-entries (history_at start before) (entries_at [] (before, read))
 
   pub account-next : IsAccepted start (before, read) → IsAccount (account_at start before) → IsAccount (account_at start (before ++ read ∷ []))
   account-next accepted account = subst IsAccount (sym account-more) (along (event_at (before, read)) accepted.taken accepted.fit account)
@@ -97,22 +104,22 @@ module _ (start : Start) (before : List NumberedLine) (read : NumberedLine) wher
 -- ---- what is asked for is an event
 
 -- a line asks for something, or is refused
-abbrev is_something : Result Event Reason → Bool
+abbrev is_something : Result Event Refusal → Bool
 is_something (Ok Nothing) = false
 is_something event = true
 
-record IsSomething (event : Result Event Reason) : Type 0 where
+record IsSomething (event : Result Event Refusal) : Type 0 where
   is : is_something event ≡ true
 
-refused-something : {E : Type 0} (why : E → Reason) (refused : Option E) → IsSomething (option_map_or (λ found. Err (why found)) refused (Ok Settled))
+refused-something : {E : Type 0} (why : E → Reason) (refused : Option E) → IsSomething (option_map_or (λ found. Err (Bad (why found))) refused (Ok Settled))
 refused-something why None = record { is = refl }
 refused-something why (Some found) = record { is = refl }
 
-then-something : {A E : Type 0} (why : E → Reason) (read : Result A E) (next : A → Result Event Reason) → ((x : A) → IsSomething (next x)) → IsSomething (or_reason why read >>= next)
+then-something : {A E : Type 0} (why : E → Reason) (read : Result A E) (next : A → Result Event Refusal) → ((x : A) → IsSomething (next x)) → IsSomething (or_reason why read >>= next)
 then-something why (Ok x) next some = some x
 then-something why (Err found) next some = record { is = refl }
 
-either-something : (b : Bool) (one other : Result Event Reason) → IsSomething one → IsSomething other → IsSomething (if b then one else other)
+either-something : (b : Bool) (one other : Result Event Refusal) → IsSomething one → IsSomething other → IsSomething (if b then one else other)
 either-something true one other some rest = some
 either-something false one other some rest = rest
 
@@ -123,7 +130,7 @@ block-something rows name seconds bytes =
 report-something : (settings : Settings) (report : ErrorReport) → IsSomething (report_event settings report)
 report-something settings (Bank bank) = record { is = refl }
 report-something settings (Block boot seconds source number bytes) =
-    either-something (has_source settings.sources source) (block_event settings.topology (names.Block boot source number) seconds bytes) (Err reason.Source)
+    either-something (has_source settings.sources source) (block_event settings.topology (names.Block boot source number) seconds bytes) (Err (Bad reason.Source))
     (block-something settings.topology (names.Block boot source number) seconds bytes) (record { is = refl })
 report-something settings (Boot boot seconds table region) =
     then-something reason.Bert (bert_of table) (λ bert. block_event settings.topology (names.Boot boot) seconds (take bert.length region))
@@ -142,19 +149,22 @@ pub record PrintsEvent (start : Start) (place : Place) : Type 0 where
 pub record PrintsNothing (start : Start) (place : Place) : Type 0 where
   pub event : is_event place ≡ false
   pub silent : output_at start place ≡ []
-  pub reports : entries_at place ≡ []
+  pub reports : entries_at [] place ≡ []
 
 abbrev pub Tells : Start → Place → Type 0
 Tells start place = PrintsEvent start place ⊎ PrintsNothing start place
 
 module _ (start : Start) (before : List NumberedLine) (number : ℕ) (read : Result Line LineRefused) where
-  prints : (event : Result Event Reason) → is_event (before, (number, read)) ≡ true → event_at (before, (number, read)) ≡ event
+  prints : (event : Result Event Refusal) → is_event (before, (number, read)) ≡ true → event_at (before, (number, read)) ≡ event
       → event_refusal start (before, (number, read)) event ≡ None → IfOk event IsFitEvent → IsSomething event
       → IsAccount (account_at start before) → PrintsEvent start (before, (number, read))
   prints (Err why) asked is taken fit some account = cc taken
   prints (Ok Nothing) asked is taken fit some account = absurd (let same : is_something (Ok Nothing) ≡ true = some.is in cc)
   prints (Ok Settled) asked is taken fit some account =
       record { event = asked; text = []; quiet = no_lines_quiet; printed = ap (event_output start (before, (number, read))) is }
+  prints (Ok (Put id bytes)) asked is taken fit some account = cc taken
+  prints (Ok (Saved id bytes)) asked is taken fit some account = cc taken
+  prints (Ok (Polled seconds)) asked is taken fit some account = cc taken
   prints (Ok (Counted made)) asked is taken fit some account = record {
     event = asked;
     text = event_text (history_at start before) made;

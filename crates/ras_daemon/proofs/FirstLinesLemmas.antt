@@ -7,10 +7,11 @@ use Rattle.ras_base.specs.PlacesLemmas.{places_behind-append, places-snoc}
 use Rattle.ras_account.specs.Account.{account_of}
 use Rattle.ras_account.specs.History.{with_entries}
 use Rattle.ras_events.specs.declared.event.Event.{Event}
-use Rattle.ras_events.specs.declared.event.Event.TheVariants.{Nothing, Settled, Counted, Reopened}
-use Rattle.ras_exit.specs.declared.reason.Reason.{Reason}
+use Rattle.ras_events.specs.declared.event.Event.TheVariants.{Nothing, Settled, Counted, Put, Saved, Polled, Reopened}
+use Rattle.ras_events.specs.declared.event.Refusal.{Refusal}
 use Rattle.ras_texts.specs.Text.{end_line}
 use Rattle.ras_events.specs.Reports.{NumberedLine, Place, entries_at, event_at}
+use Rattle.ras_events.specs.Making.{entries_in}
 use Rattle.ras_exit.specs.declared.exit.Exit.{Exit}
 use Rattle.ras_exit.specs.declared.exit.Exit.TheVariants.{Done, Full, Usage}
 use Rattle.ras_run.specs.Places.{Start, account_at, history_at, has_no_room_for, standing_at}
@@ -66,12 +67,15 @@ full-not : (b : Bool) → IsNotDone (if b then Some Full else None)
 full-not true = tt
 full-not false = tt
 
-refused-not : (start : Start) (place : Place) (event : Result Event Reason) → IsNotDone (event_refusal start place event)
+refused-not : (start : Start) (place : Place) (event : Result Event Refusal) → IsNotDone (event_refusal start place event)
 refused-not start (before, (number, line)) (Err why) = tt
-refused-not start (before, (number, line)) (Ok (Counted made)) = full-not (has_no_room_for (history_at start before) (standing_at start before) made.entries)
+refused-not start (before, (number, line)) (Ok (Counted made)) = full-not (has_no_room_for (history_at start before) (standing_at start before) (entries_in made))
 refused-not start (before, (number, line)) (Ok Nothing) = tt
 refused-not start (before, (number, line)) (Ok Settled) = tt
 refused-not start (before, (number, line)) (Ok Reopened) = tt
+refused-not start (before, (number, line)) (Ok (Put id bytes)) = tt
+refused-not start (before, (number, line)) (Ok (Saved id bytes)) = tt
+refused-not start (before, (number, line)) (Ok (Polled seconds)) = tt
 
 first-not : (o : Option Exit) (rest : List Exit) → IsNotDone o → IsNotDone (first_among rest) → IsNotDone (first_among (cons_option o rest))
 first-not None rest one others = others
@@ -111,6 +115,6 @@ closing-same start script exit before all =
     by exit all.exit_is ∙ ap (closing_line (account_at start (reads_of script))) (sym all.exit_is)
   where
     by : (e : Exit) → run_exit start script ≡ e → closing_line (account_at start before) e ≡ closing_line (account_at start (reads_of script)) e
-    by Done is = ap (λ (ps : List Place). end_line (account_of (with_entries start.history (flat_map entries_at ps)))) (sym all.all ∙ done-all start script is)
+    by Done is = ap (λ (ps : List Place). end_line (account_of (with_entries start.history (flat_map (entries_at []) ps)))) (sym all.all ∙ done-all start script is)
     by Usage is = refl
     by e is = refl

@@ -228,7 +228,7 @@ module _ (start : Start) (script : List ℕ) (here left : Left) where
     account-past exit before all =
         let n : ℕ = events_among (places before) in
         let events : List Place = filter is_event (places before) in
-        ap (λ (ps : List Place). account_of (with_entries start.history (flat_map entries_at ps)))
+        ap (λ (ps : List Place). account_of (with_entries start.history (flat_map (entries_at []) ps)))
         (ap (take (n + 1)) (events-all exit before all)
         ∙ take-whole events (n + 1) (omega arith)
         ∙ sym (take-whole events n (omega arith))

@@ -28,8 +28,10 @@ use Rattle.ras_script.specs.declared.line.Line.TheVariants as asks
 use Rattle.ras_texts.specs.Orders.{standing_lines}
 use Rattle.ras_events.specs.declared.event.Event.{Event}
 use Rattle.ras_events.specs.declared.event.Event.TheVariants.{Nothing}
-use Rattle.ras_exit.specs.declared.reason.Reason.{Reason}
-use Rattle.ras_events.specs.Reports.{NumberedLine, Place, entries_at, event_at, made_in, reports}
+use Rattle.ras_events.specs.declared.event.Refusal.{Refusal}
+use Rattle.ras_events.specs.Reports.{NumberedLine, Place, entries_at, event_at, made_in, reports, settings_told}
+use Rattle.ras_events.specs.Making.{entries_in}
+use Rattle.ras_events.specs.Stores.{laid}
 use Rattle.ras_events.specs.Sizes.{IsFact}
 use Rattle.ras_events.specs.Texts.{orders_of_entries}
 use Rattle.ras_events.proofs.HistoryLemmas.{news_behind}
@@ -69,14 +71,14 @@ all-any P each (x ∷ xs) = (each x, all-any P each xs)
 pub by-events : {Y : Type 0} (f : Place → List Y) → ((p : Place) → is_event p ≡ false → f p ≡ []) → (ps : List Place) → flat_map f (filter is_event ps) ≡ flat_map f ps
 by-events f none ps = flat_map-passing is_event f ps (all-any (λ p. is_event p ≡ false → f p ≡ []) none ps)
 
-pub reports-none : (p : Place) → is_event p ≡ false → entries_at p ≡ []
-reports-none p is = ap (λ (event : Result Event Reason). (made_in event).entries) (no-event p is)
+pub reports-none : (p : Place) → is_event p ≡ false → entries_at [] p ≡ []
+reports-none p is = ap (λ (event : Result Event Refusal). entries_in (made_in (settings_told p.0).topology (laid [] p.0) event)) (no-event p is)
 
 prints-none : (start : Start) (p : Place) → is_event p ≡ false → output_at start p ≡ []
 prints-none start p is = ap (event_output start p) (no-event p is)
 
 abbrev ordered_at : Start → Place → List Order
-ordered_at start p = orders_of_entries (history_at start p.0) (entries_at p)
+ordered_at start p = orders_of_entries (history_at start p.0) (entries_at [] p)
 
 orders-none : (start : Start) (p : Place) → is_event p ≡ false → ordered_at start p ≡ []
 orders-none start p is = ap (orders_of_entries (history_at start p.0)) (reports-none p is)
@@ -130,15 +132,15 @@ logs-once start script n = subst (λ (es : List Entry). IsDistinct same_name (na
 pub taken-events : (start : Start) (script : List ℕ) → IsTakenWhole start script → events_of start script ≡ filter is_event (places (reads_of script))
 taken-events start script taken = ap (filter is_event) (done-all start script taken)
 
-pub reported-all : (start : Start) (script : List ℕ) → reported start script (event_count start script) ≡ flat_map entries_at (events_of start script)
-reported-all start script = ap (flat_map entries_at) (take-whole (events_of start script) (event_count start script) (omega arith))
+pub reported-all : (start : Start) (script : List ℕ) → reported start script (event_count start script) ≡ flat_map (entries_at []) (events_of start script)
+reported-all start script = ap (flat_map (entries_at [])) (take-whole (events_of start script) (event_count start script) (omega arith))
 
 -- and what any run reports of it is among what these report
 reported-front : (start next : Start) (script : List ℕ) (n : ℕ) → IsTakenWhole start script → IsPrefixOf (reported next script n) (reported start script (event_count start script))
 reported-front start next script n taken =
     let all : List Place = filter is_event (places (reads_of script)) in
-    subst (IsPrefixOf (reported next script n)) (ap (flat_map entries_at) (sym (taken-events start script taken)) ∙ sym (reported-all start script))
-    (prefix-flat_map entries_at (take n (events_of next script)) all
+    subst (IsPrefixOf (reported next script n)) (ap (flat_map (entries_at [])) (sym (taken-events start script taken)) ∙ sym (reported-all start script))
+    (prefix-flat_map (entries_at []) (take n (events_of next script)) all
     (IsPrefixOf-trans (take n (events_of next script)) (events_of next script) all (prefix-take n (events_of next script))
     (prefix-filter is_event (places_before_refusal next (places (reads_of script))) (places (reads_of script)) (before-front next (places (reads_of script))))))
 
@@ -157,7 +159,7 @@ module _ (start next : Start) (script : List ℕ) (n : ℕ) (taken : IsTakenWhol
   all-again : reported next script (event_count next script) ≡ reported start script (event_count start script)
   all-again =
       reported-all next script
-      ∙ ap (flat_map entries_at) (taken-events next script whole ∙ sym (taken-events start script taken))
+      ∙ ap (flat_map (entries_at [])) (taken-events next script whole ∙ sym (taken-events start script taken))
       ∙ sym (reported-all start script)
 
   account-again : (rest : List Entry) → reported start script n ++ rest ≡ reported start script (event_count start script)
@@ -240,8 +242,8 @@ module _ (given : History → List Order) (grows : (h : History) (e : Entry) →
       ap (λ (xs : List NumberedLine). given (history_at start xs)) (sym (append_assoc before (read ∷ []) reads))
       ∙ orders-lines (before ++ read ∷ []) reads
       ∙ ap (λ (es : List Entry). given (with_entries start.history es) ++ rest) (reports-snoc before read)
-      ∙ ap (λ (h : History). given h ++ rest) (with_entries-append start.history (reports before) (entries_at (before, read)))
-      ∙ ap (λ (os : List Order). os ++ rest) (orders-entries given grows (history_at start before) (entries_at (before, read)))
+      ∙ ap (λ (h : History). given h ++ rest) (with_entries-append start.history (reports [] before) (entries_at [] (before, read)))
+      ∙ ap (λ (os : List Order). os ++ rest) (orders-entries given grows (history_at start before) (entries_at [] (before, read)))
       ∙ append_assoc (given (history_at start before)) (ordered_at start (before, read)) rest
 
   pub given-follow : (script : List ℕ) (n : ℕ) → given (history_after start script n) ≡ given start.history ++ ordered start script n
@@ -249,7 +251,7 @@ module _ (given : History → List Order) (grows : (h : History) (e : Entry) →
       let all : List Place = places (reads_of script) in
       let (front, begins, passing) = first-passing is_event n (places_before_refusal start all) in
       let (first, is) = places-front [] (reads_of script) front (IsPrefixOf-trans front (places_before_refusal start all) all begins (before-front start all)) in
-      ap (λ (es : List Entry). given (with_entries start.history es)) (ap (flat_map entries_at) passing ∙ by-events entries_at reports-none front ∙ ap (flat_map entries_at) is)
+      ap (λ (es : List Entry). given (with_entries start.history es)) (ap (flat_map (entries_at [])) passing ∙ by-events (entries_at []) reports-none front ∙ ap (flat_map (entries_at [])) is)
       ∙ orders-lines [] first
       ∙ ap (λ (os : List Order). given start.history ++ os)
       (ap (flat_map (ordered_at start)) (sym is) ∙ sym (by-events (ordered_at start) (orders-none start) front) ∙ ap (flat_map (ordered_at start)) (sym passing))

@@ -15,12 +15,13 @@ use Rattle.ras_ledger.specs.Keeping.{lacks_room, standing_kept}
 use Rattle.ras_texts.specs.Orders.{order_lines, standing_lines}
 use Rattle.ras_texts.specs.Text.{done_line}
 use Rattle.ras_events.specs.declared.event.Event.{Event}
-use Rattle.ras_events.specs.declared.event.Event.TheVariants.{Nothing, Settled, Counted, Reopened}
-use Rattle.ras_exit.specs.declared.reason.Reason.{Reason}
-use Rattle.ras_events.specs.Making.{Pieces, pieces_in}
+use Rattle.ras_events.specs.declared.event.Event.TheVariants.{Nothing, Settled, Counted, Put, Saved, Polled, Reopened}
+use Rattle.ras_events.specs.declared.event.Refusal.{Refusal}
+use Rattle.ras_events.specs.declared.made.Piece.{Piece}
 use Rattle.ras_events.specs.Preparing.{orders_along_entries, text_along}
 use Rattle.ras_events.specs.Reports.{NumberedLine, Place, entries_at, event_at, reports}
 use Rattle.ras_events.specs.Texts.{event_text}
+use Rattle.ras_events.specs.Making.{entries_in}
 use Rattle.ras_events.proofs.HistoryLemmas.{event_by_history}
 use Rattle.ras_exit.specs.declared.exit.Exit.{Exit}
 use Rattle.ras_exit.specs.declared.exit.Exit.TheVariants.{Full}
@@ -57,28 +58,28 @@ full-by : (h : History) (standing : Standing) (es : List Entry) → has_no_room_
 full-by h standing es = ap (λ b. are_past (numbers_with (account_of h) es) || b) (lacks-by h standing (news_after h es))
 
 -- what an event prints, by an account
-abbrev text_in : Pieces → State → List ℕ
+abbrev text_in : List Piece → State → List ℕ
 text_in made a =
-    text_along a (pieces_in made)
-    ++ order_lines (account_after_all a (fresh_entries_in a made.entries)).modules (orders_along_entries a (fresh_entries_in a made.entries))
+    text_along a made
+    ++ order_lines (account_after_all a (fresh_entries_in a (entries_in made))).modules (orders_along_entries a (fresh_entries_in a (entries_in made)))
 
 -- ---- two runs that begin with one account and one standing
 
 module _ (one other : Start) (same : account_of one.history ≡ account_of other.history) (stands : one.standing ≡ other.standing) where
   account-same : (before : List NumberedLine) → account_at one before ≡ account_at other before
   account-same before =
-      account_of-entries one.history (reports before)
-      ∙ ap (λ (a : State). account_after_all a (reports before)) same
-      ∙ sym (account_of-entries other.history (reports before))
+      account_of-entries one.history (reports [] before)
+      ∙ ap (λ (a : State). account_after_all a (reports [] before)) same
+      ∙ sym (account_of-entries other.history (reports [] before))
 
   along-same : (ps : List Place) (first second : Standing) → first ≡ second → standing_along one first ps ≡ standing_along other second ps
   along-same [] first second is = is
   along-same (p ∷ ps) first second is =
-      along-same ps (standing_with_news (history_at one p.0) first (news_after (history_at one p.0) (entries_at p)))
-      (standing_with_news (history_at other p.0) second (news_after (history_at other p.0) (entries_at p)))
-      (kept-by (history_at one p.0) first (news_after (history_at one p.0) (entries_at p))
-      ∙ (λ i. kept_in (account-same p.0 i) (is i) (fresh_entries_in (account-same p.0 i) (entries_at p)))
-      ∙ sym (kept-by (history_at other p.0) second (news_after (history_at other p.0) (entries_at p))))
+      along-same ps (standing_with_news (history_at one p.0) first (news_after (history_at one p.0) (entries_at [] p)))
+      (standing_with_news (history_at other p.0) second (news_after (history_at other p.0) (entries_at [] p)))
+      (kept-by (history_at one p.0) first (news_after (history_at one p.0) (entries_at [] p))
+      ∙ (λ i. kept_in (account-same p.0 i) (is i) (fresh_entries_in (account-same p.0 i) (entries_at [] p)))
+      ∙ sym (kept-by (history_at other p.0) second (news_after (history_at other p.0) (entries_at [] p))))
 
   standing-same : (before : List NumberedLine) → standing_at one before ≡ standing_at other before
   standing-same before = along-same (places before) one.standing other.standing stands
@@ -90,25 +91,31 @@ module _ (one other : Start) (same : account_of one.history ≡ account_of other
       ∙ sym (full-by (history_at other before) (standing_at other before) es)
 
   -- a line is refused alike, and prints the same
-  event-refused : (before : List NumberedLine) (read : NumberedLine) (event : Result Event Reason) → event_refusal one (before, read) event ≡ event_refusal other (before, read) event
+  event-refused : (before : List NumberedLine) (read : NumberedLine) (event : Result Event Refusal) → event_refusal one (before, read) event ≡ event_refusal other (before, read) event
   event-refused before read (Err why) = refl
-  event-refused before read (Ok (Counted made)) = ap (λ (b : Bool). if b then Some Full else None) (full-same before made.entries)
+  event-refused before read (Ok (Counted made)) = ap (λ (b : Bool). if b then Some Full else None) (full-same before (entries_in made))
   event-refused before read (Ok Nothing) = refl
   event-refused before read (Ok Settled) = refl
   event-refused before read (Ok Reopened) = refl
+  event-refused before read (Ok (Put id bytes)) = refl
+  event-refused before read (Ok (Saved id bytes)) = refl
+  event-refused before read (Ok (Polled seconds)) = refl
 
   refusal-same : (p : Place) → refusal_at one p ≡ refusal_at other p
   refusal-same p = event-refused p.0 p.1 (event_at p)
 
-  text-same : (before : List NumberedLine) (made : Pieces) → event_text (history_at one before) made ≡ event_text (history_at other before) made
+  text-same : (before : List NumberedLine) (made : List Piece) → event_text (history_at one before) made ≡ event_text (history_at other before) made
   text-same before made =
       sym (event_by_history (history_at one before) made) ∙ ap (text_in made) (account-same before) ∙ event_by_history (history_at other before) made
 
-  event-printed : (before : List NumberedLine) (read : NumberedLine) (event : Result Event Reason) → event_output one (before, read) event ≡ event_output other (before, read) event
+  event-printed : (before : List NumberedLine) (read : NumberedLine) (event : Result Event Refusal) → event_output one (before, read) event ≡ event_output other (before, read) event
   event-printed before read (Err why) = refl
   event-printed before read (Ok (Counted made)) = ap (λ (text : List ℕ). text ++ done_line read.0) (text-same before made)
   event-printed before read (Ok Nothing) = refl
   event-printed before read (Ok Settled) = refl
+  event-printed before read (Ok (Put id bytes)) = refl
+  event-printed before read (Ok (Saved id bytes)) = refl
+  event-printed before read (Ok (Polled seconds)) = refl
   event-printed before read (Ok Reopened) = ap (λ (a : State). standing_lines a ++ done_line read.0) (account-same before)
 
   output-same : (p : Place) → output_at one p ≡ output_at other p

@@ -1,5 +1,5 @@
 -- What a stop at any moment of a run leaves, and what a run leaves where it ends.
-use Rattle.std.specs.Prelude.{◌≡◌, ℕ, ◌+◌, ◌<◌, ◌⊎◌, List, ◌++◌, length, take, Option, Some, ⊤}
+use Rattle.std.specs.Prelude.{◌≡◌, ℕ, ◌+◌, ◌<◌, ◌⊎◌, List, [], ◌++◌, length, take, Option, Some, ⊤}
 use Rattle.std.specs.List.{flat_map}
 use Rattle.board_core.specs.Clock.{Clock, LeftNow}
 use Rattle.board_core.specs.Stop.{Left}
@@ -20,7 +20,7 @@ use Rattle.ras_daemon.specs.declared.word.Task.TheVariants.{Run}
 
 -- what the first n events of a script report, and the account of the earlier history with it
 abbrev pub reported : Start → List ℕ → ℕ → List Entry
-reported start script n = flat_map entries_at (take n (events_of start script))
+reported start script n = flat_map (entries_at []) (take n (events_of start script))
 
 abbrev pub account_with : Start → List ℕ → ℕ → State
 account_with start script n = account_of (with_entries start.history (reported start script n))

@@ -36,7 +36,7 @@ facts_of (other ∷ entries) = facts_of entries
 -- the orders that these events give, each after all that was reported before it
 abbrev pub ordered : Start → List ℕ → ℕ → List Order
 ordered start script n =
-    flat_map (λ place. orders_of_entries (history_at start place.0) (entries_at place)) (take n (events_of start script))
+    flat_map (λ place. orders_of_entries (history_at start place.0) (entries_at [] place)) (take n (events_of start script))
 
 -- how many events a run has that isn't stopped
 abbrev pub event_count : Start → List ℕ → ℕ
@@ -68,5 +68,5 @@ pub record AreJoined (one other both : List ℕ) : Type 0 where
   pub one_is : (script_lines one).whole ≡ rows ++ first
   pub other_is : (script_lines other).whole ≡ rows ++ second
   pub both_is : (script_lines both).whole ≡ rows ++ (first ++ second)
-  pub silent : reports (reads_in rows) ≡ []
+  pub silent : reports [] (reads_in rows) ≡ []
   pub untold : settings_told (reads_in first) ≡ no_settings

@@ -8,3 +8,4 @@ pub mod FitLemmas
 pub mod ReportLemmas
 pub mod RepeatLemmas
 pub mod PollLemmas
+pub mod StoreLemmas

@@ -12,7 +12,7 @@ use Rattle.ras_facts.specs.Facts.{bank_fact, status_in}
 use Rattle.ras_facts.specs.declared.bank.BankReport.{BankReport}
 use Rattle.ras_facts.specs.declared.fact.Fact.{Fact}
 use Rattle.ras_panic.specs.Panics.{panic_bytes}
-use Rattle.ras_panic.specs.Reading.{panic_report, stored_fact}
+use Rattle.ras_panic.specs.Reading.{stored_fact}
 use Rattle.ras_panic.specs.Reports.{FitsFields}
 use Rattle.ras_panic.proofs.HeldLemmas.{fact_of_held, held_is_given}
 use Rattle.ras_panic.proofs.RecordLemmas.{is_held, is_named, is_read_first}

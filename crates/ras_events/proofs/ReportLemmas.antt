@@ -2,7 +2,6 @@
 use Rattle.std.proofs.Common.{◌≡◌, ℕ, List, [], ◌∷◌, ◌++◌, Option, None, Some, Result, Ok, Err, ap, refl, ◌∙◌, append-nil}
 use Rattle.std.proofs.lemmas.List.Elements.{filter_map-append}
 use Rattle.std.proofs.lemmas.List.Concat.{flat_map-append}
-use Rattle.std.proofs.lemmas.List.Sums.{fold-append}
 use Rattle.std.specs.List.{cons_option, filter_map, flat_map}
 use Rattle.std.specs.Option.{option_map_or}
 use Rattle.ras_base.specs.Places.{places, places_behind}
@@ -17,8 +16,7 @@ use Rattle.erst_interp.specs.Table.{erst_of}
 use Rattle.erst_store.specs.Store.{Stored}
 use Rattle.dimm_topology.specs.declared.row.Row.{Row}
 use Rattle.ras_events.specs.Events.{Lists, admitted_in, settings_after, with_driver, with_sources}
-use Rattle.ras_events.specs.Reports.{NumberedLine, driver_by, entries_at, last_of, reports, row_by, rows_told, settings_told, sources_by, sources_in_table}
-use Rattle.ras_events.specs.Stores.{laid, store_after}
+use Rattle.ras_events.specs.Reports.{NumberedLine, driver_by, entries_at, last_of, reports, row_by, settings_told, sources_by, sources_in_table}
 
 -- the last of a list with one more
 last-snoc : {X : Type 0} (xs : List X) (x : X) → last_of (xs ++ x ∷ []) ≡ Some x
@@ -83,6 +81,3 @@ pub reports-cut : (store : List Stored) (first others : List NumberedLine)
 reports-cut store first others =
     ap (flat_map (entries_at store)) (places_behind-append [] first others)
     ∙ flat_map-append (entries_at store) (places first) (places_behind first others)
-
-pub laid-more : (store : List Stored) (before : List NumberedLine) (read : NumberedLine) → laid store (before ++ read ∷ []) ≡ store_after (laid store before) read
-laid-more store before read = fold-append store_after store before (read ∷ [])

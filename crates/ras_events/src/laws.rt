@@ -1,6 +1,6 @@
 //! What an event is by the history of its account, in other words than its definitions.
 
-ghost use Rattle.std.specs.Prelude.{◌≡◌, ◌<◌, ◌^◌, ℕ, List, [], ◌∷◌, ◌++◌, Ok, IsTrue};
+ghost use Rattle.std.specs.Prelude.{◌≡◌, ◌<◌, ◌^◌, ℕ, List, [], ◌∷◌, ◌++◌, Ok, Some, IsTrue, IsFalse};
 ghost use Rattle.std.specs.Option.{option_map_or};
 ghost use Rattle.dimm_topology.specs.declared.row.Row.{Row};
 ghost use Rattle.mca_status.specs.Registers.{valid};
@@ -9,8 +9,10 @@ ghost use Rattle.ras_facts.specs.declared.bank.BankReport.{BankReport};
 ghost use Rattle.ras_panic.specs.Panics.{panic_bytes};
 ghost use Rattle.ras_panic.specs.Reports.{FitsFields};
 ghost use Rattle.ras_reports.specs.Reports.{bank_report};
-ghost use Rattle.std.specs.List.{flat_map};
-ghost use Rattle.erst_store.specs.Store.{Stored};
+ghost use Rattle.std.specs.List.{flat_map, fold};
+ghost use Rattle.std.specs.Result.{is_ok};
+ghost use Rattle.cper_records.specs.Readable.{filled, read_under};
+ghost use Rattle.erst_store.specs.Store.{Stored, bytes_under};
 ghost use Rattle.ras_base.specs.Places.{places_behind};
 ghost use Rattle.ras_facts.specs.declared.entry.Entry.{Entry};
 ghost use Rattle.ras_account.specs.Account.{State, account_of};
@@ -24,7 +26,7 @@ ghost use Rattle.ras_events.specs.Events.{settings_after};
 ghost use Rattle.ras_events.specs.Reports.{NumberedLine, entries_at, reports, settings_told};
 ghost use Rattle.ras_events.specs.declared.made.Piece.{Piece};
 ghost use Rattle.ras_events.specs.Making.{entries_in, made_by_report, polled};
-ghost use Rattle.ras_events.specs.Stores.{laid, store_after};
+ghost use Rattle.ras_events.specs.Stores.{found_after, laid, last_laid, unreadable};
 ghost use Rattle.ras_events.specs.Preparing.{orders_along_entries, text_along};
 ghost use Rattle.ras_events.specs.Texts.{event_text, orders_of_entries, pieces_text};
 
@@ -76,10 +78,23 @@ pub fn report_laws()
     ensures cut { (store : List Stored) (first others : List NumberedLine)
         → reports store (first ++ others)
         ≡ reports store first ++ flat_map (entries_at store) (places_behind first others) }
+{}
 
-    // The store after lines is the one that the last of them leaves of what the others left.
-    ensures laid { (store : List Stored) (before : List NumberedLine) (read : NumberedLine)
-        → laid store (before ++ read ∷ []) ≡ store_after (laid store before) read }
+/// The laws of what lines do to the record store. The function does nothing: its clauses are what
+/// it is for.
+pub fn store_laws()
+    // The store after lines is the one that the others leave of what the first of them left, and so
+    // is what was last laid under an identifier.
+    ensures laid { (store : List Stored) (first others : List NumberedLine)
+        → laid store (first ++ others) ≡ laid (laid store first) others }
+    ensures last { (store : List Stored) (first others : List NumberedLine) (id : ℕ)
+        → last_laid store (first ++ others) id
+        ≡ fold (found_after id) (last_laid store first id) others }
+
+    // A poll leaves the bytes that can't be read under their identifier.
+    ensures unread { (id : ℕ) (bytes : List ℕ) (store : List Stored)
+        → IsFalse (is_ok (read_under id (filled bytes)))
+        → bytes_under id store ≡ Some bytes → bytes_under id (unreadable store) ≡ Some bytes }
 {}
 
 /// The laws of polls. The function does nothing: its clauses are what it is for.

@@ -11,7 +11,7 @@ mod repeat;
 mod settings;
 
 pub use event::{Event, EventRefused, Refusal};
-pub use laws::{event_laws, poll_laws, report_laws};
+pub use laws::{event_laws, poll_laws, report_laws, store_laws};
 pub use made::{Made, Piece};
 pub use preparing::{News, PrepareRefused, Prepared, count, prepare};
 pub use settings::Settings;

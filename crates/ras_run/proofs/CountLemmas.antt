@@ -17,9 +17,10 @@ use Rattle.ras_ledger.specs.Keeping.{Stands}
 use Rattle.ras_ledger.specs.declared.ledger.Ledger.{Ledger}
 use Rattle.ras_texts.specs.Orders.{order_lines}
 use Rattle.ras_texts.specs.Text.{done_line}
-use Rattle.ras_events.specs.Making.{Pieces, pieces_in}
+use Rattle.ras_events.specs.declared.made.Piece.{Piece}
 use Rattle.ras_events.specs.Preparing.{orders_along_entries, text_along}
 use Rattle.ras_events.specs.Texts.{event_text}
+use Rattle.ras_events.specs.Making.{entries_in}
 use Rattle.ras_events.proofs.HistoryLemmas.{account_by_history, event_by_history, news_account}
 use Rattle.ras_exit.specs.declared.exit.Exit.{Exit}
 use Rattle.ras_exit.specs.declared.exit.Exit.TheVariants.{Full, PrintFault}
@@ -52,71 +53,71 @@ stands_with : (history : History) (s : Standing) (entries : List Entry) → stan
 stands_with history s [] = refl
 stands_with history s (entry ∷ entries) = refl
 
-module _ (history : History) (made : Pieces) (s : Standing) (a : State) (news : List Entry) (is : a ≡ account_of history) (news_are : news ≡ fresh_entries_in a made.entries) where
-  news_behind : news ≡ news_after history made.entries
-  news_behind = news_are ∙ ap (λ (b : State). fresh_entries_in b made.entries) is
+module _ (history : History) (made : List Piece) (s : Standing) (a : State) (news : List Entry) (is : a ≡ account_of history) (news_are : news ≡ fresh_entries_in a (entries_in made)) where
+  news_behind : news ≡ news_after history (entries_in made)
+  news_behind = news_are ∙ ap (λ (b : State). fresh_entries_in b (entries_in made)) is
 
-  lacks_is : has_no_room s a news ≡ lacks_room_for history s (news_after history made.entries)
+  lacks_is : has_no_room s a news ≡ lacks_room_for history s (news_after history (entries_in made))
   lacks_is =
       ap (λ (b : State). has_no_room s b news) is
-      ∙ (ap (has_no_room s (account_of history)) news_behind ∙ sym (lacks_same history s (news_after history made.entries)))
+      ∙ (ap (has_no_room s (account_of history)) news_behind ∙ sym (lacks_same history s (news_after history (entries_in made))))
 
-  past_is : are_past (numbers_with a made.entries) ≡ are_past (numbers_with (account_of history) made.entries)
-  past_is = ap (λ (b : State). are_past (numbers_with b made.entries)) is
+  past_is : are_past (numbers_with a (entries_in made)) ≡ are_past (numbers_with (account_of history) (entries_in made))
+  past_is = ap (λ (b : State). are_past (numbers_with b (entries_in made))) is
 
-  pub is_not_full : HasRoomFor a made.entries → has_no_room s a news ≡ false → has_no_room_for history s made.entries ≡ false
-  is_not_full within room = no_or _ _ (sym past_is ∙ within_past (numbers_with a made.entries) within) (sym lacks_is ∙ room)
+  pub is_not_full : HasRoomFor a (entries_in made) → has_no_room s a news ≡ false → has_no_room_for history s (entries_in made) ≡ false
+  is_not_full within room = no_or _ _ (sym past_is ∙ within_past (numbers_with a (entries_in made)) within) (sym lacks_is ∙ room)
 
-  pub is_full_past : HasNoRoomFor a made.entries → has_no_room_for history s made.entries ≡ true
+  pub is_full_past : HasNoRoomFor a (entries_in made) → has_no_room_for history s (entries_in made) ≡ true
   is_full_past past = or_first _ _ (sym past_is ∙ past)
 
-  pub is_full_journal : has_no_room s a news ≡ true → has_no_room_for history s made.entries ≡ true
+  pub is_full_journal : has_no_room s a news ≡ true → has_no_room_for history s (entries_in made) ≡ true
   is_full_journal none = or_second _ _ (sym lacks_is ∙ none)
 
-  pub account_behind : account_after_all a news ≡ account_of (with_entries history made.entries)
+  pub account_behind : account_after_all a news ≡ account_of (with_entries history (entries_in made))
   account_behind =
       ap (account_after_all a) news_are
-      ∙ (news_account a made.entries
-      ∙ (ap (λ (b : State). account_after_all b made.entries) is ∙ account_by_history history made.entries))
+      ∙ (news_account a (entries_in made)
+      ∙ (ap (λ (b : State). account_after_all b (entries_in made)) is ∙ account_by_history history (entries_in made)))
 
-  pub standing_then : standing_behind s a news ≡ standing_with_news history s (news_after history made.entries)
+  pub standing_then : standing_behind s a news ≡ standing_with_news history s (news_after history (entries_in made))
   standing_then =
       ap (λ (b : State). standing_behind s b news) is
-      ∙ (ap (standing_behind s (account_of history)) news_behind ∙ sym (stands_with history s (news_after history made.entries)))
+      ∙ (ap (standing_behind s (account_of history)) news_behind ∙ sym (stands_with history s (news_after history (entries_in made))))
 
   abbrev text_with : State → List Entry → List ℕ
-  text_with b entries = text_along b (pieces_in made) ++ order_lines (account_after_all b entries).modules (orders_along_entries b entries)
+  text_with b entries = text_along b made ++ order_lines (account_after_all b entries).modules (orders_along_entries b entries)
 
-  pub text_behind : text_along a (pieces_in made) ++ order_lines (account_after_all a news).modules (orders_along_entries a news) ≡ event_text history made
+  pub text_behind : text_along a made ++ order_lines (account_after_all a news).modules (orders_along_entries a news) ≡ event_text history made
   text_behind =
       ap (text_with a) news_are
-      ∙ (ap (λ (b : State). text_with b (fresh_entries_in b made.entries)) is ∙ event_by_history history made)
+      ∙ (ap (λ (b : State). text_with b (fresh_entries_in b (entries_in made))) is ∙ event_by_history history made)
 
-pub text_told : (a now : State) (news : List Entry) (made : Pieces) (first text : List ℕ) → now ≡ a → first ≡ text_along a (pieces_in made)
+pub text_told : (a now : State) (news : List Entry) (made : List Piece) (first text : List ℕ) → now ≡ a → first ≡ text_along a made
     → text ≡ first ++ order_lines (account_after_all now news).modules (orders_along_entries now news)
-    → text ≡ text_along a (pieces_in made) ++ order_lines (account_after_all a news).modules (orders_along_entries a news)
+    → text ≡ text_along a made ++ order_lines (account_after_all a news).modules (orders_along_entries a news)
 text_told a now news made first text same first_is text_is =
     text_is
     ∙ (ap (λ bytes. bytes ++ order_lines (account_after_all now news).modules (orders_along_entries now news)) first_is
-    ∙ ap (λ (b : State). text_along a (pieces_in made) ++ order_lines (account_after_all b news).modules (orders_along_entries b news)) same)
+    ∙ ap (λ (b : State). text_along a made ++ order_lines (account_after_all b news).modules (orders_along_entries b news)) same)
 
 -- ---- what is answered
 
 -- an event that finds no room, or no memory, before anything is done
-pub full_made : (history : History) (number : ℕ) (made : Pieces) (before after : Ledger) (told : Option Told) → before.account.state ≡ account_of history → HasNoRoomFor before.account.state made.entries
+pub full_made : (history : History) (number : ℕ) (made : List Piece) (before after : Ledger) (told : Option Told) → before.account.state ≡ account_of history → HasNoRoomFor before.account.state (entries_in made)
     → TakesMade history number made before (Err Full) after told told
 full_made history number made before after told is past = record {
   exit_is = refl;
-  lacks_is = is_full_past history made before.journal.standing before.account.state (fresh_entries_in before.account.state made.entries) is refl past;
+  lacks_is = is_full_past history made before.journal.standing before.account.state (fresh_entries_in before.account.state (entries_in made)) is refl past;
   none = prints_same told;
 }
 
 -- an event of which the news weren't kept
-pub news_refused : (history : History) (number : ℕ) (made : Pieces) (news : List Entry) (before now after after' : Ledger) (exit : Exit) (told told' : Option Told)
-    → now.account.state ≡ before.account.state → now.journal.standing ≡ before.journal.standing → before.account.state ≡ account_of history → news ≡ fresh_entries_in before.account.state made.entries
+pub news_refused : (history : History) (number : ℕ) (made : List Piece) (news : List Entry) (before now after after' : Ledger) (exit : Exit) (told told' : Option Told)
+    → now.account.state ≡ before.account.state → now.journal.standing ≡ before.journal.standing → before.account.state ≡ account_of history → news ≡ fresh_entries_in before.account.state (entries_in made)
     → TakesNews news now (Err exit) after told told' → TakesMade history number made before (Err exit) after' told told'
 news_refused history number made news before now after after' exit told told' same standing is news_are takes =
-    ends_weaker (IsFull exit (has_no_room now.journal.standing now.account.state news) told told') (IsFull exit (has_no_room_for history before.journal.standing made.entries) told told')
+    ends_weaker (IsFull exit (has_no_room now.journal.standing now.account.state news) told told') (IsFull exit (has_no_room_for history before.journal.standing (entries_in made)) told told')
     (Relates (Prints []) told told') (Relates (Prints []) told told') (OnlyFault disk_call) AnyFault exit
     (λ full. record {
       exit_is = full.exit_is;
@@ -127,10 +128,10 @@ news_refused history number made news before now after after' exit told told' sa
     (λ memory none. none) (λ kind is. tt) takes
 
 -- an event whose news were kept, and whose text was printed or wasn't
-pub made_printed : (history : History) (number : ℕ) (made : Pieces) (news : List Entry) (before now after : Ledger) (printed : Result (Unit {0}) Exit) (text done : List ℕ) (told mid told' : Option Told)
-    → now.account.state ≡ before.account.state → now.journal.standing ≡ before.journal.standing → before.account.state ≡ account_of history → news ≡ fresh_entries_in before.account.state made.entries
-    → HasRoomFor before.account.state made.entries
-    → text ≡ text_along before.account.state (pieces_in made) ++ order_lines (account_after_all before.account.state news).modules (orders_along_entries before.account.state news) → done ≡ done_line number
+pub made_printed : (history : History) (number : ℕ) (made : List Piece) (news : List Entry) (before now after : Ledger) (printed : Result (Unit {0}) Exit) (text done : List ℕ) (told mid told' : Option Told)
+    → now.account.state ≡ before.account.state → now.journal.standing ≡ before.journal.standing → before.account.state ≡ account_of history → news ≡ fresh_entries_in before.account.state (entries_in made)
+    → HasRoomFor before.account.state (entries_in made)
+    → text ≡ text_along before.account.state made ++ order_lines (account_after_all before.account.state news).modules (orders_along_entries before.account.state news) → done ≡ done_line number
     → TakesNews news now (Ok tt) after told mid
     → OnOk printed (Steps (after_print (text ++ done)) mid told') → OnErr printed (printed ≡ Err PrintFault)
     → TakesMade history number made before printed after told told'
@@ -139,9 +140,9 @@ made_printed history number made news before now after (Ok over) text done told 
     let a : State = before.account.state in
     let room : has_no_room s a news ≡ false =
     ap (λ (b : State). has_no_room s b news) (sym same) ∙ (ap (λ (t : Standing). has_no_room t now.account.state news) (sym standing) ∙ takes.0) in
-    let account : after.account.state ≡ account_of (with_entries history made.entries) =
+    let account : after.account.state ≡ account_of (with_entries history (entries_in made)) =
     takes.1 ∙ (ap (λ (b : State). account_after_all b news) same ∙ account_behind history made s a news is news_are) in
-    let stands : after.journal.standing ≡ standing_with_news history s (news_after history made.entries) =
+    let stands : after.journal.standing ≡ standing_with_news history s (news_after history (entries_in made)) =
     takes.2 ∙ (ap (λ (t : Standing). standing_behind t now.account.state news) standing ∙ (ap (λ (b : State). standing_behind s b news) same ∙ standing_then history made s a news is news_are)) in
     let out : text ++ done ≡ count_output history number made =
     ap (λ bytes. bytes ++ done) (text_is ∙ text_behind history made s a news is news_are) ∙ ap (λ bytes. event_text history made ++ bytes) done_is in (
@@ -155,9 +156,9 @@ made_printed history number made news before now after (Err exit) text done told
 
 -- ---- what stops leave
 
-made_moment : (history : History) (number : ℕ) (made : Pieces) (news : List Entry) (before now : Ledger) (here left : Left)
-    → now.account.state ≡ before.account.state → now.journal.standing ≡ before.journal.standing → before.account.state ≡ account_of history → news ≡ fresh_entries_in before.account.state made.entries
-    → HasRoomFor before.account.state made.entries
+made_moment : (history : History) (number : ℕ) (made : List Piece) (news : List Entry) (before now : Ledger) (here left : Left)
+    → now.account.state ≡ before.account.state → now.journal.standing ≡ before.journal.standing → before.account.state ≡ account_of history → news ≡ fresh_entries_in before.account.state (entries_in made)
+    → HasRoomFor before.account.state (entries_in made)
     → NewsMoment news now here left → MadeMoment history number made before here left
 made_moment history number made news before now here left same standing is news_are within moment =
     let s : Standing = before.journal.standing in
@@ -172,18 +173,18 @@ made_moment history number made news before now here left same standing is news_
       )
     ]
 
-pub adds_news : (history : History) (number : ℕ) (made : Pieces) (news : List Entry) (before now : Ledger) (t : Told) (clock clock' : Clock)
-    → now.account.state ≡ before.account.state → now.journal.standing ≡ before.journal.standing → before.account.state ≡ account_of history → news ≡ fresh_entries_in before.account.state made.entries
-    → HasRoomFor before.account.state made.entries
+pub adds_news : (history : History) (number : ℕ) (made : List Piece) (news : List Entry) (before now : Ledger) (t : Told) (clock clock' : Clock)
+    → now.account.state ≡ before.account.state → now.journal.standing ≡ before.journal.standing → before.account.state ≡ account_of history → news ≡ fresh_entries_in before.account.state (entries_in made)
+    → HasRoomFor before.account.state (entries_in made)
     → Adds (NewsMoment news now t.here) clock clock' → Adds (MadeMoment history number made before t.here) clock clock'
 adds_news history number made news before now t clock clock' same standing is news_are within adds =
     adds_weaker (NewsMoment news now t.here) (MadeMoment history number made before t.here) clock clock' adds
     (λ left. made_moment history number made news before now t.here left same standing is news_are within)
 
-pub adds_made : (history : History) (number : ℕ) (made : Pieces) (news : List Entry) (before now after : Ledger) (text done : List ℕ) (told mid : Option Told) (a b c : Clock) (t : Told)
-    → now.account.state ≡ before.account.state → now.journal.standing ≡ before.journal.standing → before.account.state ≡ account_of history → news ≡ fresh_entries_in before.account.state made.entries
-    → HasRoomFor before.account.state made.entries
-    → text ≡ text_along before.account.state (pieces_in made) ++ order_lines (account_after_all before.account.state news).modules (orders_along_entries before.account.state news) → done ≡ done_line number
+pub adds_made : (history : History) (number : ℕ) (made : List Piece) (news : List Entry) (before now after : Ledger) (text done : List ℕ) (told mid : Option Told) (a b c : Clock) (t : Told)
+    → now.account.state ≡ before.account.state → now.journal.standing ≡ before.journal.standing → before.account.state ≡ account_of history → news ≡ fresh_entries_in before.account.state (entries_in made)
+    → HasRoomFor before.account.state (entries_in made)
+    → text ≡ text_along before.account.state made ++ order_lines (account_after_all before.account.state news).modules (orders_along_entries before.account.state news) → done ≡ done_line number
     → TakesNews news now (Ok tt) after told mid
     → told ≡ Some t → Adds (NewsMoment news now t.here) a b
     → Stands after.journal.standing after.account.state mid b
@@ -194,7 +195,7 @@ adds_made history number made news before now after text done told mid a b c t s
     let st : State = before.account.state in
     let room : has_no_room s st news ≡ false =
     ap (λ (b : State). has_no_room s b news) (sym same) ∙ (ap (λ (t : Standing). has_no_room t now.account.state news) (sym standing) ∙ takes.0) in
-    let account : after.account.state ≡ account_of (with_entries history made.entries) =
+    let account : after.account.state ≡ account_of (with_entries history (entries_in made)) =
     takes.1 ∙ (ap (λ (b : State). account_after_all b news) same ∙ account_behind history made s st news is news_are) in
     let out : text ++ done ≡ count_output history number made =
     ap (λ bytes. bytes ++ done) (text_is ∙ text_behind history made s st news is news_are) ∙ ap (λ bytes. event_text history made ++ bytes) done_is in

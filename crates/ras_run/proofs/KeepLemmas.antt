@@ -1,5 +1,5 @@
 -- The news of an event, kept in the journal and counted.
-use Rattle.std.proofs.Common.{◌≡◌, ℕ, ◌+◌, ◌≤◌, Bool, true, false, List, [], ◌∷◌, ◌++◌, length, All, Option, None, Some, IfSome, IsTrue, if◌then◌else◌, refl, sym, ap, ◌∙◌, inl, inr, arith}
+use Rattle.std.proofs.Common.{◌≡◌, ℕ, ◌≤◌, Bool, true, false, List, [], ◌∷◌, length, All, Option, None, Some, IfSome, IsTrue, refl, sym, ap, ◌∙◌, inl, inr, arith}
 use Rattle.std.proofs.lemmas.List.Elements.{All-from_recursion, recursion_from_All}
 use Rattle.std.specs.List.{AllByRecursion}
 use Rattle.board_core.specs.Cause.{disk_call}
@@ -25,9 +25,10 @@ use Rattle.ras_ledger.specs.Keeping.{Keeping, Stands, after_keeping, keeping_act
 use Rattle.ras_ledger.proofs.KeepingLemmas.{keeping_on_disk}
 use Rattle.ras_ledger.specs.declared.ledger.Ledger.{Ledger}
 use Rattle.ras_events.specs.declared.preparing.News.{News}
-use Rattle.ras_events.specs.Making.{Pieces}
+use Rattle.ras_events.specs.declared.made.Piece.{Piece}
 use Rattle.ras_events.specs.Preparing.{news_entries}
 use Rattle.ras_events.specs.Sizes.{IsFit}
+use Rattle.ras_events.specs.Making.{entries_in}
 use Rattle.ras_events.proofs.NewsLemmas.{few_news, short_news, valid_news}
 use Rattle.ras_run.specs.Taking.{CanBeKept, NewsMoment, Prints, has_no_room, standing_behind}
 use Rattle.ras_exit.proofs.DeviceLemmas.{Beside, device_by, steps_relate}
@@ -131,11 +132,11 @@ can_link entries some few valid short = record {
   fits = omega arith;
 }
 
-pub can_keep : (a : State) (made : Pieces) (found : Option News) → news_entries found ≡ fresh_entries_in a made.entries → IfSome found (λ news. 1 ≤ length news.entries.items)
+pub can_keep : (a : State) (made : List Piece) (found : Option News) → news_entries found ≡ fresh_entries_in a (entries_in made) → IfSome found (λ news. 1 ≤ length news.entries.items)
     → IfSome found (λ news. news.link ≡ link_bytes news.entries.items) → IsFit made → IfSome found CanBeKept
 can_keep a made None news some link fit = tt
 can_keep a made (Some new) news some link fit = record {
   bytes = link;
-  can = can_link new.entries.items some (few_news a made.entries new.entries.items MOST_LINK_ENTRIES news fit.few) (valid_news a made.entries new.entries.items news fit.valid)
-      (short_news a made.entries new.entries.items MOST_PAYLOAD news fit.short);
+  can = can_link new.entries.items some (few_news a (entries_in made) new.entries.items MOST_LINK_ENTRIES news fit.few) (valid_news a (entries_in made) new.entries.items news fit.valid)
+      (short_news a (entries_in made) new.entries.items MOST_PAYLOAD news fit.short);
 }

@@ -9,12 +9,13 @@ use Rattle.ras_facts.specs.declared.entry.Entry.{Entry}
 use Rattle.journal_format.specs.Links.{link_bytes}
 use Rattle.ras_script.specs.declared.line.Line.{Line}
 use Rattle.ras_events.specs.declared.event.Event.{Event}
-use Rattle.ras_events.specs.declared.event.Event.TheVariants.{Nothing, Settled, Counted, Reopened}
-use Rattle.ras_exit.specs.declared.reason.Reason.{Reason}
+use Rattle.ras_events.specs.declared.event.Event.TheVariants.{Nothing, Settled, Counted, Put, Saved, Polled, Reopened}
+use Rattle.ras_events.specs.declared.event.Refusal.{Refusal}
 use Rattle.ras_events.specs.Events.{event_of}
-use Rattle.ras_events.specs.Making.{Pieces}
+use Rattle.ras_events.specs.declared.made.Piece.{Piece}
 use Rattle.ras_events.specs.Reports.{NumberedLine, Place, event_at}
 use Rattle.ras_events.specs.Sizes.{IsFit, IsFitEvent}
+use Rattle.ras_events.specs.Making.{entries_in}
 use Rattle.ras_recover.specs.DiskCalls.{IsBeginning, IsReading, Makes}
 use Rattle.ras_recover.specs.OpeningCalls.{IsRecovery}
 use Rattle.ras_ledger.proofs.KeepingLaws.{is_some_keeping, some_keeping}
@@ -52,12 +53,12 @@ module _ (start : Start) (before : List NumberedLine) (number : ℕ) (line : Lin
   here = event_is start before number line run (Ok event) is asked
 
   are_at : (calls : List DiskCall) → AreEventCalls start place (Ok event) calls → AreCallsAt start place calls
-  are_at calls are = subst (λ (e : Result Event Reason). AreEventCalls start place e calls) (sym here) are
+  are_at calls are = subst (λ (e : Result Event Refusal). AreEventCalls start place e calls) (sym here) are
 
   accepted : IsFitEvent event → event_refusal start place (Ok event) ≡ None → IsAccepted start place
   accepted fit none = record {
     taken = ap (event_refusal start place) here ∙ none;
-    fit = subst (λ (e : Result Event Reason). IfOk e IsFitEvent) (sym here) fit;
+    fit = subst (λ (e : Result Event Refusal). IfOk e IsFitEvent) (sym here) fit;
   }
 
   begun_at : (calls : List DiskCall) → IsBeginning (AreEventCalls start place (Ok event)) calls → IsBeginning (AreCallsAt start place) calls
@@ -80,24 +81,24 @@ pub settled_whole : (start : Start) (before : List NumberedLine) (number : ℕ) 
 settled_whole start before number line run result told told' is asked none = on_ok result (none_at start before number line Settled run is asked refl told told' none)
 
 -- a line that reports
-module _ (start : Start) (before : List NumberedLine) (number : ℕ) (line : Line) (made : Pieces) (run : Run) (is : IsRunAfter start before run) (asked : event_of run.settings line ≡ Ok (Counted made)) where
+module _ (start : Start) (before : List NumberedLine) (number : ℕ) (line : Line) (made : List Piece) (run : Run) (is : IsRunAfter start before run) (asked : event_of run.settings line ≡ Ok (Counted made)) where
   abbrev at : Place
   at = (before, (number, Ok line))
 
-  not_refused : has_no_room_for (history_at start before) run.ledger.journal.standing made.entries ≡ false → event_refusal start at (Ok (Counted made)) ≡ None
-  not_refused room = ap (λ b. if b then Some Full else None) (sym (ap (λ standing. has_no_room_for (history_at start before) standing made.entries) is.standing) ∙ room)
+  not_refused : has_no_room_for (history_at start before) run.ledger.journal.standing (entries_in made) ≡ false → event_refusal start at (Ok (Counted made)) ≡ None
+  not_refused room = ap (λ b. if b then Some Full else None) (sym (ap (λ standing. has_no_room_for (history_at start before) standing (entries_in made)) is.standing) ∙ room)
 
   abbrev Room : Type 0
-  Room = has_no_room_for (history_at start before) run.ledger.journal.standing made.entries ≡ false
+  Room = has_no_room_for (history_at start before) run.ledger.journal.standing (entries_in made) ≡ false
 
-  part_at : IsFit made → (calls : List DiskCall) → ArePart Room (AreNewsCalls (news_after (history_at start before) made.entries)) calls → ArePart (IsAccepted start at) (AreCallsAt start at) calls
+  part_at : IsFit made → (calls : List DiskCall) → ArePart Room (AreNewsCalls (news_after (history_at start before) (entries_in made))) calls → ArePart (IsAccepted start at) (AreCallsAt start at) calls
   part_at fit calls (inl none) = inl none
   part_at fit calls (inr part) =
       inr (accepted start before number line (Counted made) run is asked fit (not_refused part.0), begun_at start before number line (Counted made) run is asked calls part.1)
 
   pub counted_begun : IsFit made → (told told' : Option Told) → Relates (BeginsMade (history_at start before) made run.ledger) told told' → Relates (BeginsLine start at) told told'
   counted_begun fit told told' begun =
-      made_weaker (ArePart Room (AreNewsCalls (news_after (history_at start before) made.entries))) (ArePart (IsAccepted start at) (AreCallsAt start at)) (part_at fit) told told' begun
+      made_weaker (ArePart Room (AreNewsCalls (news_after (history_at start before) (entries_in made)))) (ArePart (IsAccepted start at) (AreCallsAt start at)) (part_at fit) told told' begun
 
   pub counted_whole : (result : Result (Unit {0}) Exit) (told told' : Option Told) → OnOk result (Relates (MakesMade (history_at start before) made) told told') → OnOk result (Relates (MakesLine start at) told told')
   counted_whole result told told' makes = on_made result makes (whole_at start before number line (Counted made) run is asked told told')
@@ -119,11 +120,14 @@ some_news : (news : List Entry) → (calls : List DiskCall) × AreNewsCalls news
 some_news [] = ([], refl)
 some_news (entry ∷ entries) = (some_keeping (link_bytes (entry ∷ entries)), is_some_keeping (link_bytes (entry ∷ entries)))
 
-some_event : (start : Start) (place : Place) (event : Result Event Reason) → (calls : List DiskCall) × AreEventCalls start place event calls
+some_event : (start : Start) (place : Place) (event : Result Event Refusal) → (calls : List DiskCall) × AreEventCalls start place event calls
 some_event start place (Ok Nothing) = ([], refl)
 some_event start place (Ok Settled) = ([], refl)
-some_event start place (Ok (Counted made)) = some_news (news_after (history_at start place.0) made.entries)
+some_event start place (Ok (Counted made)) = some_news (news_after (history_at start place.0) (entries_in made))
 some_event start place (Ok Reopened) = (Sync Zero ∷ Sync One ∷ [], record { reading = []; is = refl; alone = All-nil IsReading })
+some_event start place (Ok (Put id bytes)) = ([], refl)
+some_event start place (Ok (Saved id bytes)) = ([], refl)
+some_event start place (Ok (Polled seconds)) = ([], refl)
 some_event start place (Err why) = ([], refl)
 
 pub some_calls : (start : Start) (place : Place) → (calls : List DiskCall) × AreCallsAt start place calls

@@ -18,11 +18,12 @@ use Rattle.ras_texts.specs.Orders.{standing_lines}
 use Rattle.ras_texts.specs.Text.{done_line}
 use Rattle.ras_events.specs.declared.event.Event.{Event}
 use Rattle.ras_events.specs.declared.event.Event.TheVariants.{Nothing, Settled, Counted, Reopened}
-use Rattle.ras_exit.specs.declared.reason.Reason.{Reason}
+use Rattle.ras_events.specs.declared.event.Refusal.{Refusal}
 use Rattle.ras_events.specs.Events.{event_of, settings_after}
-use Rattle.ras_events.specs.Making.{Pieces}
+use Rattle.ras_events.specs.declared.made.Piece.{Piece}
 use Rattle.ras_events.specs.Reports.{NumberedLine, Place, event_at}
 use Rattle.ras_events.specs.Sizes.{IsFit, IsFitEvent}
+use Rattle.ras_events.specs.Making.{entries_in}
 use Rattle.ras_exit.specs.declared.exit.Exit.{Exit}
 use Rattle.ras_exit.specs.declared.exit.Exit.TheVariants.{BadLine, Full, NoMemory}
 use Rattle.ras_run.specs.declared.run.Run.{Run}
@@ -31,7 +32,7 @@ use Rattle.ras_exit.specs.Endings.{AnyFault, IsStop, unread_exit}
 use Rattle.ras_exit.proofs.EndingLemmas.{ends_weaker}
 use Rattle.ras_run.specs.Output.{event_output, output_at}
 use Rattle.ras_run.specs.Places.{Start, account_at, history_at, has_no_room_for, news_after, standing_with_news}
-use Rattle.ras_run.specs.Status.{event_refusal, refusal_at}
+use Rattle.ras_run.specs.Status.{event_refusal, reason_of, refusal_at}
 use Rattle.ras_run.specs.Taking.{AfterLine, IsAccepted, IsFull, IsPrintExit, IsRunAfter, LineMoment, MadeMoment, Prints, ReopenMoment, Reopens, TakesLine, TakesMade}
 use Rattle.ras_run.proofs.PlaceLemmas.{account_after, event_is, run_after}
 use Rattle.ras_run.proofs.StandsLemmas.{adds_printed, print_ends, prints_same, prints_text}
@@ -51,8 +52,8 @@ pub unread_cause : (number : ℕ) (why : LineRefused) (faults : Faults) → Boar
 unread_cause number refused.NoMemory faults = refl
 unread_cause number why faults = refl
 
-pub event_refused : (start : Start) (before : List NumberedLine) (number : ℕ) (line : Line) (why : Reason) (run after : Run) (told : Option Told) → IsRunAfter start before run → event_of run.settings line ≡ Err why
-    → TakesLine start (before, (number, Ok line)) (Err (BadLine number why)) after told told
+pub event_refused : (start : Start) (before : List NumberedLine) (number : ℕ) (line : Line) (why : Refusal) (run after : Run) (told : Option Told) → IsRunAfter start before run → event_of run.settings line ≡ Err why
+    → TakesLine start (before, (number, Ok line)) (Err (BadLine number (reason_of why))) after told told
 event_refused start before number line why run after told is asked =
     (ap (event_refusal start (before, (number, Ok line))) (event_is start before number line run (Err why) is asked), prints_same told)
 
@@ -68,7 +69,7 @@ module _ (start : Start) (before : List NumberedLine) (number : ℕ) (line : Lin
   accepted : event_refusal start place (Ok event) ≡ None → IsAccepted start place
   accepted none = record {
     taken = ap (event_refusal start place) here ∙ none;
-    fit = subst (λ (e : Result Event Reason). IfOk e IsFitEvent) (sym here) fit;
+    fit = subst (λ (e : Result Event Refusal). IfOk e IsFitEvent) (sym here) fit;
   }
 
   output_is : output_at start place ≡ event_output start place (Ok event)
@@ -120,13 +121,13 @@ settled_moments start before number line run told clock clock' t is asked stands
     (is.account ∙ account_after start before number line Settled run is asked) recovers begins))
 
 -- a line that reports
-count_refusal : (start : Start) (before : List NumberedLine) (number : ℕ) (line : Line) (made : Pieces) (run : Run) (full : Bool) → IsRunAfter start before run
-    → has_no_room_for (history_at start before) run.ledger.journal.standing made.entries ≡ full
+count_refusal : (start : Start) (before : List NumberedLine) (number : ℕ) (line : Line) (made : List Piece) (run : Run) (full : Bool) → IsRunAfter start before run
+    → has_no_room_for (history_at start before) run.ledger.journal.standing (entries_in made) ≡ full
     → event_refusal start (before, (number, Ok line)) (Ok (Counted made)) ≡ (if full then Some Full else None)
 count_refusal start before number line made run full is room =
-    ap (λ b. if b then Some Full else None) (sym (ap (λ standing. has_no_room_for (history_at start before) standing made.entries) is.standing) ∙ room)
+    ap (λ b. if b then Some Full else None) (sym (ap (λ standing. has_no_room_for (history_at start before) standing (entries_in made)) is.standing) ∙ room)
 
-pub takes_counted : (start : Start) (before : List NumberedLine) (number : ℕ) (line : Line) (made : Pieces) (run after : Run) (ledger : Ledger) (result : Result (Unit {0}) Exit) (told told' : Option Told)
+pub takes_counted : (start : Start) (before : List NumberedLine) (number : ℕ) (line : Line) (made : List Piece) (run after : Run) (ledger : Ledger) (result : Result (Unit {0}) Exit) (told told' : Option Told)
     → IsRunAfter start before run → event_of run.settings line ≡ Ok (Counted made) → IsFit made → after.settings ≡ settings_after run.settings line → after.ledger ≡ ledger
     → TakesMade (history_at start before) number made run.ledger result ledger told told'
     → TakesLine start (before, (number, Ok line)) result after told told'
@@ -134,11 +135,11 @@ takes_counted start before number line made run after ledger (Ok over) told told
   accepted start before number line (Counted made) run is asked fit (count_refusal start before number line made run false is takes.0),
   run_after start before number line (Counted made) run after is asked settings
       (ap (λ (l : Ledger). l.account.state) same ∙ takes.1)
-      (ap (λ (l : Ledger). l.journal.standing) same ∙ (takes.2 ∙ ap (λ standing. standing_with_news (history_at start before) standing (news_after (history_at start before) made.entries)) is.standing)),
+      (ap (λ (l : Ledger). l.journal.standing) same ∙ (takes.2 ∙ ap (λ standing. standing_with_news (history_at start before) standing (news_after (history_at start before) (entries_in made))) is.standing)),
   subst (λ bytes. Relates (Prints bytes) told told') (sym (output_is start before number line (Counted made) run is asked fit)) takes.3,
 )
 takes_counted start before number line made run after ledger (Err why) told told' is asked fit settings same takes =
-    ends_weaker (IsFull why (has_no_room_for (history_at start before) run.ledger.journal.standing made.entries) told told') ((refusal_at start (before, (number, Ok line)) ≡ Some why) × Relates (Prints []) told told')
+    ends_weaker (IsFull why (has_no_room_for (history_at start before) run.ledger.journal.standing (entries_in made)) told told') ((refusal_at start (before, (number, Ok line)) ≡ Some why) × Relates (Prints []) told told')
     (Relates (Prints []) told told') (Relates (Prints []) told told') AnyFault AnyFault why
     (λ full. (
       ap (event_refusal start (before, (number, Ok line))) (here start before number line (Counted made) run is asked fit)
@@ -147,14 +148,14 @@ takes_counted start before number line made run after ledger (Err why) told told
     ))
     (λ memory none. none) (λ kind any. any) takes
 
-counted_moment : (start : Start) (before : List NumberedLine) (number : ℕ) (line : Line) (made : Pieces) (run : Run) (left now : Left) → IsRunAfter start before run → event_of run.settings line ≡ Ok (Counted made) → IsFit made
+counted_moment : (start : Start) (before : List NumberedLine) (number : ℕ) (line : Line) (made : List Piece) (run : Run) (left now : Left) → IsRunAfter start before run → event_of run.settings line ≡ Ok (Counted made) → IsFit made
     → MadeMoment (history_at start before) number made run.ledger left now → LineMoment start (before, (number, Ok line)) left now
 counted_moment start before number line made run left now is asked fit (inl was) = inl was
 counted_moment start before number line made run left now is asked fit (inr has) =
-    inr (after_line start before number line (Counted made) run is asked fit left now (account_of (with_entries (history_at start before) made.entries)) (event_output start (before, (number, Ok line)) (Ok (Counted made)))
+    inr (after_line start before number line (Counted made) run is asked fit left now (account_of (with_entries (history_at start before) (entries_in made))) (event_output start (before, (number, Ok line)) (Ok (Counted made)))
     (count_refusal start before number line made run false is has.0) refl (account_after start before number line (Counted made) run is asked) has.1 has.2)
 
-pub counted_moments : (start : Start) (before : List NumberedLine) (number : ℕ) (line : Line) (made : Pieces) (run : Run) (left : Left) (clock clock' : Clock)
+pub counted_moments : (start : Start) (before : List NumberedLine) (number : ℕ) (line : Line) (made : List Piece) (run : Run) (left : Left) (clock clock' : Clock)
     → IsRunAfter start before run → event_of run.settings line ≡ Ok (Counted made) → IsFit made
     → Adds (MadeMoment (history_at start before) number made run.ledger left) clock clock' → Adds (LineMoment start (before, (number, Ok line)) left) clock clock'
 counted_moments start before number line made run left clock clock' is asked fit adds =

@@ -15,7 +15,7 @@ use Rattle.ras_script.specs.declared.line.Line.{Line}
 use Rattle.ras_texts.specs.Orders.{order_lines}
 use Rattle.ras_texts.specs.Text.{done_line}
 use Rattle.ras_events.specs.declared.settings.Settings.{Settings}
-use Rattle.ras_events.specs.Making.{pieces_in}
+use Rattle.ras_events.specs.Making.{entries_in}
 use Rattle.ras_events.specs.Preparing.{orders_along_entries, text_along}
 use Rattle.ras_events.specs.Repeats.{IsRepeat}
 use Rattle.ras_exit.specs.declared.exit.Exit.{Exit}
@@ -35,15 +35,15 @@ module _ (history : History) (number : ℕ) (settings : Settings) (line : Line) 
   none_kept : (told : Option Told) → TakesNews [] before (Ok tt) before told told
   none_kept told = (refl, refl, refl, prints_same told)
 
-  text_is : text ≡ text_along a (pieces_in repeat.made) ++ order_lines (account_after_all a []).modules (orders_along_entries a [])
-  text_is = repeat.lines ∙ sym (append-nil (text_along a (pieces_in repeat.made)))
+  text_is : text ≡ text_along a repeat.made ++ order_lines (account_after_all a []).modules (orders_along_entries a [])
+  text_is = repeat.lines ∙ sym (append-nil (text_along a repeat.made))
 
   pub repeat_taken : (result : Result (Unit {0}) Exit) (told told' : Option Told) → OnOk result (Steps (after_print (text ++ done_line number)) told told') → (result ≡ Err NoMemory → told' ≡ told) → IfErr result IsPrintExit
       → TakesMade history number repeat.made before result before told told'
   repeat_taken (Ok over) told told' steps same exit =
       made_printed history number repeat.made [] before before before (Ok over) text (done_line number) told told told' refl refl is (sym repeat.none) repeat.room text_is refl (none_kept told) steps tt
   repeat_taken (Err why) told told' steps same exit =
-      print_ends (IsFull why (has_no_room_for history before.journal.standing repeat.made.entries) told told') why told told' (λ memory. same (ap (λ (e : Exit). Err e) memory)) exit
+      print_ends (IsFull why (has_no_room_for history before.journal.standing (entries_in repeat.made)) told told') why told told' (λ memory. same (ap (λ (e : Exit). Err e) memory)) exit
 
   pub repeat_moments : (told : Option Told) (clock clock' : Clock) (t : Told) → told ≡ Some t → Stands before.journal.standing a told clock
       → ((m : Told) → Rests m told clock → Adds (InOut (Begins (text ++ done_line number)) m.here) clock clock')
@@ -52,10 +52,10 @@ module _ (history : History) (number : ℕ) (settings : Settings) (line : Line) 
       adds_made history number repeat.made [] before before before text (done_line number) told told clock clock clock' t refl refl is (sym repeat.none) repeat.room text_is refl (none_kept told)
       at (adds_none (NewsMoment [] before t.here) clock) stands stops
 
-  no_news : news_after history repeat.made.entries ≡ []
-  no_news = ap (λ (b : State). fresh_entries_in b repeat.made.entries) (sym is) ∙ repeat.none
+  no_news : news_after history (entries_in repeat.made) ≡ []
+  no_news = ap (λ (b : State). fresh_entries_in b (entries_in repeat.made)) (sym is) ∙ repeat.none
 
   pub repeat_calls : (result : Result (Unit {0}) Exit) (told told' : Option Told) → Relates KeepsCalls told told' → OnOk result (Relates (MakesMade history repeat.made) told told')
   repeat_calls (Ok over) told told' same =
-      made_none (AreNewsCalls (news_after history repeat.made.entries)) (subst (λ (news : List Entry). AreNewsCalls news []) (sym no_news) refl) told told' same
+      made_none (AreNewsCalls (news_after history (entries_in repeat.made))) (subst (λ (news : List Entry). AreNewsCalls news []) (sym no_news) refl) told told' same
   repeat_calls (Err why) told told' same = tt

@@ -1,5 +1,5 @@
 -- Which disk calls a part of a run makes.
-use Rattle.std.proofs.Common.{◌≡◌, ◌∙◌, ℕ, ◌≤◌, false, List, [], ◌∷◌, ◌++◌, length, Option, None, Some, IfSome, Result, Ok, Err, OnOk, OnErr, IsTrue, inl, inr, refl, sym, ap, subst, arith}
+use Rattle.std.proofs.Common.{◌≡◌, ◌∙◌, ℕ, ◌≤◌, false, List, [], ◌∷◌, length, Option, None, Some, IfSome, Result, Ok, Err, OnOk, OnErr, IsTrue, inl, inr, refl, sym, ap, subst, arith}
 use Rattle.std.proofs.lemmas.List.{append-nil}
 use Rattle.board_core.specs.Clock.{Clock}
 use Rattle.board_core.specs.declared.board.DiskCall.{DiskCall}
@@ -20,7 +20,8 @@ use Rattle.ras_ledger.specs.declared.ledger.Ledger.{Ledger}
 use Rattle.ras_ledger.specs.Keeping.{Stands, lacks_room}
 use Rattle.ras_ledger.specs.KeepingCalls.{IsKeeping}
 use Rattle.ras_events.specs.declared.preparing.News.{News}
-use Rattle.ras_events.specs.Making.{Pieces}
+use Rattle.ras_events.specs.declared.made.Piece.{Piece}
+use Rattle.ras_events.specs.Making.{entries_in}
 use Rattle.ras_exit.specs.declared.exit.Exit.{Exit}
 use Rattle.ras_run.specs.LineCalls.{AreNewsCalls}
 use Rattle.ras_run.specs.Places.{has_no_room_for, news_after}
@@ -135,10 +136,10 @@ no_news_made told = made_none (AreNewsCalls []) refl told told (no_calls told)
 
 -- ---- an event that counts what is made
 
-module _ (history : History) (made : Pieces) (news : List Entry) (before now : Ledger) (same : now.account.state ≡ before.account.state) (standing : now.journal.standing ≡ before.journal.standing) (is : before.account.state ≡ account_of history)
-    (news_are : news ≡ fresh_entries_in before.account.state made.entries) where
-  news_behind : news ≡ news_after history made.entries
-  news_behind = news_are ∙ ap (λ (b : State). fresh_entries_in b made.entries) is
+module _ (history : History) (made : List Piece) (news : List Entry) (before now : Ledger) (same : now.account.state ≡ before.account.state) (standing : now.journal.standing ≡ before.journal.standing) (is : before.account.state ≡ account_of history)
+    (news_are : news ≡ fresh_entries_in before.account.state (entries_in made)) where
+  news_behind : news ≡ news_after history (entries_in made)
+  news_behind = news_are ∙ ap (λ (b : State). fresh_entries_in b (entries_in made)) is
 
   pub made_whole : (printed : Result (Unit {0}) Exit) (a b c : Option Told) → Relates (Makes (AreNewsCalls news)) a b → Relates KeepsCalls b c → OnOk printed (Relates (MakesMade history made) a c)
   made_whole (Err why) a b c makes none = tt
@@ -148,28 +149,28 @@ module _ (history : History) (made : Pieces) (news : List Entry) (before now : L
   Room = has_no_room now.journal.standing now.account.state news ≡ false
 
   abbrev Place : Type 0
-  Place = has_no_room_for history before.journal.standing made.entries ≡ false
+  Place = has_no_room_for history before.journal.standing (entries_in made) ≡ false
 
-  room_is : HasRoomFor before.account.state made.entries → Room → Place
+  room_is : HasRoomFor before.account.state (entries_in made) → Room → Place
   room_is within room =
       is_not_full history made before.journal.standing before.account.state news is news_are within
       (ap (λ (b : State). has_no_room before.journal.standing b news) (sym same) ∙ (ap (λ (t : Standing). has_no_room t now.account.state news) (sym standing) ∙ room))
 
-  part_of : HasRoomFor before.account.state made.entries → (calls : List DiskCall) → ArePart Room (AreNewsCalls news) calls → ArePart Place (AreNewsCalls (news_after history made.entries)) calls
+  part_of : HasRoomFor before.account.state (entries_in made) → (calls : List DiskCall) → ArePart Room (AreNewsCalls news) calls → ArePart Place (AreNewsCalls (news_after history (entries_in made))) calls
   part_of within calls (inl none) = inl none
   part_of within calls (inr part) = inr (room_is within part.0, subst (λ (entries : List Entry). IsBeginning (AreNewsCalls entries) calls) news_behind part.1)
 
-  pub made_begun : HasRoomFor before.account.state made.entries → (a b : Option Told) → Relates (BeginsNews news now) a b → Relates (BeginsMade history made before) a b
+  pub made_begun : HasRoomFor before.account.state (entries_in made) → (a b : Option Told) → Relates (BeginsNews news now) a b → Relates (BeginsMade history made before) a b
   made_begun within a b begun =
-      made_weaker (ArePart Room (AreNewsCalls news)) (ArePart Place (AreNewsCalls (news_after history made.entries))) (part_of within) a b begun
+      made_weaker (ArePart Room (AreNewsCalls news)) (ArePart Place (AreNewsCalls (news_after history (entries_in made)))) (part_of within) a b begun
 
-  pub made_begun_still : HasRoomFor before.account.state made.entries → (a b c : Option Told) → Relates (BeginsNews news now) a b → Relates KeepsCalls b c → Relates (BeginsMade history made before) a c
+  pub made_begun_still : HasRoomFor before.account.state (entries_in made) → (a b c : Option Told) → Relates (BeginsNews news now) a b → Relates KeepsCalls b c → Relates (BeginsMade history made before) a c
   made_begun_still within a b c begun none =
-      made_still (ArePart Place (AreNewsCalls (news_after history made.entries))) a b c (made_begun within a b begun) none
+      made_still (ArePart Place (AreNewsCalls (news_after history (entries_in made)))) a b c (made_begun within a b begun) none
 
-pub unmade : (history : History) (made : Pieces) (before : Ledger) (told : Option Told) → Relates (BeginsMade history made before) told told
+pub unmade : (history : History) (made : List Piece) (before : Ledger) (told : Option Told) → Relates (BeginsMade history made before) told told
 unmade history made before told =
-    made_none (ArePart (has_no_room_for history before.journal.standing made.entries ≡ false) (AreNewsCalls (news_after history made.entries))) (inl refl) told told (no_calls told)
+    made_none (ArePart (has_no_room_for history before.journal.standing (entries_in made) ≡ false) (AreNewsCalls (news_after history (entries_in made)))) (inl refl) told told (no_calls told)
 
 -- ---- an opening in the midst of a run
 

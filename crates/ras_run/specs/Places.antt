@@ -18,7 +18,7 @@ pub record Start : Type 0 where
 
 -- the history with what lines report, and its account
 abbrev pub history_at : Start → List NumberedLine → History
-history_at start before = with_entries start.history (reports before)
+history_at start before = with_entries start.history (reports [] before)
 
 abbrev pub account_at : Start → List NumberedLine → State
 account_at start before = account_of (history_at start before)
@@ -51,7 +51,7 @@ abbrev pub standing_along : Start → Standing → List Place → Standing
 standing_along start standing [] = standing
 standing_along start standing (place ∷ places) =
     let history = history_at start place.0 in
-    standing_along start (standing_with_news history standing (news_after history (entries_at place))) places
+    standing_along start (standing_with_news history standing (news_after history (entries_at [] place))) places
 
 abbrev pub standing_at : Start → List NumberedLine → Standing
 standing_at start before = standing_along start start.standing (places before)

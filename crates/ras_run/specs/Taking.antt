@@ -17,10 +17,11 @@ use Rattle.ras_recover.specs.declared.refused.OpenRefused.TheVariants as opening
 use Rattle.ras_ledger.specs.declared.ledger.Ledger.{Ledger}
 use Rattle.ras_ledger.specs.Keeping.{Stands, lacks_room, standing_kept}
 use Rattle.ras_events.specs.declared.preparing.News.{News}
-use Rattle.ras_events.specs.Making.{Pieces}
+use Rattle.ras_events.specs.declared.made.Piece.{Piece}
 use Rattle.ras_events.specs.Reports.{NumberedLine, Place, event_at, settings_told}
 use Rattle.ras_events.specs.Sizes.{IsFitEvent}
 use Rattle.ras_events.specs.Texts.{event_text}
+use Rattle.ras_events.specs.Making.{entries_in}
 use Rattle.ras_texts.specs.Orders.{standing_lines}
 use Rattle.ras_texts.specs.Text.{done_line}
 use Rattle.ras_exit.specs.declared.exit.Exit.{Exit}
@@ -127,24 +128,24 @@ NewsMoment news before here left =
 
 -- ---- an event that counts what is made, after a history
 
-abbrev pub count_output : History → ℕ → Pieces → List ℕ
+abbrev pub count_output : History → ℕ → List Piece → List ℕ
 count_output history number made = event_text history made ++ done_line number
 
 -- What was made is counted, or the run ends there.
-abbrev pub TakesMade : History → ℕ → Pieces → Ledger → Result (Unit {0}) Exit → Ledger → Option Told → Option Told → Type 0
+abbrev pub TakesMade : History → ℕ → List Piece → Ledger → Result (Unit {0}) Exit → Ledger → Option Told → Option Told → Type 0
 TakesMade history number made before (Ok done) after old new =
-    (has_no_room_for history before.journal.standing made.entries ≡ false)
-    × (after.account.state ≡ account_of (with_entries history made.entries))
-    × (after.journal.standing ≡ standing_with_news history before.journal.standing (news_after history made.entries))
+    (has_no_room_for history before.journal.standing (entries_in made) ≡ false)
+    × (after.account.state ≡ account_of (with_entries history (entries_in made)))
+    × (after.journal.standing ≡ standing_with_news history before.journal.standing (news_after history (entries_in made)))
     × Relates (Prints (count_output history number made)) old new
 TakesMade history number made before (Err exit) after old new =
-    EndsBy (IsFull exit (has_no_room_for history before.journal.standing made.entries) old new) (Relates (Prints []) old new) AnyFault (ending_of exit)
+    EndsBy (IsFull exit (has_no_room_for history before.journal.standing (entries_in made)) old new) (Relates (Prints []) old new) AnyFault (ending_of exit)
 
-abbrev pub MadeMoment : History → ℕ → Pieces → Ledger → Left → Left → Type 0
+abbrev pub MadeMoment : History → ℕ → List Piece → Ledger → Left → Left → Type 0
 MadeMoment history number made before here left =
     ((left.out ≡ here.out) × Recovers (account_of history) left)
-    ⊎ ((has_no_room_for history before.journal.standing made.entries ≡ false)
-    × Recovers (account_of (with_entries history made.entries)) left
+    ⊎ ((has_no_room_for history before.journal.standing (entries_in made) ≡ false)
+    × Recovers (account_of (with_entries history (entries_in made))) left
     × Begins (count_output history number made) here.out left.out)
 
 -- ---- an opening

@@ -7,8 +7,9 @@ use Rattle.ras_facts.specs.declared.entry.Entry.{Entry}
 use Rattle.ras_recover.specs.DiskCalls.{IsBeginning, Makes}
 use Rattle.ras_recover.specs.OpeningCalls.{IsOpening}
 use Rattle.ras_ledger.specs.declared.ledger.Ledger.{Ledger}
-use Rattle.ras_events.specs.Making.{Pieces}
+use Rattle.ras_events.specs.declared.made.Piece.{Piece}
 use Rattle.ras_events.specs.Reports.{Place}
+use Rattle.ras_events.specs.Making.{entries_in}
 use Rattle.ras_run.specs.LineCalls.{AreCallsAt, AreNewsCalls}
 use Rattle.ras_run.specs.Places.{Start, has_no_room_for, news_after}
 use Rattle.ras_run.specs.Taking.{IsAccepted, has_no_room}
@@ -34,12 +35,12 @@ BeginsNews news before =
     Makes (ArePart (has_no_room before.journal.standing before.account.state news ≡ false) (AreNewsCalls news))
 
 -- of an event that counts what is made, after a history
-abbrev pub MakesMade : History → Pieces → Told → Told → Type 0
-MakesMade history made = Makes (AreNewsCalls (news_after history made.entries))
+abbrev pub MakesMade : History → List Piece → Told → Told → Type 0
+MakesMade history made = Makes (AreNewsCalls (news_after history (entries_in made)))
 
-abbrev pub BeginsMade : History → Pieces → Ledger → Told → Told → Type 0
+abbrev pub BeginsMade : History → List Piece → Ledger → Told → Told → Type 0
 BeginsMade history made before =
-    Makes (ArePart (has_no_room_for history before.journal.standing made.entries ≡ false) (AreNewsCalls (news_after history made.entries)))
+    Makes (ArePart (has_no_room_for history before.journal.standing (entries_in made) ≡ false) (AreNewsCalls (news_after history (entries_in made))))
 
 -- of a line at its place
 abbrev pub MakesLine : Start → Place → Told → Told → Type 0

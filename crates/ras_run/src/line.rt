@@ -13,6 +13,7 @@ ghost use Rattle.board_core.specs.Device.{LeavesDevice};
 ghost use Rattle.ras_exit.specs.Endings.{IsStop};
 ghost use Rattle.ras_run.specs.LaterKinds.{taken_line};
 ghost use Rattle.ras_run.specs.Places.{Start};
+ghost use Rattle.ras_run.specs.Status.{reason_of};
 ghost use Rattle.ras_run.specs.Taking.{IsPrintExit, IsRunAfter, LedgerStands, LineMoment};
 ghost use Rattle.ras_run.specs.Taking.{OnRefusal, Reopens, ReopenMoment, TakesLine};
 ghost use Rattle.ras_run.specs.TakingCalls.{BeginsLine, KeepsCalls, MakesLine};
@@ -25,10 +26,11 @@ use crate::opening::open;
 use crate::printing::print_event;
 use board_core::Board;
 use ras_account::Account;
-use ras_events::{Event, EventRefused};
-use ras_exit::Exit;
+use ras_events::{Event, EventRefused, Refusal};
+use ras_exit::{Exit, Reason};
 use ras_facts::Name;
 use ras_ledger::Ledger;
+use ras_script::LineRefused;
 use ras_texts::{done_line, push_done, push_known, standing_lines};
 use std::alloc::Global;
 
@@ -90,10 +92,10 @@ pub fn take_line<B: Board>(
     }
     let event = match run.settings.take(alloc, line) {
         Ok(event) => event,
-        Err(EventRefused::Refused(reason)) => {
+        Err(EventRefused::Refused(refusal)) => {
             return Err(Exit::BadLine {
                 line: number,
-                reason,
+                reason: reason_of(refusal),
             });
         }
         Err(EventRefused::NoMemory) => return Err(Exit::NoMemory),
@@ -103,6 +105,21 @@ pub fn take_line<B: Board>(
         Event::Settled => end_event(alloc, number, &[], board),
         Event::Counted(made) => take_made(alloc, number, made, &mut run.ledger, board),
         Event::Reopened => reopen(alloc, number, &mut run.ledger, board),
+        Event::Put { .. } | Event::Saved { .. } | Event::Polled { .. } => Err(Exit::BadLine {
+            line: number,
+            reason: reason_of(Refusal::NoTable),
+        }),
+    }
+}
+
+// The reason for which a refused line is refused. One of the record store is refused as one of no
+// kind.
+fn reason_of(refusal: Refusal) -> Reason
+    ensures { result ≡ reason_of refusal }
+{
+    match refusal {
+        Refusal::Bad(reason) => reason,
+        Refusal::NoTable => Reason::Line(LineRefused::Kind),
     }
 }
 

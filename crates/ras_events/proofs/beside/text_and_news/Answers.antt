@@ -1,4 +1,4 @@
-use Rattle.std.proofs.Common.{◌≡◌, ◌∙◌, ◌∷◌, ap, sym, arith}
+use Rattle.std.proofs.Common.{arith}
 use Rattle.ras_events.proofs.LineLemmas.{keeps_counted, keeps_unread}
 use Rattle.ras_events.proofs.beside.text_and_news.Goals as goal
 

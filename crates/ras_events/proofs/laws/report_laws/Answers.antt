@@ -1,4 +1,4 @@
-use Rattle.ras_events.proofs.ReportLemmas.{laid-more, reports-cut, settings-line}
+use Rattle.ras_events.proofs.ReportLemmas.{reports-cut, settings-line}
 use Rattle.ras_events.proofs.laws.report_laws.Goals as goal
 
 pub returns-clause-settings : goal.returns-clause-settings
@@ -6,6 +6,3 @@ returns-clause-settings c = settings-line
 
 pub returns-clause-cut : goal.returns-clause-cut
 returns-clause-cut c = reports-cut
-
-pub returns-clause-laid : goal.returns-clause-laid
-returns-clause-laid c = laid-more

@@ -1,10 +1,9 @@
-use Rattle.std.proofs.Common.{◌≡◌, ◌∙◌, Err, List, sym, ap, subst, arith}
+use Rattle.std.proofs.Common.{◌∙◌, List, ap, subst, arith}
 use Rattle.ras_facts.specs.declared.entry.Entry.{Entry}
 use Rattle.ras_account.specs.Numbers.{HasRoomFor}
 use Rattle.ras_account.specs.View.{added_by}
 use Rattle.journal_format.specs.declared.link.TheConstants.{MOST_LINK_ENTRIES, MOST_PAYLOAD}
 use Rattle.ras_events.specs.Making.{entries_in}
-use Rattle.ras_events.specs.declared.preparing.PrepareRefused.TheVariants.{Full}
 use Rattle.ras_events.proofs.NewsLemmas.{few_news, no_room_news, room_news, short_news, valid_news}
 use Rattle.ras_events.proofs.ReadyLemmas.{ready}
 use Rattle.ras_events.proofs.preparing.prepare.Goals as goal

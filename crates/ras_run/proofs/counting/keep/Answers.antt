@@ -10,7 +10,6 @@ use Rattle.ras_run.specs.Taking.{CanBeKept}
 use Rattle.ras_events.specs.Preparing.{CanTake, orders_along_entries}
 use Rattle.ras_ledger.proofs.KeepingLaws.{calls, kept, stops, whole}
 use Rattle.ras_exit.proofs.DeviceLemmas.{device_stays}
-use Rattle.ras_exit.proofs.FaultLemmas.{raised, same_faults}
 use Rattle.ras_run.proofs.KeepLemmas.{device_kept, device_not_kept, keep_moments, news_links, prints_kept, room_left, room_of, stands_kept, standing_of_news}
 use Rattle.ras_run.proofs.StandsLemmas.{prints_same, stands_same}
 use Rattle.ras_run.proofs.TakingCallsLemmas.{news_begun, news_made, no_news_begun}
