@@ -1,16 +1,17 @@
 //! What the calls of polls and of savings leave.
 
-ghost use Rattle.std.specs.Prelude.{◌≡◌, ◌≤◌, ℕ, true, List, ◌++◌, length, Ok};
+ghost use Rattle.std.specs.Prelude.{◌≡◌, ℕ, true, List, ◌++◌, length, Ok};
 ghost use Rattle.board_core.specs.Doing.{DeviceCall, Moment};
-ghost use Rattle.board_core.specs.Stop.{InStore, Left};
+ghost use Rattle.board_core.specs.Stop.{Becomes, InStore, Left};
 ghost use Rattle.board_core.specs.Told.{Told, device_of};
 ghost use Rattle.erst_interp.specs.Admission.{IsAdmittedTable};
 ghost use Rattle.erst_interp.specs.Run.{Keeps, acts_of};
 ghost use Rattle.erst_interp.specs.declared.entries.Entry.{Entry};
-ghost use Rattle.erst_driver.specs.Answers.{store_after_write, written_id};
-ghost use Rattle.erst_driver.specs.Operations.{clear_calls, is_free_in_time};
+ghost use Rattle.erst_driver.specs.Answers.{written_id};
+ghost use Rattle.erst_driver.specs.Operations.{clear_calls, is_free_in_time, write_calls};
+ghost use Rattle.ras_base.specs.LittleEndian.{AreBytes, number_at};
+ghost use Rattle.erst_store.specs.Device.{length_place};
 ghost use Rattle.erst_store.specs.DeviceLaws.{IsDevice};
-ghost use Rattle.erst_store.specs.Store.{Stored, most_bytes};
 ghost use Rattle.ras_events.specs.Stores.{store_with, unreadable};
 ghost use Rattle.ras_records.specs.Each.{after_calls, each_answer, each_calls};
 ghost use Rattle.ras_records.specs.Polls.{LacksFirst, look_calls, readable_ids};
@@ -55,10 +56,17 @@ pub fn clears_take_the_readable_records()
         → InStore LacksFirst t.here left }
 {}
 
-/// The store after a record is saved is the one after it is put under the identifier in its header:
-/// with erst_driver's law on writes, the store becomes that at one moment, and all else is as it
-/// was. The function does nothing.
+/// A saving puts its record into the store under the identifier in its header, at one moment, and
+/// all else stays as it was. The function does nothing.
 pub fn savings_are_puts()
-    ensures { (bytes : List ℕ) (store : List Stored) → length bytes ≤ most_bytes
-        → store_after_write bytes store ≡ store_with (written_id bytes) bytes store }
+    ensures done { (lists : List (List Entry)) (t : Told) → IsAdmittedTable lists
+        → IsDevice (device_of t) → (bytes : List ℕ) → length bytes ≡ 456
+        → number_at length_place 4 bytes ≡ 456 → AreBytes bytes
+        → (after_calls (write_calls lists bytes (device_of t)) t).here
+        ≡ record t.here { store = store_with (written_id bytes) bytes t.here.store } }
+    ensures moments { (lists : List (List Entry)) (t : Told) → IsAdmittedTable lists
+        → IsDevice (device_of t) → (bytes : List ℕ) → length bytes ≡ 456
+        → number_at length_place 4 bytes ≡ 456 → AreBytes bytes → (left : Left)
+        → Moment (acts_of (write_calls lists bytes (device_of t))) t left
+        → InStore (Becomes (store_with (written_id bytes) bytes t.here.store)) t.here left }
 {}

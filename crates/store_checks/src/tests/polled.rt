@@ -37,12 +37,7 @@ fn see(alloc: Global, is_padded: bool, board: &mut MemBoard) -> Result<Polled, F
 }
 
 /// How many records a stop after a poll leaves.
-pub fn left_by_poll(
-    alloc: Global,
-    start: Start,
-    store: Store,
-    pick: Pick,
-) -> Result<usize, Fail> {
+pub fn left_by_poll(alloc: Global, start: Start, store: Store, pick: Pick) -> Result<usize, Fail> {
     let mut board = board_over(alloc, start, store)?;
     poll_by_table(alloc, start.is_padded, &mut board);
     records_after_stop(alloc, board, pick)
