@@ -86,15 +86,6 @@ module _ {X : Type 0} (see : X → Seen) (operation : Operation) (ids : List ℕ
     does_refused (EndedWith code) does gives answered = last_done went_well (EndedWith code) does tt (sym gives)
     does_refused NoMemory does gives answered = absurd answered
 
-    refused_with : (why : DriverRefused) → Err why ≡ answer_on_found id (device_of now) → each_answer operation ids t ≡ Err why
-    refused_with why gives = answer_now ∙ ap (λ (answer : Answer). after_answer answer (each_answer operation (drop (count + 1) ids) (after_calls own now))) (sym gives)
-
-    pub gives_refused : (why : DriverRefused) → Gives (Err why) (answer_on_found id (device_of now)) → IsAnswered {T = Unit {0}} (Err why) → Gives (Err why) (each_answer operation ids t)
-    gives_refused Register gives answered = tt
-    gives_refused Busy gives answered = sym (refused_with Busy gives)
-    gives_refused (EndedWith code) gives answered = sym (refused_with (EndedWith code) gives)
-    gives_refused NoMemory gives answered = absurd answered
-
 -- ---- over a board, whatever it tells
 
 module _ {X : Type 0} (see : X → Seen) (operation : Operation) (ids : List ℕ) (count : ℕ) (a b c : X) (within : count < length ids) (d : ℕ)
@@ -116,11 +107,6 @@ module _ {X : Type 0} (see : X → Seen) (operation : Operation) (ids : List ℕ
       → IfSome (see a).told (λ t. Does see (acts_of (each_calls operation ids t)) (refusal_end why) a c)
   each_refused why does answers answered = over_each _ (see a).told (λ t is.
       (does_refused see operation ids t count a b c is within d (here t is) why (there t is _ does) (there t is _ answers) answered))
-
-  pub each_refusal : (why : DriverRefused) → IfSome (see b).told (λ u. Gives (Err why) (answer_on_found (get_or ids count d) (device_of u))) → IsAnswered {T = Unit {0}} (Err why)
-      → IfSome (see a).told (λ t. Gives (Err why) (each_answer operation ids t))
-  each_refusal why answers answered = over_each _ (see a).told (λ t is.
-      (gives_refused see operation ids t count a b c is within d (here t is) why (there t is _ answers) answered))
 
 -- what holds of a board at a first call held of it at the start
 pub called_once : {X : Type 0} {Before : Type 0} (P : X → Type 0) (a b : X) → (Before × (b ≡ a)) ⊎ P a → P b → P a

@@ -64,9 +64,6 @@ first id later (r ∷ rs) distinct is = by (is_readable r) refl is (first id lat
     head : Apart r.id (ids rs)
     head = IsDistinct-head nat_eq r.id (ids rs) distinct
 
-    later_or : Bool → List Stored
-    later_or b = if b then rs else r ∷ without_first 1 rs
-
     by : (b : Bool) → is_readable r ≡ b → ids (with_front b r rs) ≡ id ∷ later → (readable_ids rs ≡ id ∷ later → First id later rs) → First id later (r ∷ rs)
     by true can here up =
         let own : r.id ≡ id = head_of r.id id (readable_ids rs) later here in

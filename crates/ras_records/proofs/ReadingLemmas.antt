@@ -204,10 +204,6 @@ module _ (rows : List Row) (seconds : ℕ) where
       free = inr (ap is_free_in_time (sym slow) ∙ free);
     }
 
-    -- a refusal of its reading is for want of time
-    pub held_there : holds id n.here.store ≡ true
-    held_there = found_holds id n.here.store found.bytes found.found
-
   -- ---- how the reading ends
 
   -- a record that is listed is there
