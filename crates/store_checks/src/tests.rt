@@ -7,6 +7,8 @@ mod answers;
 mod faults;
 mod moves;
 mod played;
+mod polled;
+mod polls;
 mod rows;
 mod runs;
 mod samples;

@@ -1,5 +1,6 @@
 //! The accesses of a poll and of a write, word for word.
-use super::played::{Answer, Operation, Seen, Start, USUAL, play};
+use super::played::{Answer, Operation, Start, USUAL, play};
+use super::polled::{Polled, poll_store, store_with};
 use board_core::Access::{self, RangeRead, RangeWrite, Read, Write};
 use board_core::Reg::{Action, Value};
 use std::alloc::Global;
@@ -7,14 +8,14 @@ use std::test::Fail;
 
 const NONE: u64 = u64::MAX;
 
-// A store with the record 1 is listed to the end, and then from its first record on.
+// A store with the record 5 is listed to the end, and then from its first record on.
 const LISTING: [Access; 8] = [
     Write(Action, 8),
-    Read(Value, 1),
+    Read(Value, 5),
     Write(Action, 8),
     Read(Value, NONE),
     Write(Action, 8),
-    Read(Value, 1),
+    Read(Value, 5),
     Write(Action, 8),
     Read(Value, NONE),
 ];
@@ -23,7 +24,7 @@ const READING: [Access; 13] = [
     Write(Action, 1),
     Write(Value, 0),
     Write(Action, 4),
-    Write(Value, 1),
+    Write(Value, 5),
     Write(Action, 9),
     Write(Value, 0x9c),
     Write(Action, 5),
@@ -37,7 +38,7 @@ const READING: [Access; 13] = [
 
 const CLEARING: [Access; 10] = [
     Write(Action, 2),
-    Write(Value, 1),
+    Write(Value, 5),
     Write(Action, 9),
     Write(Value, 0x9c),
     Write(Action, 5),
@@ -78,19 +79,18 @@ fn add(accesses: &mut Vec<Access>, part: &[Access]) -> Result<(), Fail> {
     Ok(accesses.extend_from_slice(part)?)
 }
 
-const POLL: [Operation; 3] = [Operation::Ids, Operation::Read(1), Operation::Clear(1)];
-
 fn polls(alloc: Global, is_padded: bool) -> Result<bool, Fail> {
-    let seen = play(alloc, Start { is_padded, ..USUAL }, &POLL)?;
-    has_polled(alloc, &seen, is_padded)
+    let start = Start { is_padded, ..USUAL };
+    let polled = poll_store(alloc, start, store_with(alloc, &[(5, true)]))?;
+    has_polled(alloc, &polled, is_padded)
 }
 
-fn has_polled(alloc: Global, seen: &Seen, is_padded: bool) -> Result<bool, Fail> {
+fn has_polled(alloc: Global, polled: &Polled, is_padded: bool) -> Result<bool, Fail> {
     let wanted = polling(alloc, is_padded)?;
     Ok(
-        seen.answers.as_slice() == [Answer::Listed(1), Answer::Done, Answer::Done].as_slice()
-            && seen.accesses.as_slice() == wanted.as_slice()
-            && seen.records == 0,
+        polled.outcome == Ok(1)
+            && polled.accesses.as_slice() == wanted.as_slice()
+            && polled.records == 0,
     )
 }
 

@@ -89,7 +89,8 @@ pub fn left(
     records_after_stop(alloc, board, pick)
 }
 
-fn records_after_stop(alloc: Global, board: MemBoard, pick: Pick) -> Result<usize, Fail> {
+/// How many records a stop of a board leaves.
+pub fn records_after_stop(alloc: Global, board: MemBoard, pick: Pick) -> Result<usize, Fail> {
     let board = board.left(alloc, pick)?;
     Ok(records_of(&board))
 }
@@ -214,16 +215,19 @@ fn write<B: Board>(driver: &Driver, bytes: &[u8], board: &mut B) -> Result<(), D
     driver.write(bytes, board)
 }
 
-// A record of 128 bytes: its length stands at 20, and its identifier at 96.
-fn record(id: u64) -> [u8; 128] {
+/// A record of 128 bytes, with no section: its signatures stand at 0 and 6, its length at 20, and
+/// its identifier at 96.
+pub fn record(id: u64) -> [u8; 128] {
     let mut bytes = [0; 128];
+    bytes[..4].copy_from_slice(b"CPER");
+    bytes[6..10].copy_from_slice(&[0xff; 4]);
     bytes[20] = 128;
     bytes[96..104].copy_from_slice(&id.to_le_bytes());
     bytes
 }
 
-// The driver of the plain table or of the padded one.
-fn driver_at(alloc: Global, is_padded: bool) -> Option<Driver> {
+/// The driver of the plain table or of the padded one.
+pub fn driver_at(alloc: Global, is_padded: bool) -> Option<Driver> {
     let padding: &[Row] = if is_padded { &PADDING } else { &[] };
     driver_of(table(alloc, &joined(alloc, padding, &PLAIN)?)?)
 }
@@ -236,8 +240,14 @@ fn driver_of(table: Table) -> Option<Driver> {
     }
 }
 
-fn board_at(alloc: Global, start: Start) -> Result<MemBoard, Fail> {
-    let mut board = new_board(alloc, store_of(alloc, start.records), start.slow)?;
+/// A new board, as a start says it.
+pub fn board_at(alloc: Global, start: Start) -> Result<MemBoard, Fail> {
+    board_over(alloc, start, store_of(alloc, start.records))
+}
+
+/// A new board over a store.
+pub fn board_over(alloc: Global, start: Start, store: Store) -> Result<MemBoard, Fail> {
+    let mut board = new_board(alloc, store, start.slow)?;
     let _ = board.fail_at(start.fails);
     board.stop_after(start.allowed);
     Ok(board)
@@ -247,8 +257,8 @@ fn new_board(alloc: Global, store: Store, slow: u64) -> Result<MemBoard, Fail> {
     Ok(MemBoard::new(alloc, store, slow)?)
 }
 
-// A store of so many records.
-fn store_of(alloc: Global, records: u64) -> Store {
+/// A store of so many records.
+pub fn store_of(alloc: Global, records: u64) -> Store {
     let mut store = Store::new(alloc);
     put_all(&mut store, records);
     store
@@ -264,10 +274,12 @@ fn put(store: &mut Store, id: u64) -> bool {
     store.put(id, &record(id)).is_ok()
 }
 
-fn accesses_of(alloc: Global, board: &MemBoard) -> Result<Vec<Access>, Fail> {
+/// The accesses that a board lists.
+pub fn accesses_of(alloc: Global, board: &MemBoard) -> Result<Vec<Access>, Fail> {
     Ok(board.accesses().to_vec(alloc)?)
 }
 
-fn records_of(board: &MemBoard) -> usize {
+/// How many records a board has.
+pub fn records_of(board: &MemBoard) -> usize {
     board.store().len()
 }

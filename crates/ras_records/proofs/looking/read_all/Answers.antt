@@ -1,0 +1,48 @@
+use Rattle.std.proofs.Common.{◌∙◌, arith, refl}
+use Rattle.std.proofs.lemmas.Result.{err_from_is_err_and}
+use Rattle.board_core.specs.Doing.{looks}
+use Rattle.ras_records.proofs.ReadingLemmas.{done_looks, read_more, read_none, read_refused, read_starved, refused_looks}
+use Rattle.ras_records.proofs.ReachLemmas.{reaches_fits, reaches_none}
+use Rattle.ras_records.proofs.looking.read_all.Goals as goal
+
+pub loop-id-init : goal.loop-id-init
+loop-id-init g c = record {
+  read = read_none (looks g.B.Board.told g.B.Board.clock g.B.Board.faults) c.args.driver.now c.args.topology.now c.args.seconds c.args.ids.now 0 _ _ c.new-looked.ensures.made c.new-looked.ensures.readable;
+  faults = refl;
+  reaches = reaches_none _ c.new-looked.ensures.made c.new-looked.ensures.readable;
+}
+
+pub returns-in_err-read-clause-does : goal.returns-in_err-read-clause-does
+returns-in_err-read-clause-does g c =
+    let p = err_from_is_err_and c.from_residual.result c.from_residual.ensures.1 in
+    rw (p.1, p.2) (read_refused (looks g.B.Board.told g.B.Board.clock g.B.Board.faults) c.args.driver.now c.args.topology.now c.args.seconds c.args.ids.now c.loop-id.id-index c.loop-id-test.true _ _ _ _ c.loop-id.invariant.read
+    c.in_err-read.field-0.0 c.in_err-read.ensures.does c.in_err-read.ensures.answers c.in_err-read.ensures.refused)
+
+pub returns-in_err-read-clause-looked : goal.returns-in_err-read-clause-looked
+returns-in_err-read-clause-looked g c =
+    let p = err_from_is_err_and c.from_residual.result c.from_residual.ensures.1 in
+    rw (p.1, p.2) (refused_looks (looks g.B.Board.told g.B.Board.clock g.B.Board.faults) c.args.driver.now c.args.topology.now c.args.seconds c.args.ids.now c.loop-id.id-index c.loop-id-test.true _ _ c.read.new.board _ c.loop-id.invariant.read
+    c.in_err-read.field-0.0 c.in_err-read.ensures.answers c.in_err-read.ensures.refused)
+
+pub returns-in-Err-clause-does : goal.returns-in-Err-clause-does
+returns-in-Err-clause-does g c =
+    read_starved (looks g.B.Board.told g.B.Board.clock g.B.Board.faults) c.args.driver.now c.args.topology.now c.args.seconds c.args.ids.now c.loop-id.id-index c.loop-id-test.true _ _ _ _ c.loop-id.invariant.read
+    c.in_ok-read.ensures.does c.in_ok-read.ensures.answers
+
+pub loop-id-preserved : goal.loop-id-preserved
+loop-id-preserved g c = record {
+  read = read_more (looks g.B.Board.told g.B.Board.clock g.B.Board.faults) c.args.driver.now c.args.topology.now c.args.seconds c.args.ids.now c.loop-id.id-index c.loop-id-test.true _ _ _ _ c.loop-id.invariant.read _ c.read.new.buf
+      c.in_ok-read.ensures.does c.in_ok-read.ensures.answers c.in_ok-read.ensures.record_read c.in_ok-read.ensures.device c.in-Ok.ensures.made c.in-Ok.ensures.readable;
+  faults = c.in_ok-read.ensures.cause ∙ c.loop-id.invariant.faults;
+  reaches = c.in-Ok.ensures.reaches c.loop-id.id-index c.loop-id.invariant.reaches;
+}
+
+pub returns-clause-looked : goal.returns-clause-looked
+returns-clause-looked g c =
+    done_looks (looks g.B.Board.told g.B.Board.clock g.B.Board.faults) c.args.driver.now c.args.topology.now c.args.seconds c.args.ids.now c.loop-id.id-index _ _ c.loop-id.looked c.loop-id-test.false c.loop-id.invariant.read
+
+pub returns-clause-bounded : goal.returns-clause-bounded
+returns-clause-bounded g c =
+    let few = c.requires.few in
+    let within = c.loop-id.auto.id-index-end in
+    reaches_fits c.loop-id.id-index c.loop-id.looked (omega arith) c.loop-id.invariant.reaches

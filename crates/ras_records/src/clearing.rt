@@ -1,0 +1,37 @@
+//! The clearing of records.
+
+ghost use Rattle.std.specs.Prelude.{◌≢◌, [], IfSome};
+ghost use Rattle.board_core.specs.Doing.{Does, ended_by, looks};
+ghost use Rattle.board_core.specs.Told.{device_of};
+ghost use Rattle.erst_store.specs.DeviceLaws.{IsDevice};
+ghost use Rattle.erst_interp.specs.Run.{acts_of};
+ghost use Rattle.erst_driver.specs.Answers.{Gives, HasCauseIn, IsAnswered, refusal_end};
+ghost use Rattle.erst_driver.specs.Operations.{clear_calls};
+ghost use Rattle.ras_records.specs.Each.{each_answer, each_calls};
+
+use board_core::Board;
+use erst_driver::{Driver, DriverRefused};
+
+/// Clears the records under these identifiers, from the first to the last. (ACPI 6.5, section
+/// 18.5.2.3, "Clearing".)
+///
+/// # Errors
+///
+/// The first clearing that is refused is the last: `Register` comes exactly if a call of the board
+/// failed, `Busy` if the device was busy at each of the most checks, and `Status` if the store has
+/// no such record.
+pub fn clear_all<B: Board>(driver: &Driver, ids: &[u64], board: &mut B) -> Result<(), DriverRefused>
+    ensures does { IfSome (B.told board.old) (λ t. Does (looks B.told B.clock B.faults)
+        (acts_of (each_calls (clear_calls driver.now) ids.now t)) (ended_by refusal_end result)
+        board.old board.new) }
+    ensures answers { IfSome (B.told board.old)
+        (λ t. Gives result (each_answer (clear_calls driver.now) ids.now t)) }
+    ensures cause { HasCauseIn result (B.faults board.old) (B.faults board.new) }
+    ensures refused { IsAnswered result }
+    ensures device { ids.now ≢ [] → IfSome (B.told board.old) (λ t. IsDevice (device_of t)) }
+{
+    for id in ids {
+        driver.clear(*id, board)?;
+    }
+    Ok(())
+}
