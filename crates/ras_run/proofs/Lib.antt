@@ -1,11 +1,2 @@
-pub mod PrintLemmas
-pub mod StandsLemmas
-pub mod KeepLemmas
-pub mod CountLemmas
-pub mod OpenLemmas
 pub mod PlaceLemmas
-pub mod LineLemmas
 pub mod LaterKindLemmas
-pub mod TakingCallsLemmas
-pub mod LineCallsLemmas
-pub mod RepeatLemmas

@@ -3,12 +3,14 @@
 #![tactic(auto)]
 
 mod counting;
+mod laws;
 mod later_kinds;
 mod line;
 mod opening;
 mod printing;
 mod run;
 
+pub use laws::line_laws;
 pub use line::take_line;
 pub use opening::{open, print_standing};
 pub use run::Run;
