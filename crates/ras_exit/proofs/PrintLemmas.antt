@@ -1,14 +1,14 @@
 -- What a print does, told by each of its sides.
-use Rattle.std.proofs.Common.{◌≡◌, ℕ, ◌==◌, true, false, List, [], ◌∷◌, length, Option, None, Some, Result, Ok, Err, OnOk, OnErr, refl, sym, ap, subst, append-nil, inl, inr, arith}
+use Rattle.std.proofs.Common.{◌≡◌, ℕ, ◌==◌, true, false, List, [], ◌∷◌, length, Option, None, Some, Result, Ok, Err, OnOk, OnErr, IfErr, refl, sym, ap, subst, append-nil, inl, inr, arith}
 use Rattle.std.proofs.lemmas.Bool.Decides.{nat_tests}
 use Rattle.board_core.specs.Cause.{Faults, Kind, print_call}
 use Rattle.board_core.specs.Clock.{Adds, Rests}
 use Rattle.board_core.specs.ClockLemmas.{adds_weaker}
 use Rattle.board_core.specs.Stop.{Begins, InOut, Left}
 use Rattle.board_core.specs.Told.{FailsPrint, Relates, Steps, Told, after_print}
-use Rattle.board_core.specs.Doing.{Act, Does, FailsActs, Moment, Seen, after_acts, one_end, prints, went_well}
+use Rattle.board_core.specs.Doing.{Act, Does, FailsActs, Moment, Seen, after_acts, one_end, prints, went_well, GoesWell}
 use Rattle.board_core.proofs.DoingLemmas.{does_nothing, does_stops, steps_as}
-use Rattle.ras_exit.specs.Acts.{end_of, part_end, print_acts}
+use Rattle.ras_exit.specs.Acts.{DoesBy, end_of, ended_with, part_end, print_acts}
 use Rattle.ras_exit.specs.Causes.{BoardCause, BoardCauseBy, Causes}
 use Rattle.ras_exit.specs.Endings.{CallEnding, answered, ending_of, faulted, source_failed, starved}
 use Rattle.ras_exit.specs.declared.exit.Exit.{Exit}
@@ -83,4 +83,19 @@ part_causes see acts (Err exit) a b does = by (ending_of exit) does
     by answered same = ap (λ x. (see x).faults) same
     by starved same = ap (λ x. (see x).faults) same
     by source_failed same = ap (λ x. (see x).faults) same
-    by (faulted kind) d = record { own = d.faults.own; others = d.faults.others }
+    by (faulted kind) d = d.faults
+
+-- a part that is refused only if it has no acts
+pub part_does : {X T : Type 0} (see : X → Seen) (acts : List Act) (result : Result T Exit) (a b : X) → IfErr result (λ exit. ending_of exit ≡ answered → acts ≡ [])
+    → Does see acts (part_end result) a b → DoesBy see acts (ended_with result) a b
+part_does see acts (Ok done) a b none does = does
+part_does see acts (Err exit) a b none does = by (ending_of exit) none does
+  where
+    nothing : b ≡ a → GoesWell [] (see a) (see b)
+    nothing same = subst (λ x. GoesWell [] (see a) (see x)) (sym same) (does_nothing see a)
+
+    by : (ending : CallEnding) → (ending ≡ answered → acts ≡ []) → Does see acts (end_of ending) a b → DoesBy see acts ending a b
+    by answered empty same = subst (λ (some : List Act). GoesWell some (see a) (see b)) (sym (empty refl)) (nothing same)
+    by starved empty same = record { made = []; later = acts; splits = refl; does = nothing same }
+    by source_failed empty same = record { made = []; later = acts; splits = refl; does = nothing same }
+    by (faulted kind) empty d = d

@@ -1,2 +1,7 @@
 pub mod PlaceLemmas
 pub mod LaterKindLemmas
+pub mod StandsLemmas
+pub mod NewsLemmas
+pub mod CountLemmas
+pub mod OpenLemmas
+pub mod ReopenLemmas

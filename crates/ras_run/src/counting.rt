@@ -1,6 +1,6 @@
 //! An event that counts what was made of its line.
 
-ghost use Rattle.std.specs.Prelude.{◌≡◌, ◌++◌, false, IfSome, OnOk};
+ghost use Rattle.std.specs.Prelude.{◌≡◌, ◌++◌, false, IfErr, IfSome, OnOk};
 ghost use Rattle.board_core.specs.Doing.{Does, looks};
 ghost use Rattle.ras_account.specs.Account.{account_of};
 ghost use Rattle.ras_account.specs.Continued.{account_after_all};
@@ -8,6 +8,8 @@ ghost use Rattle.ras_account.specs.History.{History};
 ghost use Rattle.ras_events.specs.Preparing.{CanTake, news_entries, orders_along_entries};
 ghost use Rattle.ras_events.specs.Sizes.{IsFit};
 ghost use Rattle.ras_exit.specs.Acts.{part_end};
+ghost use Rattle.ras_exit.specs.Causes.{BoardCause, Causes};
+ghost use Rattle.ras_exit.specs.Endings.{IsStop};
 ghost use Rattle.ras_run.specs.LineActs.{made_acts, news_acts};
 ghost use Rattle.ras_run.specs.Taking.{CanBeKept, CountsMade, CountsNews, IsReady, LedgerStands};
 ghost use Rattle.ras_texts.specs.OrderRoom.{HasOrderRoom};
@@ -46,6 +48,8 @@ pub fn take_made<B: Board>(
         (made_acts history number ledger.old.journal.standing made) (part_end result)
         board.old board.new }
     ensures ready { OnOk result (IsReady ledger.new (B.told board.new) (B.clock board.new)) }
+    ensures stop { IfErr result IsStop }
+    ensures faults { Causes BoardCause result (B.faults board.old) (B.faults board.new) }
 {
     let event = match prepare(alloc, number, made, &mut ledger.account) {
         Ok(event) => event,

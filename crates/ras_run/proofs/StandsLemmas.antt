@@ -1,0 +1,53 @@
+-- Where a ledger stands over acts that went well.
+use Rattle.std.proofs.Common.{◌≡◌, ℕ, List, [], ◌∷◌, ◌++◌, Option, None, Some, Result, Ok, Err, OnOk, refl, sym, ap, subst, ◌∙◌}
+use Rattle.std.specs.Option.{option_map}
+use Rattle.board_core.specs.Clock.{Clock, Rests}
+use Rattle.board_core.specs.ClockLemmas.{not_told}
+use Rattle.board_core.specs.Stop.{Left}
+use Rattle.board_core.specs.Told.{Told, Steps}
+use Rattle.board_core.specs.Doing.{Act, GoesWell, Seen, after_acts}
+use Rattle.board_core.proofs.DoingLemmas.{after-append}
+use Rattle.ras_account.specs.Account.{State}
+use Rattle.ras_journal.specs.declared.standing.Standing.{Standing}
+use Rattle.ras_journal.specs.Appending.{Before}
+use Rattle.ras_journal.specs.Recovered.{IsAt}
+use Rattle.ras_ledger.specs.Keeping.{Stands}
+use Rattle.ras_exit.specs.Acts.{print_acts}
+use Rattle.ras_run.specs.LineActs.{event_prints}
+
+same_told : (u t : Told) → Some u ≡ Some t → u ≡ t
+same_told u t is = cc
+
+pub before_of : (s : Standing) (a : State) (told : Option Told) (clock : Clock) (t : Told) → Stands s a told clock → told ≡ Some t → Before s a t told clock
+before_of s a None clock t stands is = absurd (not_told t is)
+before_of s a (Some u) clock t stands is = subst (λ (v : Told). Before s a v (Some u) clock) (same_told u t is) stands
+
+pub stands_by : (s : Standing) (a : State) (t : Told) (told : Option Told) (clock : Clock) → Before s a t told clock → Stands s a told clock
+stands_by s a t told clock before = by told before.rests.is before
+  where
+    by : (o : Option Told) → o ≡ Some t → Before s a t o clock → Stands s a o clock
+    by None is b = tt
+    by (Some u) is b = subst (λ (v : Told). Before s a v (Some u) clock) (sym (same_told u t is)) b
+
+-- over acts that lead from one account to another
+pub stands_on : (acts : List Act) (s s' : Standing) (a a' : State) (old new : Seen) → ((t : Told) → IsAt s a t.here → IsAt s' a' (after_acts acts t).here)
+    → Stands s a old.told old.clock → GoesWell acts old new → Stands s' a' new.told new.clock
+stands_on acts s s' a a' old new leads stands well = by old.told refl stands well.told
+  where
+    by : (o : Option Told) → old.told ≡ o → Stands s a o old.clock → Steps (after_acts acts) o new.told → Stands s' a' new.told new.clock
+    by None is st steps = rw steps tt
+    by (Some t) is st steps = stands_by s' a' (after_acts acts t) new.told new.clock (record {
+      rests = well.rests t (record { is = is; only = st.rests.only });
+      at = leads t st.at;
+    })
+
+-- ---- over prints
+
+pub print_at : (text : List ℕ) (s : Standing) (a : State) (t : Told) → IsAt s a t.here → IsAt s a (after_acts (print_acts text) t).here
+print_at [] s a t at = at
+print_at (b ∷ text) s a t at = record { recovers = at.recovers; position = at.position }
+
+pub prints_at : (one two : List ℕ) (s : Standing) (a : State) (t : Told) → IsAt s a t.here → IsAt s a (after_acts (print_acts one ++ print_acts two) t).here
+prints_at one two s a t at =
+    subst (λ (u : Told). IsAt s a u.here) (sym (after-append (print_acts one) (print_acts two) t))
+    (print_at two s a (after_acts (print_acts one) t) (print_at one s a t at))
