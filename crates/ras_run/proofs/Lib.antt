@@ -5,3 +5,4 @@ pub mod NewsLemmas
 pub mod CountLemmas
 pub mod OpenLemmas
 pub mod ReopenLemmas
+pub mod LineLemmas

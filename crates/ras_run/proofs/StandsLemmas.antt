@@ -5,15 +5,17 @@ use Rattle.board_core.specs.Clock.{Clock, Rests}
 use Rattle.board_core.specs.ClockLemmas.{not_told}
 use Rattle.board_core.specs.Stop.{Left}
 use Rattle.board_core.specs.Told.{Told, Steps}
-use Rattle.board_core.specs.Doing.{Act, GoesWell, Seen, after_acts}
+use Rattle.board_core.specs.Doing.{Act, Does, GoesWell, Seen, after_acts}
 use Rattle.board_core.proofs.DoingLemmas.{after-append}
 use Rattle.ras_account.specs.Account.{State}
 use Rattle.ras_journal.specs.declared.standing.Standing.{Standing}
 use Rattle.ras_journal.specs.Appending.{Before}
 use Rattle.ras_journal.specs.Recovered.{IsAt}
 use Rattle.ras_ledger.specs.Keeping.{Stands}
-use Rattle.ras_exit.specs.Acts.{print_acts}
-use Rattle.ras_run.specs.LineActs.{event_prints}
+use Rattle.ras_exit.specs.Acts.{part_end, print_acts}
+use Rattle.ras_exit.specs.declared.exit.Exit.{Exit}
+use Rattle.ras_ledger.specs.declared.ledger.Ledger.{Ledger}
+use Rattle.ras_run.specs.Taking.{IsReady}
 
 same_told : (u t : Told) → Some u ≡ Some t → u ≡ t
 same_told u t is = cc
@@ -51,3 +53,13 @@ pub prints_at : (one two : List ℕ) (s : Standing) (a : State) (t : Told) → I
 prints_at one two s a t at =
     subst (λ (u : Told). IsAt s a u.here) (sym (after-append (print_acts one) (print_acts two) t))
     (print_at two s a (after_acts (print_acts one) t) (print_at one s a t at))
+
+-- the next line can be taken after prints
+pub ready_printed : {X : Type 0} (see : X → Seen) (one two : List ℕ) (ledger : Ledger) (result : Result (Unit {0}) Exit) (x y : X) → IsReady ledger (see x).told (see x).clock → Does see (print_acts one ++ print_acts two) (part_end result) x y
+    → OnOk result (IsReady ledger (see y).told (see y).clock)
+ready_printed see one two ledger (Ok over) x y ready does = record {
+  usable = ready.usable;
+  stands = stands_on (print_acts one ++ print_acts two) ledger.journal.standing ledger.journal.standing ledger.account.state ledger.account.state (see x) (see y)
+      (prints_at one two ledger.journal.standing ledger.account.state) ready.stands does;
+}
+ready_printed see one two ledger (Err exit) x y ready does = tt
