@@ -6,3 +6,5 @@ pub mod CountLemmas
 pub mod OpenLemmas
 pub mod ReopenLemmas
 pub mod LineLemmas
+pub mod PrintActLemmas
+pub mod LineLawLemmas
