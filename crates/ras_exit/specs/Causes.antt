@@ -1,7 +1,8 @@
 -- Why a call ends with a fault: the count of its kind of faults rose. A count that didn't rise is
 -- as it was.
 use Rattle.std.specs.Prelude.{◌≡◌, ℕ, Result, MatchResult}
-use Rattle.board_core.specs.Cause.{Rose, Faults, Kind, count_of, with_count}
+use Rattle.board_core.specs.Cause.{Rose, Faults}
+use Rattle.board_core.specs.Doing.{Raises}
 use Rattle.ras_exit.specs.declared.exit.Exit.{Exit}
 use Rattle.ras_exit.specs.Endings.{CallEnding, ending_of, faulted, source_failed}
 
@@ -13,11 +14,6 @@ SourceCauseBy ending before now = now ≡ before
 
 abbrev pub SourceCause : Exit → ℕ → ℕ → Type 0
 SourceCause exit before now = SourceCauseBy (ending_of exit) before now
-
--- of the board's counts that of one kind rose, and no other changed
-pub record Raises (kind : Kind) (before now : Faults) : Type 0 where
-  pub own : Rose (count_of kind before) (count_of kind now)
-  pub others : now ≡ with_count kind (count_of kind now) before
 
 -- if the exit is a fault of the board the count of its kind rose, and with any other exit all
 -- counts are as they were

@@ -5,3 +5,4 @@ pub mod StopLine
 pub mod Causes
 pub mod Telling
 pub mod ScriptEnd
+pub mod Acts

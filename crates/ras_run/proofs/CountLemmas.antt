@@ -1,34 +1,35 @@
 -- An event that counts what is made of its line, by the history that it is counted behind.
-use Rattle.std.proofs.Common.{◌≡◌, ℕ, Bool, true, false, ◌||◌, List, [], ◌∷◌, ◌++◌, Option, Some, Result, Ok, Err, OnOk, OnErr, refl, sym, ap, subst, ◌∙◌, inl, inr, arith}
+use Rattle.std.proofs.Common.{◌≡◌, ℕ, Bool, true, false, ◌||◌, List, [], ◌∷◌, ◌++◌, Result, Ok, Err, OnErr, IfErr, refl, sym, ap, subst, ◌∙◌, append-nil, arith}
 use Rattle.std.proofs.lemmas.Bool.Decides.{nat_tests}
-use Rattle.board_core.specs.Cause.{disk_call}
-use Rattle.board_core.specs.Clock.{Clock, Adds, Rests}
-use Rattle.board_core.specs.ClockLemmas.{adds_both, adds_weaker}
-use Rattle.board_core.specs.Stop.{Left, Begins, InOut}
-use Rattle.board_core.specs.Told.{Told, Relates, Steps, after_print}
+use Rattle.board_core.specs.Cause.{Kind, print_call}
+use Rattle.board_core.specs.Doing.{Act, Does, IsBad, Seen, one_end, went_well}
+use Rattle.board_core.proofs.DoingLemmas.{does_first, does_then, made_one}
 use Rattle.ras_account.specs.Account.{State, account_of}
 use Rattle.ras_account.specs.Continued.{account_after_all}
 use Rattle.ras_account.specs.History.{History, with_entries}
 use Rattle.ras_account.specs.Numbers.{AreWithin, HasNoRoomFor, HasRoomFor, Numbers, are_past, fresh_entries_in, numbers_with}
 use Rattle.ras_facts.specs.declared.entry.Entry.{Entry}
 use Rattle.ras_journal.specs.declared.standing.Standing.{Standing}
-use Rattle.ras_journal.specs.Recovered.{Recovers}
-use Rattle.ras_ledger.specs.Keeping.{Stands}
 use Rattle.ras_ledger.specs.declared.ledger.Ledger.{Ledger}
 use Rattle.ras_texts.specs.Orders.{order_lines}
 use Rattle.ras_texts.specs.Text.{done_line}
 use Rattle.ras_events.specs.declared.made.Piece.{Piece}
 use Rattle.ras_events.specs.Preparing.{orders_along_entries, text_along}
+use Rattle.ras_events.specs.Repeats.{IsRepeat}
+use Rattle.ras_events.specs.declared.settings.Settings.{Settings}
+use Rattle.ras_script.specs.declared.line.Line.{Line}
 use Rattle.ras_events.specs.Texts.{event_text}
 use Rattle.ras_events.specs.Making.{entries_in}
 use Rattle.ras_events.proofs.HistoryLemmas.{account_by_history, event_by_history, news_account}
+use Rattle.ras_exit.specs.Acts.{end_of, part_end, print_acts}
+use Rattle.ras_exit.specs.Endings.{CallEnding, EndsBy, OnlyFault, answered, ending_of, faulted, source_failed, starved}
 use Rattle.ras_exit.specs.declared.exit.Exit.{Exit}
 use Rattle.ras_exit.specs.declared.exit.Exit.TheVariants.{Full, PrintFault}
-use Rattle.ras_exit.specs.Endings.{AnyFault, OnlyFault}
 use Rattle.ras_exit.proofs.EndingLemmas.{ends_weaker}
+use Rattle.ras_exit.proofs.PrintLemmas.{as_part}
+use Rattle.ras_run.specs.LineActs.{event_prints, made_acts, news_acts}
 use Rattle.ras_run.specs.Places.{has_no_room_for, lacks_room_for, news_after, standing_with_news}
-use Rattle.ras_run.specs.Taking.{IsFull, MadeMoment, NewsMoment, Prints, TakesMade, TakesNews, count_output, has_no_room, standing_behind}
-use Rattle.ras_run.proofs.StandsLemmas.{adds_printed, begins_nothing, prints_same, prints_text}
+use Rattle.ras_run.specs.Taking.{CountsMade, CountsNews, EndsByRoom, IsPrintExit, has_no_room, standing_behind}
 
 -- ---- room
 
@@ -74,6 +75,9 @@ module _ (history : History) (made : List Piece) (s : Standing) (a : State) (new
   pub is_full_journal : has_no_room s a news ≡ true → has_no_room_for history s (entries_in made) ≡ true
   is_full_journal none = or_second _ _ (sym lacks_is ∙ none)
 
+  pub acts_behind : news_acts s a news ≡ news_acts s (account_of history) (news_after history (entries_in made))
+  acts_behind = ap (λ (b : State). news_acts s b news) is ∙ ap (news_acts s (account_of history)) news_behind
+
   pub account_behind : account_after_all a news ≡ account_of (with_entries history (entries_in made))
   account_behind =
       ap (account_after_all a) news_are
@@ -103,108 +107,94 @@ text_told a now news made first text same first_is text_is =
 
 -- ---- what is answered
 
--- an event that finds no room, or no memory, before anything is done
-pub full_made : (history : History) (number : ℕ) (made : List Piece) (before after : Ledger) (told : Option Told) → before.account.state ≡ account_of history → HasNoRoomFor before.account.state (entries_in made)
-    → TakesMade history number made before (Err Full) after told told
-full_made history number made before after told is past = record {
-  exit_is = refl;
-  lacks_is = is_full_past history made before.journal.standing before.account.state (fresh_entries_in before.account.state (entries_in made)) is refl past;
-  none = prints_same told;
-}
+pub print_exit : {T : Type 0} (result : Result T Exit) → OnErr result (result ≡ Err PrintFault) → IfErr result IsPrintExit
+print_exit (Ok done) is = tt
+print_exit {T} (Err why) is = subst (λ (r : Result T Exit). IfErr r IsPrintExit) (sym is) refl
 
--- an event of which the news weren't kept
-pub news_refused : (history : History) (number : ℕ) (made : List Piece) (news : List Entry) (before now after after' : Ledger) (exit : Exit) (told told' : Option Told)
-    → now.account.state ≡ before.account.state → now.journal.standing ≡ before.journal.standing → before.account.state ≡ account_of history → news ≡ fresh_entries_in before.account.state (entries_in made)
-    → TakesNews news now (Err exit) after told told' → TakesMade history number made before (Err exit) after' told told'
-news_refused history number made news before now after after' exit told told' same standing is news_are takes =
-    ends_weaker (IsFull exit (has_no_room now.journal.standing now.account.state news) told told') (IsFull exit (has_no_room_for history before.journal.standing (entries_in made)) told told')
-    (Relates (Prints []) told told') (Relates (Prints []) told told') (OnlyFault disk_call) AnyFault exit
-    (λ full. record {
-      exit_is = full.exit_is;
-      lacks_is = is_full_journal history made before.journal.standing before.account.state news is news_are
-          (ap (λ (b : State). has_no_room before.journal.standing b news) (sym same) ∙ (ap (λ (t : Standing). has_no_room t now.account.state news) (sym standing) ∙ full.lacks_is));
-      none = full.none;
-    })
-    (λ memory none. none) (λ kind is. tt) takes
+pub end_is_bad : (ending : CallEnding) → IsBad (end_of ending)
+end_is_bad answered = tt
+end_is_bad starved = tt
+end_is_bad source_failed = tt
+end_is_bad (faulted kind) = tt
 
--- an event whose news were kept, and whose text was printed or wasn't
-pub made_printed : (history : History) (number : ℕ) (made : List Piece) (news : List Entry) (before now after : Ledger) (printed : Result (Unit {0}) Exit) (text done : List ℕ) (told mid told' : Option Told)
-    → now.account.state ≡ before.account.state → now.journal.standing ≡ before.journal.standing → before.account.state ≡ account_of history → news ≡ fresh_entries_in before.account.state (entries_in made)
-    → HasRoomFor before.account.state (entries_in made)
-    → text ≡ text_along before.account.state made ++ order_lines (account_after_all before.account.state news).modules (orders_along_entries before.account.state news) → done ≡ done_line number
-    → TakesNews news now (Ok tt) after told mid
-    → OnOk printed (Steps (after_print (text ++ done)) mid told') → OnErr printed (printed ≡ Err PrintFault)
-    → TakesMade history number made before printed after told told'
-made_printed history number made news before now after (Ok over) text done told mid told' same standing is news_are within text_is done_is takes steps fault =
-    let s : Standing = before.journal.standing in
-    let a : State = before.account.state in
-    let room : has_no_room s a news ≡ false =
-    ap (λ (b : State). has_no_room s b news) (sym same) ∙ (ap (λ (t : Standing). has_no_room t now.account.state news) (sym standing) ∙ takes.0) in
-    let account : after.account.state ≡ account_of (with_entries history (entries_in made)) =
-    takes.1 ∙ (ap (λ (b : State). account_after_all b news) same ∙ account_behind history made s a news is news_are) in
-    let stands : after.journal.standing ≡ standing_with_news history s (news_after history (entries_in made)) =
-    takes.2 ∙ (ap (λ (t : Standing). standing_behind t now.account.state news) standing ∙ (ap (λ (b : State). standing_behind s b news) same ∙ standing_then history made s a news is news_are)) in
-    let out : text ++ done ≡ count_output history number made =
-    ap (λ bytes. bytes ++ done) (text_is ∙ text_behind history made s a news is news_are) ∙ ap (λ bytes. event_text history made ++ bytes) done_is in (
-      is_not_full history made s a news is news_are within room,
-      account,
-      stands,
-      subst (λ bytes. Relates (Prints bytes) told told') out (prints_text (text ++ done) told mid told' takes.3 steps),
-    )
-made_printed history number made news before now after (Err exit) text done told mid told' same standing is news_are within text_is done_is takes steps fault =
-    subst (λ (r : Result (Unit {0}) Exit). TakesMade history number made before r after told told') (sym fault) tt
+by_room : (lacks lacks' : Bool) (exit : Exit) → (lacks ≡ true → lacks' ≡ true) → (lacks ≡ false → lacks' ≡ false) → EndsByRoom lacks exit → EndsByRoom lacks' exit
+by_room lacks lacks' exit full room ends = by (ending_of exit) ends
+  where
+    by : (ending : CallEnding) → EndsBy ((exit ≡ Full) × (lacks ≡ true)) (Unit {0}) (λ kind. lacks ≡ false) ending → EndsBy ((exit ≡ Full) × (lacks' ≡ true)) (Unit {0}) (λ kind. lacks' ≡ false) ending
+    by answered e = (e.0, full e.1)
+    by starved e = tt
+    by (faulted kind) e = room e
+    by source_failed e = absurd e
 
--- ---- what stops leave
+module _ (history : History) (made : List Piece) (news : List Entry) (before now after : Ledger) (same : now.account.state ≡ before.account.state) (still : now.journal.standing ≡ before.journal.standing)
+    (is : before.account.state ≡ account_of history) (news_are : news ≡ fresh_entries_in before.account.state (entries_in made)) (within : HasRoomFor before.account.state (entries_in made)) where
+  room_is : has_no_room now.journal.standing now.account.state news ≡ has_no_room before.journal.standing before.account.state news
+  room_is = rw (same, still) refl
 
-made_moment : (history : History) (number : ℕ) (made : List Piece) (news : List Entry) (before now : Ledger) (here left : Left)
-    → now.account.state ≡ before.account.state → now.journal.standing ≡ before.journal.standing → before.account.state ≡ account_of history → news ≡ fresh_entries_in before.account.state (entries_in made)
-    → HasRoomFor before.account.state (entries_in made)
-    → NewsMoment news now here left → MadeMoment history number made before here left
-made_moment history number made news before now here left same standing is news_are within moment =
-    let s : Standing = before.journal.standing in
-    let a : State = before.account.state in
-    elim moment.1 [
-      | inl without ↦ inl (moment.0, subst (λ (b : State). Recovers b left) (same ∙ is) without)
-      | inr has ↦ inr (
-        is_not_full history made s a news is news_are within
-            (ap (λ (b : State). has_no_room s b news) (sym same) ∙ (ap (λ (t : Standing). has_no_room t now.account.state news) (sym standing) ∙ has.0)),
-        subst (λ (b : State). Recovers b left) (ap (λ (b : State). account_after_all b news) same ∙ account_behind history made s a news is news_are) has.1,
-        begins_nothing (count_output history number made) here left moment.0,
+  pub news_refused : (exit : Exit) → CountsNews news (Err exit) now after → CountsMade history made (Err exit) before after
+  news_refused exit ends =
+      by_room (has_no_room now.journal.standing now.account.state news) (has_no_room_for history before.journal.standing (entries_in made)) exit
+      (λ full. is_full_journal history made before.journal.standing before.account.state news is news_are (sym room_is ∙ full))
+      (λ room. is_not_full history made before.journal.standing before.account.state news is news_are within (sym room_is ∙ room)) ends
+
+  pub made_counted : (printed : Result (Unit {0}) Exit) → CountsNews news (Ok tt) now after → IfErr printed IsPrintExit → CountsMade history made printed before after
+  made_counted printed counts ends = by printed ends
+    where
+      s : Standing
+      s = before.journal.standing
+
+      a : State
+      a = before.account.state
+
+      room : has_no_room_for history s (entries_in made) ≡ false
+      room = is_not_full history made s a news is news_are within (sym room_is ∙ counts.0)
+
+      by : (r : Result (Unit {0}) Exit) → IfErr r IsPrintExit → CountsMade history made r before after
+      by (Ok done) f = (
+        room,
+        counts.1 ∙ (ap (λ (b : State). account_after_all b news) same ∙ account_behind history made s a news is news_are),
+        counts.2 ∙ (rw (same, still) refl ∙ standing_then history made s a news is news_are),
       )
-    ]
+      by (Err exit) f =
+          ends_weaker ⊥ ((exit ≡ Full) × (has_no_room_for history s (entries_in made) ≡ true)) (Unit {0}) (Unit {0}) (OnlyFault print_call) (λ kind. has_no_room_for history s (entries_in made) ≡ false) exit
+          (λ never. absurd never) (λ memory over. over) (λ kind is. room) f
 
-pub adds_news : (history : History) (number : ℕ) (made : List Piece) (news : List Entry) (before now : Ledger) (t : Told) (clock clock' : Clock)
-    → now.account.state ≡ before.account.state → now.journal.standing ≡ before.journal.standing → before.account.state ≡ account_of history → news ≡ fresh_entries_in before.account.state (entries_in made)
-    → HasRoomFor before.account.state (entries_in made)
-    → Adds (NewsMoment news now t.here) clock clock' → Adds (MadeMoment history number made before t.here) clock clock'
-adds_news history number made news before now t clock clock' same standing is news_are within adds =
-    adds_weaker (NewsMoment news now t.here) (MadeMoment history number made before t.here) clock clock' adds
-    (λ left. made_moment history number made news before now t.here left same standing is news_are within)
+  -- ---- what is done
 
-pub adds_made : (history : History) (number : ℕ) (made : List Piece) (news : List Entry) (before now after : Ledger) (text done : List ℕ) (told mid : Option Told) (a b c : Clock) (t : Told)
-    → now.account.state ≡ before.account.state → now.journal.standing ≡ before.journal.standing → before.account.state ≡ account_of history → news ≡ fresh_entries_in before.account.state (entries_in made)
-    → HasRoomFor before.account.state (entries_in made)
-    → text ≡ text_along before.account.state made ++ order_lines (account_after_all before.account.state news).modules (orders_along_entries before.account.state news) → done ≡ done_line number
-    → TakesNews news now (Ok tt) after told mid
-    → told ≡ Some t → Adds (NewsMoment news now t.here) a b
-    → Stands after.journal.standing after.account.state mid b
-    → ((m : Told) → Rests m mid b → Adds (InOut (Begins (text ++ done)) m.here) b c)
-    → Adds (MadeMoment history number made before t.here) a c
-adds_made history number made news before now after text done told mid a b c t same standing is news_are within text_is done_is takes at adds stands stops =
-    let s : Standing = before.journal.standing in
-    let st : State = before.account.state in
-    let room : has_no_room s st news ≡ false =
-    ap (λ (b : State). has_no_room s b news) (sym same) ∙ (ap (λ (t : Standing). has_no_room t now.account.state news) (sym standing) ∙ takes.0) in
-    let account : after.account.state ≡ account_of (with_entries history (entries_in made)) =
-    takes.1 ∙ (ap (λ (b : State). account_after_all b news) same ∙ account_behind history made s st news is news_are) in
-    let out : text ++ done ≡ count_output history number made =
-    ap (λ bytes. bytes ++ done) (text_is ∙ text_behind history made s st news is news_are) ∙ ap (λ bytes. event_text history made ++ bytes) done_is in
-    let none : Relates (Prints []) (Some t) mid = subst (λ (o : Option Told). Relates (Prints []) o mid) at takes.3 in
-    adds_both (MadeMoment history number made before t.here) a b c
-    (adds_news history number made news before now t a b same standing is news_are within adds)
-    (adds_printed after.journal.standing after.account.state (text ++ done) (MadeMoment history number made before t.here) t mid b c stands stops none
-    (λ left recovers begins. inr (
-      is_not_full history made s st news is news_are within room,
-      subst (λ (b : State). Recovers b left) account recovers,
-      subst (λ bytes. Begins bytes t.here.out left.out) out begins,
-    )))
+  list_is : news_acts now.journal.standing now.account.state news ≡ news_acts before.journal.standing (account_of history) (news_after history (entries_in made))
+  list_is = rw (same, still) refl ∙ acts_behind history made before.journal.standing before.account.state news is news_are
+
+  module _ {X : Type 0} (see : X → Seen) (number : ℕ) where
+    pub news_not_kept : (exit : Exit) (x y : X) → Does see (news_acts now.journal.standing now.account.state news) (end_of (ending_of exit)) x y
+        → Does see (made_acts history number before.journal.standing made) (end_of (ending_of exit)) x y
+    news_not_kept exit x y does =
+        does_first see (news_acts before.journal.standing (account_of history) (news_after history (entries_in made))) (event_prints (event_text history made) number) (end_of (ending_of exit)) x y (end_is_bad (ending_of exit))
+        (subst (λ (acts : List Act). Does see acts (end_of (ending_of exit)) x y) list_is does)
+
+    pub made_printed : (text done : List ℕ) (printed : Result (Unit {0}) Exit) (x y z : X)
+        → text ≡ text_along before.account.state made ++ order_lines (account_after_all before.account.state news).modules (orders_along_entries before.account.state news) → done ≡ done_line number
+        → Does see (news_acts now.journal.standing now.account.state news) went_well x y → Does see (print_acts text ++ print_acts done) (one_end print_call printed) y z
+        → OnErr printed (printed ≡ Err PrintFault) → Does see (made_acts history number before.journal.standing made) (part_end printed) x z
+    made_printed text done printed x y z text_is done_is first second fault =
+        let out : print_acts text ++ print_acts done ≡ event_prints (event_text history made) number =
+        ap (λ bytes. print_acts bytes ++ print_acts done) (text_is ∙ text_behind history made before.journal.standing before.account.state news is news_are)
+        ∙ ap (λ bytes. print_acts (event_text history made) ++ print_acts bytes) done_is in
+        as_part see (made_acts history number before.journal.standing made) printed x z fault
+        (does_then see (news_acts before.journal.standing (account_of history) (news_after history (entries_in made))) (event_prints (event_text history made) number) (one_end print_call printed) x y z
+        (subst (λ (acts : List Act). Does see acts went_well x y) list_is first) (made_one print_call printed)
+        (subst (λ (acts : List Act). Does see acts (one_end print_call printed) y z) out second))
+
+-- ---- a line that reports no news
+
+module _ (history : History) (number : ℕ) (settings : Settings) (line : Line) (text : List ℕ) (before : Ledger) (is : before.account.state ≡ account_of history) (repeat : IsRepeat before.account.state settings line text) where
+  abbrev a : State
+  a = before.account.state
+
+  pub repeat_counted : (result : Result (Unit {0}) Exit) → IfErr result IsPrintExit → CountsMade history repeat.made result before before
+  repeat_counted result ends = made_counted history repeat.made [] before before before refl refl is (sym repeat.none) repeat.room result (refl, refl, refl) ends
+
+  pub repeat_acts : event_prints text number ≡ made_acts history number before.journal.standing repeat.made
+  repeat_acts =
+      ap (λ bytes. event_prints bytes number)
+      (repeat.lines ∙ (sym (append-nil (text_along a repeat.made)) ∙ text_behind history repeat.made before.journal.standing a [] is (sym repeat.none)))
+      ∙ ap (λ (acts : List Act). acts ++ event_prints (event_text history repeat.made) number) (acts_behind history repeat.made before.journal.standing a [] is (sym repeat.none))

@@ -1,11 +1,10 @@
-pub mod PrintLemmas
+pub mod PlaceLemmas
+pub mod LaterKindLemmas
 pub mod StandsLemmas
-pub mod KeepLemmas
+pub mod NewsLemmas
 pub mod CountLemmas
 pub mod OpenLemmas
-pub mod PlaceLemmas
+pub mod ReopenLemmas
 pub mod LineLemmas
-pub mod LaterKindLemmas
-pub mod TakingCallsLemmas
-pub mod LineCallsLemmas
-pub mod RepeatLemmas
+pub mod PrintActLemmas
+pub mod LineLawLemmas

@@ -22,7 +22,7 @@ use Rattle.ras_run.specs.Taking.{IsRunAfter}
 reports-snoc : (before : List NumberedLine) (read : NumberedLine) → reports [] (before ++ read ∷ []) ≡ reports [] before ++ entries_at [] (before, read)
 reports-snoc before read = reports-cut [] before (read ∷ []) ∙ ap (λ entries. reports [] before ++ entries) (append-nil (entries_at [] (before, read)))
 
-history-snoc : (start : Start) (before : List NumberedLine) (read : NumberedLine) → history_at start (before ++ read ∷ []) ≡ with_entries (history_at start before) (entries_at [] (before, read))
+pub history-snoc : (start : Start) (before : List NumberedLine) (read : NumberedLine) → history_at start (before ++ read ∷ []) ≡ with_entries (history_at start before) (entries_at [] (before, read))
 history-snoc start before read = ap (with_entries start.history) (reports-snoc before read) ∙ fold-append with_entry start.history (reports [] before) (entries_at [] (before, read))
 
 -- the entries that an event makes behind lines
@@ -30,7 +30,7 @@ abbrev pub entries_made : List NumberedLine → Result Event Refusal → List En
 entries_made before event = entries_in (made_in (settings_told before).topology (laid [] before) event)
 
 -- where the journal stands after a place more
-abbrev standing_after : Start → Standing → Place → Standing
+abbrev pub standing_after : Start → Standing → Place → Standing
 standing_after start standing place =
     standing_with_news (history_at start place.0) standing (news_after (history_at start place.0) (entries_at [] place))
 
@@ -38,7 +38,7 @@ along-snoc : (start : Start) (standing : Standing) (first : List Place) (place :
 along-snoc start standing [] place = refl
 along-snoc start standing (other ∷ first) place = along-snoc start (standing_after start standing other) first place
 
-standing-snoc : (start : Start) (before : List NumberedLine) (read : NumberedLine) → standing_at start (before ++ read ∷ []) ≡ standing_after start (standing_at start before) (before, read)
+pub standing-snoc : (start : Start) (before : List NumberedLine) (read : NumberedLine) → standing_at start (before ++ read ∷ []) ≡ standing_after start (standing_at start before) (before, read)
 standing-snoc start before read =
     ap (standing_along start start.standing) (places-snoc before read) ∙ along-snoc start start.standing (places before) (before, read)
 
@@ -65,12 +65,3 @@ run_after start before number line event run after is asked settings account sta
           ∙ (ap (λ entries. standing_with_news (history_at start before) (standing_at start before) (news_after (history_at start before) entries)) (sym made)
           ∙ sym (standing-snoc start before (number, Ok line)));
     }
-
--- the account after a line more
-pub account_after : (start : Start) (before : List NumberedLine) (number : ℕ) (line : Line) (event : Event) (run : Run) → IsRunAfter start before run → event_of run.settings line ≡ Ok event
-    → account_of (with_entries (history_at start before) (entries_made before (Ok event))) ≡ account_at start (before ++ (number, Ok line) ∷ [])
-account_after start before number line event run is asked =
-    let made : entries_at [] (before, (number, Ok line)) ≡ (entries_made before (Ok event)) =
-    ap (entries_made before) (event_is start before number line run (Ok event) is asked) in
-    ap (λ entries. account_of (with_entries (history_at start before) entries)) (sym made)
-    ∙ ap account_of (sym (history-snoc start before (number, Ok line)))

@@ -5,4 +5,4 @@ pub mod Status
 pub mod Output
 pub mod Taking
 pub mod LineCalls
-pub mod TakingCalls
+pub mod LineActs

@@ -1,9 +1,10 @@
 -- The disk calls of a line, once all of them are made.
 use Rattle.std.specs.Prelude.{◌≡◌, List, [], ◌∷◌, Result, Ok}
 use Rattle.board_core.specs.declared.board.DiskCall.{DiskCall}
+use Rattle.board_core.specs.Stop.{Left}
 use Rattle.journal_format.specs.Links.{link_bytes}
 use Rattle.ras_facts.specs.declared.entry.Entry.{Entry}
-use Rattle.ras_recover.specs.OpeningCalls.{IsRecovery}
+use Rattle.ras_recover.specs.OpeningCalls.{IsRecoveryOf}
 use Rattle.ras_ledger.specs.KeepingCalls.{IsKeeping}
 use Rattle.ras_events.specs.declared.event.Event.{Event}
 use Rattle.ras_events.specs.declared.event.Event.TheVariants.{Counted, Reopened}
@@ -17,13 +18,13 @@ abbrev pub AreNewsCalls : List Entry → List DiskCall → Type 0
 AreNewsCalls [] calls = calls ≡ []
 AreNewsCalls (entry ∷ entries) calls = IsKeeping (link_bytes (entry ∷ entries)) calls
 
--- Of an event its news are kept. A journal that is opened again is recovered. Any other line makes
--- no disk call.
-abbrev pub AreEventCalls : Start → Place → Result Event Refusal → List DiskCall → Type 0
-AreEventCalls start place (Ok (Counted made)) calls =
+-- Of an event its news are kept. A journal that is opened again is recovered, and all that counts of
+-- the files here is read. Any other line makes no disk call.
+abbrev pub AreEventCalls : Start → Place → Left → Result Event Refusal → List DiskCall → Type 0
+AreEventCalls start place here (Ok (Counted made)) calls =
     AreNewsCalls (news_after (history_at start place.0) (entries_in made)) calls
-AreEventCalls start place (Ok Reopened) calls = IsRecovery calls
-AreEventCalls start place event calls = calls ≡ []
+AreEventCalls start place here (Ok Reopened) calls = IsRecoveryOf here calls
+AreEventCalls start place here event calls = calls ≡ []
 
-abbrev pub AreCallsAt : Start → Place → List DiskCall → Type 0
-AreCallsAt start place calls = AreEventCalls start place (event_at place) calls
+abbrev pub AreCallsAt : Start → Place → Left → List DiskCall → Type 0
+AreCallsAt start place here calls = AreEventCalls start place here (event_at place) calls

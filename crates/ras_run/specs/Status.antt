@@ -4,8 +4,8 @@ use Rattle.ras_events.specs.declared.event.Event.{Event}
 use Rattle.ras_events.specs.declared.event.Event.TheVariants.{Counted, Put, Saved, Polled}
 use Rattle.ras_events.specs.declared.event.Refusal.{Refusal}
 use Rattle.ras_events.specs.declared.event.Refusal.TheVariants.{Bad, NoTable}
-use Rattle.ras_events.specs.Making.{entries_in}
 use Rattle.ras_events.specs.Reports.{Place, event_at}
+use Rattle.ras_events.specs.Making.{entries_in}
 use Rattle.ras_exit.specs.declared.exit.Exit.{Exit}
 use Rattle.ras_exit.specs.declared.reason.Reason.{Reason}
 use Rattle.ras_exit.specs.declared.reason.Reason.TheVariants as reason

@@ -1,21 +1,17 @@
 //! An event that counts what was made of its line.
 
-ghost use Rattle.std.specs.Prelude.{◌≡◌, ◌++◌, false, IfErr, IfSome, OnOk, Some};
-ghost use Rattle.board_core.specs.Clock.{Adds};
-ghost use Rattle.board_core.specs.Told.{Relates, Told};
+ghost use Rattle.std.specs.Prelude.{◌≡◌, ◌++◌, false, IfErr, IfSome, OnOk};
+ghost use Rattle.board_core.specs.Doing.{Does, looks};
 ghost use Rattle.ras_account.specs.Account.{account_of};
 ghost use Rattle.ras_account.specs.Continued.{account_after_all};
 ghost use Rattle.ras_account.specs.History.{History};
 ghost use Rattle.ras_events.specs.Preparing.{CanTake, news_entries, orders_along_entries};
 ghost use Rattle.ras_events.specs.Sizes.{IsFit};
-ghost use Rattle.ras_recover.specs.DiskCalls.{Makes};
+ghost use Rattle.ras_exit.specs.Acts.{part_end};
 ghost use Rattle.ras_exit.specs.Causes.{BoardCause, Causes};
-ghost use Rattle.board_core.specs.Device.{LeavesDevice};
 ghost use Rattle.ras_exit.specs.Endings.{IsStop};
-ghost use Rattle.ras_run.specs.LineCalls.{AreNewsCalls};
-ghost use Rattle.ras_run.specs.Taking.{CanBeKept, LedgerStands, MadeMoment};
-ghost use Rattle.ras_run.specs.Taking.{NewsMoment, OnRefusal, TakesMade, TakesNews};
-ghost use Rattle.ras_run.specs.TakingCalls.{BeginsMade, BeginsNews, MakesMade};
+ghost use Rattle.ras_run.specs.LineActs.{made_acts, news_acts};
+ghost use Rattle.ras_run.specs.Taking.{CanBeKept, CountsMade, CountsNews, IsReady, LedgerStands};
 ghost use Rattle.ras_texts.specs.OrderRoom.{HasOrderRoom};
 ghost use Rattle.ras_texts.specs.Orders.{order_lines};
 
@@ -45,25 +41,15 @@ pub fn take_made<B: Board>(
     requires usable { ledger.old.journal.failed ≡ false }
     requires stands { LedgerStands ledger.old (B.told board.old) (B.clock board.old) }
 
-    ensures takes { (history : History) → ledger.old.account.state ≡ account_of history
-        → TakesMade history number made ledger.old result ledger.new
-        (B.told board.old) (B.told board.new) }
-    ensures moments { (history : History) (t : Told)
-        → ledger.old.account.state ≡ account_of history → B.told board.old ≡ Some t
-        → Adds (MadeMoment history number made ledger.old t.here)
-        (B.clock board.old) (B.clock board.new) }
-    ensures usable { OnOk result (ledger.new.journal.failed ≡ false) }
-    ensures stands { OnOk result (LedgerStands ledger.new (B.told board.new) (B.clock board.new)) }
-    ensures rests { OnRefusal result
-        (LedgerStands ledger.old (B.told board.new) (B.clock board.new)) }
+    ensures counts { (history : History) → ledger.old.account.state ≡ account_of history
+        → CountsMade history made result ledger.old ledger.new }
+    ensures does { (history : History) → ledger.old.account.state ≡ account_of history
+        → Does (looks B.told B.clock B.faults)
+        (made_acts history number ledger.old.journal.standing made) (part_end result)
+        board.old board.new }
+    ensures ready { OnOk result (IsReady ledger.new (B.told board.new) (B.clock board.new)) }
     ensures stop { IfErr result IsStop }
-    ensures calls { (history : History) → ledger.old.account.state ≡ account_of history
-        → Relates (BeginsMade history made ledger.old) (B.told board.old) (B.told board.new) }
-    ensures whole { (history : History) → ledger.old.account.state ≡ account_of history
-        → OnOk result (Relates (MakesMade history made) (B.told board.old) (B.told board.new)) }
     ensures faults { Causes BoardCause result (B.faults board.old) (B.faults board.new) }
-    ensures device { LeavesDevice (B.told board.old) (B.told board.new)
-        (B.clock board.old) (B.clock board.new) }
 {
     let event = match prepare(alloc, number, made, &mut ledger.account) {
         Ok(event) => event,
@@ -94,26 +80,14 @@ fn keep<B: Board>(
     requires can_keep { IfSome news CanBeKept }
     requires room { IfSome news (λ news. HasOrderRoom news.orders.room text.old) }
 
-    ensures takes { TakesNews (news_entries news) ledger.old result ledger.new
-        (B.told board.old) (B.told board.new) }
+    ensures counts { CountsNews (news_entries news) result ledger.old ledger.new }
+    ensures does { Does (looks B.told B.clock B.faults)
+        (news_acts ledger.old.journal.standing ledger.old.account.state (news_entries news))
+        (part_end result) board.old board.new }
     ensures text { OnOk result (text.new.items ≡ text.old.items
         ++ order_lines (account_after_all ledger.old.account.state (news_entries news)).modules
         (orders_along_entries ledger.old.account.state (news_entries news))) }
-    ensures moments { (t : Told) → B.told board.old ≡ Some t
-        → Adds (NewsMoment (news_entries news) ledger.old t.here)
-        (B.clock board.old) (B.clock board.new) }
-    ensures usable { OnOk result (ledger.new.journal.failed ≡ false) }
-    ensures stands { OnOk result (LedgerStands ledger.new (B.told board.new) (B.clock board.new)) }
-    ensures rests { OnRefusal result
-        (LedgerStands ledger.old (B.told board.new) (B.clock board.new)) }
-    ensures stop { IfErr result IsStop }
-    ensures calls { Relates (BeginsNews (news_entries news) ledger.old)
-        (B.told board.old) (B.told board.new) }
-    ensures whole { OnOk result (Relates (Makes (AreNewsCalls (news_entries news)))
-        (B.told board.old) (B.told board.new)) }
-    ensures faults { Causes BoardCause result (B.faults board.old) (B.faults board.new) }
-    ensures device { LeavesDevice (B.told board.old) (B.told board.new)
-        (B.clock board.old) (B.clock board.new) }
+    ensures ready { OnOk result (IsReady ledger.new (B.told board.new) (B.clock board.new)) }
 {
     let Some(news) = news else {
         return Ok(());

@@ -4,11 +4,13 @@
 
 mod counting;
 mod later_kinds;
+mod laws;
 mod line;
 mod opening;
 mod printing;
 mod run;
 
+pub use laws::line_laws;
 pub use line::take_line;
 pub use opening::{open, print_standing};
 pub use run::Run;

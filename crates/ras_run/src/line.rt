@@ -1,23 +1,20 @@
 //! A line of a script, taken whole.
 
-ghost use Rattle.std.specs.Prelude.{◌≡◌, ◌≤◌, ◌++◌, ℕ, List, false, length, Err, IfErr, OnOk, Some};
-ghost use Rattle.board_core.specs.Clock.{Adds, Rests};
-ghost use Rattle.board_core.specs.Stop.{Begins, InOut};
-ghost use Rattle.board_core.specs.Told.{Relates, Steps, Told, after_print};
+ghost use Rattle.std.specs.Prelude.{◌≡◌, ◌≤◌, ◌++◌, List, false, length, IfErr, OnOk, Some};
+ghost use Rattle.board_core.specs.Doing.{Does, looks};
+ghost use Rattle.board_core.specs.Told.{Told};
 ghost use Rattle.ras_events.specs.Reports.{NumberedLine};
-ghost use Rattle.ras_recover.specs.DiskCalls.{IsBeginning, Makes};
-ghost use Rattle.ras_recover.specs.OpeningCalls.{IsRecovery};
 ghost use Rattle.ras_script.specs.declared.reader.TheConstants.{LONGEST_LINE};
+ghost use Rattle.ras_exit.specs.Acts.{part_end};
 ghost use Rattle.ras_exit.specs.Causes.{BoardCause, Causes};
-ghost use Rattle.board_core.specs.Device.{LeavesDevice};
 ghost use Rattle.ras_exit.specs.Endings.{IsStop};
 ghost use Rattle.ras_run.specs.LaterKinds.{taken_line};
+ghost use Rattle.ras_run.specs.LineActs.{DoesLine, DoesReopening, event_prints};
 ghost use Rattle.ras_run.specs.Places.{Start};
 ghost use Rattle.ras_run.specs.Status.{reason_of};
-ghost use Rattle.ras_run.specs.Taking.{IsPrintExit, IsRunAfter, LedgerStands, LineMoment};
-ghost use Rattle.ras_run.specs.Taking.{OnRefusal, Reopens, ReopenMoment, TakesLine};
-ghost use Rattle.ras_run.specs.TakingCalls.{BeginsLine, KeepsCalls, MakesLine};
-ghost use Rattle.ras_texts.specs.Text.{done_line, known_line};
+ghost use Rattle.ras_run.specs.Taking.{IsPrintExit, IsReady, IsRunAfter, LedgerStands};
+ghost use Rattle.ras_run.specs.Taking.{Reopens, TakesLine};
+ghost use Rattle.ras_texts.specs.Text.{known_line};
 
 use crate::Run;
 use crate::counting::take_made;
@@ -57,31 +54,15 @@ pub fn take_line<B: Board>(
 
     ensures takes { (start : Start) (before : List NumberedLine) → IsRunAfter start before run.old
         → (t : Told) → B.told board.old ≡ Some t
-        → TakesLine start (before, (number, taken_line bytes.now)) result run.new
-        (B.told board.old) (B.told board.new) }
-    ensures moments { (start : Start) (before : List NumberedLine)
-        → IsRunAfter start before run.old → (t : Told) → B.told board.old ≡ Some t
-        → Adds (LineMoment start (before, (number, taken_line bytes.now)) t.here)
-        (B.clock board.old) (B.clock board.new) }
-    ensures usable { OnOk result (run.new.ledger.journal.failed ≡ false) }
-    ensures stands { OnOk result
-        (LedgerStands run.new.ledger (B.told board.new) (B.clock board.new)) }
-    // A run that ends here, and not by a fault, leaves the journal as it was.
-    ensures rests { OnRefusal result
-        (LedgerStands run.old.ledger (B.told board.new) (B.clock board.new)) }
+        → TakesLine start (before, (number, taken_line bytes.now)) result run.new }
+    ensures does { (start : Start) (before : List NumberedLine) → IsRunAfter start before run.old
+        → (t : Told) → B.told board.old ≡ Some t
+        → DoesLine (looks B.told B.clock B.faults) start (before, (number, taken_line bytes.now))
+        t result board.old board.new }
+    ensures ready { OnOk result
+        (IsReady run.new.ledger (B.told board.new) (B.clock board.new)) }
     ensures stop { IfErr result IsStop }
-    // The disk calls made are a beginning of the line's own, and once it is taken all of them.
-    ensures calls { (start : Start) (before : List NumberedLine)
-        → IsRunAfter start before run.old
-        → Relates (BeginsLine start (before, (number, taken_line bytes.now)))
-        (B.told board.old) (B.told board.new) }
-    ensures whole { (start : Start) (before : List NumberedLine)
-        → IsRunAfter start before run.old
-        → OnOk result (Relates (MakesLine start (before, (number, taken_line bytes.now)))
-        (B.told board.old) (B.told board.new)) }
     ensures faults { Causes BoardCause result (B.faults board.old) (B.faults board.new) }
-    ensures device { LeavesDevice (B.told board.old) (B.told board.new)
-        (B.clock board.old) (B.clock board.new) }
 {
     let line = match read_taken_line(alloc, bytes) {
         Ok(line) => line,
@@ -133,21 +114,10 @@ fn end_repeat<B: Board>(
     text: &mut Vec<u8>,
     board: &mut B,
 ) -> Result<(), Exit>
-    ensures told { OnOk result
-        (Steps (after_print (known_line account.now.state name.now ++ done_line number))
-        (B.told board.old) (B.told board.new)) }
-    ensures stops { (t : Told) → Rests t (B.told board.old) (B.clock board.old)
-        → Adds (InOut (Begins (known_line account.now.state name.now ++ done_line number)) t.here)
-        (B.clock board.old) (B.clock board.new) }
-    ensures rests { OnOk result ((t : Told) → Rests t (B.told board.old) (B.clock board.old)
-        → Rests (after_print (known_line account.now.state name.now ++ done_line number) t)
-        (B.told board.new) (B.clock board.new)) }
-    ensures same { result ≡ Err Exit.NoMemory → board.new ≡ board.old }
+    ensures does { Does (looks B.told B.clock B.faults)
+        (event_prints (known_line account.now.state name.now) number) (part_end result)
+        board.old board.new }
     ensures exit { IfErr result IsPrintExit }
-    ensures calls { Relates KeepsCalls (B.told board.old) (B.told board.new) }
-    ensures faults { Causes BoardCause result (B.faults board.old) (B.faults board.new) }
-    ensures device { LeavesDevice (B.told board.old) (B.told board.new)
-        (B.clock board.old) (B.clock board.new) }
 {
     text.clear();
     push_known(text, account, name)?;
@@ -160,20 +130,9 @@ fn end_repeat<B: Board>(
 // Prints what an event prints that keeps nothing: its text, which is empty if its line told of the
 // machine alone, and its done line, by the number of the line.
 fn end_event<B: Board>(alloc: Global, number: u64, text: &[u8], board: &mut B) -> Result<(), Exit>
-    ensures told { OnOk result (Steps (after_print (text.now ++ done_line number))
-        (B.told board.old) (B.told board.new)) }
-    ensures stops { (t : Told) → Rests t (B.told board.old) (B.clock board.old)
-        → Adds (InOut (Begins (text.now ++ done_line number)) t.here)
-        (B.clock board.old) (B.clock board.new) }
-    ensures rests { OnOk result ((t : Told) → Rests t (B.told board.old) (B.clock board.old)
-        → Rests (after_print (text.now ++ done_line number) t)
-        (B.told board.new) (B.clock board.new)) }
-    ensures same { result ≡ Err Exit.NoMemory → board.new ≡ board.old }
+    ensures does { Does (looks B.told B.clock B.faults) (event_prints text.now number)
+        (part_end result) board.old board.new }
     ensures exit { IfErr result IsPrintExit }
-    ensures calls { Relates KeepsCalls (B.told board.old) (B.told board.new) }
-    ensures faults { Causes BoardCause result (B.faults board.old) (B.faults board.new) }
-    ensures device { LeavesDevice (B.told board.old) (B.told board.new)
-        (B.clock board.old) (B.clock board.new) }
 {
     match done_line(alloc, number) {
         Ok(done) => print_event(text, &done, board),
@@ -189,22 +148,14 @@ fn reopen<B: Board>(
     board: &mut B,
 ) -> Result<(), Exit>
     requires stands { LedgerStands ledger.old (B.told board.old) (B.clock board.old) }
-    ensures takes { (t : Told) → B.told board.old ≡ Some t
-        → Reopens number ledger.old result ledger.new (B.told board.old) (B.told board.new) }
-    ensures moments { (t : Told) → B.told board.old ≡ Some t
-        → Adds (ReopenMoment number ledger.old t.here) (B.clock board.old) (B.clock board.new) }
-    ensures usable { OnOk result (ledger.new.journal.failed ≡ false) }
-    ensures stands { OnOk result (LedgerStands ledger.new (B.told board.new) (B.clock board.new)) }
-    ensures rests { OnRefusal result
-        (LedgerStands ledger.old (B.told board.new) (B.clock board.new)) }
+    ensures reopens { (t : Told) → B.told board.old ≡ Some t
+        → Reopens result ledger.old ledger.new }
+    ensures does { (t : Told) → B.told board.old ≡ Some t
+        → DoesReopening (looks B.told B.clock B.faults) ledger.old.account.state number t.here
+        result board.old board.new }
+    ensures ready { OnOk result (IsReady ledger.new (B.told board.new) (B.clock board.new)) }
     ensures stop { IfErr result IsStop }
-    ensures calls { Relates (Makes (IsBeginning IsRecovery))
-        (B.told board.old) (B.told board.new) }
-    ensures whole { OnOk result (Relates (Makes IsRecovery)
-        (B.told board.old) (B.told board.new)) }
     ensures faults { Causes BoardCause result (B.faults board.old) (B.faults board.new) }
-    ensures device { LeavesDevice (B.told board.old) (B.told board.new)
-        (B.clock board.old) (B.clock board.new) }
 {
     *ledger = open(alloc, board)?;
     let text = standing_lines(alloc, &ledger.account)?;

@@ -1,12 +1,9 @@
 //! What an event prints.
 
-ghost use Rattle.std.specs.Prelude.{◌≡◌, ◌++◌, OnErr, OnOk};
-ghost use Rattle.board_core.specs.Clock.{Adds, Rests};
-ghost use Rattle.board_core.specs.Stop.{Begins, InOut};
-ghost use Rattle.board_core.specs.Told.{Relates, Steps, Told, after_print};
-ghost use Rattle.ras_exit.specs.Causes.{BoardCause, Causes};
-ghost use Rattle.board_core.specs.Device.{LeavesDevice};
-ghost use Rattle.ras_run.specs.TakingCalls.{KeepsCalls};
+ghost use Rattle.std.specs.Prelude.{◌≡◌, ◌++◌, Err, OnErr};
+ghost use Rattle.board_core.specs.Cause.{print_call};
+ghost use Rattle.board_core.specs.Doing.{Does, looks, one_end};
+ghost use Rattle.ras_exit.specs.Acts.{print_acts};
 
 use board_core::Board;
 use ras_exit::{Exit, print};
@@ -17,18 +14,9 @@ use ras_exit::{Exit, print};
 ///
 /// `PrintFault` comes only if printing failed; then a beginning of both was printed.
 pub(crate) fn print_event<B: Board>(text: &[u8], done: &[u8], board: &mut B) -> Result<(), Exit>
-    ensures told { OnOk result
-        (Steps (after_print (text.now ++ done.now)) (B.told board.old) (B.told board.new)) }
-    ensures stops { (t : Told) → Rests t (B.told board.old) (B.clock board.old)
-        → Adds (InOut (Begins (text.now ++ done.now)) t.here)
-        (B.clock board.old) (B.clock board.new) }
-    ensures rests { OnOk result ((t : Told) → Rests t (B.told board.old) (B.clock board.old)
-        → Rests (after_print (text.now ++ done.now) t) (B.told board.new) (B.clock board.new)) }
+    ensures does { Does (looks B.told B.clock B.faults) (print_acts text.now ++ print_acts done.now)
+        (one_end print_call result) board.old board.new }
     ensures exit { OnErr result (result ≡ Err Exit.PrintFault) }
-    ensures calls { Relates KeepsCalls (B.told board.old) (B.told board.new) }
-    ensures faults { Causes BoardCause result (B.faults board.old) (B.faults board.new) }
-    ensures device { LeavesDevice (B.told board.old) (B.told board.new)
-        (B.clock board.old) (B.clock board.new) }
 {
     print(text, board)?;
     print(done, board)

@@ -1,91 +1,50 @@
-use Rattle.std.proofs.Common.{◌∙◌}
+use Rattle.std.proofs.Common.{◌≡◌, ◌∙◌, ap}
 use Rattle.std.proofs.lemmas.Result.{err_from_is_err_and}
-use Rattle.ras_exit.proofs.DeviceLemmas.{device_goes_on}
-use Rattle.ras_exit.proofs.FaultLemmas.{causes_after}
-use Rattle.ras_run.proofs.OpenLemmas.{account_same, adds_opening, adds_reopening, reopen_printed, reopen_refused, standing_same}
-use Rattle.ras_run.proofs.StandsLemmas.{any_refusal, no_refusal, on_any, on_both, print_stop, stands_printed}
-use Rattle.ras_run.proofs.TakingCallsLemmas.{recovered_still, recovered_whole, recovery_begun, recovery_made}
+use Rattle.board_core.specs.Clock.{LeftNow}
+use Rattle.board_core.specs.Doing.{looks}
+use Rattle.board_core.specs.Told.{Told}
+use Rattle.ras_texts.specs.Orders.{standing_lines}
+use Rattle.ras_run.proofs.ReopenLemmas.{account_held, all_read, not_reopened, opened_at, reopened, starved_reopening}
+use Rattle.ras_run.proofs.StandsLemmas.{before_of}
 use Rattle.ras_run.proofs.line.reopen.Goals as goal
 
-pub returns-in_err-ledger-clause-takes : goal.returns-in_err-ledger-clause-takes
-returns-in_err-ledger-clause-takes g c = λ t is.
+pub returns-in_err-ledger-clause-does : goal.returns-in_err-ledger-clause-does
+returns-in_err-ledger-clause-does g c = λ t is.
     let p = err_from_is_err_and c.from_residual.result c.from_residual.ensures.1 in
-    rw (p.1, p.2) (reopen_refused c.args.number c.args.ledger.now c.args.ledger.now _ _ _ t c.requires.stands is c.in_err-ledger.ensures.prints _ c.in_err-ledger.ensures.opens)
+    let o = opened_at _ _ t is c.in_err-ledger.ensures.told in
+    rw (p.1, p.2)
+    (not_reopened (looks g.B.Board.told g.B.Board.clock g.B.Board.faults) c.args.board.now c.open.new.board c.args.ledger.now.journal.standing c.args.ledger.now.account.state t o.0
+    (before_of _ _ _ _ t c.requires.stands is) o.1 o.2 (g.met.B.Board.told_may_be_left c.args.board.now t is) (g.met.B.Board.counts_earlier c.args.board.now) (g.met.B.Board.counts_earlier c.open.new.board) (c.in_err-ledger.ensures.stops t is)
+    c.args.number c.in_err-ledger.field-0.0 (rw is at c.in_err-ledger.ensures.opens) c.in_err-ledger.ensures.faults)
 
-pub returns-in_err-ledger-clause-moments : goal.returns-in_err-ledger-clause-moments
-returns-in_err-ledger-clause-moments g c = λ t is. adds_opening c.args.number c.args.ledger.now _ _ _ t c.requires.stands is c.in_err-ledger.ensures.stops
-
-pub returns-in_err-ledger-clause-rests : goal.returns-in_err-ledger-clause-rests
-returns-in_err-ledger-clause-rests g c = any_refusal _ c.from_residual.result (c.in_err-ledger.ensures.rests _ _ c.requires.stands)
-
-pub returns-in_err-text-clause-takes : goal.returns-in_err-text-clause-takes
-returns-in_err-text-clause-takes g c = λ t is.
+pub returns-in_err-text-clause-does : goal.returns-in_err-text-clause-does
+returns-in_err-text-clause-does g c = λ t is.
     let p = err_from_is_err_and c.from_residual-in_err-text.result c.from_residual-in_err-text.ensures.1 in
-    rw (p.1, p.2) c.in_ok-ledger.ensures.prints
+    let o = opened_at _ _ t is c.in_ok-ledger.ensures.told in
+    rw (p.1, p.2)
+    (starved_reopening (looks g.B.Board.told g.B.Board.clock g.B.Board.faults) c.args.board.now c.open.new.board c.args.ledger.now.journal.standing c.args.ledger.now.account.state t o.0
+    (before_of _ _ _ _ t c.requires.stands is) o.1 o.2 (g.met.B.Board.told_may_be_left c.args.board.now t is) (g.met.B.Board.counts_earlier c.args.board.now) (g.met.B.Board.counts_earlier c.open.new.board) (c.in_ok-ledger.ensures.stops t is)
+    c.args.number c.in_ok-ledger.ensures.faults)
 
-pub returns-in_err-text-clause-moments : goal.returns-in_err-text-clause-moments
-returns-in_err-text-clause-moments g c = λ t is. adds_opening c.args.number c.args.ledger.now _ _ _ t c.requires.stands is c.in_ok-ledger.ensures.stops
-
-pub returns-in_err-text-clause-rests : goal.returns-in_err-text-clause-rests
-returns-in_err-text-clause-rests g c = any_refusal _ c.from_residual-in_err-text.result (c.in_ok-ledger.ensures.rests _ _ c.requires.stands)
-
-pub returns-in_err-done-clause-takes : goal.returns-in_err-done-clause-takes
-returns-in_err-done-clause-takes g c = λ t is.
+pub returns-in_err-done-clause-does : goal.returns-in_err-done-clause-does
+returns-in_err-done-clause-does g c = λ t is.
     let p = err_from_is_err_and c.from_residual-in_err-done.result c.from_residual-in_err-done.ensures.1 in
-    rw (p.1, p.2) c.in_ok-ledger.ensures.prints
+    let o = opened_at _ _ t is c.in_ok-ledger.ensures.told in
+    rw (p.1, p.2)
+    (starved_reopening (looks g.B.Board.told g.B.Board.clock g.B.Board.faults) c.args.board.now c.open.new.board c.args.ledger.now.journal.standing c.args.ledger.now.account.state t o.0
+    (before_of _ _ _ _ t c.requires.stands is) o.1 o.2 (g.met.B.Board.told_may_be_left c.args.board.now t is) (g.met.B.Board.counts_earlier c.args.board.now) (g.met.B.Board.counts_earlier c.open.new.board) (c.in_ok-ledger.ensures.stops t is)
+    c.args.number c.in_ok-ledger.ensures.faults)
 
-pub returns-in_err-done-clause-moments : goal.returns-in_err-done-clause-moments
-returns-in_err-done-clause-moments g c = λ t is. adds_opening c.args.number c.args.ledger.now _ _ _ t c.requires.stands is c.in_ok-ledger.ensures.stops
-
-pub returns-in_err-done-clause-rests : goal.returns-in_err-done-clause-rests
-returns-in_err-done-clause-rests g c = any_refusal _ c.from_residual-in_err-done.result (c.in_ok-ledger.ensures.rests _ _ c.requires.stands)
-
-pub returns-clause-takes : goal.returns-clause-takes
-returns-clause-takes g c = λ t is.
-    reopen_printed c.args.number c.args.ledger.now c.in_ok-ledger.field-0 c.print_event.result _ _ _ _ _
-    (account_same _ _ _ _ t c.in_ok-ledger.field-0 c.requires.stands is c.in_ok-ledger.ensures.opens) (standing_same _ _ _ _ t c.in_ok-ledger.field-0 c.requires.stands is c.in_ok-ledger.ensures.standing)
-    (c.deref.ensures.value ∙ c.in_ok-text.ensures) (c.deref-2.ensures.value ∙ c.in_ok-done.ensures)
-    c.in_ok-ledger.ensures.prints c.print_event.ensures.told c.print_event.ensures.exit
-
-pub returns-clause-moments : goal.returns-clause-moments
-returns-clause-moments g c = λ t is.
-    adds_reopening c.args.number c.args.ledger.now c.in_ok-ledger.field-0 _ _ _ _ _ _ _ t
-    (account_same _ _ _ _ t c.in_ok-ledger.field-0 c.requires.stands is c.in_ok-ledger.ensures.opens) (c.deref.ensures.value ∙ c.in_ok-text.ensures) (c.deref-2.ensures.value ∙ c.in_ok-done.ensures) is
-    c.requires.stands (c.in_ok-ledger.ensures.rests _ _ c.requires.stands) c.in_ok-ledger.ensures.prints c.in_ok-ledger.ensures.stops c.print_event.ensures.stops
-
-pub returns-clause-usable : goal.returns-clause-usable
-returns-clause-usable g c = on_any c.print_event.result c.in_ok-ledger.ensures.usable
-
-pub returns-clause-stands : goal.returns-clause-stands
-returns-clause-stands g c =
-    on_both c.print_event.result c.print_event.ensures.told c.print_event.ensures.rests
-    (λ steps rests. stands_printed _ _ _ _ _ _ _ c.in_ok-ledger.ensures.stands steps rests)
-
-pub returns-clause-rests : goal.returns-clause-rests
-returns-clause-rests g c = no_refusal _ c.print_event.result c.print_event.ensures.exit
-
-pub returns-clause-stop : goal.returns-clause-stop
-returns-clause-stop g c = print_stop c.print_event.result c.print_event.ensures.exit
-
-pub returns-clause-faults : goal.returns-clause-faults
-returns-clause-faults g c = causes_after c.print_event.result _ _ _ c.in_ok-ledger.ensures.faults c.print_event.ensures.faults
-
-pub returns-clause-device : goal.returns-clause-device
-returns-clause-device g c = device_goes_on _ _ _ _ _ _ c.in_ok-ledger.ensures.device c.print_event.ensures.device
-
-pub returns-in_err-ledger-clause-calls : goal.returns-in_err-ledger-clause-calls
-returns-in_err-ledger-clause-calls g c = recovery_begun _ _ _ _ _ c.requires.stands c.in_err-ledger.ensures.calls
-
-pub returns-in_err-text-clause-calls : goal.returns-in_err-text-clause-calls
-returns-in_err-text-clause-calls g c = recovery_begun _ _ _ _ _ c.requires.stands c.in_ok-ledger.ensures.calls
-
-pub returns-in_err-done-clause-calls : goal.returns-in_err-done-clause-calls
-returns-in_err-done-clause-calls g c = recovery_begun _ _ _ _ _ c.requires.stands c.in_ok-ledger.ensures.calls
-
-pub returns-clause-calls : goal.returns-clause-calls
-returns-clause-calls g c =
-    recovered_still _ _ _ (recovery_made _ _ _ _ _ c.requires.stands c.in_ok-ledger.ensures.whole) c.print_event.ensures.calls
-
-pub returns-clause-whole : goal.returns-clause-whole
-returns-clause-whole g c =
-    recovered_whole c.print_event.result _ _ _ (recovery_made _ _ _ _ _ c.requires.stands c.in_ok-ledger.ensures.whole) c.print_event.ensures.calls
+pub returns-clause-does : goal.returns-clause-does
+returns-clause-does g c = λ t is.
+    let see = looks g.B.Board.told g.B.Board.clock g.B.Board.faults in
+    let s = c.args.ledger.now.journal.standing in
+    let a = c.args.ledger.now.account.state in
+    let before = before_of _ _ _ _ t c.requires.stands is in
+    let o = opened_at _ _ t is c.in_ok-ledger.ensures.told in
+    let read = all_read s t o.0 _ _ before.at.position is o.1 c.in_ok-ledger.ensures.whole in
+    let same : c.in_ok-ledger.field-0.account.state ≡ a = account_held t.here.file0 t.here.file1 c.in_ok-ledger.field-0.account.state a (rw is at c.in_ok-ledger.ensures.opens) before.at.recovers in
+    reopened see c.args.board.now c.open.new.board s a t o.0
+    before o.1 o.2 (g.met.B.Board.told_may_be_left c.args.board.now t is) (g.met.B.Board.counts_earlier c.args.board.now) (g.met.B.Board.counts_earlier c.open.new.board) (c.in_ok-ledger.ensures.stops t is)
+    c.args.number read.0 read.1 read.2 c.in_ok-ledger.ensures.faults c.print_event.result c.deref.result.now c.deref-2.result.now c.print_event.new.board
+    (c.deref.ensures.value ∙ (c.in_ok-text.ensures ∙ ap standing_lines same)) (c.deref-2.ensures.value ∙ c.in_ok-done.ensures) c.print_event.ensures.does c.print_event.ensures.exit

@@ -1,0 +1,41 @@
+-- What a part of a run does to a board, by how it ends.
+use Rattle.std.specs.Prelude.{◌≡◌, ℕ, List, [], ◌∷◌, ◌++◌, Result, Ok, Err, map}
+use Rattle.board_core.specs.declared.board.DiskCall.{DiskCall}
+use Rattle.board_core.specs.Doing.{Act, Breaks, Ended, GoesWell, Seen, broke, calls, ended_by, gave_up, prints}
+use Rattle.ras_exit.specs.declared.exit.Exit.{Exit}
+use Rattle.ras_exit.specs.Endings.{CallEnding, answered, ending_of, faulted}
+
+-- a text is printed by one call, and an empty one by none
+abbrev pub print_acts : List ℕ → List Act
+print_acts [] = []
+print_acts (byte ∷ bytes) = prints (byte ∷ bytes) ∷ []
+
+-- ---- a part that is refused, or finds no memory, before its first act
+
+abbrev pub end_of : CallEnding → Ended
+end_of (faulted kind) = broke kind
+end_of ending = gave_up
+
+abbrev pub part_end : {T : Type 0} → Result T Exit → Ended
+part_end result = ended_by (λ exit. end_of (ending_of exit)) result
+
+-- ---- any part
+
+-- The first of these acts were done, disk calls that write nothing, and then memory ran out.
+pub record DoesSome {X : Type 0} (see : X → Seen) (acts : List Act) (old new : X) : Type 0 where
+  pub made : List DiskCall
+  pub later : List Act
+  pub splits : map calls made ++ later ≡ acts
+  pub does : GoesWell (map calls made) (see old) (see new)
+
+-- how a part of a run ended
+abbrev pub ended_with : {T : Type 0} → Result T Exit → CallEnding
+ended_with (Ok done) = answered
+ended_with (Err exit) = ending_of exit
+
+-- All of these acts were done; or a call of the board failed, and was the last; or memory ran out
+-- before any of them wrote or printed.
+abbrev pub DoesBy : {X : Type 0} → (X → Seen) → List Act → CallEnding → X → X → Type 0
+DoesBy see acts answered old new = GoesWell acts (see old) (see new)
+DoesBy see acts (faulted kind) old new = Breaks kind acts (see old) (see new)
+DoesBy see acts ending old new = DoesSome see acts old new

@@ -1,0 +1,166 @@
+-- The acts of a line, one sort after another: what they leave, and which calls they are.
+use Rattle.std.proofs.Common.{◌≡◌, ℕ, ◌+◌, ◌*◌, ◌<◌, ◌≤◌, ◌^◌, Bool, true, false, ◌&&◌, ◌||◌, List, [], ◌∷◌, ◌++◌, length, map, IsTrue, refl, sym, ap, subst, ◌∙◌, inl, inr, append_assoc, append-nil, length-append, arith}
+use Rattle.std.proofs.lemmas.Bool.Decides.{nat_tests}
+use Rattle.std.specs.List.{flat_map}
+use Rattle.board_core.specs.declared.board.DiskCall.{DiskCall}
+use Rattle.board_core.specs.Stop.{Begins, InOut, Left}
+use Rattle.board_core.specs.Told.{Told, after_print}
+use Rattle.board_core.specs.Doing.{Act, AreOffDevice, Moment, after_acts, calls, calls_of, disk_calls_by}
+use Rattle.board_core.proofs.ActLemmas.{acts_out, on_disk_off}
+use Rattle.board_core.proofs.DoingLemmas.{after-append, moment_parts}
+use Rattle.dimm_topology.specs.Labels.{Bytes}
+use Rattle.journal_format.specs.Checkpoints.{IsCheckpoint, checkpoint_bytes, module_bytes}
+use Rattle.journal_format.proofs.SizeLemmas.{checkpoint_size}
+use Rattle.entry_format.specs.Spelling.{label_bytes}
+use Rattle.entry_format.specs.declared.version.Version.TheVariants.{Two}
+use Rattle.ras_account.specs.Account.{State}
+use Rattle.ras_account.specs.Accounts.{IsAccount}
+use Rattle.ras_account.specs.Modules.{Module}
+use Rattle.ras_facts.specs.declared.entry.Entry.{Entry}
+use Rattle.ras_journal.specs.declared.standing.Standing.{Standing}
+use Rattle.ras_journal.specs.Appending.{length_with, needs_switch}
+use Rattle.ras_journal.specs.declared.limits.TheConstants.{LONGEST_FILE}
+use Rattle.ras_recover.specs.Switching.{CanSwitch, has_no_room}
+use Rattle.journal_format.specs.Links.{link_bytes}
+use Rattle.ras_ledger.specs.Keeping.{CanMake, lacks_room}
+use Rattle.ras_ledger.proofs.KeepingLemmas.{is_keeping, keeping_on_disk}
+use Rattle.ras_texts.specs.Text.{done_line}
+use Rattle.ras_exit.specs.Acts.{print_acts}
+use Rattle.ras_exit.proofs.PrintLemmas.{after_printed, print_moment}
+use Rattle.ras_run.specs.LineActs.{event_prints, news_acts}
+use Rattle.ras_run.specs.LineCalls.{AreNewsCalls}
+use Rattle.ras_run.proofs.ReopenLemmas.{after_reading}
+
+-- ---- two texts
+
+pub after_prints : (one two : List ℕ) (t : Told) → after_acts (print_acts one ++ print_acts two) t ≡ after_print (one ++ two) t
+after_prints one two t =
+    after-append (print_acts one) (print_acts two) t
+    ∙ (after_printed two (after_acts (print_acts one) t)
+    ∙ (ap (after_print two) (after_printed one t) ∙ ap (λ text. record t { here = record t.here { out = text } }) (append_assoc t.here.out one two)))
+
+-- a beginning of the first text, and the first text with a beginning of the second
+begins_first : (one two : List ℕ) (here left : Left) → InOut (Begins one) here left → InOut (Begins (one ++ two)) here left
+begins_first one two here left by = record {
+  text = by.text;
+  step = record {
+    part = by.step.part;
+    missing = by.step.missing ++ two;
+    splits = sym (append_assoc by.step.part by.step.missing two) ∙ ap (λ text. text ++ two) by.step.splits;
+    is = by.step.is;
+  };
+  rest = by.rest;
+}
+
+begins_second : (one two : List ℕ) (t : Told) (left : Left) → InOut (Begins two) (after_print one t).here left → InOut (Begins (one ++ two)) t.here left
+begins_second one two t left by = record {
+  text = by.text;
+  step = record {
+    part = one ++ by.step.part;
+    missing = by.step.missing;
+    splits = append_assoc one by.step.part by.step.missing ∙ ap (λ text. one ++ text) by.step.splits;
+    is = by.step.is ∙ append_assoc t.here.out one by.step.part;
+  };
+  rest = by.rest;
+}
+
+pub prints_moment : (one two : List ℕ) (t : Told) (left : Left) → Moment (print_acts one ++ print_acts two) t left → InOut (Begins (one ++ two)) t.here left
+prints_moment one two t left moment = elim (moment_parts (print_acts one) (print_acts two) t left moment) [
+  | inl first ↦ begins_first one two t.here left (print_moment one t left first)
+  | inr second ↦ begins_second one two t left (subst (λ (u : Told). InOut (Begins two) u.here left) (after_printed one t) (print_moment two (after_acts (print_acts one) t) left second))
+]
+
+-- ---- the device is left alone
+
+off_both : (xs ys : List Act) → AreOffDevice xs → AreOffDevice ys → AreOffDevice (xs ++ ys)
+off_both [] ys one two = two
+off_both (x ∷ xs) ys one two = (one.0, off_both xs ys one.1 two)
+
+print_off : (text : List ℕ) → AreOffDevice (print_acts text)
+print_off [] = tt
+print_off (b ∷ text) = (tt, tt)
+
+reading_off : (made : List DiskCall) → AreOffDevice (map calls made)
+reading_off [] = tt
+reading_off (call ∷ made) = (tt, reading_off made)
+
+news_off : (s : Standing) (a : State) (news : List Entry) → AreOffDevice (news_acts s a news)
+news_off s a [] = tt
+news_off s a (entry ∷ entries) = (let link : List ℕ = link_bytes (entry ∷ entries) in on_disk_off _ (keeping_on_disk s a link))
+
+pub prints_off : (text : List ℕ) (number : ℕ) → AreOffDevice (event_prints text number)
+prints_off text number = off_both (print_acts text) (print_acts (done_line number)) (print_off text) (print_off (done_line number))
+
+pub news_prints_off : (s : Standing) (a : State) (news : List Entry) (text : List ℕ) (number : ℕ) → AreOffDevice (news_acts s a news ++ event_prints text number)
+news_prints_off s a news text number = off_both (news_acts s a news) (event_prints text number) (news_off s a news) (prints_off text number)
+
+pub reading_prints_off : (made : List DiskCall) (text : List ℕ) (number : ℕ) → AreOffDevice (map calls made ++ event_prints text number)
+reading_prints_off made text number = off_both (map calls made) (event_prints text number) (reading_off made) (prints_off text number)
+
+-- ---- the disk calls
+
+calls_both : (xs ys : List Act) → calls_of (xs ++ ys) ≡ calls_of xs ++ calls_of ys
+calls_both [] ys = refl
+calls_both (x ∷ xs) ys = ap (λ (l : List DiskCall). disk_calls_by x ++ l) (calls_both xs ys) ∙ sym (append_assoc (disk_calls_by x) (calls_of xs) (calls_of ys))
+
+print_calls : (text : List ℕ) → calls_of (print_acts text) ≡ []
+print_calls [] = refl
+print_calls (b ∷ text) = refl
+
+pub prints_calls : (text : List ℕ) (number : ℕ) → calls_of (event_prints text number) ≡ []
+prints_calls text number =
+    calls_both (print_acts text) (print_acts (done_line number))
+    ∙ (ap (λ (l : List DiskCall). l ++ calls_of (print_acts (done_line number))) (print_calls text) ∙ print_calls (done_line number))
+
+pub calls_before : (xs : List Act) (text : List ℕ) (number : ℕ) → calls_of (xs ++ event_prints text number) ≡ calls_of xs
+calls_before xs text number = calls_both xs (event_prints text number) ∙ (ap (λ (l : List DiskCall). calls_of xs ++ l) (prints_calls text number) ∙ append-nil (calls_of xs))
+
+pub reading_calls : (made : List DiskCall) → calls_of (map calls made) ≡ made
+reading_calls [] = refl
+reading_calls (call ∷ made) = ap (λ (l : List DiskCall). call ∷ l) (reading_calls made)
+
+pub news_calls : (s : Standing) (a : State) (news : List Entry) → AreNewsCalls news (calls_of (news_acts s a news))
+news_calls s a [] = refl
+news_calls s a (entry ∷ entries) = is_keeping s a (link_bytes (entry ∷ entries))
+
+-- ---- the text
+
+pub news_out : (s : Standing) (a : State) (news : List Entry) (t : Told) → (after_acts (news_acts s a news) t).here.out ≡ t.here.out
+news_out s a [] t = refl
+news_out s a (entry ∷ entries) t = acts_out _ (keeping_on_disk s a (link_bytes (entry ∷ entries))) t
+
+pub reading_here : (made : List DiskCall) (t : Told) → (after_acts (map calls made) t).here ≡ t.here
+reading_here made t = ap (λ (u : Told). u.here) (after_reading made t)
+
+pub out_before : (xs : List Act) (one two : List ℕ) (t : Told) → (after_acts xs t).here.out ≡ t.here.out → (after_acts (xs ++ (print_acts one ++ print_acts two)) t).here.out ≡ t.here.out ++ (one ++ two)
+out_before xs one two t same =
+    ap (λ (u : Told). u.here.out) (after-append xs (print_acts one ++ print_acts two) t ∙ after_prints one two (after_acts xs t)) ∙ ap (λ out. out ++ (one ++ two)) same
+
+-- ---- a switch that is due can be made, if the account is one
+
+module_size : (row : Bytes × Module) → 1 ≤ length (module_bytes Two row)
+unfolding module_bytes label_bytes
+module_size row = omega arith
+
+modules_size : (rows : List (Bytes × Module)) → length rows ≤ length (flat_map (module_bytes Two) rows)
+modules_size [] = omega arith
+modules_size (row ∷ rows) = omega (arith, length-append (module_bytes Two row) (flat_map (module_bytes Two) rows), module_size row, modules_size rows)
+
+pub can_make : (s : Standing) (a : State) (link : List ℕ) → IsAccount a → ¬ IsTrue (lacks_room s a link) → CanMake s a link
+can_make s a link account not = by (needs_switch s link) not
+  where
+    by : (due : Bool) → ¬ IsTrue (due && has_no_room s a link) → IsTrue due → CanSwitch s a
+    by false not never = absurd cc
+    by true not due =
+        let short : 27 + length (checkpoint_bytes Two a) ≤ LONGEST_FILE = grind (arith, nat_tests) in
+        record {
+          generation = grind (arith, nat_tests);
+          room = short;
+          is = record {
+            account = account;
+            told = tt;
+            module_count = omega (arith, short, checkpoint_size a, modules_size a.modules);
+            page_count = omega (arith, short, checkpoint_size a);
+            spelled = refl;
+          };
+        }

@@ -1,0 +1,21 @@
+use Rattle.ras_run.proofs.LineLawLemmas.{line_calls, line_holds, line_moment, line_off, line_out}
+use Rattle.ras_run.proofs.LineLemmas.{some_acts}
+use Rattle.ras_run.proofs.laws.line_laws.Goals as goal
+
+pub returns-clause-prints : goal.returns-clause-prints
+returns-clause-prints c = line_out
+
+pub returns-clause-calls : goal.returns-clause-calls
+returns-clause-calls c = line_calls
+
+pub returns-clause-device : goal.returns-clause-device
+returns-clause-device c = line_off
+
+pub returns-clause-some : goal.returns-clause-some
+returns-clause-some c = some_acts
+
+pub returns-clause-moments : goal.returns-clause-moments
+returns-clause-moments c = λ start place t acts left accepted holds are moment. line_moment start place.0 place.1.0 place.1.1 t holds acts accepted are left moment
+
+pub returns-clause-done : goal.returns-clause-done
+returns-clause-done c = λ start place t acts accepted holds are. line_holds start place.0 place.1.0 place.1.1 t holds acts accepted are
