@@ -2,7 +2,7 @@
 use Rattle.std.proofs.Common.{◌≡◌, ℕ, ◌+◌, ◌-◌, ◌≤◌, ◌∙◌, List, ◌++◌, length, take, drop, refl, sym, ap, subst, arith, nat_lt, true, false}
 use Rattle.std.proofs.lemmas.List.{take-append-drop, drop-take, length-take, length-drop, take-append-le, length-append, take_at}
 use Rattle.ras_base.specs.LittleEndianLemmas.{number_at-take, number_at-append}
-use Rattle.cper_records.specs.Header.{record_length, has_signatures, has_length}
+use Rattle.cper_records.specs.Header.{record_length, has_signatures, has_record_length}
 use Rattle.cper_records.specs.Laid.{HasHeader}
 use Rattle.cper_records.specs.Records.{record_of, sections_of}
 
@@ -57,5 +57,5 @@ read_own own rest front =
     let cut : take n bytes ≡ own = take_at own rest n refl in
     let signed : has_signatures bytes ≡ true =
     sym (own_signatures bytes n header inside) ∙ ap (λ (xs : List ℕ). has_signatures xs) cut ∙ front.signed in
-    let fits : has_length bytes ≡ true = grind (arith, told) in
+    let fits : has_record_length bytes ≡ true = grind (arith, told) in
     rw (long, signed, fits, told, cut) refl

@@ -4,8 +4,8 @@ use Rattle.std.proofs.lemmas.List.{take-append-drop}
 use Rattle.std.proofs.lemmas.Bool.{cases_lt}
 use Rattle.std.specs.Result.{is_ok, is_err}
 use Rattle.ras_base.specs.Prefix.{IsPrefixOf}
-use Rattle.cper_records.specs.Header.{section_count, record_length, has_signatures, has_length}
-use Rattle.cper_records.specs.Descriptors.{descriptor_at, section_end, section_at, is_out, is_refused, some_below}
+use Rattle.cper_records.specs.Header.{section_count, record_length, has_signatures, has_record_length}
+use Rattle.cper_records.specs.Descriptors.{descriptor_at, section_end, section_at, is_out, is_section_refused, some_below}
 use Rattle.cper_records.specs.Laid.{HasHeader, HasDescriptors, HasSections, IsRecord, IsNoRecord}
 use Rattle.cper_records.specs.Records.{record_of, sections_of}
 use Rattle.cper_records.specs.declared.refusals.RecordRefused.{RecordRefused}
@@ -26,8 +26,8 @@ inside_in : (own : List ℕ) (i : ℕ) → section_end own i ≤ length own → 
 unfolding is_out
 inside_in own i is = grind arith
 
-pub refused_err : (own : List ℕ) (i : ℕ) → is_refused own i ≡ is_err (section_at own i)
-unfolding is_refused
+pub refused_err : (own : List ℕ) (i : ℕ) → is_section_refused own i ≡ is_err (section_at own i)
+unfolding is_section_refused
 refused_err own i = refl
 
 pub ok_not_err : {X Y : Type 0} (read : Result X Y) → is_err read ≡ false → is_ok read ≡ true
@@ -39,7 +39,7 @@ err_not_ok (Ok x) is = refl
 err_not_ok (Err y) is = cc
 
 -- a length that doesn't fit is too small or too great
-out_of_range : (bytes : List ℕ) → has_length bytes ≡ false → (record_length bytes < 128) ⊎ (length bytes < record_length bytes)
+out_of_range : (bytes : List ℕ) → has_record_length bytes ≡ false → (record_length bytes < 128) ⊎ (length bytes < record_length bytes)
 out_of_range bytes is = elim (cases_lt (record_length bytes) 128) [
   | inl small ↦ inl small
   | inr header ↦ inr (grind arith)
@@ -55,20 +55,20 @@ sections_answered : (bytes own : List ℕ) → IsPrefixOf own bytes → HasHeade
 unfolding sections_of
 sections_answered bytes own prefix front =
     by (nat_lt (length own) (descriptor_at (section_count own))) (some_below (section_count own) (is_out own))
-    (some_below (section_count own) (is_refused own)) refl refl refl
+    (some_below (section_count own) (is_section_refused own)) refl refl refl
   where
     count : ℕ
     count = section_count own
 
     by : (short out refused : Bool) → nat_lt (length own) (descriptor_at count) ≡ short
-        → some_below count (is_out own) ≡ out → some_below count (is_refused own) ≡ refused
+        → some_below count (is_out own) ≡ out → some_below count (is_section_refused own) ≡ refused
         → IsAnswer bytes (if short then Err DescriptorOut else (if out then Err SectionOut else (if refused then Err Section else Ok own)))
     by true out refused is-short is-out is-refused = (own, (prefix, front, grind arith))
     by false true refused is-short is-out is-refused =
         let one = some_below_true count (is_out own) is-out in
         (own, (prefix, front, (grind arith, (one.0, (one.1.0, out_passes own one.0 one.1.1)))))
     by false false true is-short is-out is-refused =
-        let one = some_below_true count (is_refused own) is-refused in (
+        let one = some_below_true count (is_section_refused own) is-refused in (
           own,
           (
             prefix,
@@ -87,19 +87,19 @@ sections_answered bytes own prefix front =
         descriptors = grind arith;
         inside = λ i below. inside_each own count i is-out below;
         readable = λ i below. ok_not_err (section_at own i)
-            (sym (refused_err own i) ∙ some_below_each count i (is_refused own) is-refused below);
+            (sym (refused_err own i) ∙ some_below_each count i (is_section_refused own) is-refused below);
       },
     )
 
 -- all bytes
 pub answered : (bytes : List ℕ) → IsAnswer bytes (record_of bytes)
 unfolding record_of
-answered bytes = by (nat_lt (length bytes) 128) (has_signatures bytes) (has_length bytes) refl refl refl
+answered bytes = by (nat_lt (length bytes) 128) (has_signatures bytes) (has_record_length bytes) refl refl refl
   where
     own : List ℕ
     own = take (record_length bytes) bytes
 
-    by : (short signed fits : Bool) → nat_lt (length bytes) 128 ≡ short → has_signatures bytes ≡ signed → has_length bytes ≡ fits
+    by : (short signed fits : Bool) → nat_lt (length bytes) 128 ≡ short → has_signatures bytes ≡ signed → has_record_length bytes ≡ fits
         → IsAnswer bytes (if short then Err Short else (if not signed then Err Signature else (if not fits then Err Length else sections_of own)))
     by true signed fits is-short is-signed is-fits = grind arith
     by false false fits is-short is-signed is-fits = (grind arith, is-signed)
@@ -115,8 +115,8 @@ sections_read own holds =
     let long : nat_lt (length own) (descriptor_at count) ≡ false = grind (arith, holds.descriptors) in
     let none_out : some_below count (is_out own) ≡ false =
     some_below_false count (is_out own) (λ i below. inside_in own i (holds.inside i below)) in
-    let none_refused : some_below count (is_refused own) ≡ false =
-    some_below_false count (is_refused own) (λ i below. refused_err own i ∙ err_not_ok (section_at own i) (holds.readable i below)) in
+    let none_refused : some_below count (is_section_refused own) ≡ false =
+    some_below_false count (is_section_refused own) (λ i below. refused_err own i ∙ err_not_ok (section_at own i) (holds.readable i below)) in
     rw (long, none_out, none_refused) refl
 
 pub reads : (bytes own : List ℕ) → IsPrefixOf own bytes → IsRecord own → record_of bytes ≡ Ok own
@@ -146,8 +146,8 @@ sections_refused own i descriptors inside below refused =
     let long : nat_lt (length own) (descriptor_at count) ≡ false = grind (arith, descriptors) in
     let none_out : some_below count (is_out own) ≡ false =
     some_below_false count (is_out own) (λ i below. inside_in own i (inside i below)) in
-    let some_refused : some_below count (is_refused own) ≡ true =
-    some_below_at count i (is_refused own) below (refused_err own i ∙ refused) in
+    let some_refused : some_below count (is_section_refused own) ≡ true =
+    some_below_at count i (is_section_refused own) below (refused_err own i ∙ refused) in
     rw (long, none_out, some_refused) refl
 
 -- so bytes that begin with a header are refused as those
@@ -163,11 +163,11 @@ unsigned : (bytes : List ℕ) → 128 ≤ length bytes → has_signatures bytes 
 unfolding record_of
 unsigned bytes header is = let long : nat_lt (length bytes) 128 ≡ false = grind arith in rw (long, is) refl
 
-no_length : (bytes : List ℕ) → (record_length bytes < 128) ⊎ (length bytes < record_length bytes) → has_length bytes ≡ false
+no_length : (bytes : List ℕ) → (record_length bytes < 128) ⊎ (length bytes < record_length bytes) → has_record_length bytes ≡ false
 no_length bytes (inl small) = grind arith
 no_length bytes (inr great) = grind arith
 
-unfit : (bytes : List ℕ) → 128 ≤ length bytes → has_signatures bytes ≡ true → has_length bytes ≡ false → record_of bytes ≡ Err Length
+unfit : (bytes : List ℕ) → 128 ≤ length bytes → has_signatures bytes ≡ true → has_record_length bytes ≡ false → record_of bytes ≡ Err Length
 unfolding record_of
 unfit bytes header signed is = let long : nat_lt (length bytes) 128 ≡ false = grind arith in rw (long, signed, is) refl
 

@@ -46,8 +46,8 @@ unfoldable pub is_out : List ℕ → ℕ → Bool
 is_out bytes i = nat_lt (length bytes) (section_end bytes i)
 
 -- whether a section can't be read
-unfoldable pub is_refused : List ℕ → ℕ → Bool
-is_refused bytes i = is_err (section_at bytes i)
+unfoldable pub is_section_refused : List ℕ → ℕ → Bool
+is_section_refused bytes i = is_err (section_at bytes i)
 
 -- whether some number below a count passes a test
 unfoldable pub some_below : ℕ → (ℕ → Bool) → Bool

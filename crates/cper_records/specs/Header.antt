@@ -26,5 +26,5 @@ has_signatures bytes =
     starts_with nat_eq bytes (codes "CPER") && starts_with nat_eq (drop 6 bytes) (0xff ∷ 0xff ∷ 0xff ∷ 0xff ∷ [])
 
 -- whether the record's length takes in the header, and lies inside the bytes
-abbrev pub has_length : List ℕ → Bool
-has_length bytes = nat_le HEADER_LENGTH (record_length bytes) && nat_le (record_length bytes) (length bytes)
+abbrev pub has_record_length : List ℕ → Bool
+has_record_length bytes = nat_le HEADER_LENGTH (record_length bytes) && nat_le (record_length bytes) (length bytes)

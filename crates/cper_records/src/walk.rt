@@ -1,7 +1,7 @@
 //! The section descriptors of a record, and the sections that they describe.
 
 ghost use Rattle.std.specs.Prelude.{◌≡◌, ◌≤◌, ◌<◌, ◌+◌, ℕ, length};
-ghost use Rattle.cper_records.specs.Descriptors.{descriptor_at, section_end, section_guid, section_severity, section_bytes, is_out, is_refused, some_below};
+ghost use Rattle.cper_records.specs.Descriptors.{descriptor_at, section_end, section_guid, section_severity, section_bytes, is_out, is_section_refused, some_below};
 
 use crate::records::HEADER_LENGTH;
 use cper_sections::RawSection;
@@ -48,10 +48,10 @@ fn is_out(bytes: &[u8], i: u16) -> bool
 pub(crate) fn is_some_refused(bytes: &[u8], count: u16) -> bool
     requires descriptors { descriptor_at count ≤ length bytes.now }
     requires inside { (i : ℕ) → i < count → section_end bytes.now i ≤ length bytes.now }
-    ensures { result ≡ some_below count (is_refused bytes.now) }
+    ensures { result ≡ some_below count (is_section_refused bytes.now) }
 {
     for i in 0..count {
-        if is_refused(bytes, i) {
+        if is_section_refused(bytes, i) {
             return true;
         }
     }
@@ -59,11 +59,11 @@ pub(crate) fn is_some_refused(bytes: &[u8], count: u16) -> bool
 }
 
 // Whether a section can't be read.
-#[tactic(auto, unfolding(crate::specs::Descriptors::is_refused), using(crate::proofs::BelowLemmas::not_is_ok))]
-fn is_refused(bytes: &[u8], i: u16) -> bool
+#[tactic(auto, unfolding(crate::specs::Descriptors::is_section_refused), using(crate::proofs::BelowLemmas::not_is_ok))]
+fn is_section_refused(bytes: &[u8], i: u16) -> bool
     requires descriptor { descriptor_at i + DESCRIPTOR_LENGTH ≤ length bytes.now }
     requires inside { section_end bytes.now i ≤ length bytes.now }
-    ensures { result ≡ is_refused bytes.now i }
+    ensures { result ≡ is_section_refused bytes.now i }
 {
     !section_at(bytes, i).is_readable()
 }
