@@ -10,7 +10,7 @@ use Rattle.journal_format.specs.Links.{link_bytes}
 use Rattle.ras_script.specs.declared.line.Line.{Line}
 use Rattle.ras_events.specs.declared.event.Event.{Event}
 use Rattle.ras_events.specs.declared.event.Event.TheVariants.{Nothing, Settled, Counted, Put, Saved, Polled, Reopened}
-use Rattle.ras_events.specs.declared.event.Refusal.{Refusal}
+use Rattle.ras_events.specs.declared.event.LineRefusal.{LineRefusal}
 use Rattle.ras_events.specs.Events.{event_of}
 use Rattle.ras_events.specs.declared.made.Piece.{Piece}
 use Rattle.ras_events.specs.Reports.{NumberedLine, Place, event_at}
@@ -53,12 +53,12 @@ module _ (start : Start) (before : List NumberedLine) (number : ℕ) (line : Lin
   here = event_is start before number line run (Ok event) is asked
 
   are_at : (calls : List DiskCall) → AreEventCalls start place (Ok event) calls → AreCallsAt start place calls
-  are_at calls are = subst (λ (e : Result Event Refusal). AreEventCalls start place e calls) (sym here) are
+  are_at calls are = subst (λ (e : Result Event LineRefusal). AreEventCalls start place e calls) (sym here) are
 
   accepted : IsFitEvent event → event_refusal start place (Ok event) ≡ None → IsAccepted start place
   accepted fit none = record {
     taken = ap (event_refusal start place) here ∙ none;
-    fit = subst (λ (e : Result Event Refusal). IfOk e IsFitEvent) (sym here) fit;
+    fit = subst (λ (e : Result Event LineRefusal). IfOk e IsFitEvent) (sym here) fit;
   }
 
   begun_at : (calls : List DiskCall) → IsBeginning (AreEventCalls start place (Ok event)) calls → IsBeginning (AreCallsAt start place) calls
@@ -120,7 +120,7 @@ some_news : (news : List Entry) → (calls : List DiskCall) × AreNewsCalls news
 some_news [] = ([], refl)
 some_news (entry ∷ entries) = (some_keeping (link_bytes (entry ∷ entries)), is_some_keeping (link_bytes (entry ∷ entries)))
 
-some_event : (start : Start) (place : Place) (event : Result Event Refusal) → (calls : List DiskCall) × AreEventCalls start place event calls
+some_event : (start : Start) (place : Place) (event : Result Event LineRefusal) → (calls : List DiskCall) × AreEventCalls start place event calls
 some_event start place (Ok Nothing) = ([], refl)
 some_event start place (Ok Settled) = ([], refl)
 some_event start place (Ok (Counted made)) = some_news (news_after (history_at start place.0) (entries_in made))

@@ -18,7 +18,7 @@ use Rattle.ras_texts.specs.Orders.{standing_lines}
 use Rattle.ras_texts.specs.Text.{done_line}
 use Rattle.ras_events.specs.declared.event.Event.{Event}
 use Rattle.ras_events.specs.declared.event.Event.TheVariants.{Nothing, Settled, Counted, Reopened}
-use Rattle.ras_events.specs.declared.event.Refusal.{Refusal}
+use Rattle.ras_events.specs.declared.event.LineRefusal.{LineRefusal}
 use Rattle.ras_events.specs.Events.{event_of, settings_after}
 use Rattle.ras_events.specs.declared.made.Piece.{Piece}
 use Rattle.ras_events.specs.Reports.{NumberedLine, Place, event_at}
@@ -52,7 +52,7 @@ pub unread_cause : (number : ℕ) (why : LineRefused) (faults : Faults) → Boar
 unread_cause number refused.NoMemory faults = refl
 unread_cause number why faults = refl
 
-pub event_refused : (start : Start) (before : List NumberedLine) (number : ℕ) (line : Line) (why : Refusal) (run after : Run) (told : Option Told) → IsRunAfter start before run → event_of run.settings line ≡ Err why
+pub event_refused : (start : Start) (before : List NumberedLine) (number : ℕ) (line : Line) (why : LineRefusal) (run after : Run) (told : Option Told) → IsRunAfter start before run → event_of run.settings line ≡ Err why
     → TakesLine start (before, (number, Ok line)) (Err (BadLine number (reason_of why))) after told told
 event_refused start before number line why run after told is asked =
     (ap (event_refusal start (before, (number, Ok line))) (event_is start before number line run (Err why) is asked), prints_same told)
@@ -69,7 +69,7 @@ module _ (start : Start) (before : List NumberedLine) (number : ℕ) (line : Lin
   accepted : event_refusal start place (Ok event) ≡ None → IsAccepted start place
   accepted none = record {
     taken = ap (event_refusal start place) here ∙ none;
-    fit = subst (λ (e : Result Event Refusal). IfOk e IsFitEvent) (sym here) fit;
+    fit = subst (λ (e : Result Event LineRefusal). IfOk e IsFitEvent) (sym here) fit;
   }
 
   output_is : output_at start place ≡ event_output start place (Ok event)
