@@ -3,7 +3,7 @@ use Rattle.std.proofs.Common.{◌≡◌, ℕ, zero, suc, ◌+◌, ◌-◌, ◌<�
 use Rattle.std.specs.Option.{option_map}
 use Rattle.std.specs.List.{concat, AllByRecursion}
 use Rattle.std.proofs.lemmas.List.{length-take, length-drop, nil_from_length, take-append-drop, take_at, drop_at}
-use Rattle.apei_sources.specs.Entries.{entry_header_length, entry_length, first_of, rest_of, has_entry, entries_in, entries_of}
+use Rattle.apei_sources.specs.Entries.{entry_header_length, entry_length, first_of, rest_of, has_entry, block_entries_in, entries_of}
 use Rattle.apei_sources.specs.Laid.{IsEntry}
 use Rattle.apei_sources.specs.Cut.{cut, AreInside}
 use Rattle.ras_base.specs.LittleEndianLemmas.{number_at-append, number_at-take}
@@ -28,14 +28,14 @@ header_long bytes = grind arith
 pub fits : (bytes : List ℕ) → has_entry bytes ≡ true → Fits bytes
 fits bytes is = record { header = grind arith; inside = grind arith; long = omega (arith, header_long bytes) }
 
-entries_in_last : (most : ℕ) (bytes : List ℕ) → has_entry bytes ≡ false → entries_in most bytes ≡ none_of bytes
-unfolding entries_in
+entries_in_last : (most : ℕ) (bytes : List ℕ) → has_entry bytes ≡ false → block_entries_in most bytes ≡ none_of bytes
+unfolding block_entries_in
 entries_in_last zero bytes out = refl
 entries_in_last (suc most) bytes out = rw out refl
 
 entries_in_more : (most : ℕ) (bytes : List ℕ) → has_entry bytes ≡ true
-    → entries_in (suc most) bytes ≡ with_first bytes (entries_in most (rest_of bytes))
-unfolding entries_in
+    → block_entries_in (suc most) bytes ≡ with_first bytes (block_entries_in most (rest_of bytes))
+unfolding block_entries_in
 entries_in_more most bytes is =
     let long : 64 ≤ length bytes = (fits bytes is).header in
     let some : nat_eq (length bytes) 0 ≡ false = grind arith in
@@ -47,7 +47,7 @@ no_entry bytes none = grind arith
 
 -- more than there are bytes change nothing
 entries_in_enough : (m n : ℕ) (bytes : List ℕ) → length bytes ≤ m → length bytes ≤ n
-    → entries_in m bytes ≡ entries_in n bytes
+    → block_entries_in m bytes ≡ block_entries_in n bytes
 entries_in_enough zero n bytes first second = entries_in_last zero bytes (no_entry bytes first)
     ∙ sym (entries_in_last n bytes (no_entry bytes first))
 entries_in_enough (suc m) zero bytes first second =
@@ -56,8 +56,8 @@ entries_in_enough (suc m) (suc n) bytes first second = by (has_entry bytes) refl
   where
     by : (b : Bool) → has_entry bytes ≡ b
         → (length (rest_of bytes) ≤ m → length (rest_of bytes) ≤ n
-        → entries_in m (rest_of bytes) ≡ entries_in n (rest_of bytes))
-        → entries_in (suc m) bytes ≡ entries_in (suc n) bytes
+        → block_entries_in m (rest_of bytes) ≡ block_entries_in n (rest_of bytes))
+        → block_entries_in (suc m) bytes ≡ block_entries_in (suc n) bytes
     by false is same = entries_in_last (suc m) bytes is ∙ sym (entries_in_last (suc n) bytes is)
     by true is same =
         let f : Fits bytes = fits bytes is in
@@ -71,7 +71,7 @@ pub entries_of_more : (bytes : List ℕ) → has_entry bytes ≡ true
     → entries_of bytes ≡ with_first bytes (entries_of (rest_of bytes))
 entries_of_more bytes is =
     let f : Fits bytes = fits bytes is in
-    ap (λ n. entries_in n bytes) (omega (arith, f))
+    ap (λ n. block_entries_in n bytes) (omega (arith, f))
     ∙ entries_in_more (length bytes - 1) bytes is
     ∙ ap (with_first bytes) (entries_in_enough (length bytes - 1) (length (rest_of bytes)) (rest_of bytes)
     (omega (arith, f, length-drop (entry_length bytes) bytes)) (omega arith))
@@ -179,7 +179,7 @@ module _ (entry rest : List ℕ) (whole : IsEntry entry) where
 -- entries laid end to end are those of the bytes
 pub entries_of-concat : (entries : List (List ℕ)) → AllByRecursion IsEntry entries
     → entries_of (concat entries) ≡ Some entries
-entries_of-concat [] each = unfold entries_in in refl
+entries_of-concat [] each = unfold block_entries_in in refl
 entries_of-concat (entry ∷ entries) each =
     split entry (concat entries) each.0
     ∙ ap (λ read. option_map (λ behind. entry ∷ behind) read) (entries_of-concat entries each.1)

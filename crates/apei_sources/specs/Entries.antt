@@ -50,14 +50,14 @@ rest_of bytes = drop (entry_length bytes) bytes
 
 -- the entries that bytes are, at most so many, each behind the one before it; None where one passes
 -- the end
-unfoldable pub entries_in : ℕ → List ℕ → Option (List (List ℕ))
-entries_in zero bytes = if nat_eq (length bytes) 0 then Some [] else None
-entries_in (suc most) bytes =
+unfoldable pub block_entries_in : ℕ → List ℕ → Option (List (List ℕ))
+block_entries_in zero bytes = if nat_eq (length bytes) 0 then Some [] else None
+block_entries_in (suc most) bytes =
     if nat_eq (length bytes) 0 then Some []
-    else (if has_entry bytes then option_map (λ behind. first_of bytes ∷ behind) (entries_in most (rest_of bytes))
+    else (if has_entry bytes then option_map (λ behind. first_of bytes ∷ behind) (block_entries_in most (rest_of bytes))
     else None)
 
 -- the entries of a block's data, which can't be more than its bytes; None where one passes its end.
 -- specs/Laid.antt says what this cutting comes to
 abbrev pub entries_of : List ℕ → Option (List (List ℕ))
-entries_of bytes = entries_in (length bytes) bytes
+entries_of bytes = block_entries_in (length bytes) bytes

@@ -18,7 +18,7 @@ use Rattle.cper_pcie.specs.Counts.{counted_device}
 use Rattle.cper_pcie.specs.DeviceLemmas.{same_device-exact, same_device-refl}
 use Rattle.cper_pcie.specs.Devices.{same_device}
 use Rattle.cper_pcie.specs.Filter.{text_or_refusal, pcie_filter, pcie_text, place_answer, to_first_refusal}
-use Rattle.cper_pcie.specs.Reports.{LinePlace, FirmwareReport, Taken, first_sections, is_known, line_name, line_report, pcie_name, pcie_sections, report_read, report_in, taken_at}
+use Rattle.cper_pcie.specs.Reports.{LinePlace, FirmwareReport, Taken, first_sections, is_known, line_name, line_report, pcie_name, pcie_sections, report_read, line_report_in, taken_at}
 use Rattle.cper_pcie.specs.Along.{Counted, answers_from, counted_after, counted_from, filter_from, fresh_sections, line_answer, names_with, sections_lines, sums_with, text_with, then_answers, totals_after, totals_with}
 use Rattle.cper_pcie.specs.Steps.{none_counted}
 use Rattle.cper_pcie.specs.Texts.{read_sections, totals_text}
@@ -71,9 +71,9 @@ after_is counted None = refl
 after_is counted (Some report) = refl
 
 holds-next : (before : List (List ℕ)) (line : List ℕ) (counted : Counted) → Holds before counted.names
-    → Holds (before ++ line ∷ []) (counted_after counted (report_in line)).names
+    → Holds (before ++ line ∷ []) (counted_after counted (line_report_in line)).names
 holds-next before line counted holds = λ name.
-    ap (list_any (same_name name)) (after_is counted (report_in line))
+    ap (list_any (same_name name)) (after_is counted (line_report_in line))
     ∙ named-any counted.names (line_name line) name
     ∙ ap (λ b. b || list_any (same_name name) (in_list (line_name line))) (holds name)
     ∙ ap (λ (names : List Name). is_known before name || list_any (same_name name) names) (sym (one_name line))
@@ -101,7 +101,7 @@ pub answers-at : (before lines : List (List ℕ)) (counted : Counted) → Holds 
     → answers_from counted lines ≡ to_first_refusal (map place_answer (places_behind before lines))
 answers-at before [] counted holds = refl
 answers-at before (line ∷ lines) counted holds =
-    by (line_of line) refl (answers-at (before ++ line ∷ []) lines (counted_after counted (report_in line)) (holds-next before line counted holds))
+    by (line_of line) refl (answers-at (before ++ line ∷ []) lines (counted_after counted (line_report_in line)) (holds-next before line counted holds))
   where
     place : LinePlace
     place = (before, line)
@@ -110,8 +110,8 @@ answers-at before (line ∷ lines) counted holds =
     after = map place_answer (places_behind (before ++ line ∷ []) lines)
 
     by : (read : Result Line LineRefused) → line_of line ≡ read
-        → answers_from (counted_after counted (report_in line)) lines ≡ to_first_refusal after
-        → then_answers (line_answer counted.names read) (answers_from (counted_after counted (report_in line)) lines)
+        → answers_from (counted_after counted (line_report_in line)) lines ≡ to_first_refusal after
+        → then_answers (line_answer counted.names read) (answers_from (counted_after counted (line_report_in line)) lines)
         ≡ to_first_refusal (text_or_refusal place read ∷ after)
     by (Err why) is rest = refl
     by (Ok asked) is rest = λ i. Ok (text i) ∷ rest i
@@ -119,7 +119,7 @@ answers-at before (line ∷ lines) counted holds =
         text : text_with counted.names (line_report asked) ≡ pcie_text place
         text = text_is counted.names (line_report asked)
             ∙ ap (λ read. sections_lines (option_map_or (fresh_sections counted.names) (report_read read) [])) (sym is)
-            ∙ ap sections_lines (taken_of_report before counted.names (report_in line) holds)
+            ∙ ap sections_lines (taken_of_report before counted.names (line_report_in line) holds)
 
 -- ---- totals
 
@@ -129,9 +129,9 @@ totals-at before [] counted holds = refl
 totals-at before (line ∷ lines) counted holds =
     let place : LinePlace = (before, line) in
     let rest : List Taken = flat_map taken_at (places_behind (before ++ line ∷ []) lines) in
-    totals-at (before ++ line ∷ []) lines (counted_after counted (report_in line)) (holds-next before line counted holds)
+    totals-at (before ++ line ∷ []) lines (counted_after counted (line_report_in line)) (holds-next before line counted holds)
     ∙ ap (λ (t : Totals). totals_after t (read_sections rest))
-    (totals_is counted (report_in line) ∙ ap (λ (t : List Taken). totals_after counted.totals (read_sections t)) (taken_of_report before counted.names (report_in line) holds))
+    (totals_is counted (line_report_in line) ∙ ap (λ (t : List Taken). totals_after counted.totals (read_sections t)) (taken_of_report before counted.names (line_report_in line) holds))
     ∙ sym (totals-append counted.totals (read_sections (taken_at place)) (read_sections rest))
     ∙ ap (totals_after counted.totals) (sym (read-append (taken_at place) rest))
 

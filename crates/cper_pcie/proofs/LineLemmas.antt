@@ -9,7 +9,7 @@ use Rattle.hex.specs.Hex.{decode_of}
 use Rattle.hex.specs.declared.error.FromHexError.{FromHexError}
 use Rattle.hex.proofs.HexLemmas.{decode_of-ok}
 use Rattle.apei_sources.specs.Blocks.{BlockParts, block_of, block_status, block_with, data_length, data_of}
-use Rattle.apei_sources.specs.Entries.{entries_in, entries_of, first_of, has_entry, is_refused, rest_of}
+use Rattle.apei_sources.specs.Entries.{block_entries_in, entries_of, first_of, has_entry, is_refused, rest_of}
 use Rattle.apei_sources.specs.declared.refusals.BlockRefused.{BlockRefused}
 use Rattle.apei_sources.specs.declared.refusals.BlockRefused.TheVariants.{Section, Short}
 use Rattle.ras_base.specs.Chaining.{◌>>=◌}
@@ -208,14 +208,14 @@ line-few most line asked short is =
 abbrev MostEntries : ℕ → Option (List (List ℕ)) → Type 0
 MostEntries most entries = IfSome entries (λ es. length es ≤ most)
 
-entries-few : (most : ℕ) (bytes : List ℕ) → MostEntries most (entries_in most bytes)
-unfolding entries_in
+entries-few : (most : ℕ) (bytes : List ℕ) → MostEntries most (block_entries_in most bytes)
+unfolding block_entries_in
 entries-few zero bytes = by (nat_eq (length bytes) 0)
   where
     by : (b : Bool) → MostEntries zero (if b then Some [] else None)
     by true = omega arith
     by false = tt
-entries-few (suc most) bytes = by (nat_eq (length bytes) 0) (has_entry bytes) (entries_in most (rest_of bytes)) (entries-few most (rest_of bytes))
+entries-few (suc most) bytes = by (nat_eq (length bytes) 0) (has_entry bytes) (block_entries_in most (rest_of bytes)) (entries-few most (rest_of bytes))
   where
     by : (b c : Bool) (rest : Option (List (List ℕ))) → MostEntries most rest
         → MostEntries (suc most) (if b then Some [] else (if c then option_map (λ behind. first_of bytes ∷ behind) rest else None))

@@ -84,8 +84,8 @@ abbrev pub report_read : Result Line LineRefused → Option FirmwareReport
 report_read (Ok line) = line_report line
 report_read (Err why) = None
 
-abbrev pub report_in : List ℕ → Option FirmwareReport
-report_in line = report_read (line_of line)
+abbrev pub line_report_in : List ℕ → Option FirmwareReport
+line_report_in line = report_read (line_of line)
 
 -- ---- the sections that are taken
 
@@ -112,7 +112,7 @@ abbrev pub pcie_name : FirmwareReport → Option Name
 pcie_name report = if list_any is_pcie report.sections then Some report.name else None
 
 abbrev pub line_name : List ℕ → Option Name
-line_name line = option_and_then pcie_name (report_in line)
+line_name line = option_and_then pcie_name (line_report_in line)
 
 -- a line of a script, after all lines before it
 abbrev pub LinePlace : Type 0
@@ -128,7 +128,7 @@ abbrev pub first_sections : List (List ℕ) → FirmwareReport → List Taken
 first_sections before report = if is_known before report.name then [] else pcie_sections report
 
 abbrev pub taken_at : LinePlace → List Taken
-taken_at place = option_map_or (first_sections place.0) (report_in place.1) []
+taken_at place = option_map_or (first_sections place.0) (line_report_in place.1) []
 
 -- all that are taken of a script's lines
 abbrev pub taken_of : List (List ℕ) → List Taken

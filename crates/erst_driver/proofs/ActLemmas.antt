@@ -9,7 +9,7 @@ use Rattle.erst_store.specs.KeptLemmas.{IsDevice-act, IsDevice-value}
 use Rattle.board_core.specs.Clock.{Passes}
 use Rattle.board_core.specs.Stop.{InStore}
 use Rattle.board_core.specs.Told.{Told, device_of, Relates, StoreBy}
-use Rattle.erst_interp.specs.declared.entries.Entry.{Entry}
+use Rattle.erst_interp.specs.declared.entries.InstructionEntry.{InstructionEntry}
 use Rattle.erst_interp.specs.declared.refusals.RunRefused.{RunRefused}
 use Rattle.erst_interp.specs.declared.refusals.RunRefused.TheVariants.{Register, Fuel, BadInstruction, BadRegister, BadRange}
 use Rattle.erst_interp.specs.Admission.{takes_input, IsAdmitted, IsAdmittedTable}
@@ -29,11 +29,11 @@ use Rattle.erst_driver.proofs.PlanLemmas.{told_step}
 some_is : (x y : Told) → Some x ≡ Some y → x ≡ y
 some_is x y e = cc
 
-pub acted_as : (table lists : List (List Entry)) (s : Step) (value : ℕ) (a b : Seen) → table ≡ lists → Acted table s value a b → Acted lists s value a b
-acted_as table lists s value a b is acted = subst (λ (l : List (List Entry)). Acted l s value a b) is acted
+pub acted_as : (table lists : List (List InstructionEntry)) (s : Step) (value : ℕ) (a b : Seen) → table ≡ lists → Acted table s value a b → Acted lists s value a b
+acted_as table lists s value a b is acted = subst (λ (l : List (List InstructionEntry)). Acted l s value a b) is acted
 
-pub failed_as : (table lists : List (List Entry)) (plan : Plan) (a b : Seen) → table ≡ lists → FailsIn table plan a b → FailsIn lists plan a b
-failed_as table lists plan a b is fails = subst (λ (l : List (List Entry)). FailsIn l plan a b) is fails
+pub failed_as : (table lists : List (List InstructionEntry)) (plan : Plan) (a b : Seen) → table ≡ lists → FailsIn table plan a b → FailsIn lists plan a b
+failed_as table lists plan a b is fails = subst (λ (l : List (List InstructionEntry)). FailsIn l plan a b) is fails
 
 -- the device after an action is one
 input_fits : (action input : ℕ) → input < input_limit action → input < 2 ^ 64
@@ -51,7 +51,7 @@ is_device_after s d inside device =
     by true = IsDevice-value s.input d device (input_fits s.action s.input inside.input)
     by false = device
 
-module _ (lists : List (List Entry)) (s : Step) (a b : Seen) (kept : Relates Keeps a.told b.told)
+module _ (lists : List (List InstructionEntry)) (s : Step) (a b : Seen) (kept : Relates Keeps a.told b.told)
     (stops : Passes (InStore (StoreBy (device_after s.action s.input) a.told)) a.clock b.clock) where
   store_in : (x y : List Stored) → StoreBy (device_after s.action s.input) a.told x y → StoreIn (λ d. s ∷ []) a.told x y
   unfolding ComesThrough

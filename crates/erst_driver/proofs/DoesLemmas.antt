@@ -11,7 +11,7 @@ use Rattle.board_core.specs.ClockLemmas.{adds_at_rest, rests_stored}
 use Rattle.board_core.specs.Doing.{DeviceCall, Does, FailsActs, Moment, Raises, Seen, TornDevice, after_acts, after_device, broke, ended_by, went_well, reg_read, reg_write, range_read, range_write, put}
 use Rattle.board_core.specs.Stop.{Becomes, InStore, Left}
 use Rattle.board_core.specs.Told.{Relates, Told}
-use Rattle.erst_interp.specs.declared.entries.Entry.{Entry}
+use Rattle.erst_interp.specs.declared.entries.InstructionEntry.{InstructionEntry}
 use Rattle.erst_interp.specs.Admission.{IsAdmittedTable}
 use Rattle.erst_interp.specs.Machine.{End, start}
 use Rattle.erst_interp.specs.Run.{IsCutShort, acts_of}
@@ -61,7 +61,7 @@ pub more_calls : (one two : List DeviceCall) → HasCall one → HasCall (one ++
 more_calls [] two none = absurd none
 more_calls (call ∷ one) two has = tt
 
-pub has_call : (lists : List (List Entry)) (s : Step) (steps : List Step) (d : Device) → IsAdmittedTable lists → Inside s → HasCall (device_calls lists (s ∷ steps) d)
+pub has_call : (lists : List (List InstructionEntry)) (s : Step) (steps : List Step) (d : Device) → IsAdmittedTable lists → Inside s → HasCall (device_calls lists (s ∷ steps) d)
 unfolding device_calls
 has_call lists s steps d admitted inside =
     let few = inside.action in

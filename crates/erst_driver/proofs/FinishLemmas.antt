@@ -6,7 +6,7 @@ use Rattle.erst_store.specs.declared.device.CommandStatus.TheVariants.{Success, 
 use Rattle.erst_store.specs.Actions.{get_command_status, end_operation}
 use Rattle.erst_store.specs.Device.{Device, act, status_number}
 use Rattle.board_core.specs.Told.{device_of}
-use Rattle.erst_interp.specs.declared.entries.Entry.{Entry}
+use Rattle.erst_interp.specs.declared.entries.InstructionEntry.{InstructionEntry}
 use Rattle.erst_interp.specs.Faithful.{answer_after}
 use Rattle.board_core.specs.Doing.{Seen}
 use Rattle.erst_driver.specs.declared.refusals.DriverRefused.{DriverRefused}
@@ -66,7 +66,7 @@ finishes_late busy is =
 
 -- ---- a device that is given up
 
-module _ (lists : List (List Entry)) (a b : Seen) where
+module _ (lists : List (List InstructionEntry)) (a b : Seen) where
   pub wait_refused : (e : DriverRefused) → Operates lists (λ d. asks d.busy) (λ d. answer_within d.busy) (Err e) a b
       → Operates lists (λ d. finishes d.busy) answer_at (Err e) a b
   wait_refused Register fails = fails_as lists (λ d. asks d.busy) (λ d. finishes d.busy) a b
@@ -110,7 +110,7 @@ err_by NotEnoughSpace value is not_zero = ap (λ (n : ℕ). Err (EndedWith n)) i
 err_by StoreEmpty value is not_zero = ap (λ (n : ℕ). Err (EndedWith n)) is
 err_by NotFound value is not_zero = ap (λ (n : ℕ). Err (EndedWith n)) is
 
-module _ (lists : List (List Entry)) (a b : Seen) (waited : Operates lists (λ d. asks d.busy) (λ d. answer_within d.busy) (Ok tt) a b) where
+module _ (lists : List (List InstructionEntry)) (a b : Seen) (waited : Operates lists (λ d. asks d.busy) (λ d. answer_within d.busy) (Ok tt) a b) where
   free : Over (λ t. is_free_in_time (device_of t).busy ≡ true) a.told
   free = over_more _ _ a.told waited.answers (λ t is. free_by _ is)
 
@@ -152,7 +152,7 @@ module _ (lists : List (List Entry)) (a b : Seen) (waited : Operates lists (λ d
 
 -- ---- a whole operation
 
-module _ (lists : List (List Entry)) (steps : List Step) (a b : Seen) where
+module _ (lists : List (List InstructionEntry)) (steps : List Step) (a b : Seen) where
   pub steps_refused : (e : DriverRefused) → Runs lists (λ d. steps) (Err e) a b → Operates lists (actions_of steps) (answer_of steps) (Err e) a b
   steps_refused e runs = by e runs
     where

@@ -12,7 +12,7 @@ use Rattle.erst_store.specs.DeviceLaws.{IsDevice, left_to_list}
 use Rattle.board_core.specs.Clock.{Passes, LeftNow}
 use Rattle.board_core.specs.Stop.{Left, InStore}
 use Rattle.board_core.specs.Told.{Told, device_of, Relates}
-use Rattle.erst_interp.specs.declared.entries.Entry.{Entry}
+use Rattle.erst_interp.specs.declared.entries.InstructionEntry.{InstructionEntry}
 use Rattle.erst_interp.specs.Faithful.{answer_after}
 use Rattle.erst_interp.specs.Run.{Keeps}
 use Rattle.board_core.specs.Doing.{Seen}
@@ -81,13 +81,13 @@ listings_both (suc one) two =
     ap (λ (steps : List Step). list ∷ steps) (listings_both one two) ∙ ap listings e
 
 -- one more listing makes a call
-listing_calls : (lists : List (List Entry)) (count : ℕ) (d : Device) → IsAdmittedTable lists → HasCall (device_calls lists (listings (count + 1)) d)
+listing_calls : (lists : List (List InstructionEntry)) (count : ℕ) (d : Device) → IsAdmittedTable lists → HasCall (device_calls lists (listings (count + 1)) d)
 listing_calls lists count d admitted =
     let next : suc count ≡ count + 1 = omega arith in
     subst (λ (n : ℕ). HasCall (device_calls lists (listings n) d)) next
     (has_call lists list (listings count) d admitted (record { action = omega arith; input = omega arith }))
 
-pub ids_calls : (lists : List (List Entry)) (d : Device) → IsAdmittedTable lists → HasCall (list_calls lists d)
+pub ids_calls : (lists : List (List InstructionEntry)) (d : Device) → IsAdmittedTable lists → HasCall (list_calls lists d)
 ids_calls lists d admitted =
     let next : suc (length d.store - d.cursor) ≡ left_to_list d = omega arith in
     subst (λ (n : ℕ). HasCall (device_calls lists (listings n ++ listings (min (length d.store + 1) most_records)) d)) next
@@ -128,11 +128,11 @@ pub record At (count : ℕ) (d : Device) : Type 0 where
 at_left : (count : ℕ) (d : Device) → At count d → count + 1 ≤ left_to_list d
 at_left count d at = elim at.within [ inl none ↦ omega (arith, none) | inr within ↦ omega (arith, within) ]
 
-pub record Listing (lists : List (List Entry)) (count : ℕ) (a b : Seen) : Type 0 where
+pub record Listing (lists : List (List InstructionEntry)) (count : ℕ) (a b : Seen) : Type 0 where
   pub done : Done lists (λ d. listings count) a b
   pub at : Over (λ t. At count (device_of t)) a.told
 
-pub listing_begins : (lists : List (List Entry)) (a : Seen) → Done lists (λ d. []) a a → Listing lists 0 a a
+pub listing_begins : (lists : List (List InstructionEntry)) (a : Seen) → Done lists (λ d. []) a a → Listing lists 0 a a
 unfolding after_steps
 listing_begins lists a done = record {
   done = done;
@@ -171,7 +171,7 @@ module _ (count value : ℕ) (d : Device) (at : At count d)
   end_store : (after_steps (listings (count + 1)) d).store ≡ d.store
   end_store = ap (λ (x : Device). x.store) (next_is count d) ∙ one.store ∙ at.store
 
-module _ (lists : List (List Entry)) (count : ℕ) (a b c : Seen) (listing : Listing lists count a b) where
+module _ (lists : List (List InstructionEntry)) (count : ℕ) (a b c : Seen) (listing : Listing lists count a b) where
   one_fails : FailsIn lists (λ d. list ∷ []) b c → FailsIn lists (λ d. listings (count + 1)) a c
   one_fails fails = fails_as lists (λ d. listings count ++ list ∷ []) (λ d. listings (count + 1)) a c
       (everywhere _ a.told (λ t. ([], append-nil (listings count ++ list ∷ []) ∙ listings_both count 1)))
@@ -227,7 +227,7 @@ module _ (lists : List (List Entry)) (count : ℕ) (a b c : Seen) (listing : Lis
     }
 
 -- a store has fewer records than that
-pub listing_gives_up : (lists : List (List Entry)) (count : ℕ) (a b : Seen) → Listing lists count a b → count ≡ most_records + 1 → EndsListing lists a b
+pub listing_gives_up : (lists : List (List InstructionEntry)) (count : ℕ) (a b : Seen) → Listing lists count a b → count ≡ most_records + 1 → EndsListing lists a b
 listing_gives_up lists count a b listing is = record {
   done = done_as lists (λ d. listings count) (λ d. listings (left_to_list d)) a b (over_more _ _ a.told never (λ t no_more. absurd no_more)) listing.done;
   cursor = over_more _ _ a.told never (λ t no_more. absurd no_more);
@@ -240,12 +240,12 @@ listing_gives_up lists count a b listing is = record {
 
 -- ---- identifiers that are collected
 
-pub record Collecting (lists : List (List Entry)) (count : ℕ) (found : List ℕ) (a b : Seen) : Type 0 where
+pub record Collecting (lists : List (List InstructionEntry)) (count : ℕ) (found : List ℕ) (a b : Seen) : Type 0 where
   pub listing : Listing lists count a b
   pub few : length found ≤ count
   pub found_is : Over (λ t. found ≡ take count (drop (device_of t).cursor (ids t.here.store))) a.told
 
-pub collecting_begins : (lists : List (List Entry)) (a : Seen) → Done lists (λ d. []) a a → Collecting lists 0 [] a a
+pub collecting_begins : (lists : List (List InstructionEntry)) (a : Seen) → Done lists (λ d. []) a a → Collecting lists 0 [] a a
 collecting_begins lists a done = record { listing = listing_begins lists a done; few = omega arith; found_is = everywhere _ a.told (λ t. refl) }
 
 take_all : (count : ℕ) (xs : List ℕ) → length xs ≤ count → take count xs ≡ xs
@@ -262,7 +262,7 @@ take_next (suc count) zero x (y ∷ xs) is =
 take_next count (suc start) x (y ∷ xs) is =
     take_next count start x xs (let e : suc start + count ≡ suc (start + count) = omega arith in subst (λ (n : ℕ). slice_get (y ∷ xs) n ≡ Some x) e is)
 
-module _ (lists : List (List Entry)) (count : ℕ) (found : List ℕ) (a b c : Seen) (collecting : Collecting lists count found a b) where
+module _ (lists : List (List InstructionEntry)) (count : ℕ) (found : List ℕ) (a b c : Seen) (collecting : Collecting lists count found a b) where
   pub collect_refused : {X : Type 0} (view : X → List ℕ) (inside : count < most_records) (e : DriverRefused) → Acts lists (plain get_record_identifier) (Err e) b c
       → Collects {X = X} view lists (Err e) a c
   collect_refused view inside Register acts =
@@ -307,7 +307,7 @@ module _ (lists : List (List Entry)) (count : ℕ) (found : List ℕ) (a b c : S
           found_is ∙ take_all count rest (omega (arith, size, is)) ∙ sym (take_all most_records rest (omega (arith, size, is, inside)))));
     }
 
-pub collect_full : (lists : List (List Entry)) (count : ℕ) (found : List ℕ) (a b : Seen) → Collecting lists count found a b → count ≡ most_records → Collected lists found a b
+pub collect_full : (lists : List (List InstructionEntry)) (count : ℕ) (found : List ℕ) (a b : Seen) → Collecting lists count found a b → count ≡ most_records → Collected lists found a b
 collect_full lists count found a b collecting is = record {
   done = done_as lists (λ d. listings count) (λ d. listings (min (left_to_list d) most_records)) a b
       (over_more _ _ a.told collecting.listing.at (λ t at. ap listings
@@ -318,7 +318,7 @@ collect_full lists count found a b collecting is = record {
 
 -- ---- all identifiers
 
-module _ (lists : List (List Entry)) (a b c : Seen) (ends : EndsListing lists a b) where
+module _ (lists : List (List InstructionEntry)) (a b c : Seen) (ends : EndsListing lists a b) where
   quiet_both : (x y z : List Stored) → StoreIn (λ d. listings (left_to_list d)) a.told x y → Quietly b.told y z → Quietly a.told x z
   quiet_both x y z one two = by a.told ends.done.tells ends.store one
     where
@@ -391,7 +391,7 @@ module _ (lists : List (List Entry)) (a b c : Seen) (ends : EndsListing lists a 
   lists_then view (Err (Status code)) collected = absurd collected
   lists_then view (Err NoMemory) starves = record { well = goes_on starves.well; begun = all_begun starves.begun }
 
-pub lists_refused : {X : Type 0} (view : X → List ℕ) (lists : List (List Entry)) (a b : Seen) (e : DriverRefused) → ListsOut lists (Err e) a b → ListsAll {X = X} view lists (Err e) a b
+pub lists_refused : {X : Type 0} (view : X → List ℕ) (lists : List (List InstructionEntry)) (a b : Seen) (e : DriverRefused) → ListsOut lists (Err e) a b → ListsAll {X = X} view lists (Err e) a b
 lists_refused view lists a b Register fails = record {
   fails = fails.fails;
   cut = cut_as lists (λ d. listings (left_to_list d)) ids_steps a.told b.told
@@ -403,7 +403,7 @@ lists_refused view lists a b NoMemory is = absurd is
 
 -- ---- what is said of it
 
-module _ {X : Type 0} (view : X → List ℕ) (lists : List (List Entry)) (a b : Seen) where
+module _ {X : Type 0} (view : X → List ℕ) (lists : List (List InstructionEntry)) (a b : Seen) where
   pub all_ids : (result : Result X DriverRefused) → HasDevice lists a.told → ListsAll view lists result a b → IfOk result (λ v. IfSome a.told (λ t. view v ≡ ids t.here.store))
   all_ids (Ok found) device all = over_told lists _ a.told device all.found_is
   all_ids (Err why) device all = tt

@@ -11,7 +11,7 @@ use Rattle.board_core.specs.Doing.{Act, DeviceCall, Moment, after_acts}
 use Rattle.board_core.specs.Stop.{Becomes, InStore, Left}
 use Rattle.board_core.specs.Told.{Told, device_of}
 use Rattle.board_core.proofs.DoingLemmas.{moment_parts}
-use Rattle.erst_interp.specs.declared.entries.Entry.{Entry}
+use Rattle.erst_interp.specs.declared.entries.InstructionEntry.{InstructionEntry}
 use Rattle.erst_interp.specs.Admission.{IsAdmittedTable}
 use Rattle.erst_interp.specs.Run.{acts_of}
 use Rattle.erst_interp.specs.Table.{list_of}
@@ -40,7 +40,7 @@ record LeavesSteps (steps : List Step) (t : Told) (left : Left) : Type 0 where
   rest : left ≡ record t.here { store = left.store }
   through : (left.store ≡ t.here.store) ⊎ ComesThrough steps (device_of t) left.store
 
-steps_moment : (lists : List (List Entry)) (steps : List Step) (t : Told) (left : Left) → IsAdmittedTable lists → AreInside steps → IsDevice (device_of t)
+steps_moment : (lists : List (List InstructionEntry)) (steps : List Step) (t : Told) (left : Left) → IsAdmittedTable lists → AreInside steps → IsDevice (device_of t)
     → Moment (acts_of (device_calls lists steps (device_of t))) t left → LeavesSteps steps t left
 unfolding device_calls ComesThrough
 steps_moment lists [] t left admitted inside device never = absurd never
@@ -83,7 +83,7 @@ same_left t left rest is = rest ∙ ap (λ (s : List Stored). record t.here { st
 here_is : (calls : List DeviceCall) (t : Told) (store : List Stored) → (after_acts (acts_of calls) t).here.store ≡ store → (after_acts (acts_of calls) t).here ≡ record t.here { store = store }
 here_is calls t store is = here_after calls t ∙ ap (λ (s : List Stored). record t.here { store = s }) is
 
-module _ (lists : List (List Entry)) (t : Told) (admitted : IsAdmittedTable lists) (device : IsDevice (device_of t)) where
+module _ (lists : List (List InstructionEntry)) (t : Told) (admitted : IsAdmittedTable lists) (device : IsDevice (device_of t)) where
   -- ---- a clear
 
   pub clear_here : (id : ℕ) → id < 2 ^ 64 → (after_acts (acts_of (clear_calls lists id (device_of t))) t).here ≡ record t.here { store = without id t.here.store }

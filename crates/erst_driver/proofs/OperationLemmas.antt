@@ -8,7 +8,7 @@ use Rattle.erst_store.specs.Device.{Device, act}
 use Rattle.board_core.specs.Clock.{Clock, LeftNow, After, Passes}
 use Rattle.board_core.specs.Stop.{Left, InStore}
 use Rattle.board_core.specs.Told.{Told, device_of, Relates}
-use Rattle.erst_interp.specs.declared.entries.Entry.{Entry}
+use Rattle.erst_interp.specs.declared.entries.InstructionEntry.{InstructionEntry}
 use Rattle.erst_interp.specs.Run.{Keeps}
 use Rattle.board_core.specs.Doing.{Seen}
 use Rattle.erst_driver.specs.declared.refusals.DriverRefused.TheVariants.{Register, Busy, Status as EndedWith, NoMemory}
@@ -41,7 +41,7 @@ module _ (T S : List Stored → List Stored → Type 0) (told : Option Told) (ol
     ends = λ left now. after_at left (passes.ends left now);
   }
 
-module _ (lists : List (List Entry)) (plan : Plan) (answer : Device → Answer) (a b : Seen) where
+module _ (lists : List (List InstructionEntry)) (plan : Plan) (answer : Device → Answer) (a b : Seen) where
   pub gives_of : (result : Answer) → Operates lists plan answer result a b → Over (λ t. Gives result (answer (device_of t))) a.told
   gives_of (Ok tt) operates = operates.answers
   gives_of (Err Register) operates = everywhere _ a.told (λ t. tt)

@@ -7,7 +7,7 @@ use Rattle.erst_store.specs.Device.{Device}
 use Rattle.erst_store.specs.DeviceLaws.{IsDevice}
 use Rattle.board_core.specs.Told.{Told, device_of}
 use Rattle.board_core.specs.Doing.{DeviceCall, after_acts}
-use Rattle.erst_interp.specs.declared.entries.Entry.{Entry}
+use Rattle.erst_interp.specs.declared.entries.InstructionEntry.{InstructionEntry}
 use Rattle.erst_interp.specs.Run.{IsCutShort, acts_of}
 use Rattle.erst_interp.specs.Table.{list_of}
 use Rattle.board_core.specs.Doing.{Seen}
@@ -32,20 +32,20 @@ after_both [] two d = refl
 after_both (s ∷ one) two d = after_both one two (after_step s d)
 
 -- what is told, and the calls, of one action and then others
-pub told_step : (lists : List (List Entry)) (s : Step) (steps : List Step) (t : Told) → told_by lists (s ∷ steps) t ≡ told_by lists steps (told_by_step lists s t)
+pub told_step : (lists : List (List InstructionEntry)) (s : Step) (steps : List Step) (t : Told) → told_by lists (s ∷ steps) t ≡ told_by lists steps (told_by_step lists s t)
 unfolding device_calls
 told_step lists s steps t =
     let end = end_by lists s (device_of t) in
     after_runs end.state.calls (device_calls lists steps end.state.device) t
     ∙ ap (λ (d : Device). after_acts (acts_of (device_calls lists steps d)) (told_by_step lists s t)) (sym (end_device (list_of s.action lists) s.input t))
 
-pub told_both : (lists : List (List Entry)) (one two : List Step) (t : Told) → told_by lists (one ++ two) t ≡ told_by lists two (told_by lists one t)
+pub told_both : (lists : List (List InstructionEntry)) (one two : List Step) (t : Told) → told_by lists (one ++ two) t ≡ told_by lists two (told_by lists one t)
 unfolding device_calls
 told_both lists [] two t = refl
 told_both lists (s ∷ one) two t =
     told_step lists s (one ++ two) t ∙ told_both lists one two (told_by_step lists s t) ∙ ap (λ (u : Told). told_by lists two u) (sym (told_step lists s one t))
 
-pub calls_both : (lists : List (List Entry)) (one two : List Step) (t : Told)
+pub calls_both : (lists : List (List InstructionEntry)) (one two : List Step) (t : Told)
     → device_calls lists (one ++ two) (device_of t) ≡ device_calls lists one (device_of t) ++ device_calls lists two (device_of (told_by lists one t))
 unfolding device_calls
 calls_both lists [] two t = refl
@@ -86,7 +86,7 @@ through_beginning some all d store begins through =
 pub over_at : (P : Told → Type 0) (told : Option Told) (t : Told) → Over P told → told ≡ Some t → IsDevice (device_of t) → P t
 over_at P told t over is device = subst (λ (o : Option Told). Over P o) is over device
 
-tells_both : (lists : List (List Entry)) (one : List Step) (q : Plan) (t : Told) (mid new : Option Told) → Tells lists one t mid → Over (λ u. Tells lists (q (device_of u)) u new) mid
+tells_both : (lists : List (List InstructionEntry)) (one : List Step) (q : Plan) (t : Told) (mid new : Option Told) → Tells lists one t mid → Over (λ u. Tells lists (q (device_of u)) u new) mid
     → Tells lists (one ++ q (after_steps one (device_of t))) t new
 tells_both lists one q t mid new first over =
     let u = told_by lists one t in
@@ -105,7 +105,7 @@ tells_both lists one q t mid new first over =
     }
 
 -- the same where a call failed
-cut_both : (lists : List (List Entry)) (one : List Step) (q : Plan) (t : Told) (mid new : Option Told) → Tells lists one t mid → CutIn lists q mid new
+cut_both : (lists : List (List InstructionEntry)) (one : List Step) (q : Plan) (t : Told) (mid new : Option Told) → Tells lists one t mid → CutIn lists q mid new
     → IsCutShort (device_calls lists (one ++ q (after_steps one (device_of t))) (device_of t)) t new
 cut_both lists one q t mid new first over =
     let u = told_by lists one t in
@@ -117,7 +117,7 @@ cut_both lists one q t mid new first over =
     off_as (device_calls lists one (device_of t) ++ device_calls lists two (device_of u)) (device_calls lists (one ++ two) (device_of t)) t new (sym (calls_both lists one two t))
     (off_after (device_calls lists one (device_of t)) (device_calls lists two (device_of u)) t u new refl second)
 
-cut_more : (lists : List (List Entry)) (some all : List Step) (t : Told) (new : Option Told) → IsBeginning some all → IsCutShort (device_calls lists some (device_of t)) t new
+cut_more : (lists : List (List InstructionEntry)) (some all : List Step) (t : Told) (new : Option Told) → IsBeginning some all → IsCutShort (device_calls lists some (device_of t)) t new
     → IsCutShort (device_calls lists all (device_of t)) t new
 cut_more lists some all t new begins cut =
     let later = device_calls lists begins.0 (device_of (told_by lists some t)) in
@@ -126,7 +126,7 @@ cut_more lists some all t new begins cut =
     (off_more (device_calls lists some (device_of t)) later t new cut)
 
 -- some actions of a list were done
-begun_some : (lists : List (List Entry)) (some all : List Step) (t : Told) (new : Option Told) → IsBeginning some all → HasCall (device_calls lists some (device_of t)) → new ≡ Some (told_by lists some t)
+begun_some : (lists : List (List InstructionEntry)) (some all : List Step) (t : Told) (new : Option Told) → IsBeginning some all → HasCall (device_calls lists some (device_of t)) → new ≡ Some (told_by lists some t)
     → Begins (device_calls lists all (device_of t)) t new
 begun_some lists some all t new begins has is = record {
   done = device_calls lists some (device_of t);
@@ -151,7 +151,7 @@ begun_after first calls t u new is begun = record {
 
 -- ---- two plans
 
-module _ (lists : List (List Entry)) (p q : Plan) (told mid : Option Told) (first : Over (λ t. Tells lists (p (device_of t)) t mid) told) where
+module _ (lists : List (List InstructionEntry)) (p q : Plan) (told mid : Option Told) (first : Over (λ t. Tells lists (p (device_of t)) t mid) told) where
   store_first : (x y : List Stored) → StoreIn p told x y → StoreIn (both_plans p q) told x y
   store_first x y is = by told is
     where
@@ -175,7 +175,7 @@ module _ (lists : List (List Entry)) (p q : Plan) (told mid : Option Told) (firs
                 (subst (λ (d : Device). ComesThrough (q d) d z) tells.device through))
           ])
 
-module _ (lists : List (List Entry)) (p q : Plan) (a b c : Seen) (one : Done lists p a b) where
+module _ (lists : List (List InstructionEntry)) (p q : Plan) (a b c : Seen) (one : Done lists p a b) where
   pub well_then : GoesWell (StoreIn q b.told) b c → GoesWell (StoreIn (both_plans p q) a.told) a c
   well_then two = well_both (StoreIn p a.told) (StoreIn (both_plans p q) a.told) (store_first lists p q a.told b.told one.tells)
       (StoreIn q b.told) (store_both lists p q a.told b.told one.tells) a b c one.well two
@@ -221,11 +221,11 @@ module _ (lists : List (List Entry)) (p q : Plan) (a b c : Seen) (one : Done lis
 
 -- ---- the same of another plan
 
-pub cut_as : (lists : List (List Entry)) (p q : Plan) (old new : Option Told) → Over (λ t. IsBeginning (p (device_of t)) (q (device_of t))) old → CutIn lists p old new → CutIn lists q old new
+pub cut_as : (lists : List (List InstructionEntry)) (p q : Plan) (old new : Option Told) → Over (λ t. IsBeginning (p (device_of t)) (q (device_of t))) old → CutIn lists p old new → CutIn lists q old new
 cut_as lists p q None new begins cut = tt
 cut_as lists p q (Some t) new begins cut = λ device. cut_more lists (p (device_of t)) (q (device_of t)) t new (begins device) (cut device)
 
-module _ (lists : List (List Entry)) (p q : Plan) (a b : Seen) where
+module _ (lists : List (List InstructionEntry)) (p q : Plan) (a b : Seen) where
   module _ (begins : Over (λ t. IsBeginning (p (device_of t)) (q (device_of t))) a.told) where
     store_more : (x y : List Stored) → StoreIn p a.told x y → StoreIn q a.told x y
     store_more x y is = by a.told begins is
@@ -259,7 +259,7 @@ module _ (lists : List (List Entry)) (p q : Plan) (a b : Seen) where
       by (Some t) same tells = λ device. subst (λ (steps : List Step). Tells lists steps t b.told) (same device) (tells device)
 
 -- no action at all
-pub nothing_done : (lists : List (List Entry)) (a : Seen) → Done lists (λ d. []) a a
+pub nothing_done : (lists : List (List InstructionEntry)) (a : Seen) → Done lists (λ d. []) a a
 unfolding device_calls after_steps
 nothing_done lists a = record { well = none_made (StoreIn (λ d. []) a.told) (λ x. same a.told x) a; tells = by a.told refl }
   where
@@ -294,13 +294,13 @@ over_both_device P Q R None p q both = tt
 over_both_device P Q R (Some t) p q both = λ device. both t device (p device) (q device)
 
 -- a plan was done that is a beginning of another
-pub begun_of : (lists : List (List Entry)) (p q : Plan) (a b : Seen) → Over (λ t. IsBeginning (p (device_of t)) (q (device_of t))) a.told
+pub begun_of : (lists : List (List InstructionEntry)) (p q : Plan) (a b : Seen) → Over (λ t. IsBeginning (p (device_of t)) (q (device_of t))) a.told
     → ((d : Device) → HasCall (device_calls lists (p d) d)) → Done lists p a b → Over (λ t. Begins (device_calls lists (q (device_of t)) (device_of t)) t b.told) a.told
 begun_of lists p q a b begins has done = over_both (λ t. IsBeginning (p (device_of t)) (q (device_of t))) (λ t. Tells lists (p (device_of t)) t b.told) _ a.told begins done.tells
     (λ t begins tells. begun_some lists (p (device_of t)) (q (device_of t)) t b.told begins (has (device_of t)) tells.told)
 
 -- what holds of the device after a plan
-pub over_after : (lists : List (List Entry)) (p : Plan) (a b : Seen) → Done lists p a b → (Q : Device → Type 0) → Over (λ t. Q (device_of t)) b.told
+pub over_after : (lists : List (List InstructionEntry)) (p : Plan) (a b : Seen) → Done lists p a b → (Q : Device → Type 0) → Over (λ t. Q (device_of t)) b.told
     → Over (λ t. Q (after_steps (p (device_of t)) (device_of t))) a.told
 over_after lists p a b one Q over = by a.told one.tells
   where
@@ -312,7 +312,7 @@ over_after lists p a b one Q over = by a.told one.tells
 
 -- ---- one action more, which is refused
 
-module _ (lists : List (List Entry)) (p q : Plan) (s : Step) (a b c : Seen) (one : Done lists p a b)
+module _ (lists : List (List InstructionEntry)) (p q : Plan) (s : Step) (a b c : Seen) (one : Done lists p a b)
     (begins : Over (λ t. IsBeginning (p (device_of t) ++ s ∷ []) (q (device_of t))) a.told) where
   fails_more_so : FailsIn lists (λ d. s ∷ []) b c → FailsIn lists q a c
   fails_more_so fails = fails_as lists (both_plans p (λ d. s ∷ [])) q a c begins (fails_then lists p (λ d. s ∷ []) a b c one fails)
@@ -342,7 +342,7 @@ part_begins i z steps inside = (
   ap (λ (some : List Step). some ++ drop (suc i) steps) (take_one i z steps inside) ∙ take-append-drop (suc i) steps,
 )
 
-module _ (lists : List (List Entry)) (steps : List Step) (i : ℕ) (z : Step) (a b c : Seen) (inside : i < length steps)
+module _ (lists : List (List InstructionEntry)) (steps : List Step) (i : ℕ) (z : Step) (a b c : Seen) (inside : i < length steps)
     (one : Done lists (λ d. take i steps) a b) where
   pub one_more : (value : ℕ) → Acted lists (get_or steps i z) value b c → Done lists (λ d. take (i + 1) steps) a c
   one_more value acted = let next : suc i ≡ i + 1 = omega arith in done_as lists (λ d. take i steps ++ get_or steps i z ∷ []) (λ d. take (i + 1) steps) a c

@@ -13,7 +13,7 @@ use Rattle.erst_store.specs.DeviceLaws.{IsDevice}
 use Rattle.board_core.specs.Clock.{Passes, LeftNow}
 use Rattle.board_core.specs.Stop.{Left, InStore}
 use Rattle.board_core.specs.Told.{Told, device_of, Relates}
-use Rattle.erst_interp.specs.declared.entries.Entry.{Entry}
+use Rattle.erst_interp.specs.declared.entries.InstructionEntry.{InstructionEntry}
 use Rattle.erst_interp.specs.Run.{Keeps, IsCutShort, acts_of}
 use Rattle.board_core.specs.Doing.{DeviceCall, Seen, after_acts, range_read}
 use Rattle.erst_interp.specs.Steps.{Fails}
@@ -175,7 +175,7 @@ holds_record id d buffer device answer is =
 
 -- ---- an operation and the read after it
 
-pub operate_refused : (lists : List (List Entry)) (steps : List Step) (buffer : List ℕ) (a b : Seen) (why : DriverRefused)
+pub operate_refused : (lists : List (List InstructionEntry)) (steps : List Step) (buffer : List ℕ) (a b : Seen) (why : DriverRefused)
     → Operates lists (actions_of steps) (answer_of steps) (Err why) a b → Reads lists steps buffer (Err why) a b
 operate_refused lists steps buffer a b Register fails = record {
   fails = fails.fails;
@@ -185,7 +185,7 @@ operate_refused lists steps buffer a b Busy operates = operates
 operate_refused lists steps buffer a b (EndedWith code) operates = operates
 operate_refused lists steps buffer a b NoMemory operates = absurd operates
 
-pub fetch_failed : (lists : List (List Entry)) (steps : List Step) (a b c : Seen) → Answered lists (actions_of steps) (answer_of steps) (Ok tt) a b
+pub fetch_failed : (lists : List (List InstructionEntry)) (steps : List Step) (a b c : Seen) → Answered lists (actions_of steps) (answer_of steps) (Ok tt) a b
     → IfSome b.told (λ t. IsCutShort (range_read 0 range_length ∷ []) t c.told) → Fails Unchanged b c → FailsFetch lists steps a c
 fetch_failed lists steps a b c one breaks fails = record {
   fails = well_fails (StoreIn (actions_of steps) a.told) (StoreIn (actions_of steps) a.told) (λ x y is. is) Unchanged
@@ -197,7 +197,7 @@ fetch_failed lists steps a b c one breaks fails = record {
       subst (λ (x : Answer). IsCutShort (calls ++ fetch_calls x) t c.told) is (off_after calls (range_read 0 range_length ∷ []) t u c.told refl off)));
 }
 
-module _ (lists : List (List Entry)) (id : ℕ) (buffer : List ℕ) (a b : Seen) where
+module _ (lists : List (List InstructionEntry)) (id : ℕ) (buffer : List ℕ) (a b : Seen) where
   gives_on : (why : DriverRefused) → Over (λ t. Err why ≡ answer_of (read_steps id) (device_of t)) a.told → Over (λ t. Err why ≡ answer_on_found id (device_of t)) a.told
   gives_on why answers = over_device _ _ a.told answers (λ t device is. is ∙ read_answers id (device_of t) device)
 

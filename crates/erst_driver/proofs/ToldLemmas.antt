@@ -2,7 +2,7 @@
 use Rattle.std.proofs.Common.{◌≡◌, ◌∙◌, ◌<◌, ◌≤◌, ◌^◌, ℕ, zero, suc, length, List, [], ◌∷◌, ◌++◌, refl, sym, ap, subst, arith}
 use Rattle.board_core.specs.Told.{Told, after_put, after_range_write, after_reg_write, device_of, on_device, register_in, with_access}
 use Rattle.erst_store.specs.DeviceLaws.{IsDevice}
-use Rattle.erst_interp.specs.declared.entries.Entry.{Entry}
+use Rattle.erst_interp.specs.declared.entries.InstructionEntry.{InstructionEntry}
 use Rattle.erst_interp.specs.Admission.{IsAdmittedTable}
 use Rattle.erst_interp.specs.Faithful.{device_after}
 use Rattle.erst_interp.specs.Table.{list_of}
@@ -30,7 +30,7 @@ use Rattle.erst_store.specs.Actions.{get_record_count, range_length}
 use Rattle.erst_store.specs.Device.{Device, Volatile, device_with, header_length, length_place, volatile_of}
 use Rattle.erst_store.specs.Store.{Stored, without}
 
-pub told_device : (lists : List (List Entry)) (steps : List Step) (t : Told) → IsAdmittedTable lists → AreInside steps → IsDevice (device_of t)
+pub told_device : (lists : List (List InstructionEntry)) (steps : List Step) (t : Told) → IsAdmittedTable lists → AreInside steps → IsDevice (device_of t)
     → device_of (told_by lists steps t) ≡ after_steps steps (device_of t)
 unfolding device_calls after_steps
 told_device lists [] t admitted inside device = refl
@@ -81,12 +81,12 @@ calls_keep : (calls : List DeviceCall) (one other : Told) → KeepsDevice one ot
 calls_keep [] one other keeps = keeps
 calls_keep (call ∷ calls) one other keeps = calls_keep calls (after_device call one) (after_device call other) (call_keeps call one other keeps)
 
-pub told_keeps : (lists : List (List Entry)) (steps : List Step) (one other : Told) → KeepsDevice one other → KeepsDevice (told_by lists steps one) (told_by lists steps other)
+pub told_keeps : (lists : List (List InstructionEntry)) (steps : List Step) (one other : Told) → KeepsDevice one other → KeepsDevice (told_by lists steps one) (told_by lists steps other)
 told_keeps lists steps one other keeps =
     subst (λ (d : Device). KeepsDevice (told_by lists steps one) (after_acts (acts_of (device_calls lists steps d)) other)) (sym (same_device one other keeps))
     (calls_keep (device_calls lists steps (device_of one)) one other keeps)
 
-pub told_adds : (lists : List (List Entry)) (steps : List Step) (t : Told) → (more : List Access) × ((told_by lists steps t).accesses ≡ t.accesses ++ more)
+pub told_adds : (lists : List (List InstructionEntry)) (steps : List Step) (t : Told) → (more : List Access) × ((told_by lists steps t).accesses ≡ t.accesses ++ more)
 told_adds lists steps t =
     let acts = acts_of (device_calls lists steps (device_of t)) in
     (accesses_of acts t, accesses_by_acts acts t)
@@ -112,13 +112,13 @@ listings_inside (suc count) = (inside _ _ (omega arith) (omega arith), listings_
 pub operation_inside : (steps : List Step) (d : Device) → AreInside steps → AreInside (actions_of steps d)
 operation_inside steps d are = inside_both steps (finishes (after_steps steps d).busy) are (finishes_inside (after_steps steps d).busy)
 
-pub clear_after : (lists : List (List Entry)) (id : ℕ) (t : Told) → IsAdmittedTable lists → id < 2 ^ 64 → IsDevice (device_of t)
+pub clear_after : (lists : List (List InstructionEntry)) (id : ℕ) (t : Told) → IsAdmittedTable lists → id < 2 ^ 64 → IsDevice (device_of t)
     → (after_acts (acts_of (clear_calls lists id (device_of t))) t).here.store ≡ without id t.here.store
 clear_after lists id t admitted fits device =
     let steps = actions_of (clear_steps id) (device_of t) in
     ap (λ (d : Device). d.store) (told_device lists steps t admitted (operation_inside (clear_steps id) (device_of t) (clear_inside id fits)) device) ∙ clear_store id (device_of t)
 
-pub write_after : (lists : List (List Entry)) (bytes : List ℕ) (t : Told) → header_length ≤ length bytes → length bytes ≤ range_length → number_at length_place 4 bytes ≡ length bytes
+pub write_after : (lists : List (List InstructionEntry)) (bytes : List ℕ) (t : Told) → header_length ≤ length bytes → length bytes ≤ range_length → number_at length_place 4 bytes ≡ length bytes
     → IsAdmittedTable lists → AreBytes bytes → IsDevice (device_of t) → (after_acts (acts_of (write_calls lists bytes (device_of t))) t).here.store ≡ store_after_write bytes t.here.store
 write_after lists bytes t long short whole admitted are device =
     let u = put_in_range bytes t in

@@ -5,7 +5,7 @@ use Rattle.std.specs.Prelude.{Ok, Err}
 use Rattle.erst_store.specs.Actions.{check_busy_status}
 use Rattle.erst_store.specs.Device.{Device, act}
 use Rattle.board_core.specs.Told.{device_of}
-use Rattle.erst_interp.specs.declared.entries.Entry.{Entry}
+use Rattle.erst_interp.specs.declared.entries.InstructionEntry.{InstructionEntry}
 use Rattle.erst_interp.specs.Faithful.{answer_after}
 use Rattle.board_core.specs.Doing.{Seen}
 use Rattle.erst_driver.specs.declared.refusals.DriverRefused.{DriverRefused}
@@ -105,11 +105,11 @@ begins_asks most busy count within inside = by (nat_lt busy most)
 -- ---- the loop
 
 -- So many checks were made, each of which answered that the device is busy.
-pub record Waiting (lists : List (List Entry)) (count : ℕ) (a b : Seen) : Type 0 where
+pub record Waiting (lists : List (List InstructionEntry)) (count : ℕ) (a b : Seen) : Type 0 where
   pub done : Done lists (λ d. checks count) a b
   pub busy : Over (λ t. count ≤ (device_of t).busy) a.told
 
-module _ (most : ℕ) (lists : List (List Entry)) (count : ℕ) (a b c : Seen) (waiting : Waiting lists count a b) (inside : count < most) where
+module _ (most : ℕ) (lists : List (List InstructionEntry)) (count : ℕ) (a b c : Seen) (waiting : Waiting lists count a b) (inside : count < most) where
   more : Over (λ t. IsBeginning (checks count ++ check ∷ []) (asks_within most (device_of t).busy)) a.told
   more = over_more (λ t. count ≤ (device_of t).busy) _ a.told waiting.busy (λ t within. begins_asks most (device_of t).busy count within inside)
 
@@ -147,10 +147,10 @@ module _ (most : ℕ) (lists : List (List Entry)) (count : ℕ) (a b c : Seen) (
           ap (λ (b : Bool). if b then Ok tt else Err Busy) (sym free)));
     }
 
-pub wait_begins : (lists : List (List Entry)) (a : Seen) → Done lists (λ d. []) a a → Waiting lists 0 a a
+pub wait_begins : (lists : List (List InstructionEntry)) (a : Seen) → Done lists (λ d. []) a a → Waiting lists 0 a a
 wait_begins lists a none = record { done = none; busy = everywhere _ a.told (λ t. omega arith) }
 
-pub wait_gives_up : (most : ℕ) (lists : List (List Entry)) (count : ℕ) (a b : Seen) → Waiting lists count a b → count ≡ most
+pub wait_gives_up : (most : ℕ) (lists : List (List InstructionEntry)) (count : ℕ) (a b : Seen) → Waiting lists count a b → count ≡ most
     → Operates lists (λ d. asks_within most d.busy) (λ d. answers_within most d.busy) (Err Busy) a b
 wait_gives_up most lists count a b waiting is = record {
   done = done_as lists (λ d. checks count) (λ d. asks_within most d.busy) a b

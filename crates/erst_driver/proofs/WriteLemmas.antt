@@ -16,7 +16,7 @@ use Rattle.erst_store.specs.KeptLemmas.{IsDevice-range}
 use Rattle.board_core.specs.Clock.{Passes, LeftNow}
 use Rattle.board_core.specs.Stop.{Left, InStore}
 use Rattle.board_core.specs.Told.{Told, device_of, Relates, Steps}
-use Rattle.erst_interp.specs.declared.entries.Entry.{Entry}
+use Rattle.erst_interp.specs.declared.entries.InstructionEntry.{InstructionEntry}
 use Rattle.erst_interp.specs.Run.{Keeps, IsCutShort}
 use Rattle.board_core.specs.Doing.{Seen, range_write}
 use Rattle.erst_interp.specs.Steps.{GoesWell, Fails, Stays}
@@ -121,7 +121,7 @@ module _ (bytes : List ℕ) (long : header_length ≤ length bytes) (short : len
         ]
   ]
 
-  module _ (lists : List (List Entry)) (a b : Seen) where
+  module _ (lists : List (List InstructionEntry)) (a b : Seen) where
     gives : (result : Answer) → Written lists bytes result a b → Over (λ t. result ≡ answer_on_put (written_id bytes) (device_of t)) a.told
     gives result written = over_more _ _ a.told written.answers (λ t is. is ∙ answer_is write_steps (device_of (put_in_range bytes t)) (put_status (written_id bytes) t.here.store)
         (store_after_write bytes t.here.store) (write_carries t))
@@ -145,7 +145,7 @@ module _ (bytes : List ℕ) (long : header_length ≤ length bytes) (short : len
     write_puts result device writes law = passes_at (StoreInWrite bytes a.told) (Puts bytes a.told) a.told a.clock b.clock law
         (λ x y. write_stops a.told x y device) (passes result writes)
 
-module _ (bytes : List ℕ) (lists : List (List Entry)) (a b : Seen) where
+module _ (bytes : List ℕ) (lists : List (List InstructionEntry)) (a b : Seen) where
   pub write_told : (result : Answer) → Writes lists bytes result a b → Over (λ t. Leaves result t b.told (write_calls lists bytes (device_of t))) a.told
   write_told (Ok done) writes = over_more _ _ a.told writes.tells (λ t tells. tells.told)
   write_told (Err Register) writes = writes.cut

@@ -8,7 +8,7 @@ use Rattle.erst_store.specs.Store.{Stored, holds, bytes_under, with_record, is_r
 use Rattle.erst_store.specs.Device.{Device, status_number, id_place}
 use Rattle.board_core.specs.Cause.{Faults, device_call}
 use Rattle.board_core.specs.Doing.{DeviceCall, Does, Ended, Raises, Seen, broke, ended_by, went_well}
-use Rattle.erst_interp.specs.declared.entries.Entry.{Entry}
+use Rattle.erst_interp.specs.declared.entries.InstructionEntry.{InstructionEntry}
 use Rattle.erst_interp.specs.Run.{acts_of}
 use Rattle.erst_driver.specs.declared.refusals.DriverRefused.{DriverRefused}
 use Rattle.erst_driver.specs.declared.refusals.DriverRefused.TheVariants.{Register, Busy, NoMemory, Status as EndedWith}
@@ -48,7 +48,7 @@ answer_on_found id d =
     if is_free_in_time d.slow then by_status (found_status id d.store) else Err Busy
 
 -- a read's calls: one that ends well reads the range too
-abbrev pub read_calls : List (List Entry) → ℕ → Device → List DeviceCall
+abbrev pub read_calls : List (List InstructionEntry) → ℕ → Device → List DeviceCall
 read_calls lists id d = device_calls lists (actions_of (read_steps id) d) d ++ fetch_calls (answer_on_found id d)
 
 -- the identifier in the header of a record's bytes

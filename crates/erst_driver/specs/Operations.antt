@@ -8,7 +8,7 @@ use Rattle.erst_store.specs.DeviceLaws.{left_to_list}
 use Rattle.erst_store.specs.Store.{most_records}
 use Rattle.board_core.specs.Doing.{DeviceCall, after_acts, range_read, range_write}
 use Rattle.board_core.specs.Told.{Told, device_of, after_range_write}
-use Rattle.erst_interp.specs.declared.entries.Entry.{Entry}
+use Rattle.erst_interp.specs.declared.entries.InstructionEntry.{InstructionEntry}
 use Rattle.erst_interp.specs.Faithful.{device_after, input_limit}
 use Rattle.erst_interp.specs.Machine.{End, end_of}
 use Rattle.erst_interp.specs.Run.{acts_of, told_after}
@@ -87,19 +87,19 @@ after_steps [] d = d
 after_steps (s ∷ steps) d = after_steps steps (after_step s d)
 
 -- the run of an action's list by the machine
-abbrev pub end_by : List (List Entry) → Step → Device → End
+abbrev pub end_by : List (List InstructionEntry) → Step → Device → End
 end_by lists s d = end_of (list_of s.action lists) s.input d
 
 -- the calls of the device that these runs make, one run after another
-unfoldable pub device_calls : List (List Entry) → List Step → Device → List DeviceCall
+unfoldable pub device_calls : List (List InstructionEntry) → List Step → Device → List DeviceCall
 device_calls lists [] d = []
 device_calls lists (s ∷ steps) d = (end_by lists s d).state.calls ++ device_calls lists steps (end_by lists s d).state.device
 
 -- what a board tells after them
-abbrev pub told_by_step : List (List Entry) → Step → Told → Told
+abbrev pub told_by_step : List (List InstructionEntry) → Step → Told → Told
 told_by_step lists s t = told_after (end_by lists s (device_of t)).state t
 
-abbrev pub told_by : List (List Entry) → List Step → Told → Told
+abbrev pub told_by : List (List InstructionEntry) → List Step → Told → Told
 told_by lists steps t = after_acts (acts_of (device_calls lists steps (device_of t))) t
 
 -- all actions of an operation that goes so, over a device
@@ -108,7 +108,7 @@ actions_of steps d = steps ++ finishes (after_steps steps d).busy
 
 -- ---- the calls of the operations
 
-abbrev pub clear_calls : List (List Entry) → ℕ → Device → List DeviceCall
+abbrev pub clear_calls : List (List InstructionEntry) → ℕ → Device → List DeviceCall
 clear_calls lists id d = device_calls lists (actions_of (clear_steps id) d) d
 
 -- what is read of the range after an operation that comes to this answer
@@ -120,9 +120,9 @@ fetch_calls (Err why) = []
 abbrev pub put_in_range : List ℕ → Told → Told
 put_in_range bytes t = after_acts (acts_of (range_write 0 bytes ∷ [])) t
 
-abbrev pub write_calls : List (List Entry) → List ℕ → Device → List DeviceCall
+abbrev pub write_calls : List (List InstructionEntry) → List ℕ → Device → List DeviceCall
 write_calls lists bytes d =
     range_write 0 bytes ∷ device_calls lists (actions_of write_steps (after_range_write 0 bytes d)) (after_range_write 0 bytes d)
 
-abbrev pub list_calls : List (List Entry) → Device → List DeviceCall
+abbrev pub list_calls : List (List InstructionEntry) → Device → List DeviceCall
 list_calls lists d = device_calls lists (ids_steps d) d

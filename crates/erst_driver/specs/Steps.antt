@@ -5,7 +5,7 @@ use Rattle.erst_store.specs.Device.{Device}
 use Rattle.erst_store.specs.DeviceLaws.{IsDevice, left_to_list}
 use Rattle.board_core.specs.Stop.{Becomes}
 use Rattle.board_core.specs.Told.{Told, device_of}
-use Rattle.erst_interp.specs.declared.entries.Entry.{Entry}
+use Rattle.erst_interp.specs.declared.entries.InstructionEntry.{InstructionEntry}
 use Rattle.erst_interp.specs.Admission.{IsAdmittedTable}
 use Rattle.erst_interp.specs.Faithful.{answer_after}
 use Rattle.erst_interp.specs.Run.{IsCutShort, acts_of}
@@ -23,16 +23,16 @@ Over P None = Unit {0}
 Over P (Some t) = IsDevice (device_of t) → P t
 
 -- What was told is a device, as it is if a call of the device was made by an admitted table.
-pub record HasDevice (lists : List (List Entry)) (told : Option Told) : Type 0 where
+pub record HasDevice (lists : List (List InstructionEntry)) (told : Option Told) : Type 0 where
   pub admitted : IsAdmittedTable lists
   pub device : IfSome told (λ t. IsDevice (device_of t))
 
 -- so many actions, of which none failed
-abbrev pub Called : List (List Entry) → ℕ → Option Told → Option Told → Type 0
+abbrev pub Called : List (List InstructionEntry) → ℕ → Option Told → Option Told → Type 0
 Called lists count old new = ((count ≡ 0) × (new ≡ old)) ⊎ HasDevice lists old
 
 -- Several actions, maybe none, or up to one that failed.
-abbrev pub CalledAs : {T E : Type 0} → List (List Entry) → Result T E → Option Told → Option Told → Type 0
+abbrev pub CalledAs : {T E : Type 0} → List (List InstructionEntry) → Result T E → Option Told → Option Told → Type 0
 CalledAs lists (Ok x) old new = (new ≡ old) ⊎ HasDevice lists old
 CalledAs lists (Err e) old new = HasDevice lists old
 
@@ -98,21 +98,21 @@ abbrev pub answers_within : ℕ → ℕ → Result (Unit {0}) DriverRefused
 answers_within most busy = if nat_lt busy most then Ok tt else Err Busy
 
 -- what is told after actions that were done
-pub record Tells (lists : List (List Entry)) (steps : List Step) (t : Told) (new : Option Told) : Type 0 where
+pub record Tells (lists : List (List InstructionEntry)) (steps : List Step) (t : Told) (new : Option Told) : Type 0 where
   pub told : new ≡ Some (told_by lists steps t)
   pub device : device_of (told_by lists steps t) ≡ after_steps steps (device_of t)
   pub is : IsDevice (after_steps steps (device_of t))
 
 -- A plan was done, and no call failed; or a call failed on the way.
-pub record Done (lists : List (List Entry)) (plan : Plan) (old new : Seen) : Type 0 where
+pub record Done (lists : List (List InstructionEntry)) (plan : Plan) (old new : Seen) : Type 0 where
   pub well : GoesWell (StoreIn plan old.told) old new
   pub tells : Over (λ t. Tells lists (plan (device_of t)) t new.told) old.told
 
 -- what is told of a plan in which a call failed
-abbrev pub CutIn : List (List Entry) → Plan → Option Told → Option Told → Type 0
+abbrev pub CutIn : List (List InstructionEntry) → Plan → Option Told → Option Told → Type 0
 CutIn lists plan old new = Over (λ t. IsCutShort (device_calls lists (plan (device_of t)) (device_of t)) t new) old
 
-pub record FailsIn (lists : List (List Entry)) (plan : Plan) (old new : Seen) : Type 0 where
+pub record FailsIn (lists : List (List InstructionEntry)) (plan : Plan) (old new : Seen) : Type 0 where
   pub fails : Fails (StoreIn plan old.told) old new
   pub cut : CutIn lists plan old.told new.told
 
@@ -121,33 +121,33 @@ abbrev pub IsBeginning : List Step → List Step → Type 0
 IsBeginning some all = (rest : List Step) × (some ++ rest ≡ all)
 
 -- one action, with its answer
-pub record Acted (lists : List (List Entry)) (s : Step) (value : ℕ) (old new : Seen) : Type 0 where
+pub record Acted (lists : List (List InstructionEntry)) (s : Step) (value : ℕ) (old new : Seen) : Type 0 where
   pub done : Done lists (λ d. s ∷ []) old new
   pub gives : Over (λ t. value ≡ answer_after s.action s.input (device_of t)) old.told
 
-abbrev pub Acts : List (List Entry) → Step → Result ℕ DriverRefused → Seen → Seen → Type 0
+abbrev pub Acts : List (List InstructionEntry) → Step → Result ℕ DriverRefused → Seen → Seen → Type 0
 Acts lists s (Ok value) old new = Acted lists s value old new
 Acts lists s (Err Register) old new = FailsIn lists (λ d. s ∷ []) old new
 Acts lists s (Err why) old new = ⊥
 
 -- several actions
-abbrev pub Runs : List (List Entry) → Plan → Result (Unit {0}) DriverRefused → Seen → Seen → Type 0
+abbrev pub Runs : List (List InstructionEntry) → Plan → Result (Unit {0}) DriverRefused → Seen → Seen → Type 0
 Runs lists plan (Ok done) old new = Done lists plan old new
 Runs lists plan (Err Register) old new = FailsIn lists plan old new
 Runs lists plan (Err why) old new = ⊥
 
 -- a plan that was done to its end, with this answer over a board that tells a device
-pub record Answered (lists : List (List Entry)) (plan : Plan) (answer : Device → Result (Unit {0}) DriverRefused) (result : Result (Unit {0}) DriverRefused) (old new : Seen) : Type 0 where
+pub record Answered (lists : List (List InstructionEntry)) (plan : Plan) (answer : Device → Result (Unit {0}) DriverRefused) (result : Result (Unit {0}) DriverRefused) (old new : Seen) : Type 0 where
   pub done : Done lists plan old new
   pub answers : Over (λ t. result ≡ answer (device_of t)) old.told
 
-abbrev pub Operates : List (List Entry) → Plan → (Device → Result (Unit {0}) DriverRefused) → Result (Unit {0}) DriverRefused → Seen → Seen → Type 0
+abbrev pub Operates : List (List InstructionEntry) → Plan → (Device → Result (Unit {0}) DriverRefused) → Result (Unit {0}) DriverRefused → Seen → Seen → Type 0
 Operates lists plan answer (Err Register) old new = FailsIn lists plan old new
 Operates lists plan answer (Err NoMemory) old new = ⊥
 Operates lists plan answer result old new = Answered lists plan answer result old new
 
 -- an operation that was done, and a read of the range after it
-pub record Fetched (lists : List (List Entry)) (steps : List Step) (buffer : List ℕ) (old new : Seen) : Type 0 where
+pub record Fetched (lists : List (List InstructionEntry)) (steps : List Step) (buffer : List ℕ) (old new : Seen) : Type 0 where
   pub well : GoesWell (StoreIn (actions_of steps) old.told) old new
   pub told : Over (λ t. new.told ≡ Some (after_acts (acts_of (fetch_calls (Ok tt))) (told_by lists (actions_of steps (device_of t)) t))) old.told
   pub here : Over (λ t. device_of (told_by lists (actions_of steps (device_of t)) t) ≡ after_steps (actions_of steps (device_of t)) (device_of t)) old.told
@@ -155,11 +155,11 @@ pub record Fetched (lists : List (List Entry)) (steps : List Step) (buffer : Lis
   pub bytes : Over (λ t. buffer ≡ (after_steps (actions_of steps (device_of t)) (device_of t)).range) old.told
 
 -- one in which a call failed, maybe that read
-pub record FailsFetch (lists : List (List Entry)) (steps : List Step) (old new : Seen) : Type 0 where
+pub record FailsFetch (lists : List (List InstructionEntry)) (steps : List Step) (old new : Seen) : Type 0 where
   pub fails : Fails (StoreIn (actions_of steps) old.told) old new
   pub cut : Over (λ t. IsCutShort (device_calls lists (actions_of steps (device_of t)) (device_of t) ++ fetch_calls (answer_of steps (device_of t))) t new.told) old.told
 
-abbrev pub Reads : List (List Entry) → List Step → List ℕ → Result (Unit {0}) DriverRefused → Seen → Seen → Type 0
+abbrev pub Reads : List (List InstructionEntry) → List Step → List ℕ → Result (Unit {0}) DriverRefused → Seen → Seen → Type 0
 Reads lists steps buffer (Ok done) old new = Fetched lists steps buffer old new
 Reads lists steps buffer (Err Register) old new = FailsFetch lists steps old new
 Reads lists steps buffer (Err why) old new = Operates lists (actions_of steps) (answer_of steps) (Err why) old new
@@ -172,45 +172,45 @@ Quietly None old new = Unit {0}
 Quietly (Some t) old new = IsDevice (device_of t) → (new ≡ old) ⊎ (new ≡ t.here.store)
 
 -- a listing in which a call failed
-pub record FailsQuietly (lists : List (List Entry)) (plan : Plan) (old new : Seen) : Type 0 where
+pub record FailsQuietly (lists : List (List InstructionEntry)) (plan : Plan) (old new : Seen) : Type 0 where
   pub fails : Fails (Quietly old.told) old new
   pub cut : CutIn lists plan old.told new.told
 
 -- a listing that came to its end
-pub record EndsListing (lists : List (List Entry)) (old new : Seen) : Type 0 where
+pub record EndsListing (lists : List (List InstructionEntry)) (old new : Seen) : Type 0 where
   pub done : Done lists (λ d. listings (left_to_list d)) old new
   pub cursor : Over (λ t. (after_steps (listings (left_to_list (device_of t))) (device_of t)).cursor ≡ 0) old.told
   pub store : Over (λ t. (after_steps (listings (left_to_list (device_of t))) (device_of t)).store ≡ t.here.store) old.told
 
-abbrev pub ListsOut : List (List Entry) → Result (Unit {0}) DriverRefused → Seen → Seen → Type 0
+abbrev pub ListsOut : List (List InstructionEntry) → Result (Unit {0}) DriverRefused → Seen → Seen → Type 0
 ListsOut lists (Ok done) old new = EndsListing lists old new
 ListsOut lists (Err Register) old new = FailsQuietly lists (λ d. listings (left_to_list d)) old new
 ListsOut lists (Err why) old new = ⊥
 
 -- a listing during which memory ran out
-pub record Starves (lists : List (List Entry)) (plan : Plan) (old new : Seen) : Type 0 where
+pub record Starves (lists : List (List InstructionEntry)) (plan : Plan) (old new : Seen) : Type 0 where
   pub well : GoesWell (Quietly old.told) old new
   pub begun : Over (λ t. Begins (device_calls lists (plan (device_of t)) (device_of t)) t new.told) old.told
 
 -- identifiers that were collected
-pub record Collected (lists : List (List Entry)) (found : List ℕ) (old new : Seen) : Type 0 where
+pub record Collected (lists : List (List InstructionEntry)) (found : List ℕ) (old new : Seen) : Type 0 where
   pub done : Done lists (λ d. listings (min (left_to_list d) most_records)) old new
   pub few : length found ≤ most_records
   pub found_is : Over (λ t. found ≡ take most_records (drop (device_of t).cursor (ids t.here.store))) old.told
 
-abbrev pub Collects : {X : Type 0} → (X → List ℕ) → List (List Entry) → Result X DriverRefused → Seen → Seen → Type 0
+abbrev pub Collects : {X : Type 0} → (X → List ℕ) → List (List InstructionEntry) → Result X DriverRefused → Seen → Seen → Type 0
 Collects view lists (Ok found) old new = Collected lists (view found) old new
 Collects view lists (Err Register) old new = FailsQuietly lists (λ d. listings (min (left_to_list d) most_records)) old new
 Collects view lists (Err NoMemory) old new = Starves lists (λ d. listings (min (left_to_list d) most_records)) old new
 Collects view lists (Err why) old new = ⊥
 
 -- all identifiers of a store
-pub record ListedAll (lists : List (List Entry)) (found : List ℕ) (old new : Seen) : Type 0 where
+pub record ListedAll (lists : List (List InstructionEntry)) (found : List ℕ) (old new : Seen) : Type 0 where
   pub done : Done lists ids_steps old new
   pub few : length found ≤ most_records
   pub found_is : Over (λ t. found ≡ ids t.here.store) old.told
 
-abbrev pub ListsAll : {X : Type 0} → (X → List ℕ) → List (List Entry) → Result X DriverRefused → Seen → Seen → Type 0
+abbrev pub ListsAll : {X : Type 0} → (X → List ℕ) → List (List InstructionEntry) → Result X DriverRefused → Seen → Seen → Type 0
 ListsAll view lists (Ok found) old new = ListedAll lists (view found) old new
 ListsAll view lists (Err Register) old new = FailsQuietly lists ids_steps old new
 ListsAll view lists (Err NoMemory) old new = Starves lists ids_steps old new
@@ -227,17 +227,17 @@ StoreInWrite bytes (Some t) old new =
     ⊎ ComesThrough (actions_of write_steps (device_of (put_in_range bytes t))) (device_of (put_in_range bytes t)) new
 
 -- bytes were written into the range, and a write was done
-pub record Written (lists : List (List Entry)) (bytes : List ℕ) (result : Result (Unit {0}) DriverRefused) (old new : Seen) : Type 0 where
+pub record Written (lists : List (List InstructionEntry)) (bytes : List ℕ) (result : Result (Unit {0}) DriverRefused) (old new : Seen) : Type 0 where
   pub well : GoesWell (StoreInWrite bytes old.told) old new
   pub tells : Over (λ t. Tells lists (actions_of write_steps (device_of (put_in_range bytes t))) (put_in_range bytes t) new.told) old.told
   pub answers : Over (λ t. result ≡ answer_of write_steps (device_of (put_in_range bytes t))) old.told
 
 -- a call failed, maybe the one that writes the bytes
-pub record FailsWrite (lists : List (List Entry)) (bytes : List ℕ) (old new : Seen) : Type 0 where
+pub record FailsWrite (lists : List (List InstructionEntry)) (bytes : List ℕ) (old new : Seen) : Type 0 where
   pub fails : Fails (StoreInWrite bytes old.told) old new
   pub cut : Over (λ t. IsCutShort (write_calls lists bytes (device_of t)) t new.told) old.told
 
-abbrev pub Writes : List (List Entry) → List ℕ → Result (Unit {0}) DriverRefused → Seen → Seen → Type 0
+abbrev pub Writes : List (List InstructionEntry) → List ℕ → Result (Unit {0}) DriverRefused → Seen → Seen → Type 0
 Writes lists bytes (Err Register) old new = FailsWrite lists bytes old new
 Writes lists bytes (Err NoMemory) old new = ⊥
 Writes lists bytes result old new = Written lists bytes result old new

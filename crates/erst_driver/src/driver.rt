@@ -47,10 +47,10 @@ pub struct Driver {
 
 impl Model for Driver {
     ghost use Rattle.std.specs.Prelude.{List};
-    ghost use Rattle.erst_interp.specs.declared.entries.Entry.{Entry};
+    ghost use Rattle.erst_interp.specs.declared.entries.InstructionEntry.{InstructionEntry};
     ghost use Rattle.erst_interp.specs.Admission.{IsAdmittedTable};
 
-    ghost Value = { List (List Entry) };
+    ghost Value = { List (List InstructionEntry) };
 
     ghost view = { λ d. d.table };
 

@@ -14,7 +14,7 @@ ghost use Rattle.erst_driver.specs.Answers.{read_calls, store_after_write};
 ghost use Rattle.board_core.specs.Told.{Told, device_of};
 ghost use Rattle.erst_store.specs.DeviceLaws.{IsDevice};
 ghost use Rattle.erst_store.specs.declared.store.TheConstants.{MOST_RECORDS};
-ghost use Rattle.erst_interp.specs.declared.entries.Entry.{Entry};
+ghost use Rattle.erst_interp.specs.declared.entries.InstructionEntry.{InstructionEntry};
 ghost use Rattle.erst_interp.specs.Admission.{IsAdmittedTable};
 ghost use Rattle.erst_driver.specs.declared.driver.TheConstants.{MOST_CHECKS, MOST_LISTINGS};
 ghost use Rattle.erst_driver.specs.declared.step.Step.{Step};
@@ -24,13 +24,13 @@ ghost use Rattle.erst_driver.specs.Operations.{AreInside, after_steps, clear_cal
 /// whatever the table. What else is told decides nothing, and accesses are only added. The function
 /// does nothing.
 pub fn told_by_is_of_the_device()
-    ensures device { (lists : List (List Entry)) (steps : List Step) (t : Told)
+    ensures device { (lists : List (List InstructionEntry)) (steps : List Step) (t : Told)
         → IsAdmittedTable lists → AreInside steps → IsDevice (device_of t)
         → device_of (told_by lists steps t) ≡ after_steps steps (device_of t) }
-    ensures keeps { (lists : List (List Entry)) (steps : List Step) (one other : Told)
+    ensures keeps { (lists : List (List InstructionEntry)) (steps : List Step) (one other : Told)
         → KeepsDevice one other
         → KeepsDevice (told_by lists steps one) (told_by lists steps other) }
-    ensures adds { (lists : List (List Entry)) (steps : List Step) (t : Told)
+    ensures adds { (lists : List (List InstructionEntry)) (steps : List Step) (t : Told)
         → (more : List Access) × ((told_by lists steps t).accesses ≡ t.accesses ++ more) }
 {}
 
@@ -38,35 +38,35 @@ pub fn told_by_is_of_the_device()
 /// are done, and what a stop of the machine leaves meanwhile. A clear and a write change the store
 /// at one moment, a read and a listing never. The function does nothing.
 pub fn operations_on_the_store()
-    ensures clear { (lists : List (List Entry)) (t : Told) → IsAdmittedTable lists
+    ensures clear { (lists : List (List InstructionEntry)) (t : Told) → IsAdmittedTable lists
         → IsDevice (device_of t) → (id : ℕ) → id < 2 ^ 64
         → (after_acts (acts_of (clear_calls lists id (device_of t))) t).here
         ≡ record t.here { store = without id t.here.store } }
-    ensures clear_moments { (lists : List (List Entry)) (t : Told) → IsAdmittedTable lists
+    ensures clear_moments { (lists : List (List InstructionEntry)) (t : Told) → IsAdmittedTable lists
         → IsDevice (device_of t) → (id : ℕ) → id < 2 ^ 64 → (left : Left)
         → Moment (acts_of (clear_calls lists id (device_of t))) t left
         → InStore (Becomes (without id t.here.store)) t.here left }
 
-    ensures read { (lists : List (List Entry)) (t : Told) → IsAdmittedTable lists
+    ensures read { (lists : List (List InstructionEntry)) (t : Told) → IsAdmittedTable lists
         → IsDevice (device_of t) → (id : ℕ) → id < 2 ^ 64
         → (after_acts (acts_of (read_calls lists id (device_of t))) t).here ≡ t.here }
-    ensures read_moments { (lists : List (List Entry)) (t : Told) → IsAdmittedTable lists
+    ensures read_moments { (lists : List (List InstructionEntry)) (t : Told) → IsAdmittedTable lists
         → IsDevice (device_of t) → (id : ℕ) → id < 2 ^ 64 → (left : Left)
         → Moment (acts_of (read_calls lists id (device_of t))) t left → left ≡ t.here }
 
-    ensures list { (lists : List (List Entry)) (t : Told) → IsAdmittedTable lists
+    ensures list { (lists : List (List InstructionEntry)) (t : Told) → IsAdmittedTable lists
         → IsDevice (device_of t)
         → (after_acts (acts_of (list_calls lists (device_of t))) t).here ≡ t.here }
-    ensures list_moments { (lists : List (List Entry)) (t : Told) → IsAdmittedTable lists
+    ensures list_moments { (lists : List (List InstructionEntry)) (t : Told) → IsAdmittedTable lists
         → IsDevice (device_of t) → (left : Left)
         → Moment (acts_of (list_calls lists (device_of t))) t left → left ≡ t.here }
 
-    ensures write { (lists : List (List Entry)) (t : Told) → IsAdmittedTable lists
+    ensures write { (lists : List (List InstructionEntry)) (t : Told) → IsAdmittedTable lists
         → IsDevice (device_of t) → (bytes : List ℕ) → header_length ≤ length bytes
         → length bytes ≤ range_length → number_at length_place 4 bytes ≡ length bytes
         → AreBytes bytes → (after_acts (acts_of (write_calls lists bytes (device_of t))) t).here
         ≡ record t.here { store = store_after_write bytes t.here.store } }
-    ensures write_moments { (lists : List (List Entry)) (t : Told) → IsAdmittedTable lists
+    ensures write_moments { (lists : List (List InstructionEntry)) (t : Told) → IsAdmittedTable lists
         → IsDevice (device_of t) → (bytes : List ℕ) → header_length ≤ length bytes
         → length bytes ≤ range_length → number_at length_place 4 bytes ≡ length bytes
         → AreBytes bytes → (left : Left)

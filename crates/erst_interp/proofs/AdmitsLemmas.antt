@@ -3,7 +3,7 @@ use Rattle.std.proofs.Common.{◌≡◌, ◌∙◌, ℕ, zero, suc, ◌≤◌, �
 use Rattle.std.proofs.lemmas.Bool.{cases_lt}
 use Rattle.std.proofs.lemmas.Bool.Decides.{nat_tests}
 use Rattle.std.specs.List.{list_all, range_with_len}
-use Rattle.erst_interp.specs.declared.entries.Entry.{Entry}
+use Rattle.erst_interp.specs.declared.entries.InstructionEntry.{InstructionEntry}
 use Rattle.erst_interp.specs.Admission.{IsAdmitted, IsAdmittedTable}
 use Rattle.erst_interp.specs.Machine.{most_turns}
 use Rattle.erst_interp.specs.Table.{list_of}
@@ -14,12 +14,12 @@ use Rattle.erst_interp.proofs.WalkLemmas.{walk-admits, admitted-walk}
 both : (a b : Bool) → a ≡ true → b ≡ true → (a && b) ≡ true
 both a b x y = rw x y
 
-list_is : (action : ℕ) (list : List Entry) → IsAdmitted action list → is_admitted_list action list ≡ true
+list_is : (action : ℕ) (list : List InstructionEntry) → IsAdmitted action list → is_admitted_list action list ≡ true
 list_is action list is =
     let short = is.short in
     both (nat_le (length list) most_turns) (walks action (first_awaited action) list) (grind (arith, nat_tests, short)) (admitted-walk action list is)
 
-is_list : (action : ℕ) (list : List Entry) → is_admitted_list action list ≡ true → IsAdmitted action list
+is_list : (action : ℕ) (list : List InstructionEntry) → is_admitted_list action list ≡ true → IsAdmitted action list
 is_list action list is =
     let parts = both_true (nat_le (length list) most_turns) (walks action (first_awaited action) list) is in
     let fits = parts.0 in
@@ -40,18 +40,18 @@ in_each p a (suc n) i all from below =
       | inr first ↦ (let same : i ≡ a = omega (arith, from, first) in ap p same ∙ parts.0)
     ]
 
-pub admitted-is : (lists : List (List Entry)) → IsAdmittedTable lists → is_admitted lists ≡ true
+pub admitted-is : (lists : List (List InstructionEntry)) → IsAdmittedTable lists → is_admitted lists ≡ true
 unfolding is_admitted
 admitted-is lists are = each_in (λ action. is_admitted_list action (list_of action lists)) 0 11
     (λ action from below. list_is action (list_of action lists) (are action (omega (arith, below))))
 
-pub is-admitted : (lists : List (List Entry)) → is_admitted lists ≡ true → IsAdmittedTable lists
+pub is-admitted : (lists : List (List InstructionEntry)) → is_admitted lists ≡ true → IsAdmittedTable lists
 unfolding is_admitted
 is-admitted lists is action small = is_list action (list_of action lists)
     (in_each (λ a. is_admitted_list a (list_of a lists)) 0 11 action is (omega arith) (omega (arith, small)))
 
 -- what holds of none can't be said of it
-pub not-admitted : (lists : List (List Entry)) → (IsAdmittedTable lists → ⊥) → is_admitted lists ≡ false
+pub not-admitted : (lists : List (List InstructionEntry)) → (IsAdmittedTable lists → ⊥) → is_admitted lists ≡ false
 not-admitted lists none = by (is_admitted lists) refl
   where
     by : (b : Bool) → is_admitted lists ≡ b → is_admitted lists ≡ false

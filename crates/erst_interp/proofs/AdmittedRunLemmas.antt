@@ -6,7 +6,7 @@ use Rattle.erst_store.specs.DeviceLaws.{IsDevice}
 use Rattle.board_core.specs.Clock.{Clock, LeftNow, After, Passes}
 use Rattle.board_core.specs.Stop.{Left, InStore}
 use Rattle.board_core.specs.Told.{Told, device_of, StoreBy}
-use Rattle.erst_interp.specs.declared.entries.Entry.{Entry}
+use Rattle.erst_interp.specs.declared.entries.InstructionEntry.{InstructionEntry}
 use Rattle.erst_interp.specs.declared.refusals.RunRefused.{RunRefused}
 use Rattle.erst_interp.specs.declared.refusals.RunRefused.TheVariants.{Register, Fuel, BadInstruction, BadRegister, BadRange}
 use Rattle.erst_interp.specs.Machine.{End, start}
@@ -17,7 +17,7 @@ use Rattle.erst_interp.specs.Faithful.{input_limit, device_after, IsFaithful, Do
 use Rattle.erst_interp.proofs.FaithfulLemmas.{Done, done, done-answer}
 use Rattle.erst_interp.proofs.RunLemmas.{end_device}
 
-pub faithful : (action : ℕ) (list : List Entry) → action < 2 ^ 64 → IsAdmitted action list → IsFaithful action list
+pub faithful : (action : ℕ) (list : List InstructionEntry) → action < 2 ^ 64 → IsAdmitted action list → IsFaithful action list
 faithful action list fits is input d kept inside =
     let end : Done action list (start input d) = done action list (start input d) fits refl inside is in
     record {
@@ -26,7 +26,7 @@ faithful action list fits is input d kept inside =
     }
 
 -- the stores of a run are those of the machine's
-pub store_alone : (list : List Entry) (input : ℕ) (told : Option Told) (x y : List Stored) → StoreOver list input told x y → StoreInRun list input told x y
+pub store_alone : (list : List InstructionEntry) (input : ℕ) (told : Option Told) (x y : List Stored) → StoreOver list input told x y → StoreInRun list input told x y
 store_alone list input None x y is = tt
 store_alone list input (Some t) x y is = is
 
@@ -38,7 +38,7 @@ ok_same r x y one other = cc
 no_err : (r : Result ℕ RunRefused) (why : RunRefused) (x : ℕ) → r ≡ Err why → r ≡ Ok x → ⊥
 no_err r why x one other = cc
 
-module _ (list : List Entry) (action input : ℕ) (fits : action < 2 ^ 64) (inside : input < input_limit action) (is : IsAdmitted action list) where
+module _ (list : List InstructionEntry) (action input : ℕ) (fits : action < 2 ^ 64) (inside : input < input_limit action) (is : IsAdmitted action list) where
   done_over : (t : Told) → Done action list (start_over input t)
   done_over t = done action list (start_over input t) fits refl inside is
 

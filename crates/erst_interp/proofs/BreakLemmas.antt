@@ -11,7 +11,7 @@ use Rattle.board_core.specs.Doing.{Act, DeviceCall, FailsActs, FailsDevice, afte
 use Rattle.board_core.specs.Doing as Doing
 use Rattle.board_core.specs.Told.{Told, Relates, device_of, with_access, register_in, after_reg_write, after_range_write, MayListAccess, FailsAccess}
 use Rattle.board_core.proofs.DoingLemmas.{after-append, fails_first, fails_then}
-use Rattle.erst_interp.specs.declared.entries.Entry.{Entry}
+use Rattle.erst_interp.specs.declared.entries.InstructionEntry.{InstructionEntry}
 use Rattle.erst_interp.specs.declared.entries.Instruction.{Instruction}
 use Rattle.erst_interp.specs.declared.machine.Variables.{Variables}
 use Rattle.erst_interp.specs.declared.machine.Use.TheVariants.{Writes, Changes, Moves}
@@ -63,10 +63,10 @@ write_fails reg n old new failed = one_fails (reg_write reg n) old new failed
 -- ---- fields
 
 -- the calls of a write to a field
-field_made : Entry → Reg → ℕ → Device → List DeviceCall
+field_made : InstructionEntry → Reg → ℕ → Device → List DeviceCall
 field_made e reg x d = if e.preserves then reg_read reg ∷ reg_write reg (with_field e x (register_in reg d)) ∷ [] else reg_write reg (alone e x) ∷ []
 
-field_calls : (e : Entry) (reg : Reg) (x : ℕ) (s : State) → (after_field e reg x s).calls ≡ s.calls ++ field_made e reg x s.device
+field_calls : (e : InstructionEntry) (reg : Reg) (x : ℕ) (s : State) → (after_field e reg x s).calls ≡ s.calls ++ field_made e reg x s.device
 unfolding field_made
 field_calls e reg x s = by e.preserves
   where
@@ -76,7 +76,7 @@ field_calls e reg x s = by e.preserves
     by false = refl
 
 -- whatever the variables
-same_calls : (e : Entry) (reg : Reg) (x y : ℕ) (s t : State) → x ≡ y → s.device ≡ t.device → s.calls ≡ t.calls → (after_field e reg x s).calls ≡ (after_field e reg y t).calls
+same_calls : (e : InstructionEntry) (reg : Reg) (x y : ℕ) (s t : State) → x ≡ y → s.device ≡ t.device → s.calls ≡ t.calls → (after_field e reg x s).calls ≡ (after_field e reg y t).calls
 same_calls e reg x y s t number device made =
     field_calls e reg x s
     ∙ ap (λ (l : List DeviceCall). l ++ field_made e reg x s.device) made
@@ -84,26 +84,26 @@ same_calls e reg x y s t number device made =
     ∙ ap (λ (d : Device). t.calls ++ field_made e reg y d) device
     ∙ sym (field_calls e reg y t)
 
-pub field_plain : (e : Entry) (reg : Reg) (x : ℕ) (old new : Option Told) → e.preserves ≡ false → BreaksIn (after_register_write reg (alone e x)) old new → BreaksIn (after_field e reg x) old new
+pub field_plain : (e : InstructionEntry) (reg : Reg) (x : ℕ) (old new : Option Told) → e.preserves ≡ false → BreaksIn (after_register_write reg (alone e x)) old new → BreaksIn (after_field e reg x) old new
 field_plain e reg x None new plain breaks = tt
 field_plain e reg x (Some t) new plain breaks =
     let s = state_in (new_variables 0) t in
     off_as (after_register_write reg (alone e x) s).calls (after_field e reg x s).calls t new
     (sym (ap (λ b. (if b then after_register_write reg (with_field e x (register_in reg s.device)) (after_register_read reg s) else after_register_write reg (alone e x) s).calls) plain)) breaks
 
-kept_field : (e : Entry) (reg : Reg) (x : ℕ) (s : State) → e.preserves ≡ true
+kept_field : (e : InstructionEntry) (reg : Reg) (x : ℕ) (s : State) → e.preserves ≡ true
     → (after_field e reg x s).calls ≡ (after_register_read reg s).calls ++ reg_write reg (with_field e x (register_in reg s.device)) ∷ []
 kept_field e reg x s keeps =
     ap (λ b. (if b then after_register_write reg (with_field e x (register_in reg s.device)) (after_register_read reg s) else after_register_write reg (alone e x) s).calls) keeps
 
-pub field_unread : (e : Entry) (reg : Reg) (x : ℕ) (old new : Option Told) → e.preserves ≡ true → BreaksIn (after_register_read reg) old new → BreaksIn (after_field e reg x) old new
+pub field_unread : (e : InstructionEntry) (reg : Reg) (x : ℕ) (old new : Option Told) → e.preserves ≡ true → BreaksIn (after_register_read reg) old new → BreaksIn (after_field e reg x) old new
 field_unread e reg x None new keeps breaks = tt
 field_unread e reg x (Some t) new keeps breaks =
     let s = state_in (new_variables 0) t in
     let last = reg_write reg (with_field e x (register_in reg (device_of t))) ∷ [] in
     off_as (reg_read reg ∷ last) (after_field e reg x s).calls t new (sym (kept_field e reg x s keeps)) (off_more (reg_read reg ∷ []) last t new breaks)
 
-pub field_unwritten : (e : Entry) (reg : Reg) (x n w : ℕ) (old mid new : Option Told) → e.preserves ≡ true → IsRead reg n old mid → w ≡ with_field e x n
+pub field_unwritten : (e : InstructionEntry) (reg : Reg) (x n w : ℕ) (old mid new : Option Told) → e.preserves ≡ true → IsRead reg n old mid → w ≡ with_field e x n
     → BreaksIn (after_register_write reg w) mid new → BreaksIn (after_field e reg x) old new
 field_unwritten e reg x n w None mid new keeps read is breaks = tt
 field_unwritten e reg x n w (Some t) mid new keeps (n_is, mid_is) is breaks =
@@ -117,14 +117,14 @@ field_unwritten e reg x n w (Some t) mid new keeps (n_is, mid_is) is breaks =
 
 -- ---- turns
 
-pub give_fails : (e : Entry) (reg : Reg) (i : Instruction) (v : Variables) (x : ℕ) (old new : Option Told) → x ≡ given i e v → BreaksIn (after_field e reg x) old new
+pub give_fails : (e : InstructionEntry) (reg : Reg) (i : Instruction) (v : Variables) (x : ℕ) (old new : Option Told) → x ≡ given i e v → BreaksIn (after_field e reg x) old new
     → IfSome old (λ t. Turns (Err Register) (used_by Writes i e v reg (state_in v t)) t new)
 give_fails e reg i v x None new is breaks = tt
 give_fails e reg i v x (Some t) new is breaks =
     off_as (after_field e reg x (state_in (new_variables 0) t)).calls (after_field e reg (given i e v) (state_in v t)).calls t new
     (same_calls e reg x (given i e v) (state_in (new_variables 0) t) (state_in v t) is refl refl) breaks
 
-pub change_unread : (e : Entry) (reg : Reg) (i : Instruction) (v : Variables) (old new : Option Told) → BreaksIn (after_register_read reg) old new
+pub change_unread : (e : InstructionEntry) (reg : Reg) (i : Instruction) (v : Variables) (old new : Option Told) → BreaksIn (after_register_read reg) old new
     → IfSome old (λ t. Turns (Err Register) (used_by Changes i e v reg (state_in v t)) t new)
 change_unread e reg i v None new breaks = tt
 change_unread e reg i v (Some t) new breaks =
@@ -133,7 +133,7 @@ change_unread e reg i v (Some t) new breaks =
     off_as (s.calls ++ field_made e reg x s.device) (after_field e reg x s).calls t new (sym (field_calls e reg x s))
     (off_more s.calls (field_made e reg x s.device) t new breaks)
 
-pub change_unwritten : (e : Entry) (reg : Reg) (i : Instruction) (v : Variables) (n x : ℕ) (old mid new : Option Told) → IsFieldRead e reg n old mid → x ≡ changed i e n
+pub change_unwritten : (e : InstructionEntry) (reg : Reg) (i : Instruction) (v : Variables) (n x : ℕ) (old mid new : Option Told) → IsFieldRead e reg n old mid → x ≡ changed i e n
     → BreaksIn (after_field e reg x) mid new → IfSome old (λ t. Turns (Err Register) (used_by Changes i e v reg (state_in v t)) t new)
 change_unwritten e reg i v n x None mid new read is breaks = tt
 change_unwritten e reg i v n x (Some t) mid new (n_is, mid_is) is breaks =
@@ -165,7 +165,7 @@ moved_calls offset s = by (is_inside (s.variables.src + offset) s.variables.var2
     )
     by false = ([], sym (append-nil s.calls))
 
-pub move_unread : (e : Entry) (reg : Reg) (i : Instruction) (v : Variables) (old new : Option Told) → BreaksIn (after_register_read reg) old new
+pub move_unread : (e : InstructionEntry) (reg : Reg) (i : Instruction) (v : Variables) (old new : Option Told) → BreaksIn (after_register_read reg) old new
     → IfSome old (λ t. Turns (Err Register) (used_by Moves i e v reg (state_in v t)) t new)
 move_unread e reg i v None new breaks = tt
 move_unread e reg i v (Some t) new breaks =

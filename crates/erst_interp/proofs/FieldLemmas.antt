@@ -5,7 +5,7 @@ use Rattle.erst_store.specs.Device.{Device}
 use Rattle.board_core.specs.declared.board.Reg.{Reg}
 use Rattle.board_core.specs.Stop.{Becomes}
 use Rattle.board_core.specs.Told.{Told, device_of, register_in, after_reg_write, StoreBy}
-use Rattle.erst_interp.specs.declared.entries.Entry.{Entry}
+use Rattle.erst_interp.specs.declared.entries.InstructionEntry.{InstructionEntry}
 use Rattle.erst_interp.specs.declared.entries.Instruction.{Instruction}
 use Rattle.erst_interp.specs.declared.machine.Variables.{Variables}
 use Rattle.erst_interp.specs.declared.machine.Use.TheVariants.{Writes, Changes}
@@ -39,10 +39,10 @@ more_in_turn turn v None x y is = tt
 more_in_turn turn v (Some t) x y is = inl is
 
 -- what is written into a register
-written : Entry → ℕ → ℕ → ℕ
+written : InstructionEntry → ℕ → ℕ → ℕ
 written e x number = if e.preserves then with_field e x number else alone e x
 
-after_field-device : (e : Entry) (reg : Reg) (x : ℕ) (s : State) → (after_field e reg x s).device ≡ after_reg_write reg (written e x (register_in reg s.device)) s.device
+after_field-device : (e : InstructionEntry) (reg : Reg) (x : ℕ) (s : State) → (after_field e reg x s).device ≡ after_reg_write reg (written e x (register_in reg s.device)) s.device
 unfolding written
 after_field-device e reg x s = by e.preserves
   where
@@ -52,7 +52,7 @@ after_field-device e reg x s = by e.preserves
     by false = refl
 
 -- whatever the variables and the calls
-same_device : (e : Entry) (reg : Reg) (x y : ℕ) (s t : State) → x ≡ y → s.device ≡ t.device → (after_field e reg x s).device ≡ (after_field e reg y t).device
+same_device : (e : InstructionEntry) (reg : Reg) (x y : ℕ) (s t : State) → x ≡ y → s.device ≡ t.device → (after_field e reg x s).device ≡ (after_field e reg y t).device
 same_device e reg x y s t number device =
     after_field-device e reg x s
     ∙ ap (λ (z : ℕ). after_reg_write reg (written e z (register_in reg s.device)) s.device) number
@@ -62,14 +62,14 @@ same_device e reg x y s t number device =
 abbrev over : Variables → Device → State
 over v d = record { variables = v; device = d; calls = [] }
 
-pub field_by : (e : Entry) (reg : Reg) (i : Instruction) (v : Variables) (x : ℕ) (told : Option Told) → x ≡ given i e v
+pub field_by : (e : InstructionEntry) (reg : Reg) (i : Instruction) (v : Variables) (x : ℕ) (told : Option Told) → x ≡ given i e v
     → (y z : List Stored) → StoreIn (after_field e reg x) told y z → StoreInTurn (used_by Writes i e v reg) v told y z
 field_by e reg i v x None is y z by = tt
 field_by e reg i v x (Some t) is y z by =
     subst (λ (d : Device). Becomes d.store y z) (same_device e reg x (given i e v) (over (new_variables 0) (device_of t)) (state_in v t) is refl) by
 
 -- after the register was read
-pub write_by : (e : Entry) (reg : Reg) (x n w : ℕ) (told_a told_b : Option Told) → IsRead reg n told_a told_b → e.preserves ≡ true → w ≡ with_field e x n
+pub write_by : (e : InstructionEntry) (reg : Reg) (x n w : ℕ) (told_a told_b : Option Told) → IsRead reg n told_a told_b → e.preserves ≡ true → w ≡ with_field e x n
     → (y z : List Stored) → StoreIn (after_register_write reg w) told_b y z → StoreIn (after_field e reg x) told_a y z
 unfolding written
 write_by e reg x n w None told_b read keeps is y z by = tt
@@ -80,7 +80,7 @@ write_by e reg x n w (Some t) told_b (n_is, told_is) keeps is y z by =
     subst (λ (d : Device). Becomes d.store y z)
     (ap (λ k. after_reg_write reg k (device_of t)) number ∙ sym (after_field-device e reg x (over (new_variables 0) (device_of t)))) wrote
 
-pub change_by : (e : Entry) (reg : Reg) (i : Instruction) (v : Variables) (n x : ℕ) (told_a told_b : Option Told) → IsFieldRead e reg n told_a told_b → x ≡ changed i e n
+pub change_by : (e : InstructionEntry) (reg : Reg) (i : Instruction) (v : Variables) (n x : ℕ) (told_a told_b : Option Told) → IsFieldRead e reg n told_a told_b → x ≡ changed i e n
     → (y z : List Stored) → StoreIn (after_field e reg x) told_b y z → StoreInTurn (used_by Changes i e v reg) v told_a y z
 change_by e reg i v n x None told_b read is y z by = tt
 change_by e reg i v n x (Some t) told_b (n_is, told_is) is y z by =

@@ -3,41 +3,41 @@ use Rattle.std.proofs.Common.{◌≡◌, ◌≢◌, ◌∙◌, ℕ, zero, suc, �
 use Rattle.std.proofs.lemmas.List.FromFn.{get_or-map-range_with_len, length-map-range_with_len}
 use Rattle.std.proofs.lemmas.List.{ext_get_or, get_or-set_same, get_or-set_other, length-set, map-set}
 use Rattle.ras_base.specs.ExactLemmas.{nat_exact, nat_own}
-use Rattle.erst_interp.specs.declared.entries.Entry.{Entry}
+use Rattle.erst_interp.specs.declared.entries.InstructionEntry.{InstructionEntry}
 use Rattle.erst_interp.specs.Entries.{entry_of}
-use Rattle.erst_interp.specs.Table.{list_of, lists_of, entries_for, entries_at}
+use Rattle.erst_interp.specs.Table.{list_of, lists_of, entries_for, instructions_at}
 use Rattle.erst_interp.specs.Lists.{AreEmpty, with_entry}
 
 -- Lists that hold the entries before, and will hold those that follow.
-pub record Hold (all : List Entry) (lists : List (List Entry)) (left : List Entry) : Type 0 where
+pub record Hold (all : List InstructionEntry) (lists : List (List InstructionEntry)) (left : List InstructionEntry) : Type 0 where
   pub count : length lists ≡ 256
   pub each : (action : ℕ) → list_of action lists ++ entries_for action left ≡ entries_for action all
 
-pub none_held : (lists : List (List Entry)) (all : List Entry) → AreEmpty lists → Hold all lists all
+pub none_held : (lists : List (List InstructionEntry)) (all : List InstructionEntry) → AreEmpty lists → Hold all lists all
 none_held lists all empty = record {
   count = empty.count;
-  each = λ action. ap (λ (list : List Entry). list ++ entries_for action all) (empty.empty action);
+  each = λ action. ap (λ (list : List InstructionEntry). list ++ entries_for action all) (empty.empty action);
 }
 
 -- the list of an action of so many entries
-pub list_of-lists_of : (action : ℕ) (entries : List Entry) → action < 256 → list_of action (lists_of entries) ≡ entries_for action entries
+pub list_of-lists_of : (action : ℕ) (entries : List InstructionEntry) → action < 256 → list_of action (lists_of entries) ≡ entries_for action entries
 unfolding lists_of
 list_of-lists_of action entries small = get_or-map-range_with_len (λ a. entries_for a entries) 0 256 action action [] small (zero-add action)
 
-pub all_actions : (entries : List Entry) → length (lists_of entries) ≡ 256
+pub all_actions : (entries : List InstructionEntry) → length (lists_of entries) ≡ 256
 unfolding lists_of
 all_actions entries = length-map-range_with_len (λ action. entries_for action entries) 0 256
 
-pub all_held : (all : List Entry) (lists : List (List Entry)) → Hold all lists [] → lists ≡ lists_of all
+pub all_held : (all : List InstructionEntry) (lists : List (List InstructionEntry)) → Hold all lists [] → lists ≡ lists_of all
 all_held all lists held =
     ext_get_or [] lists (lists_of all) (held.count ∙ sym (all_actions all)) (λ action inside.
     sym (append-nil (list_of action lists)) ∙ held.each action ∙ sym (list_of-lists_of action all (omega (arith, inside, held.count))))
 
 -- an entry of an action, before others of it
-added : (list : List Entry) (e : Entry) (left : List Entry) → (list ++ e ∷ []) ++ left ≡ list ++ e ∷ left
+added : (list : List InstructionEntry) (e : InstructionEntry) (left : List InstructionEntry) → (list ++ e ∷ []) ++ left ≡ list ++ e ∷ left
 added list e left = append_assoc list (e ∷ []) left
 
-one_more : (action : ℕ) (e : Entry) (lists : List (List Entry)) (left : List Entry) → e.action < length lists
+one_more : (action : ℕ) (e : InstructionEntry) (lists : List (List InstructionEntry)) (left : List InstructionEntry) → e.action < length lists
     → list_of action (with_entry e lists) ++ entries_for action left ≡ list_of action lists ++ entries_for action (e ∷ left)
 one_more action e lists left inside = by (nat_eq action e.action) refl
   where
@@ -46,14 +46,14 @@ one_more action e lists left inside = by (nat_eq action e.action) refl
     by true is =
         let same : action ≡ e.action = nat_exact action e.action is in
         ap (λ (i : ℕ). list_of i (with_entry e lists) ++ entries_for action left) same
-        ∙ ap (λ (list : List Entry). list ++ entries_for action left) (get_or-set_same lists e.action (list_of e.action lists ++ e ∷ []) [] inside)
+        ∙ ap (λ (list : List InstructionEntry). list ++ entries_for action left) (get_or-set_same lists e.action (list_of e.action lists ++ e ∷ []) [] inside)
         ∙ added (list_of e.action lists) e (entries_for action left)
         ∙ ap (λ (i : ℕ). list_of i lists ++ e ∷ entries_for action left) (sym same)
     by false is =
         let other : action ≢ e.action = λ same. true≢false (sym (nat_own e.action) ∙ ap (λ (i : ℕ). nat_eq i e.action) (sym same) ∙ is) in
-        ap (λ (list : List Entry). list ++ entries_for action left) (get_or-set_other lists e.action action (list_of e.action lists ++ e ∷ []) [] other)
+        ap (λ (list : List InstructionEntry). list ++ entries_for action left) (get_or-set_other lists e.action action (list_of e.action lists ++ e ∷ []) [] other)
 
-pub next_held : (all : List Entry) (lists : List (List Entry)) (e : Entry) (left : List Entry) → e.action < 256
+pub next_held : (all : List InstructionEntry) (lists : List (List InstructionEntry)) (e : InstructionEntry) (left : List InstructionEntry) → e.action < 256
     → Hold all lists (e ∷ left) → Hold all (with_entry e lists) left
 next_held all lists e left small held = record {
   count = length-set lists e.action (list_of e.action lists ++ e ∷ []) ∙ held.count;
@@ -61,12 +61,12 @@ next_held all lists e left small held = record {
 }
 
 -- one list is as good as another where their elements are the same
-pub pushed : {X : Type 0} (items : X → List Entry) (lists : List X) (i : ℕ) (old new : X) (e : Entry) → i < length lists → old ≡ get_or lists i old
+pub pushed : {X : Type 0} (items : X → List InstructionEntry) (lists : List X) (i : ℕ) (old new : X) (e : InstructionEntry) → i < length lists → old ≡ get_or lists i old
     → items new ≡ items old ++ e ∷ [] → map items (set lists i new) ≡ set (map items lists) i (get_or (map items lists) i [] ++ e ∷ [])
 pushed {X} items lists i old new e inside is pushed_is =
     map-set items lists i new
-    ∙ ap (λ (list : List Entry). set (map items lists) i list)
-    (pushed_is ∙ ap (λ (list : List Entry). list ++ e ∷ []) (ap items is ∙ at lists i inside))
+    ∙ ap (λ (list : List InstructionEntry). set (map items lists) i list)
+    (pushed_is ∙ ap (λ (list : List InstructionEntry). list ++ e ∷ []) (ap items is ∙ at lists i inside))
   where
     at : (lists : List X) (i : ℕ) → i < length lists → items (get_or lists i old) ≡ get_or (map items lists) i []
     at [] i inside = absurd (omega (arith, inside))
@@ -74,14 +74,14 @@ pushed {X} items lists i old new e inside is pushed_is =
     at (x ∷ xs) (suc i) inside = at xs i (omega (arith, inside))
 
 -- the next entry is read from what is left
-pub more_left : (count done : ℕ) (rest : List ℕ) → done < count → entries_at (count - done) rest ≡ entry_of rest ∷ entries_at (count - (done + 1)) (drop 32 rest)
-unfolding entries_at
+pub more_left : (count done : ℕ) (rest : List ℕ) → done < count → instructions_at (count - done) rest ≡ entry_of rest ∷ instructions_at (count - (done + 1)) (drop 32 rest)
+unfolding instructions_at
 more_left count done rest more =
     let left : count - done ≡ suc (count - (done + 1)) = omega arith in
-    ap (λ (n : ℕ). entries_at n rest) left
+    ap (λ (n : ℕ). instructions_at n rest) left
 
-pub none_left : (count done : ℕ) (rest : List ℕ) → count ≤ done → entries_at (count - done) rest ≡ []
-unfolding entries_at
+pub none_left : (count done : ℕ) (rest : List ℕ) → count ≤ done → instructions_at (count - done) rest ≡ []
+unfolding instructions_at
 none_left count done rest no_more =
     let left : count - done ≡ zero = omega arith in
-    ap (λ (n : ℕ). entries_at n rest) left
+    ap (λ (n : ℕ). instructions_at n rest) left

@@ -9,7 +9,7 @@ use Rattle.board_core.specs.Doing.{Act, DeviceCall, Moment, after_acts, after_de
 use Rattle.board_core.specs.Stop.{Becomes, InStore, Left}
 use Rattle.board_core.specs.Told.{Told, device_of, register_in}
 use Rattle.board_core.proofs.DoingLemmas.{moment_parts}
-use Rattle.erst_interp.specs.declared.entries.Entry.{Entry}
+use Rattle.erst_interp.specs.declared.entries.InstructionEntry.{InstructionEntry}
 use Rattle.erst_interp.specs.declared.entries.Instruction.{Instruction}
 use Rattle.erst_interp.specs.declared.machine.Variables.{Variables}
 use Rattle.erst_interp.specs.declared.machine.Use.{Use}
@@ -68,7 +68,7 @@ leaves_new store t left by =
 abbrev pub LeavesBy : Outcome → Told → Left → Type 0
 LeavesBy o t left = LeavesStore (state_of o).device.store t left
 
-field_moment : (e : Entry) (reg : Reg) (x : ℕ) (v : Variables) (t : Told) (left : Left) → Moment (acts_of (after_field e reg x (state_in v t)).calls) t left
+field_moment : (e : InstructionEntry) (reg : Reg) (x : ℕ) (v : Variables) (t : Told) (left : Left) → Moment (acts_of (after_field e reg x (state_in v t)).calls) t left
     → LeavesStore (after_field e reg x (state_in v t)).device.store t left
 field_moment e reg x v t left m = by e.preserves m
   where
@@ -85,7 +85,7 @@ field_moment e reg x v t left m = by e.preserves m
     by false (inl torn) = leaves_new _ t left torn
     by false (inr never) = absurd never
 
-changed_moment : (e : Entry) (reg : Reg) (x : ℕ) (v : Variables) (t : Told) (left : Left) → Moment (acts_of (after_field e reg x (after_register_read reg (state_in v t))).calls) t left
+changed_moment : (e : InstructionEntry) (reg : Reg) (x : ℕ) (v : Variables) (t : Told) (left : Left) → Moment (acts_of (after_field e reg x (after_register_read reg (state_in v t))).calls) t left
     → LeavesStore (after_field e reg x (after_register_read reg (state_in v t))).device.store t left
 changed_moment e reg x v t left m = by e.preserves m
   where
@@ -122,7 +122,7 @@ moved_moment offset v reg t left m = by (is_inside (v.src + offset) v.var2 && is
     by false (inl same) = leaves_same _ t left same
     by false (inr never) = absurd never
 
-used_moment : (how : Use) (i : Instruction) (e : Entry) (v : Variables) (reg : Reg) (t : Told) (left : Left) → Moment (acts_of (state_of (used_by how i e v reg (state_in v t))).calls) t left
+used_moment : (how : Use) (i : Instruction) (e : InstructionEntry) (v : Variables) (reg : Reg) (t : Told) (left : Left) → Moment (acts_of (state_of (used_by how i e v reg (state_in v t))).calls) t left
     → LeavesBy (used_by how i e v reg (state_in v t)) t left
 used_moment Reads i e v reg t left (inl same) = leaves_same _ t left same
 used_moment Reads i e v reg t left (inr never) = absurd never
@@ -130,7 +130,7 @@ used_moment Writes i e v reg t left m = field_moment e reg (given i e v) v t lef
 used_moment Changes i e v reg t left m = changed_moment e reg (changed i e (field_in e reg (state_in v t))) v t left m
 used_moment Moves i e v reg t left m = moved_moment (field_in e reg (state_in v t)) v reg t left m
 
-by_moment : (work : Work) (i : Instruction) (e : Entry) (v : Variables) (t : Told) (left : Left) → Moment (acts_of (state_of (turn_by work i e v (state_in v t))).calls) t left
+by_moment : (work : Work) (i : Instruction) (e : InstructionEntry) (v : Variables) (t : Told) (left : Left) → Moment (acts_of (state_of (turn_by work i e v (state_in v t))).calls) t left
     → LeavesBy (turn_by work i e v (state_in v t)) t left
 by_moment Work.TheVariants.Unknown i e v t left never = absurd never
 by_moment Work.TheVariants.Computes i e v t left never = absurd never
@@ -141,7 +141,7 @@ by_moment (Work.TheVariants.Uses how) i e v t left m = by e.register m
     by None never = absurd never
     by (Some reg) m = used_moment how i e v reg t left m
 
-turn_moment : (e : Entry) (v : Variables) (t : Told) (left : Left) → Moment (acts_of (state_of (turn e (state_in v t))).calls) t left → LeavesBy (turn e (state_in v t)) t left
+turn_moment : (e : InstructionEntry) (v : Variables) (t : Told) (left : Left) → Moment (acts_of (state_of (turn e (state_in v t))).calls) t left → LeavesBy (turn e (state_in v t)) t left
 turn_moment e v t left m =
     let kind = by_kind e.instruction e (state_in v t) in
     subst (λ (o : Outcome). LeavesBy o t left) (sym kind)
@@ -150,11 +150,11 @@ turn_moment e v t left m =
 -- ---- a run
 
 -- what is left is as told, but for the store, which is one that the run comes through
-record LeavesRun (turns : ℕ) (list : List Entry) (v : Variables) (now : Told) (left : Left) : Type 0 where
+record LeavesRun (turns : ℕ) (list : List InstructionEntry) (v : Variables) (now : Told) (left : Left) : Type 0 where
   rest : left ≡ record now.here { store = left.store }
   passes : PassesStore turns list (state_in v now) left.store
 
-module _ (turns : ℕ) (list : List Entry) (v : Variables) (now old : Told) (calls : List DeviceCall) (is : now ≡ after_acts (acts_of calls) old) (left : Left) (e : Entry) (next_is : slice_get list v.index ≡ Some e) where
+module _ (turns : ℕ) (list : List InstructionEntry) (v : Variables) (now old : Told) (calls : List DeviceCall) (is : now ≡ after_acts (acts_of calls) old) (left : Left) (e : InstructionEntry) (next_is : slice_get list v.index ≡ Some e) where
   in_turn_left : (o : Outcome) → turn e (state_in v now) ≡ o → Moment (acts_of (state_of (shifted_outcome calls o)).calls) old left → Moment (acts_of calls) old left ⊎ LeavesRun (suc turns) list v now left
   in_turn_left o o_is m = elim (moment_parts (acts_of calls) (acts_of (state_of o).calls) old left (subst (λ (acts : List Act). Moment acts old left) (split o) m)) [
     | inl before ↦ inl before
@@ -186,12 +186,12 @@ module _ (turns : ℕ) (list : List Entry) (v : Variables) (now old : Told) (cal
             (subst (λ (d : Device). PassesStore turns list (record { variables = t.variables; device = d; calls = [] }) left.store) device leaves.passes)));
       }
 
-run_moment : (turns : ℕ) (list : List Entry) (v : Variables) (now old : Told) (calls : List DeviceCall) → now ≡ after_acts (acts_of calls) old → (left : Left)
+run_moment : (turns : ℕ) (list : List InstructionEntry) (v : Variables) (now old : Told) (calls : List DeviceCall) → now ≡ after_acts (acts_of calls) old → (left : Left)
     → Moment (acts_of (end_from turns list (state_at v now calls)).state.calls) old left → Moment (acts_of calls) old left ⊎ LeavesRun turns list v now left
 unfolding end_from
 run_moment zero list v now old calls is left m = by (slice_get list v.index) m
   where
-    by : (o : Option Entry) → Moment (acts_of (at_entry (λ e. record { answer = Err Fuel; state = state_at v now calls }) (state_at v now calls) o).state.calls) old left
+    by : (o : Option InstructionEntry) → Moment (acts_of (at_entry (λ e. record { answer = Err Fuel; state = state_at v now calls }) (state_at v now calls) o).state.calls) old left
         → Moment (acts_of calls) old left ⊎ LeavesRun zero list v now left
     by None m = inl m
     by (Some e) m = inl m
@@ -204,7 +204,7 @@ run_moment (suc turns) list v now old calls is left m = by (slice_get list v.ind
     Out : Type 0
     Out = Moment (acts_of calls) old left ⊎ LeavesRun (suc turns) list v now left
 
-    turned : (e : Entry) → slice_get list v.index ≡ Some e → (o : Outcome) → turn e (state_in v now) ≡ o
+    turned : (e : InstructionEntry) → slice_get list v.index ≡ Some e → (o : Outcome) → turn e (state_in v now) ≡ o
         → Moment (acts_of (after_turn (λ t. end_from turns list t) (shifted_outcome calls o)).state.calls) old left → Later → Out
     turned e next_is (goes t) o_is m later =
         let u = told_after t now in
@@ -216,14 +216,14 @@ run_moment (suc turns) list v now old calls is left m = by (slice_get list v.ind
         ]
     turned e next_is (stops why t) o_is m later = in_turn_left turns list v now old calls is left e next_is (stops why t) o_is m
 
-    by : (o : Option Entry) → slice_get list v.index ≡ o → Moment (acts_of (at_entry (λ e. after_turn (λ t. end_from turns list t) (turn e (state_at v now calls))) (state_at v now calls) o).state.calls) old left
+    by : (o : Option InstructionEntry) → slice_get list v.index ≡ o → Moment (acts_of (at_entry (λ e. after_turn (λ t. end_from turns list t) (turn e (state_at v now calls))) (state_at v now calls) o).state.calls) old left
         → Later → Out
     by None none m later = inl m
     by (Some e) next_is m later = turned e next_is (turn e (state_in v now)) refl
         (subst (λ (o : Outcome). Moment (acts_of (after_turn (λ t. end_from turns list t) o).state.calls) old left) (turn_at e v now calls) m) later
 
 -- a stop during the run of an admitted list leaves the store as before the action or as after it
-pub action_moment : (action : ℕ) (list : List Entry) (input : ℕ) (t : Told) (left : Left) → action < 2 ^ 64 → input < input_limit action → IsAdmitted action list
+pub action_moment : (action : ℕ) (list : List InstructionEntry) (input : ℕ) (t : Told) (left : Left) → action < 2 ^ 64 → input < input_limit action → IsAdmitted action list
     → Moment (acts_of (end_of list input (device_of t)).state.calls) t left → LeavesStore (device_after action input (device_of t)).store t left
 action_moment action list input t left fits inside is m = elim (run_moment most_turns list (new_variables input) t t [] refl left m) [
   | inl never ↦ absurd never

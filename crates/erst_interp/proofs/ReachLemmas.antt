@@ -6,7 +6,7 @@ use Rattle.board_core.specs.declared.board.Reg.{Reg}
 use Rattle.board_core.specs.Told.{Told, device_of}
 use Rattle.erst_store.specs.DeviceLaws.{IsDevice}
 use Rattle.erst_interp.specs.declared.entries.Instruction.{Instruction}
-use Rattle.erst_interp.specs.declared.entries.Entry.{Entry}
+use Rattle.erst_interp.specs.declared.entries.InstructionEntry.{InstructionEntry}
 use Rattle.erst_interp.specs.Admission.{IsAdmitted, is_act, is_constant, is_action, is_whole}
 use Rattle.erst_interp.specs.Parts.{uses_register, is_use, work_of}
 use Rattle.erst_interp.proofs.LeadLemmas.{both_true}
@@ -16,19 +16,19 @@ abbrev pub Device : Option Told → Type 0
 Device told = IfSome told (λ t. IsDevice (device_of t))
 
 -- nothing was called yet: all is told as at first, and no entry so far uses a register
-pub record IsIdleTo (list : List Entry) (i : ℕ) (old now : Option Told) : Type 0 where
+pub record IsIdleTo (list : List InstructionEntry) (i : ℕ) (old now : Option Told) : Type 0 where
   pub same : now ≡ old
   pub unused : list_any uses_register (take i list) ≡ false
 
-abbrev pub Reaches : List Entry → ℕ → Option Told → Option Told → Type 0
+abbrev pub Reaches : List InstructionEntry → ℕ → Option Told → Option Told → Type 0
 Reaches list i old now = IsIdleTo list i old now ⊎ Device old
 
-unused_next : (list : List Entry) (i : ℕ) (e : Entry) → slice_get list i ≡ Some e → list_any uses_register (take i list) ≡ false → uses_register e ≡ false
+unused_next : (list : List InstructionEntry) (i : ℕ) (e : InstructionEntry) → slice_get list i ≡ Some e → list_any uses_register (take i list) ≡ false → uses_register e ≡ false
     → list_any uses_register (take (suc i) list) ≡ false
 unused_next [] i e next before here = refl
-unused_next (x ∷ xs) zero e next before here = or_no (uses_register x) (subst (λ (o : Option Entry). of_next o) (sym next) here)
+unused_next (x ∷ xs) zero e next before here = or_no (uses_register x) (subst (λ (o : Option InstructionEntry). of_next o) (sym next) here)
   where
-    of_next : Option Entry → Type 0
+    of_next : Option InstructionEntry → Type 0
     of_next None = Unit {0}
     of_next (Some y) = uses_register y ≡ false
 
@@ -42,7 +42,7 @@ unused_next (x ∷ xs) (suc i) e next before here = by (uses_register x) before 
     by true is ih = absurd (true≢false is)
     by false is ih = ih is
 
-pub reaches_next : (list : List Entry) (i : ℕ) (e : Entry) (old now new : Option Told) → slice_get list i ≡ Some e → Reaches list i old now
+pub reaches_next : (list : List InstructionEntry) (i : ℕ) (e : InstructionEntry) (old now new : Option Told) → slice_get list i ≡ Some e → Reaches list i old now
     → (uses_register e ≡ true → Device now) → (new ≡ now) ⊎ Device now → Reaches list (suc i) old new
 reaches_next list i e old now new next (inr device) used kept = inr device
 reaches_next list i e old now new next (inl idle) used (inr device) = inr (subst Device idle.same device)
@@ -52,20 +52,20 @@ reaches_next list i e old now new next (inl idle) used (inl same) = by (uses_reg
     by true is = inr (subst Device idle.same (used is))
     by false is = inl (record { same = same ∙ idle.same; unused = unused_next list i e next idle.unused is })
 
-pub reaches_failed : (list : List Entry) (i : ℕ) (old now : Option Told) → Reaches list i old now → Device now → Device old
+pub reaches_failed : (list : List InstructionEntry) (i : ℕ) (old now : Option Told) → Reaches list i old now → Device now → Device old
 reaches_failed list i old now (inl idle) device = subst Device idle.same device
 reaches_failed list i old now (inr kept) device = kept
 
-take_all : (list : List Entry) (i : ℕ) → length list ≤ i → take i list ≡ list
+take_all : (list : List InstructionEntry) (i : ℕ) → length list ≤ i → take i list ≡ list
 take_all [] zero past = refl
 take_all [] (suc i) past = refl
 take_all (x ∷ xs) zero past = absurd (omega (arith, past))
-take_all (x ∷ xs) (suc i) past = ap (λ (es : List Entry). x ∷ es) (take_all xs i (omega (arith, past)))
+take_all (x ∷ xs) (suc i) past = ap (λ (es : List InstructionEntry). x ∷ es) (take_all xs i (omega (arith, past)))
 
-pub reaches_end : (list : List Entry) (i : ℕ) (old now : Option Told) → Reaches list i old now → length list ≤ i → list_any uses_register list ≡ true → Device old
+pub reaches_end : (list : List InstructionEntry) (i : ℕ) (old now : Option Told) → Reaches list i old now → length list ≤ i → list_any uses_register list ≡ true → Device old
 reaches_end list i old now (inr kept) past some = kept
 reaches_end list i old now (inl idle) past some =
-    absurd (true≢false (sym some ∙ (ap (λ (es : List Entry). list_any uses_register es) (sym (take_all list i past)) ∙ idle.unused)))
+    absurd (true≢false (sym some ∙ (ap (λ (es : List InstructionEntry). list_any uses_register es) (sym (take_all list i past)) ∙ idle.unused)))
 
 -- ---- an admitted list has an entry that writes to Action
 
@@ -79,14 +79,14 @@ action_some (Some r) is = refl
 both : (a b : Bool) → a ≡ true → b ≡ true → (a && b) ≡ true
 both a b x y = rw x y
 
-act_uses : (action : ℕ) (e : Entry) → is_act action e ≡ true → uses_register e ≡ true
+act_uses : (action : ℕ) (e : InstructionEntry) → is_act action e ≡ true → uses_register e ≡ true
 act_uses action e is =
     let masked = both_true (is_constant e.instruction && is_action e.register && is_whole e) (nat_eq (bit_and e.value e.mask) action) is in
     let whole = both_true (is_constant e.instruction && is_action e.register) (is_whole e) masked.0 in
     let kind = both_true (is_constant e.instruction) (is_action e.register) whole.0 in
     both (is_use (work_of e.instruction)) (is_some e.register) (constant_uses e.instruction kind.0) (action_some e.register kind.1)
 
-any_here : (before : List Entry) (e : Entry) (after : List Entry) → uses_register e ≡ true → list_any uses_register (before ++ e ∷ after) ≡ true
+any_here : (before : List InstructionEntry) (e : InstructionEntry) (after : List InstructionEntry) → uses_register e ≡ true → list_any uses_register (before ++ e ∷ after) ≡ true
 any_here [] e after is = rw is refl
 any_here (x ∷ xs) e after is = by (uses_register x) (any_here xs e after is)
   where
@@ -94,6 +94,6 @@ any_here (x ∷ xs) e after is = by (uses_register x) (any_here xs e after is)
     by true ih = refl
     by false ih = ih
 
-pub admitted_uses : (action : ℕ) (list : List Entry) → IsAdmitted action list → list_any uses_register list ≡ true
+pub admitted_uses : (action : ℕ) (list : List InstructionEntry) → IsAdmitted action list → list_any uses_register list ≡ true
 admitted_uses action list is =
-    subst (λ (es : List Entry). list_any uses_register es ≡ true) (sym is.laid) (any_here is.before is.act is.after (act_uses action is.act is.is))
+    subst (λ (es : List InstructionEntry). list_any uses_register es ≡ true) (sym is.laid) (any_here is.before is.act is.after (act_uses action is.act is.is))

@@ -5,7 +5,7 @@ use Rattle.erst_store.specs.Store.{Stored}
 use Rattle.board_core.specs.declared.board.Reg.{Reg}
 use Rattle.board_core.specs.Doing.{DeviceCall, after_acts, reg_read, reg_write}
 use Rattle.board_core.specs.Told.{Told, Relates, after_reg_write, device_of, register_in}
-use Rattle.erst_interp.specs.declared.entries.Entry.{Entry}
+use Rattle.erst_interp.specs.declared.entries.InstructionEntry.{InstructionEntry}
 use Rattle.erst_interp.specs.declared.machine.Variables.{Variables}
 use Rattle.erst_interp.specs.declared.refusals.RunRefused.{RunRefused}
 use Rattle.erst_interp.specs.declared.refusals.RunRefused.TheVariants.{Register, Fuel, BadInstruction, BadRegister, BadRange}
@@ -31,63 +31,63 @@ abbrev pub state_at : Variables → Told → List DeviceCall → State
 state_at v now calls = record { variables = v; device = device_of now; calls = calls }
 
 -- So many turns are left, over a board that told this when the run began and now tells that.
-pub record OnWay (total : ℕ) (list : List Entry) (turns : ℕ) (first : State) (v : Variables) (old now : Told) : Type 0 where
+pub record OnWay (total : ℕ) (list : List InstructionEntry) (turns : ℕ) (first : State) (v : Variables) (old now : Told) : Type 0 where
   pub calls : List DeviceCall
   pub told : now ≡ after_acts (acts_of calls) old
   pub ends : end_from turns list (state_at v now calls) ≡ end_from total list first
   pub stores : (store : List Stored) → PassesStore turns list (state_in v now) store → PassesStore total list first store
 
-abbrev pub Way : ℕ → List Entry → ℕ → ℕ → Variables → Option Told → Option Told → Type 0
+abbrev pub Way : ℕ → List InstructionEntry → ℕ → ℕ → Variables → Option Told → Option Told → Type 0
 Way total list turns input v old now = Relates (λ t u. OnWay total list turns (start_over input t) v t u) old now
 
-pub way_begins : (total : ℕ) (list : List Entry) (input : ℕ) (told : Option Told) → Way total list total input (new_variables input) told told
+pub way_begins : (total : ℕ) (list : List InstructionEntry) (input : ℕ) (told : Option Told) → Way total list total input (new_variables input) told told
 way_begins total list input None = refl
 way_begins total list input (Some t) = record { calls = []; told = refl; ends = refl; stores = λ store is. is }
 
 -- ---- one turn of the machine
 
-pub goes_on : (list : List Entry) (turns : ℕ) (s t : State) (e : Entry) → slice_get list s.variables.index ≡ Some e → turn e s ≡ goes t → end_from (suc turns) list s ≡ end_from turns list t
+pub goes_on : (list : List InstructionEntry) (turns : ℕ) (s t : State) (e : InstructionEntry) → slice_get list s.variables.index ≡ Some e → turn e s ≡ goes t → end_from (suc turns) list s ≡ end_from turns list t
 unfolding end_from
 goes_on list turns s t e next goes_is =
-    ap (λ (o : Option Entry). at_entry (λ x. after_turn (λ u. end_from turns list u) (turn x s)) s o) next
+    ap (λ (o : Option InstructionEntry). at_entry (λ x. after_turn (λ u. end_from turns list u) (turn x s)) s o) next
     ∙ ap (λ (o : Outcome). after_turn (λ u. end_from turns list u) o) goes_is
 
-stops_at : (list : List Entry) (turns : ℕ) (s t : State) (e : Entry) (why : RunRefused) → slice_get list s.variables.index ≡ Some e → turn e s ≡ stops why t
+stops_at : (list : List InstructionEntry) (turns : ℕ) (s t : State) (e : InstructionEntry) (why : RunRefused) → slice_get list s.variables.index ≡ Some e → turn e s ≡ stops why t
     → end_from (suc turns) list s ≡ record { answer = Err why; state = t }
 unfolding end_from
 stops_at list turns s t e why next stops_is =
-    ap (λ (o : Option Entry). at_entry (λ x. after_turn (λ u. end_from turns list u) (turn x s)) s o) next
+    ap (λ (o : Option InstructionEntry). at_entry (λ x. after_turn (λ u. end_from turns list u) (turn x s)) s o) next
     ∙ ap (λ (o : Outcome). after_turn (λ u. end_from turns list u) o) stops_is
 
-pub ends_at : (list : List Entry) (turns : ℕ) (s : State) → slice_get list s.variables.index ≡ None → end_from turns list s ≡ record { answer = Ok s.variables.value; state = s }
+pub ends_at : (list : List InstructionEntry) (turns : ℕ) (s : State) → slice_get list s.variables.index ≡ None → end_from turns list s ≡ record { answer = Ok s.variables.value; state = s }
 unfolding end_from
-ends_at list zero s none = ap (λ (o : Option Entry). at_entry (λ x. record { answer = Err Fuel; state = s }) s o) none
-ends_at list (suc turns) s none = ap (λ (o : Option Entry). at_entry (λ x. after_turn (λ u. end_from turns list u) (turn x s)) s o) none
+ends_at list zero s none = ap (λ (o : Option InstructionEntry). at_entry (λ x. record { answer = Err Fuel; state = s }) s o) none
+ends_at list (suc turns) s none = ap (λ (o : Option InstructionEntry). at_entry (λ x. after_turn (λ u. end_from turns list u) (turn x s)) s o) none
 
-runs_out : (list : List Entry) (s : State) (e : Entry) → slice_get list s.variables.index ≡ Some e → end_from zero list s ≡ record { answer = Err Fuel; state = s }
+runs_out : (list : List InstructionEntry) (s : State) (e : InstructionEntry) → slice_get list s.variables.index ≡ Some e → end_from zero list s ≡ record { answer = Err Fuel; state = s }
 unfolding end_from
-runs_out list s e next = ap (λ (o : Option Entry). at_entry (λ x. record { answer = Err Fuel; state = s }) s o) next
+runs_out list s e next = ap (λ (o : Option InstructionEntry). at_entry (λ x. record { answer = Err Fuel; state = s }) s o) next
 
 -- ---- the stores
 
-pub comes_through : (list : List Entry) (turns : ℕ) (s t : State) (e : Entry) → slice_get list s.variables.index ≡ Some e → turn e s ≡ goes t
+pub comes_through : (list : List InstructionEntry) (turns : ℕ) (s t : State) (e : InstructionEntry) → slice_get list s.variables.index ≡ Some e → turn e s ≡ goes t
     → (store : List Stored) → PassesStore turns list t store → PassesStore (suc turns) list s store
 unfolding PassesStore
 comes_through list turns s t e next goes_is store is =
-    inr (subst (λ (o : Option Entry). AtNext (λ x. AfterTurn (λ u. PassesStore turns list u store) (λ u. store ≡ u.device.store) (turn x s)) o) (sym next)
+    inr (subst (λ (o : Option InstructionEntry). AtNext (λ x. AfterTurn (λ u. PassesStore turns list u store) (λ u. store ≡ u.device.store) (turn x s)) o) (sym next)
     (subst (λ (o : Outcome). AfterTurn (λ u. PassesStore turns list u store) (λ u. store ≡ u.device.store) o) (sym goes_is) is))
 
-pub here : (list : List Entry) (turns : ℕ) (s : State) (store : List Stored) → store ≡ s.device.store → PassesStore turns list s store
+pub here : (list : List InstructionEntry) (turns : ℕ) (s : State) (store : List Stored) → store ≡ s.device.store → PassesStore turns list s store
 unfolding PassesStore
 here list zero s store is = is
 here list (suc turns) s store is = inl is
 
 -- whatever the turn comes to
-pub in_turn : (list : List Entry) (turns : ℕ) (s : State) (e : Entry) → slice_get list s.variables.index ≡ Some e
+pub in_turn : (list : List InstructionEntry) (turns : ℕ) (s : State) (e : InstructionEntry) → slice_get list s.variables.index ≡ Some e
     → (store : List Stored) → store ≡ (state_of (turn e s)).device.store → PassesStore (suc turns) list s store
 unfolding PassesStore
 in_turn list turns s e next store is =
-    inr (subst (λ (o : Option Entry). AtNext (λ x. AfterTurn (λ u. PassesStore turns list u store) (λ u. store ≡ u.device.store) (turn x s)) o) (sym next)
+    inr (subst (λ (o : Option InstructionEntry). AtNext (λ x. AfterTurn (λ u. PassesStore turns list u store) (λ u. store ≡ u.device.store) (turn x s)) o) (sym next)
     (by (turn e s) is))
   where
     by : (o : Outcome) → store ≡ (state_of o).device.store → AfterTurn (λ u. PassesStore turns list u store) (λ u. store ≡ u.device.store) o
@@ -97,7 +97,7 @@ in_turn list turns s e next store is =
 -- ---- a turn of the run
 
 -- the device that is told after a turn is the machine's
-field_device : (e : Entry) (reg : Reg) (x : ℕ) (s : State) (t : Told) → device_of (after_acts (acts_of s.calls) t) ≡ s.device
+field_device : (e : InstructionEntry) (reg : Reg) (x : ℕ) (s : State) (t : Told) → device_of (after_acts (acts_of s.calls) t) ≡ s.device
     → device_of (told_after (after_field e reg x s) t) ≡ (after_field e reg x s).device
 field_device e reg x s t is = by e.preserves
   where
@@ -128,13 +128,13 @@ moved_device offset v reg t = by (is_inside (v.src + offset) v.var2 && is_inside
     by true = refl
     by false = refl
 
-used_device : (how : Use) (i : Instruction) (e : Entry) (v : Variables) (reg : Reg) (t : Told) → ToldBy (used_by how i e v reg (state_in v t)) t
+used_device : (how : Use) (i : Instruction) (e : InstructionEntry) (v : Variables) (reg : Reg) (t : Told) → ToldBy (used_by how i e v reg (state_in v t)) t
 used_device Reads i e v reg t = refl
 used_device Writes i e v reg t = field_device e reg (given i e v) (state_in v t) t refl
 used_device Changes i e v reg t = field_device e reg (changed i e (field_in e reg (state_in v t))) (after_register_read reg (state_in v t)) t refl
 used_device Moves i e v reg t = moved_device (field_in e reg (state_in v t)) v reg t
 
-by_device : (work : Work) (i : Instruction) (e : Entry) (v : Variables) (t : Told) → ToldBy (turn_by work i e v (state_in v t)) t
+by_device : (work : Work) (i : Instruction) (e : InstructionEntry) (v : Variables) (t : Told) → ToldBy (turn_by work i e v (state_in v t)) t
 by_device Work.TheVariants.Unknown i e v t = refl
 by_device Work.TheVariants.Computes i e v t = refl
 by_device (Work.TheVariants.Uses how) i e v t = by e.register
@@ -143,15 +143,15 @@ by_device (Work.TheVariants.Uses how) i e v t = by e.register
     by None = refl
     by (Some reg) = used_device how i e v reg t
 
-pub turn_device : (e : Entry) (v : Variables) (t : Told) → ToldBy (turn e (state_in v t)) t
+pub turn_device : (e : InstructionEntry) (v : Variables) (t : Told) → ToldBy (turn e (state_in v t)) t
 turn_device e v t = subst (λ (o : Outcome). ToldBy o t) (sym (by_kind e.instruction e (state_in v t))) (by_device (work_of e.instruction) e.instruction e v t)
 
 -- a turn of the run is the turn alone, after the calls before it
-pub turn_at : (e : Entry) (v : Variables) (now : Told) (calls : List DeviceCall) → turn e (state_at v now calls) ≡ shifted_outcome calls (turn e (state_in v now))
+pub turn_at : (e : InstructionEntry) (v : Variables) (now : Told) (calls : List DeviceCall) → turn e (state_at v now calls) ≡ shifted_outcome calls (turn e (state_in v now))
 turn_at e v now calls = ap (λ (made : List DeviceCall). turn e (state_at v now made)) (sym (append-nil calls)) ∙ turn-shifted calls e (state_in v now)
 
 -- the device that is told after a run is the machine's
-ends_device : (turns : ℕ) (list : List Entry) (v : Variables) (now old : Told) (calls : List DeviceCall) → now ≡ after_acts (acts_of calls) old
+ends_device : (turns : ℕ) (list : List InstructionEntry) (v : Variables) (now old : Told) (calls : List DeviceCall) → now ≡ after_acts (acts_of calls) old
     → device_of (told_after (end_from turns list (state_at v now calls)).state old) ≡ (end_from turns list (state_at v now calls)).state.device
 unfolding end_from
 ends_device zero list v now old calls is = by (slice_get list v.index)
@@ -159,7 +159,7 @@ ends_device zero list v now old calls is = by (slice_get list v.index)
     here : device_of (after_acts (acts_of calls) old) ≡ device_of now
     here = ap (λ (u : Told). device_of u) (sym is)
 
-    by : (o : Option Entry) → device_of (told_after (at_entry (λ e. record { answer = Err Fuel; state = state_at v now calls }) (state_at v now calls) o).state old)
+    by : (o : Option InstructionEntry) → device_of (told_after (at_entry (λ e. record { answer = Err Fuel; state = state_at v now calls }) (state_at v now calls) o).state old)
         ≡ (at_entry (λ e. record { answer = Err Fuel; state = state_at v now calls }) (state_at v now calls) o).state.device
     by None = here
     by (Some e) = here
@@ -172,7 +172,7 @@ ends_device (suc turns) list v now old calls is = by (slice_get list v.index) (�
     Told_in : End → Type 0
     Told_in end = device_of (told_after end.state old) ≡ end.state.device
 
-    turned : (e : Entry) (o : Outcome) → turn e (state_in v now) ≡ o → Later → Told_in (after_turn (λ t. end_from turns list t) (shifted_outcome calls o))
+    turned : (e : InstructionEntry) (o : Outcome) → turn e (state_in v now) ≡ o → Later → Told_in (after_turn (λ t. end_from turns list t) (shifted_outcome calls o))
     turned e (goes t) here later =
         let u = told_after t now in
         let device : device_of u ≡ t.device = subst (λ (o : Outcome). ToldBy o now) here (turn_device e v now) in
@@ -181,14 +181,14 @@ ends_device (suc turns) list v now old calls is = by (slice_get list v.index) (�
     turned e (stops why t) here later =
         ap (λ (u : Told). device_of u) (sym (told_on calls old now None is t)) ∙ subst (λ (o : Outcome). ToldBy o now) here (turn_device e v now)
 
-    by : (o : Option Entry) → Later → Told_in (at_entry (λ e. after_turn (λ t. end_from turns list t) (turn e (state_at v now calls))) (state_at v now calls) o)
+    by : (o : Option InstructionEntry) → Later → Told_in (at_entry (λ e. after_turn (λ t. end_from turns list t) (turn e (state_at v now calls))) (state_at v now calls) o)
     by None later = ap (λ (u : Told). device_of u) (sym is)
     by (Some e) later = subst (λ (o : Outcome). Told_in (after_turn (λ t. end_from turns list t) o)) (sym (turn_at e v now calls)) (turned e (turn e (state_in v now)) refl later)
 
-pub end_device : (list : List Entry) (input : ℕ) (t : Told) → device_of (told_after (end_of list input (device_of t)).state t) ≡ (end_of list input (device_of t)).state.device
+pub end_device : (list : List InstructionEntry) (input : ℕ) (t : Told) → device_of (told_after (end_of list input (device_of t)).state t) ≡ (end_of list input (device_of t)).state.device
 end_device list input t = ends_device most_turns list (new_variables input) t t [] refl
 
-way_on-told : (total : ℕ) (list : List Entry) (turns input : ℕ) (e : Entry) (v w : Variables) (old now : Told) (new : Option Told) → slice_get list v.index ≡ Some e
+way_on-told : (total : ℕ) (list : List InstructionEntry) (turns input : ℕ) (e : InstructionEntry) (v w : Variables) (old now : Told) (new : Option Told) → slice_get list v.index ≡ Some e
     → OnWay total list (suc turns) (start_over input old) v old now → Turns (Ok w) (turn e (state_in v now)) now new → Way total list turns input w (Some old) new
 way_on-told total list turns input e v w old now new next way turned = by (turn e (state_in v now)) refl turned
   where
@@ -211,14 +211,14 @@ way_on-told total list turns input e v w old now new next way turned = by (turn 
               (subst (λ (d : Device). PassesStore turns list (record { variables = t.variables; device = d; calls = [] }) store) device is_in))));
         }))
 
-pub way_on : (total : ℕ) (list : List Entry) (turns input : ℕ) (e : Entry) (v w : Variables) (old now new : Option Told) → slice_get list v.index ≡ Some e
+pub way_on : (total : ℕ) (list : List InstructionEntry) (turns input : ℕ) (e : InstructionEntry) (v w : Variables) (old now new : Option Told) → slice_get list v.index ≡ Some e
     → Way total list (suc turns) input v old now → IfSome now (λ t. Turns (Ok w) (turn e (state_in v t)) t new) → Relates Keeps now new → Way total list turns input w old new
 way_on total list turns input e v w None now new next way turned kept = subst (λ (told : Option Told). Relates Keeps told new) way kept
 way_on total list turns input e v w (Some old) None new next way turned kept = absurd way
 way_on total list turns input e v w (Some old) (Some now) new next way turned kept = way_on-told total list turns input e v w old now new next way turned
 
 -- the stores of a turn are among those of the run
-in_run : (total : ℕ) (list : List Entry) (turns input : ℕ) (e : Entry) (v : Variables) (old now : Option Told) → slice_get list v.index ≡ Some e → Way total list (suc turns) input v old now
+in_run : (total : ℕ) (list : List InstructionEntry) (turns input : ℕ) (e : InstructionEntry) (v : Variables) (old now : Option Told) → slice_get list v.index ≡ Some e → Way total list (suc turns) input v old now
     → (x y z : List Stored) → StoreWithin total list input old x y → StoreInTurn (λ s. turn e s) v now y z → StoreWithin total list input old x z
 in_run total list turns input e v None now next way x y z before is = tt
 in_run total list turns input e v (Some old) None next way x y z before is = absurd way
@@ -228,7 +228,7 @@ in_run total list turns input e v (Some old) (Some now) next way x y z before is
       | inr new ↦ inr (way.stores z (in_turn list turns (state_in v now) e next z new))
     ]
 
-module _ (total : ℕ) (list : List Entry) (turns input : ℕ) (e : Entry) (v : Variables) (a b c : Seen) (next : slice_get list v.index ≡ Some e) (way : Way total list (suc turns) input v a.told b.told) where
+module _ (total : ℕ) (list : List InstructionEntry) (turns input : ℕ) (e : InstructionEntry) (v : Variables) (a b c : Seen) (next : slice_get list v.index ≡ Some e) (way : Way total list (suc turns) input v a.told b.told) where
   pub run_on : GoesWell (StoreWithin total list input a.told) a b → GoesWell (StoreInTurn (λ s. turn e s) v b.told) b c → GoesWell (StoreWithin total list input a.told) a c
   run_on first second = well_both (StoreWithin total list input a.told) (StoreWithin total list input a.told) (λ x y is. is) (StoreInTurn (λ s. turn e s) v b.told)
       (in_run total list turns input e v a.told b.told next way) a b c first second
@@ -248,11 +248,11 @@ module _ (total : ℕ) (list : List Entry) (turns input : ℕ) (e : Entry) (v : 
 
 -- ---- the ends of a run
 
-abbrev pub Ran : ℕ → List Entry → ℕ → Result ℕ RunRefused → Option Told → Option Told → Type 0
+abbrev pub Ran : ℕ → List InstructionEntry → ℕ → Result ℕ RunRefused → Option Told → Option Told → Type 0
 Ran total list input answer old new = IfSome old (λ t. IsRun answer (end_within total list input t) t new)
 
 -- no entry is next
-pub run_ended : (total : ℕ) (list : List Entry) (turns input : ℕ) (v : Variables) (old now : Option Told) → slice_get list v.index ≡ None → Way total list turns input v old now → Ran total list input (Ok v.value) old now
+pub run_ended : (total : ℕ) (list : List InstructionEntry) (turns input : ℕ) (v : Variables) (old now : Option Told) → slice_get list v.index ≡ None → Way total list turns input v old now → Ran total list input (Ok v.value) old now
 run_ended total list turns input v None now none way = tt
 run_ended total list turns input v (Some old) None none way = absurd way
 run_ended total list turns input v (Some old) (Some now) none way =
@@ -260,7 +260,7 @@ run_ended total list turns input v (Some old) (Some now) none way =
     (sym (ap (λ (e : End). e.answer) end), ap (λ (t : Told). Some t) (way.told ∙ sym (ap (λ (e : End). told_after e.state old) end)))
 
 -- no turn is left
-pub run_out : (total : ℕ) (list : List Entry) (input : ℕ) (e : Entry) (v : Variables) (old now : Option Told) → slice_get list v.index ≡ Some e → Way total list zero input v old now → Ran total list input (Err Fuel) old now
+pub run_out : (total : ℕ) (list : List InstructionEntry) (input : ℕ) (e : InstructionEntry) (v : Variables) (old now : Option Told) → slice_get list v.index ≡ Some e → Way total list zero input v old now → Ran total list input (Err Fuel) old now
 run_out total list input e v None now next way = tt
 run_out total list input e v (Some old) None next way = absurd way
 run_out total list input e v (Some old) (Some now) next way =
@@ -268,7 +268,7 @@ run_out total list input e v (Some old) (Some now) next way =
     (sym (ap (λ (e : End). e.answer) end), ap (λ (t : Told). Some t) (way.told ∙ sym (ap (λ (e : End). told_after e.state old) end)))
 
 -- the turn is refused
-module _ (total : ℕ) (list : List Entry) (turns input : ℕ) (e : Entry) (v : Variables) (old now : Told) (new : Option Told) (next : slice_get list v.index ≡ Some e)
+module _ (total : ℕ) (list : List InstructionEntry) (turns input : ℕ) (e : InstructionEntry) (v : Variables) (old now : Told) (new : Option Told) (next : slice_get list v.index ≡ Some e)
     (way : OnWay total list (suc turns) (start_over input old) v old now) where
   stopped : (why cause : RunRefused) (s : State) → turn e (state_at v now way.calls) ≡ stops cause s → (cause ≡ why) × (new ≡ Some (told_after s old))
       → (Err why ≡ (end_within total list input old).answer) × (new ≡ Some (told_after (end_within total list input old).state old))
@@ -308,7 +308,7 @@ module _ (total : ℕ) (list : List Entry) (turns input : ℕ) (e : Entry) (v : 
   refused_now why turned = refused_by why (shifted_outcome way.calls (turn e (state_in v now))) (turn_at e v now way.calls)
       (refused_on way.calls old now new way.told why (turn e (state_in v now)) turned)
 
-pub turn_refused : (total : ℕ) (list : List Entry) (turns input : ℕ) (e : Entry) (v : Variables) (why : RunRefused) (old now new : Option Told) → slice_get list v.index ≡ Some e
+pub turn_refused : (total : ℕ) (list : List InstructionEntry) (turns input : ℕ) (e : InstructionEntry) (v : Variables) (why : RunRefused) (old now new : Option Told) → slice_get list v.index ≡ Some e
     → Way total list (suc turns) input v old now → IfSome now (λ t. Turns (Err why) (turn e (state_in v t)) t new) → Ran total list input (Err why) old new
 turn_refused total list turns input e v why None now new next way turned = tt
 turn_refused total list turns input e v why (Some old) None new next way turned = absurd way

@@ -7,7 +7,7 @@ use Rattle.board_core.specs.Doing.{DeviceCall, after_acts, reg_read, reg_write, 
 use Rattle.board_core.specs.declared.board.Reg.{Reg}
 use Rattle.board_core.specs.declared.board.Access.TheVariants.{Read}
 use Rattle.board_core.specs.Told.{Told, device_of, register_in, with_access}
-use Rattle.erst_interp.specs.declared.entries.Entry.{Entry}
+use Rattle.erst_interp.specs.declared.entries.InstructionEntry.{InstructionEntry}
 use Rattle.erst_interp.specs.declared.entries.Instruction.{Instruction}
 use Rattle.erst_interp.specs.declared.machine.Use.{Use}
 use Rattle.erst_interp.specs.declared.machine.Use.TheVariants.{Reads, Writes, Changes, Moves}
@@ -45,7 +45,7 @@ module _ (before : List DeviceCall) where
   after_write-shifted reg number s =
       ap (λ (made : List DeviceCall). record (after_register_write reg number s) { calls = made }) (append_assoc before s.calls (reg_write reg number ∷ []))
 
-  after_field-shifted : (e : Entry) (reg : Reg) (x : ℕ) (s : State) → after_field e reg x (shifted before s) ≡ shifted before (after_field e reg x s)
+  after_field-shifted : (e : InstructionEntry) (reg : Reg) (x : ℕ) (s : State) → after_field e reg x (shifted before s) ≡ shifted before (after_field e reg x s)
   after_field-shifted e reg x s = by e.preserves
     where
       by : (b : Bool) → (if b then after_register_write reg (with_field e x (register_in reg s.device)) (after_register_read reg (shifted before s)) else after_register_write reg (alone e x) (shifted before s))
@@ -75,7 +75,7 @@ module _ (before : List DeviceCall) where
           (after_move-shifted (s.variables.src + offset - range_address) (s.variables.dst + offset - range_address) s.variables.var2 s)
       by false = refl
 
-  used-shifted : (how : Use) (i : Instruction) (e : Entry) (v : Variables) (reg : Reg) (s : State) → used_by how i e v reg (shifted before s) ≡ shifted_outcome before (used_by how i e v reg s)
+  used-shifted : (how : Use) (i : Instruction) (e : InstructionEntry) (v : Variables) (reg : Reg) (s : State) → used_by how i e v reg (shifted before s) ≡ shifted_outcome before (used_by how i e v reg s)
   used-shifted Reads i e v reg s = ap (λ (t : State). goes (with_variables (taken i e (field_in e reg s) v) t)) (after_read-shifted reg s)
   used-shifted Writes i e v reg s = ap (λ (t : State). goes (with_variables (next s.variables) t)) (after_field-shifted e reg (given i e v) s)
   used-shifted Changes i e v reg s =
@@ -83,7 +83,7 @@ module _ (before : List DeviceCall) where
       ∙ ap (λ (t : State). goes (with_variables (next s.variables) t)) (after_field-shifted e reg (changed i e (field_in e reg s)) (after_register_read reg s))
   used-shifted Moves i e v reg s = ap (moved (field_in e reg s)) (after_read-shifted reg s) ∙ moved-shifted (field_in e reg s) (after_register_read reg s)
 
-  by-shifted : (work : Work) (i : Instruction) (e : Entry) (v : Variables) (s : State) → turn_by work i e v (shifted before s) ≡ shifted_outcome before (turn_by work i e v s)
+  by-shifted : (work : Work) (i : Instruction) (e : InstructionEntry) (v : Variables) (s : State) → turn_by work i e v (shifted before s) ≡ shifted_outcome before (turn_by work i e v s)
   by-shifted Work.TheVariants.Unknown i e v s = refl
   by-shifted Work.TheVariants.Computes i e v s = refl
   by-shifted (Work.TheVariants.Uses how) i e v s = by e.register
@@ -92,17 +92,17 @@ module _ (before : List DeviceCall) where
       by None = refl
       by (Some reg) = used-shifted how i e v reg s
 
-  pub turn-shifted : (e : Entry) (s : State) → turn e (shifted before s) ≡ shifted_outcome before (turn e s)
+  pub turn-shifted : (e : InstructionEntry) (s : State) → turn e (shifted before s) ≡ shifted_outcome before (turn e s)
   turn-shifted e s =
       by_kind e.instruction e (shifted before s)
       ∙ by-shifted (work_of e.instruction) e.instruction e s.variables s
       ∙ ap (shifted_outcome before) (sym (by_kind e.instruction e s))
 
-  pub end-shifted : (turns : ℕ) (list : List Entry) (s : State) → end_from turns list (shifted before s) ≡ shifted_end before (end_from turns list s)
+  pub end-shifted : (turns : ℕ) (list : List InstructionEntry) (s : State) → end_from turns list (shifted before s) ≡ shifted_end before (end_from turns list s)
   unfolding end_from
   end-shifted zero list s = by (slice_get list s.variables.index)
     where
-      by : (o : Option Entry) → at_entry (λ e. record { answer = Err Fuel; state = shifted before s }) (shifted before s) o ≡ shifted_end before (at_entry (λ e. record { answer = Err Fuel; state = s }) s o)
+      by : (o : Option InstructionEntry) → at_entry (λ e. record { answer = Err Fuel; state = shifted before s }) (shifted before s) o ≡ shifted_end before (at_entry (λ e. record { answer = Err Fuel; state = s }) s o)
       by None = refl
       by (Some e) = refl
   end-shifted (suc turns) list s = by (slice_get list s.variables.index) (λ t. end-shifted turns list t)
@@ -112,7 +112,7 @@ module _ (before : List DeviceCall) where
       gone (goes t) later = later t
       gone (stops why t) later = refl
 
-      by : (o : Option Entry) → ((t : State) → end_from turns list (shifted before t) ≡ shifted_end before (end_from turns list t))
+      by : (o : Option InstructionEntry) → ((t : State) → end_from turns list (shifted before t) ≡ shifted_end before (end_from turns list t))
           → at_entry (λ e. after_turn (λ t. end_from turns list t) (turn e (shifted before s))) (shifted before s) o
           ≡ shifted_end before (at_entry (λ e. after_turn (λ t. end_from turns list t) (turn e s)) s o)
       by None later = refl
@@ -131,7 +131,7 @@ outcome_made : (before : List DeviceCall) (o : Outcome) → (state_of (shifted_o
 outcome_made before (goes s) = refl
 outcome_made before (stops why s) = refl
 
-pub end_made : (turns : ℕ) (list : List Entry) (s : State) → (more : List DeviceCall) × ((end_from turns list s).state.calls ≡ s.calls ++ more)
+pub end_made : (turns : ℕ) (list : List InstructionEntry) (s : State) → (more : List DeviceCall) × ((end_from turns list s).state.calls ≡ s.calls ++ more)
 end_made turns list s = (
   (end_from turns list (bare s)).state.calls,
   ap (λ (t : State). (end_from turns list t).state.calls) (is_shifted s)
@@ -140,7 +140,7 @@ end_made turns list s = (
 
 -- ---- the stores
 
-pub passes_shifted : (before : List DeviceCall) (store : List Stored) (turns : ℕ) (list : List Entry) (s : State) → PassesStore turns list s store → PassesStore turns list (shifted before s) store
+pub passes_shifted : (before : List DeviceCall) (store : List Stored) (turns : ℕ) (list : List InstructionEntry) (s : State) → PassesStore turns list s store → PassesStore turns list (shifted before s) store
 unfolding PassesStore
 passes_shifted before store zero list s passes = passes
 passes_shifted before store (suc turns) list s passes =
@@ -152,7 +152,7 @@ passes_shifted before store (suc turns) list s passes =
     gone (goes t) is later = later t is
     gone (stops why t) is later = is
 
-    by : (o : Option Entry) → AtNext (λ e. AfterTurn (λ t. PassesStore turns list t store) (λ t. store ≡ t.device.store) (turn e s)) o
+    by : (o : Option InstructionEntry) → AtNext (λ e. AfterTurn (λ t. PassesStore turns list t store) (λ t. store ≡ t.device.store) (turn e s)) o
         → ((t : State) → PassesStore turns list t store → PassesStore turns list (shifted before t) store)
         → AtNext (λ e. AfterTurn (λ t. PassesStore turns list t store) (λ t. store ≡ t.device.store) (turn e (shifted before s))) o
     by None is later = is
@@ -191,7 +191,7 @@ as_turn BadRegister (stops cause s) t new is = is
 as_turn BadRange (stops cause s) t new is = is
 
 -- a move that was refused, after its offset was read
-pub move_refused : (why : RunRefused) (e : Entry) (reg : Reg) (i : Instruction) (v : Variables) (n : ℕ) (old mid new : Option Told) → IsFieldRead e reg n old mid
+pub move_refused : (why : RunRefused) (e : InstructionEntry) (reg : Reg) (i : Instruction) (v : Variables) (n : ℕ) (old mid new : Option Told) → IsFieldRead e reg n old mid
     → IfSome mid (λ u. Steps.Moves (Err why) (moved n (state_in v u)) u new) → IfSome old (λ t. Turns (Err why) (used_by Moves i e v reg (state_in v t)) t new)
 move_refused why e reg i v n None mid new read moves = tt
 move_refused why e reg i v n (Some t) mid new (n_is, mid_is) moves =

@@ -8,7 +8,7 @@ use Rattle.board_core.specs.Stop.{Becomes, InStore}
 use Rattle.board_core.specs.Told.{Told}
 use Rattle.erst_interp.specs.declared.entries.Instruction.{Instruction}
 use Rattle.erst_interp.specs.declared.entries.Instruction.TheVariants.{ReadRegister, ReadRegisterValue, WriteRegister, WriteRegisterValue, Noop, LoadVar1, LoadVar2, StoreVar1, Add, Subtract, AddValue, SubtractValue, Stall, StallWhileTrue, SkipNextInstructionIfTrue, Goto, SetSrcAddressBase, SetDstAddressBase, MoveData, Unknown}
-use Rattle.erst_interp.specs.declared.entries.Entry.{Entry}
+use Rattle.erst_interp.specs.declared.entries.InstructionEntry.{InstructionEntry}
 use Rattle.erst_interp.specs.declared.machine.Variables.{Variables}
 use Rattle.erst_interp.specs.declared.machine.Use.{Use}
 use Rattle.erst_interp.specs.declared.machine.Work.{Work}
@@ -21,7 +21,7 @@ use Rattle.board_core.specs.Doing.{Seen}
 use Rattle.erst_interp.specs.Steps.{TouchesAs, StoreInTurn, state_in, state_of}
 use Rattle.erst_interp.proofs.TouchLemmas.{well_more, fails_more}
 
-pub by_kind : (i : Instruction) (e : Entry) (s : State) → turn_of i e s.variables s ≡ turn_by (work_of i) i e s.variables s
+pub by_kind : (i : Instruction) (e : InstructionEntry) (s : State) → turn_of i e s.variables s ≡ turn_by (work_of i) i e s.variables s
 by_kind ReadRegister e s = refl
 by_kind ReadRegisterValue e s = refl
 by_kind WriteRegister e s = refl
@@ -44,7 +44,7 @@ by_kind MoveData e s = refl
 by_kind Unknown e s = refl
 
 -- an entry that uses its register
-pub turn_uses : (e : Entry) (how : Use) (reg : Reg) → Work.TheVariants.Uses how ≡ work_of e.instruction → e.register ≡ Some reg
+pub turn_uses : (e : InstructionEntry) (how : Use) (reg : Reg) → Work.TheVariants.Uses how ≡ work_of e.instruction → e.register ≡ Some reg
     → (s : State) → used_by how e.instruction e s.variables reg s ≡ turn e s
 turn_uses e how reg kind there s =
     sym (by_kind e.instruction e s

@@ -13,7 +13,7 @@ use Rattle.board_core.specs.declared.board.Reg.{Reg}
 use Rattle.board_core.specs.declared.board.Reg.TheVariants.{Action, Value}
 use Rattle.erst_interp.specs.declared.entries.Instruction.{Instruction}
 use Rattle.erst_interp.specs.declared.entries.Instruction.TheVariants.{ReadRegister, ReadRegisterValue, WriteRegister, WriteRegisterValue, Noop, LoadVar1, LoadVar2, Add, Subtract, Stall}
-use Rattle.erst_interp.specs.declared.entries.Entry.{Entry}
+use Rattle.erst_interp.specs.declared.entries.InstructionEntry.{InstructionEntry}
 use Rattle.erst_interp.specs.Machine.{most_turns}
 use Rattle.erst_interp.specs.Table.{list_of}
 
@@ -66,11 +66,11 @@ is_idle_by LoadVar1 register = is_some register
 is_idle_by LoadVar2 register = is_some register
 is_idle_by _ register = false
 
-abbrev pub is_idle : Entry → Bool
+abbrev pub is_idle : InstructionEntry → Bool
 is_idle e = is_idle_by e.instruction e.register
 
 -- an entry that has a whole register, of which it keeps nothing
-abbrev pub is_whole : Entry → Bool
+abbrev pub is_whole : InstructionEntry → Bool
 is_whole e = nat_eq e.offset 0 && not e.preserves
 
 -- an entry that writes the number of an action to Action
@@ -78,7 +78,7 @@ abbrev pub is_constant : Instruction → Bool
 is_constant WriteRegisterValue = true
 is_constant _ = false
 
-abbrev pub is_act : ℕ → Entry → Bool
+abbrev pub is_act : ℕ → InstructionEntry → Bool
 is_act action e =
     is_constant e.instruction && is_action e.register && is_whole e
     && nat_eq (bit_and e.value e.mask) action
@@ -88,12 +88,12 @@ abbrev pub is_write : Instruction → Bool
 is_write WriteRegister = true
 is_write _ = false
 
-abbrev pub is_input : ℕ → Entry → Bool
+abbrev pub is_input : ℕ → InstructionEntry → Bool
 is_input action e =
     is_write e.instruction && is_value e.register && is_whole e && holds_bits (input_bits action) e.mask
 
 -- an entry that writes a number of its own to Value: EXECUTE forgets what Value holds
-abbrev pub is_free : ℕ → Entry → Bool
+abbrev pub is_free : ℕ → InstructionEntry → Bool
 is_free action e =
     nat_eq action execute_operation && is_constant e.instruction && is_value e.register && not e.preserves
 
@@ -103,21 +103,21 @@ is_read action value ReadRegister = true
 is_read action value ReadRegisterValue = nat_eq action check_busy_status && nat_eq value 1
 is_read action value _ = false
 
-abbrev pub is_answer : ℕ → Entry → Bool
+abbrev pub is_answer : ℕ → InstructionEntry → Bool
 is_answer action e =
     is_read action e.value e.instruction && is_value e.register && nat_eq e.offset 0
     && holds_bits (answer_bits action) e.mask
 
 -- ---- lists
 
-abbrev pub AreIdle : List Entry → Type 0
+abbrev pub AreIdle : List InstructionEntry → Type 0
 AreIdle entries = IsTrue (list_all is_idle entries)
 
 -- idle entries, one other, and again idle entries
-pub record HoldsOne (Is : Entry → Bool) (entries : List Entry) : Type 0 where
-  pub before : List Entry
-  pub one : Entry
-  pub after : List Entry
+pub record HoldsOne (Is : InstructionEntry → Bool) (entries : List InstructionEntry) : Type 0 where
+  pub before : List InstructionEntry
+  pub one : InstructionEntry
+  pub after : List InstructionEntry
   pub laid : entries ≡ before ++ one ∷ after
   pub idle_before : AreIdle before
   pub is : IsTrue (Is one)
@@ -125,40 +125,40 @@ pub record HoldsOne (Is : Entry → Bool) (entries : List Entry) : Type 0 where
 
 -- what stands before the action's write: the input's write among idle entries, or idle entries and
 -- before EXECUTE also writes to Value
-abbrev pub BeginsBy : Bool → ℕ → List Entry → Type 0
+abbrev pub BeginsBy : Bool → ℕ → List InstructionEntry → Type 0
 BeginsBy true action entries = HoldsOne (is_input action) entries
 BeginsBy false action entries = IsTrue (list_all (λ e. is_idle e || is_free action e) entries)
 
-abbrev pub IsBeginning : ℕ → List Entry → Type 0
+abbrev pub IsBeginning : ℕ → List InstructionEntry → Type 0
 IsBeginning action entries = BeginsBy (takes_input action) action entries
 
 -- idle entries, and last the answer's read
-pub record EndsWithAnswer (action : ℕ) (entries : List Entry) : Type 0 where
-  pub idle : List Entry
-  pub last : Entry
+pub record EndsWithAnswer (action : ℕ) (entries : List InstructionEntry) : Type 0 where
+  pub idle : List InstructionEntry
+  pub last : InstructionEntry
   pub laid : entries ≡ idle ++ last ∷ []
   pub are_idle : AreIdle idle
   pub is : IsTrue (is_answer action last)
 
 -- what stands after it: idle entries, and where the action answers last the answer's read
-abbrev pub EndsBy : Bool → ℕ → List Entry → Type 0
+abbrev pub EndsBy : Bool → ℕ → List InstructionEntry → Type 0
 EndsBy true action entries = EndsWithAnswer action entries
 EndsBy false action entries = AreIdle entries
 
-abbrev pub IsEnding : ℕ → List Entry → Type 0
+abbrev pub IsEnding : ℕ → List InstructionEntry → Type 0
 IsEnding action entries = EndsBy (gives_answer action) action entries
 
 -- An admitted list of an action: its one write to Action, what stands before it and what after it.
-pub record IsAdmitted (action : ℕ) (list : List Entry) : Type 0 where
+pub record IsAdmitted (action : ℕ) (list : List InstructionEntry) : Type 0 where
   pub short : length list ≤ most_turns
-  pub before : List Entry
-  pub act : Entry
-  pub after : List Entry
+  pub before : List InstructionEntry
+  pub act : InstructionEntry
+  pub after : List InstructionEntry
   pub laid : list ≡ before ++ act ∷ after
   pub is : IsTrue (is_act action act)
   pub begins : IsBeginning action before
   pub ends : IsEnding action after
 
 -- A table is admitted where the lists of actions 0 to 10 are.
-abbrev pub IsAdmittedTable : List (List Entry) → Type 0
+abbrev pub IsAdmittedTable : List (List InstructionEntry) → Type 0
 IsAdmittedTable lists = (action : ℕ) → action ≤ get_record_count → IsAdmitted action (list_of action lists)

@@ -12,7 +12,7 @@ use Rattle.board_core.specs.declared.board.Reg.{Reg}
 use Rattle.board_core.specs.declared.board.Reg.TheVariants.{Action, Value}
 use Rattle.erst_interp.specs.declared.entries.Instruction.{Instruction}
 use Rattle.erst_interp.specs.declared.entries.Instruction.TheVariants.{ReadRegister, ReadRegisterValue, WriteRegister, WriteRegisterValue, Noop, LoadVar1, LoadVar2, StoreVar1, Add, Subtract, AddValue, SubtractValue, Stall, StallWhileTrue, SkipNextInstructionIfTrue, Goto, SetSrcAddressBase, SetDstAddressBase, MoveData, Unknown}
-use Rattle.erst_interp.specs.declared.entries.Entry.{Entry}
+use Rattle.erst_interp.specs.declared.entries.InstructionEntry.{InstructionEntry}
 
 -- the instructions in the order of their numbers, from 0 on
 abbrev pub instructions : List Instruction
@@ -53,7 +53,7 @@ abbrev pub register_at : ℕ → ℕ → ℕ → Option Reg
 register_at space offset address = if nat_eq space 0 && nat_lt offset 64 then register_of address else None
 
 -- the entry at the front of bytes
-abbrev pub entry_of : List ℕ → Entry
+abbrev pub entry_of : List ℕ → InstructionEntry
 entry_of bytes = record {
   action = slice_index bytes 0;
   instruction = instruction_of (slice_index bytes 1);

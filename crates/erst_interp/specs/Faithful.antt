@@ -4,7 +4,7 @@ use Rattle.erst_store.specs.Actions.{set_record_offset}
 use Rattle.erst_store.specs.Device.{Device, act}
 use Rattle.erst_store.specs.DeviceLaws.{IsDevice}
 use Rattle.board_core.specs.Told.{Told, device_of}
-use Rattle.erst_interp.specs.declared.entries.Entry.{Entry}
+use Rattle.erst_interp.specs.declared.entries.InstructionEntry.{InstructionEntry}
 use Rattle.erst_interp.specs.declared.refusals.RunRefused.{RunRefused}
 use Rattle.erst_interp.specs.declared.refusals.RunRefused.TheVariants.{Register}
 use Rattle.erst_interp.specs.Machine.{End, end_of}
@@ -32,7 +32,7 @@ pub record DoesAction (action input : ℕ) (d : Device) (end : End) : Type 0 whe
   pub device : end.state.device ≡ device_after action input d
 
 -- A list is faithful to an action where its run does the action, on every device and every input.
-abbrev pub IsFaithful : ℕ → List Entry → Type 0
+abbrev pub IsFaithful : ℕ → List InstructionEntry → Type 0
 IsFaithful action list = (input : ℕ) (d : Device) → IsDevice d → input < input_limit action → DoesAction action input d (end_of list input d)
 
 -- What a run of an admitted list does to a board: it answers as the action does, and the board

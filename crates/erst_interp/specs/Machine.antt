@@ -9,7 +9,7 @@ use Rattle.board_core.specs.Doing.{DeviceCall, reg_read, reg_write, range_read, 
 use Rattle.board_core.specs.Told.{register_in, after_reg_write, after_range_write}
 use Rattle.erst_interp.specs.declared.entries.Instruction.{Instruction}
 use Rattle.erst_interp.specs.declared.entries.Instruction.TheVariants.{ReadRegister, ReadRegisterValue, WriteRegister, WriteRegisterValue, Noop, LoadVar1, LoadVar2, StoreVar1, Add, Subtract, AddValue, SubtractValue, Stall, StallWhileTrue, SkipNextInstructionIfTrue, Goto, SetSrcAddressBase, SetDstAddressBase, MoveData, Unknown}
-use Rattle.erst_interp.specs.declared.entries.Entry.{Entry}
+use Rattle.erst_interp.specs.declared.entries.InstructionEntry.{InstructionEntry}
 use Rattle.erst_interp.specs.declared.machine.Variables.{Variables}
 use Rattle.erst_interp.specs.declared.refusals.RunRefused.{RunRefused}
 use Rattle.erst_interp.specs.declared.refusals.RunRefused.TheVariants.{Fuel, BadInstruction, BadRegister, BadRange}
@@ -51,22 +51,22 @@ truth false = 0
 -- ---- fields of registers
 
 -- a number that is read from a register, shifted right by the bit offset and masked
-abbrev pub field_of : Entry → ℕ → ℕ
+abbrev pub field_of : InstructionEntry → ℕ → ℕ
 field_of e number = bit_and (number / 2 ^ e.offset) e.mask
 
 -- a number shifted left by the bit offset
-abbrev pub in_place : Entry → ℕ → ℕ
+abbrev pub in_place : InstructionEntry → ℕ → ℕ
 in_place e number = wrapped (number * 2 ^ e.offset)
 
 -- what is written for a number: it is masked and shifted left, and the register's other bits are 0
 -- or, with preserve, as they were
-abbrev pub cleared : Entry → ℕ → ℕ
+abbrev pub cleared : InstructionEntry → ℕ → ℕ
 cleared e number = bit_and number (2 ^ 64 - 1 - in_place e e.mask)
 
-abbrev pub with_field : Entry → ℕ → ℕ → ℕ
+abbrev pub with_field : InstructionEntry → ℕ → ℕ → ℕ
 with_field e x number = bit_or (in_place e (bit_and x e.mask)) (cleared e number)
 
-abbrev pub alone : Entry → ℕ → ℕ
+abbrev pub alone : InstructionEntry → ℕ → ℕ
 alone e x = in_place e (bit_and x e.mask)
 
 -- ---- calls of the device
@@ -90,12 +90,12 @@ after_range_write_at place bytes s = record s {
 }
 
 -- the number in an entry's field of a register
-abbrev pub field_in : Entry → Reg → State → ℕ
+abbrev pub field_in : InstructionEntry → Reg → State → ℕ
 field_in e reg s = field_of e (register_in reg s.device)
 
 -- a number is written into an entry's field of a register, which is read first where the other bits
 -- are kept
-abbrev pub after_field : Entry → Reg → ℕ → State → State
+abbrev pub after_field : InstructionEntry → Reg → ℕ → State → State
 after_field e reg x s =
     if e.preserves then after_register_write reg (with_field e x (register_in reg s.device)) (after_register_read reg s)
     else after_register_write reg (alone e x) s
@@ -126,18 +126,18 @@ abbrev pub with_register : Option Reg → State → (Reg → Outcome) → Outcom
 with_register None s go_on = stops BadRegister s
 with_register (Some reg) s go_on = go_on reg
 
-abbrev pub uses : Entry → State → (Reg → Outcome) → Outcome
+abbrev pub uses : InstructionEntry → State → (Reg → Outcome) → Outcome
 uses e s go_on = with_register e.register s go_on
 
 -- one that reads the entry's field, and one that writes it
-abbrev pub reads : Entry → State → (ℕ → Variables) → Outcome
+abbrev pub reads : InstructionEntry → State → (ℕ → Variables) → Outcome
 reads e s after = uses e s (λ reg. goes (with_variables (after (field_in e reg s)) (after_register_read reg s)))
 
-abbrev pub writes : Entry → ℕ → State → Outcome
+abbrev pub writes : InstructionEntry → ℕ → State → Outcome
 writes e x s = uses e s (λ reg. goes (with_variables (next s.variables) (after_field e reg x s)))
 
 -- one that reads the field and writes another number into it
-abbrev pub changes : Entry → State → (ℕ → ℕ) → Outcome
+abbrev pub changes : InstructionEntry → State → (ℕ → ℕ) → Outcome
 changes e s change = uses e s (λ reg. goes (with_variables (next s.variables)
     (after_field e reg (change (field_in e reg s)) (after_register_read reg s))))
 
@@ -150,12 +150,12 @@ moved offset s =
     (s.variables.dst + offset - range_address) s.variables.var2 s))
     else stops BadRange s
 
-abbrev pub moves : Entry → State → Outcome
+abbrev pub moves : InstructionEntry → State → Outcome
 moves e s = uses e s (λ reg. moved (field_in e reg s) (after_register_read reg s))
 
 -- What an instruction does. Where the test of SKIP_NEXT_INSTRUCTION_IF_TRUE holds the index rises
 -- by 2, and where that of STALL_WHILE_TRUE holds it stays.
-abbrev pub turn_of : Instruction → Entry → Variables → State → Outcome
+abbrev pub turn_of : Instruction → InstructionEntry → Variables → State → Outcome
 turn_of ReadRegister e v s = reads e s (λ x. next (record v { value = x }))
 turn_of ReadRegisterValue e v s = reads e s (λ x. next (record v { value = truth (nat_eq x e.value) }))
 turn_of WriteRegister e v s = writes e v.value s
@@ -178,7 +178,7 @@ turn_of MoveData e v s = moves e s
 turn_of Unknown e v s = stops BadInstruction s
 
 -- one turn with this entry
-abbrev pub turn : Entry → State → Outcome
+abbrev pub turn : InstructionEntry → State → Outcome
 turn e s = turn_of e.instruction e s.variables s
 
 -- ---- runs
@@ -189,7 +189,7 @@ pub record End : Type 0 where
   pub state : State
 
 -- what comes of the entry that is next: where there is none, the run ends with its value
-abbrev pub at_entry : (Entry → End) → State → Option Entry → End
+abbrev pub at_entry : (InstructionEntry → End) → State → Option InstructionEntry → End
 at_entry go_on s None = record { answer = Ok s.variables.value; state = s }
 at_entry go_on s (Some e) = go_on e
 
@@ -199,7 +199,7 @@ after_turn go_on (stops why s) = record { answer = Err why; state = s }
 
 -- The end of a run that has so many turns left. Where none is left and there is a next entry, it is
 -- refused before that entry is looked at.
-unfoldable pub end_from : ℕ → List Entry → State → End
+unfoldable pub end_from : ℕ → List InstructionEntry → State → End
 end_from zero list s =
     at_entry (λ e. record { answer = Err Fuel; state = s }) s (slice_get list s.variables.index)
 end_from (suc turns) list s =
@@ -214,5 +214,5 @@ abbrev pub start : ℕ → Device → State
 start input device = record { variables = new_variables input; device = device; calls = [] }
 
 -- the end of the run of a list
-abbrev pub end_of : List Entry → ℕ → Device → End
+abbrev pub end_of : List InstructionEntry → ℕ → Device → End
 end_of list input device = end_from most_turns list (start input device)

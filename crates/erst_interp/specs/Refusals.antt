@@ -4,14 +4,14 @@ use Rattle.erst_interp.specs.declared.refusals.ErstTableRefused.{ErstTableRefuse
 use Rattle.erst_interp.specs.declared.refusals.ErstTableRefused.TheVariants.{Short, Signature, Length, Sum, HeaderSize, Count, NoMemory}
 
 -- the number of a refusal; want of memory has none
-abbrev pub table_number : ErstTableRefused → Option ℕ
-table_number Short = Some 1
-table_number Signature = Some 2
-table_number Length = Some 3
-table_number Sum = Some 4
-table_number HeaderSize = Some 5
-table_number Count = Some 6
-table_number NoMemory = None
+abbrev pub erst_number : ErstTableRefused → Option ℕ
+erst_number Short = Some 1
+erst_number Signature = Some 2
+erst_number Length = Some 3
+erst_number Sum = Some 4
+erst_number HeaderSize = Some 5
+erst_number Count = Some 6
+erst_number NoMemory = None
 
 -- This is answered, or memory ran out.
 abbrev pub IsAnswer : {T : Type 0} → Result T ErstTableRefused → Result T ErstTableRefused → Type 0

@@ -4,7 +4,7 @@ use Rattle.erst_store.specs.Store.{Stored}
 use Rattle.board_core.specs.Cause.{Faults, device_call}
 use Rattle.board_core.specs.Doing.{Act, DeviceCall, FailsActs, Raises, after_acts, device}
 use Rattle.board_core.specs.Told.{Told, device_of}
-use Rattle.erst_interp.specs.declared.entries.Entry.{Entry}
+use Rattle.erst_interp.specs.declared.entries.InstructionEntry.{InstructionEntry}
 use Rattle.erst_interp.specs.declared.refusals.RunRefused.{RunRefused}
 use Rattle.erst_interp.specs.declared.refusals.RunRefused.TheVariants.{Register}
 use Rattle.erst_interp.specs.Machine.{State, Outcome, goes, stops, turn, End, start, most_turns}
@@ -42,7 +42,7 @@ RunCause (Err Register) before now = Raises device_call before now
 RunCause answer before now = now ≡ before
 
 -- of the entry that is next, and of what its turn comes to
-abbrev pub AtNext : (Entry → Type 0) → Option Entry → Type 0
+abbrev pub AtNext : (InstructionEntry → Type 0) → Option InstructionEntry → Type 0
 AtNext Holds None = ⊥
 AtNext Holds (Some e) = Holds e
 
@@ -51,7 +51,7 @@ AfterTurn Goes Stops (goes s) = Goes s
 AfterTurn Goes Stops (stops why s) = Stops s
 
 -- A run of so many turns comes through a device with this record store.
-unfoldable pub PassesStore : ℕ → List Entry → State → List Stored → Type 0
+unfoldable pub PassesStore : ℕ → List InstructionEntry → State → List Stored → Type 0
 PassesStore zero list s store = store ≡ s.device.store
 PassesStore (suc turns) list s store =
     (store ≡ s.device.store)
@@ -60,6 +60,6 @@ PassesStore (suc turns) list s store =
 
 -- The record store stays, or becomes one that the run comes through. Of a board that tells nothing
 -- this says nothing.
-abbrev pub StoreInRun : List Entry → ℕ → Option Told → List Stored → List Stored → Type 0
+abbrev pub StoreInRun : List InstructionEntry → ℕ → Option Told → List Stored → List Stored → Type 0
 StoreInRun list input None old new = Unit {0}
 StoreInRun list input (Some t) old new = (new ≡ old) ⊎ PassesStore most_turns list (start input (device_of t)) new

@@ -10,7 +10,7 @@ use Rattle.board_core.specs.Stop.{InStore, Becomes}
 use Rattle.board_core.specs.Clock.{Passes}
 use Rattle.board_core.specs.Cause.{device_call}
 use Rattle.board_core.specs.Doing.{Raises, Seen}
-use Rattle.erst_interp.specs.declared.entries.Entry.{Entry}
+use Rattle.erst_interp.specs.declared.entries.InstructionEntry.{InstructionEntry}
 use Rattle.erst_interp.specs.declared.machine.Variables.{Variables}
 use Rattle.erst_interp.specs.declared.refusals.RunRefused.{RunRefused}
 use Rattle.erst_interp.specs.declared.refusals.RunRefused.TheVariants.{Register}
@@ -51,7 +51,7 @@ IsRead reg n None new = new ≡ None
 IsRead reg n (Some t) new =
     (n ≡ register_in reg (device_of t)) × (new ≡ Some (with_access (Read reg (register_in reg (device_of t))) t))
 
-abbrev pub IsFieldRead : Entry → Reg → ℕ → Option Told → Option Told → Type 0
+abbrev pub IsFieldRead : InstructionEntry → Reg → ℕ → Option Told → Option Told → Type 0
 IsFieldRead e reg x None new = new ≡ None
 IsFieldRead e reg x (Some t) new =
     (x ≡ field_of e (register_in reg (device_of t)))
@@ -61,21 +61,21 @@ IsFieldRead e reg x (Some t) new =
 abbrev pub start_over : ℕ → Told → State
 start_over input t = state_in (new_variables input) t
 
-abbrev pub end_within : ℕ → List Entry → ℕ → Told → End
+abbrev pub end_within : ℕ → List InstructionEntry → ℕ → Told → End
 end_within turns list input t = end_from turns list (start_over input t)
 
-abbrev pub end_over : List Entry → ℕ → Told → End
+abbrev pub end_over : List InstructionEntry → ℕ → Told → End
 end_over list input t = end_within most_turns list input t
 
 -- a part of a turn in which a call failed
 abbrev pub BreaksIn : (State → State) → Option Told → Option Told → Type 0
 BreaksIn part old new = IfSome old (λ t. IsCutShort (part (state_in (new_variables 0) t)).calls t new)
 
-abbrev pub StoreWithin : ℕ → List Entry → ℕ → Option Told → List Stored → List Stored → Type 0
+abbrev pub StoreWithin : ℕ → List InstructionEntry → ℕ → Option Told → List Stored → List Stored → Type 0
 StoreWithin turns list input None old new = Unit {0}
 StoreWithin turns list input (Some t) old new = (new ≡ old) ⊎ PassesStore turns list (start_over input t) new
 
-abbrev pub StoreOver : List Entry → ℕ → Option Told → List Stored → List Stored → Type 0
+abbrev pub StoreOver : List InstructionEntry → ℕ → Option Told → List Stored → List Stored → Type 0
 StoreOver list input told = StoreWithin most_turns list input told
 
 -- what is told goes on by a part of a turn

@@ -5,7 +5,7 @@ use Rattle.std.specs.Prelude.{ℕ, zero, suc, ◌+◌, ◌*◌, Bool, ◌||◌, 
 use Rattle.std.specs.List.{range_with_len, starts_with}
 use Rattle.ras_base.specs.LittleEndian.{number_at}
 use Rattle.ras_base.specs.AcpiTable.{own_bytes, has_length, has_sum}
-use Rattle.erst_interp.specs.declared.entries.Entry.{Entry}
+use Rattle.erst_interp.specs.declared.entries.InstructionEntry.{InstructionEntry}
 use Rattle.erst_interp.specs.declared.entries.TheConstants.{ENTRY_LENGTH}
 use Rattle.erst_interp.specs.declared.table.TheConstants.{ERST_FIXED_LENGTH}
 use Rattle.erst_interp.specs.declared.refusals.ErstTableRefused.{ErstTableRefused}
@@ -36,28 +36,28 @@ erst_table bytes =
     else Ok (own_bytes bytes))))))
 
 -- so many entries at the front of bytes, one after the other
-unfoldable pub entries_at : ℕ → List ℕ → List Entry
-entries_at zero bytes = []
-entries_at (suc count) bytes = entry_of bytes ∷ entries_at count (drop ENTRY_LENGTH bytes)
+unfoldable pub instructions_at : ℕ → List ℕ → List InstructionEntry
+instructions_at zero bytes = []
+instructions_at (suc count) bytes = entry_of bytes ∷ instructions_at count (drop ENTRY_LENGTH bytes)
 
-abbrev pub entries_in : List ℕ → List Entry
-entries_in table = entries_at (entry_count table) (drop ERST_FIXED_LENGTH table)
+abbrev pub instructions_in : List ℕ → List InstructionEntry
+instructions_in table = instructions_at (entry_count table) (drop ERST_FIXED_LENGTH table)
 
 -- what is kept of a table: for each number that an action can have, a list of entries
-abbrev pub list_of : ℕ → List (List Entry) → List Entry
+abbrev pub list_of : ℕ → List (List InstructionEntry) → List InstructionEntry
 list_of action lists = get_or lists action []
 
 -- the entries of an action, in their order
-abbrev pub entries_for : ℕ → List Entry → List Entry
+abbrev pub entries_for : ℕ → List InstructionEntry → List InstructionEntry
 entries_for action entries = filter (λ e. nat_eq action e.action) entries
 
-unfoldable pub lists_of : List Entry → List (List Entry)
+unfoldable pub lists_of : List InstructionEntry → List (List InstructionEntry)
 lists_of entries = map (λ action. entries_for action entries) (range_with_len 0 256)
 
-abbrev pub lists_in : Result (List ℕ) ErstTableRefused → Result (List (List Entry)) ErstTableRefused
-lists_in (Ok table) = Ok (lists_of (entries_in table))
+abbrev pub lists_in : Result (List ℕ) ErstTableRefused → Result (List (List InstructionEntry)) ErstTableRefused
+lists_in (Ok table) = Ok (lists_of (instructions_in table))
 lists_in (Err why) = Err why
 
 -- the table at the front of bytes, by its lists, or the first reason that it can't be read
-abbrev pub erst_of : List ℕ → Result (List (List Entry)) ErstTableRefused
+abbrev pub erst_of : List ℕ → Result (List (List InstructionEntry)) ErstTableRefused
 erst_of bytes = lists_in (erst_table bytes)

@@ -4,7 +4,7 @@ ghost use Rattle.std.specs.Prelude.{◌≡◌, ◌↔◌, ◌≤◌, length, IsT
 ghost use Rattle.erst_interp.specs.Admission.{takes_input, gives_answer, input_bits, answer_bits, is_action, is_value, is_constant, holds_bits, is_idle, is_whole, is_act, is_input, is_free, is_read, is_answer, IsAdmitted, IsAdmittedTable};
 ghost use Rattle.erst_interp.specs.Walk.{first_awaited, awaited_after, next_awaited, walks, is_admitted};
 
-use crate::entries::{Entry, Instruction};
+use crate::entries::{InstructionEntry, Instruction};
 use crate::run::MOST_TURNS;
 use crate::table::Table;
 use board_core::Reg;
@@ -57,14 +57,14 @@ pub fn admits(table: &Table) -> bool
 }
 
 // Whether a list of an action is admitted.
-fn admits_list(action: u64, list: &[Entry]) -> bool
+fn admits_list(action: u64, list: &[InstructionEntry]) -> bool
     ensures { IsTrue result ↔ IsAdmitted action list.now }
 {
     list.len() <= MOST_TURNS as usize && walks(action, list)
 }
 
 // Whether a list of an action is laid out as an admitted one.
-fn walks(action: u64, list: &[Entry]) -> bool
+fn walks(action: u64, list: &[InstructionEntry]) -> bool
     ensures { result ≡ walks action (first_awaited action) list.now }
 {
     let mut awaited = first_awaited(action);
@@ -89,7 +89,7 @@ fn first_awaited(action: u64) -> Awaited
 }
 
 // What is awaited after an entry, or None where it may not stand here.
-fn next_awaited(action: u64, awaited: Awaited, entry: &Entry) -> Option<Awaited>
+fn next_awaited(action: u64, awaited: Awaited, entry: &InstructionEntry) -> Option<Awaited>
     ensures { result ≡ next_awaited action awaited entry.now }
 {
     if entry.is_idle() {
@@ -159,7 +159,7 @@ fn answer_bits(action: u64) -> u64
     }
 }
 
-impl Entry {
+impl InstructionEntry {
     // Whether it leaves the device and the value alone.
     fn is_idle(&self) -> bool
         ensures { result ≡ is_idle self.now }

@@ -44,7 +44,7 @@ pub enum Instruction {
 
 /// One entry of a table.
 #[derive(Clone, Copy, Debug, PartialEq, Eq)]
-pub struct Entry {
+pub struct InstructionEntry {
     /// The number of the action to whose list the entry belongs.
     pub action: u8,
     pub instruction: Instruction,
@@ -104,11 +104,11 @@ fn register_at(space: u8, offset: u8, address: u64) -> Option<Reg>
 }
 
 // The entry at the front of bytes.
-pub(crate) fn entry_at(bytes: &[u8]) -> Entry
+pub(crate) fn entry_at(bytes: &[u8]) -> InstructionEntry
     requires { ENTRY_LENGTH ≤ length bytes.now }
     ensures { result ≡ entry_of bytes.now }
 {
-    Entry {
+    InstructionEntry {
         action: bytes[0],
         instruction: Instruction::of(bytes[1]),
         preserves: is_set(0, bytes[2] as u64),

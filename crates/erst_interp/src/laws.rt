@@ -3,7 +3,7 @@
 ghost use Rattle.std.specs.Prelude.{◌≡◌, ℕ, ◌<◌, ◌^◌, List};
 ghost use Rattle.erst_store.specs.Device.{Device};
 ghost use Rattle.erst_store.specs.DeviceLaws.{IsDevice};
-ghost use Rattle.erst_interp.specs.declared.entries.Entry.{Entry};
+ghost use Rattle.erst_interp.specs.declared.entries.InstructionEntry.{InstructionEntry};
 ghost use Rattle.erst_interp.specs.Admission.{IsAdmitted};
 ghost use Rattle.erst_interp.specs.Faithful.{IsFaithful, input_limit};
 ghost use Rattle.erst_interp.specs.Machine.{end_of};
@@ -16,14 +16,14 @@ ghost use Rattle.erst_interp.specs.declared.table.TheConstants.{ERST_FIXED_LENGT
 /// admitted lists of one action the answer and the device after them are the same. The function
 /// does nothing: its clauses are what it is for.
 pub fn admitted_lists_are_faithful()
-    ensures faithful { (action : ℕ) (list : List Entry) → action < 2 ^ 64
+    ensures faithful { (action : ℕ) (list : List InstructionEntry) → action < 2 ^ 64
         → IsAdmitted action list → IsFaithful action list }
 
-    ensures one_answer { (action input : ℕ) (one other : List Entry) (d : Device)
+    ensures one_answer { (action input : ℕ) (one other : List InstructionEntry) (d : Device)
         → action < 2 ^ 64 → IsAdmitted action one → IsAdmitted action other
         → IsDevice d → input < input_limit action
         → (end_of one input d).answer ≡ (end_of other input d).answer }
-    ensures one_device { (action input : ℕ) (one other : List Entry) (d : Device)
+    ensures one_device { (action input : ℕ) (one other : List InstructionEntry) (d : Device)
         → action < 2 ^ 64 → IsAdmitted action one → IsAdmitted action other
         → IsDevice d → input < input_limit action
         → (end_of one input d).state.device ≡ (end_of other input d).state.device }
@@ -32,7 +32,7 @@ pub fn admitted_lists_are_faithful()
 /// Of a table that was read, the list of an action has the entries of this action, in the order of
 /// the table. The function does nothing.
 pub fn lists_are_of_the_entries()
-    ensures { (action : ℕ) (entries : List Entry) → action < 256
+    ensures { (action : ℕ) (entries : List InstructionEntry) → action < 256
         → list_of action (lists_of entries) ≡ entries_for action entries }
 {}
 

@@ -4,7 +4,7 @@ ghost use Rattle.std.specs.Prelude.{◌≡◌, ◌+◌, ◌*◌, ◌/◌, ◌%�
 ghost use Rattle.erst_interp.specs.Machine.{new_variables, next, field_of, alone, with_field, in_place};
 ghost use Rattle.erst_interp.specs.Parts.{work_of, computed, taken, given, changed};
 
-use crate::entries::{Entry, Instruction};
+use crate::entries::{InstructionEntry, Instruction};
 
 // The variables of a run: the index of the next entry in the list, the value, two variables, and
 // the bases of the bytes that are moved.
@@ -95,7 +95,7 @@ impl Variables {
     }
 
     // The variables after an instruction that uses no register.
-    pub(crate) fn computed(mut self, instruction: Instruction, entry: &Entry) -> Variables
+    pub(crate) fn computed(mut self, instruction: Instruction, entry: &InstructionEntry) -> Variables
         requires { self.index + 2 < 2 ^ 64 }
         ensures { result ≡ computed instruction entry.now self }
     {
@@ -115,7 +115,7 @@ impl Variables {
     }
 
     // The variables after an instruction that read this number.
-    pub(crate) fn taken(mut self, instruction: Instruction, entry: &Entry, number: u64) -> Variables
+    pub(crate) fn taken(mut self, instruction: Instruction, entry: &InstructionEntry, number: u64) -> Variables
         requires { self.index + 2 < 2 ^ 64 }
         ensures { result ≡ taken instruction entry.now number self }
     {
@@ -136,7 +136,7 @@ impl Variables {
     }
 
     // The number that an instruction writes.
-    pub(crate) fn given(self, instruction: Instruction, entry: &Entry) -> u64
+    pub(crate) fn given(self, instruction: Instruction, entry: &InstructionEntry) -> u64
         ensures { result ≡ given instruction entry.now self }
     {
         match instruction {
@@ -147,7 +147,7 @@ impl Variables {
     }
 }
 
-impl Entry {
+impl InstructionEntry {
     // The number that an instruction writes after it read one.
     pub(crate) fn changed(&self, instruction: Instruction, number: u64) -> u64
         ensures { result ≡ changed instruction self.now number }

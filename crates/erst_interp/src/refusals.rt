@@ -1,7 +1,7 @@
 //! Why a table can't be read, and why a run ends without an answer.
 
 ghost use Rattle.std.specs.Prelude.{◌≡◌};
-ghost use Rattle.erst_interp.specs.Refusals.{table_number};
+ghost use Rattle.erst_interp.specs.Refusals.{erst_number};
 
 use ras_base::NoMemory;
 use thiserror::Error;
@@ -35,7 +35,7 @@ pub enum ErstTableRefused {
 impl ErstTableRefused {
     /// The number by which the refusal is printed, or None for want of memory.
     pub fn number(self) -> Option<u8>
-        ensures { result ≡ table_number self }
+        ensures { result ≡ erst_number self }
     {
         match self {
             ErstTableRefused::Short => Some(1),

@@ -8,7 +8,7 @@ ghost use Rattle.erst_store.specs.DeviceLaws.{IsDevice};
 ghost use Rattle.erst_interp.specs.Machine.{after_register_read, after_register_write, after_field, after_move, moved};
 ghost use Rattle.erst_interp.specs.Steps.{Touches, TouchesAs, Stays, IsRead, IsFieldRead, Does, StoreIn, BreaksIn, IsPlace, Moves, state_in};
 
-use crate::entries::Entry;
+use crate::entries::InstructionEntry;
 use crate::machine::Variables;
 use crate::refusals::RunRefused;
 use board_core::{Board, Failed, Reg};
@@ -51,7 +51,7 @@ fn write<B: Board>(reg: Reg, number: u64, board: &mut B) -> Result<(), Failed>
 // Writes a number into an entry's field of a register, which is read first where its other bits are
 // kept.
 pub(crate) fn write_field<B: Board>(
-    entry: &Entry,
+    entry: &InstructionEntry,
     reg: Reg,
     number: u64,
     board: &mut B,
@@ -75,7 +75,7 @@ pub(crate) fn write_field<B: Board>(
 }
 
 // Reads an entry's field of a register.
-pub(crate) fn read_field<B: Board>(entry: &Entry, reg: Reg, board: &mut B) -> Result<u64, Failed>
+pub(crate) fn read_field<B: Board>(entry: &InstructionEntry, reg: Reg, board: &mut B) -> Result<u64, Failed>
     ensures told { IfOk result (λ x. IsFieldRead entry.now reg x (B.told board.old)
         (B.told board.new)) }
     ensures breaks { OnErr result (BreaksIn (after_register_read reg) (B.told board.old)

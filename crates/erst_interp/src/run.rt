@@ -15,7 +15,7 @@ ghost use Rattle.erst_interp.specs.Run.{IsRun, Keeps, RunCause, StoreInRun};
 ghost use Rattle.erst_interp.specs.Steps.{end_over, end_within, StoreOver, StoreWithin, Turns, TouchesAs, StoreInTurn, state_in};
 ghost use Rattle.erst_interp.specs.Table.{list_of};
 
-use crate::entries::Entry;
+use crate::entries::InstructionEntry;
 use crate::machine::{Use, Variables, Work};
 use crate::refusals::RunRefused;
 use crate::registers::{move_bytes, read_field, write_field};
@@ -62,7 +62,7 @@ impl Table {
 }
 
 // Runs a list from an input on.
-fn run_list<B: Board>(list: &[Entry], input: u64, board: &mut B) -> Result<u64, RunRefused>
+fn run_list<B: Board>(list: &[InstructionEntry], input: u64, board: &mut B) -> Result<u64, RunRefused>
     ensures runs { IfSome (B.told board.old)
         (λ t. IsRun result (end_over list.now input t) t (B.told board.new)) }
     ensures touches { TouchesAs (StoreOver list.now input (B.told board.old)) result
@@ -81,7 +81,7 @@ fn run_list<B: Board>(list: &[Entry], input: u64, board: &mut B) -> Result<u64, 
 
 // Runs a list from an input on, for so many turns at most.
 fn run_turns<B: Board>(
-    list: &[Entry],
+    list: &[InstructionEntry],
     turns: u32,
     input: u64,
     board: &mut B,
@@ -117,7 +117,7 @@ fn run_turns<B: Board>(
 
 // One turn with an entry, from these variables on.
 fn turn<B: Board>(
-    entry: &Entry,
+    entry: &InstructionEntry,
     variables: Variables,
     board: &mut B,
 ) -> Result<Variables, RunRefused>
@@ -149,7 +149,7 @@ fn turn<B: Board>(
 // An instruction that uses a register.
 fn use_register<B: Board>(
     how: Use,
-    entry: &Entry,
+    entry: &InstructionEntry,
     reg: Reg,
     variables: Variables,
     board: &mut B,
@@ -176,7 +176,7 @@ fn use_register<B: Board>(
 
 // An instruction that reads the field.
 fn take_field<B: Board>(
-    entry: &Entry,
+    entry: &InstructionEntry,
     reg: Reg,
     variables: Variables,
     board: &mut B,
@@ -201,7 +201,7 @@ fn take_field<B: Board>(
 
 // An instruction that writes the field.
 fn give_field<B: Board>(
-    entry: &Entry,
+    entry: &InstructionEntry,
     reg: Reg,
     variables: Variables,
     board: &mut B,
@@ -226,7 +226,7 @@ fn give_field<B: Board>(
 
 // An instruction that reads the field and writes another number into it.
 fn change_field<B: Board>(
-    entry: &Entry,
+    entry: &InstructionEntry,
     reg: Reg,
     variables: Variables,
     board: &mut B,
@@ -254,7 +254,7 @@ fn change_field<B: Board>(
 
 // The instruction that moves bytes, by the offset in the field.
 fn move_data<B: Board>(
-    entry: &Entry,
+    entry: &InstructionEntry,
     reg: Reg,
     variables: Variables,
     board: &mut B,

@@ -4,9 +4,9 @@ ghost use Rattle.std.specs.Prelude.{◌≡◌, ◌<◌, ◌≤◌, ◌*◌, ℕ,
 ghost use Rattle.erst_interp.specs.declared.refusals.ErstTableRefused.{ErstTableRefused};
 ghost use Rattle.erst_interp.specs.Refusals.{IsAnswer};
 ghost use Rattle.erst_interp.specs.Lists.{AreEmpty, ReadsTable, HoldsEntries, with_entry};
-ghost use Rattle.erst_interp.specs.Table.{list_of, lists_of, entries_at, erst_table, erst_of};
+ghost use Rattle.erst_interp.specs.Table.{list_of, lists_of, instructions_at, erst_table, erst_of};
 
-use crate::entries::{ENTRY_LENGTH, Entry, entry_at};
+use crate::entries::{ENTRY_LENGTH, InstructionEntry, entry_at};
 use crate::refusals::ErstTableRefused;
 use ras_base::little_endian::u32_at;
 use ras_base::{NoMemory, has_sum};
@@ -25,14 +25,14 @@ const ACTIONS: usize = 256;
 /// A table: for each action the list of its entries, in the order of the table.
 #[derive(Drop)]
 pub struct Table {
-    lists: Vec<Vec<Entry>>,
+    lists: Vec<Vec<InstructionEntry>>,
 }
 
 impl Model for Table {
     ghost use Rattle.std.specs.Prelude.{◌≡◌, List, length, map};
-    ghost use Rattle.erst_interp.specs.declared.entries.Entry.{Entry};
+    ghost use Rattle.erst_interp.specs.declared.entries.InstructionEntry.{InstructionEntry};
 
-    ghost Value = { List (List Entry) };
+    ghost Value = { List (List InstructionEntry) };
 
     ghost view = { λ t. map (λ v. v.items) t.lists.items };
 
@@ -59,7 +59,7 @@ pub fn read_erst(alloc: Global, bytes: &[u8]) -> Result<Table, ErstTableRefused>
 
 impl Table {
     // The list of an action.
-    pub(crate) fn list(&self, action: u8) -> &[Entry]
+    pub(crate) fn list(&self, action: u8) -> &[InstructionEntry]
         ensures { result.now ≡ list_of action self.now }
     {
         &self.lists[action as usize]
@@ -96,7 +96,7 @@ fn table_at(bytes: &[u8]) -> Result<&[u8], ErstTableRefused>
 }
 
 // No list for any action yet.
-fn empty_lists(alloc: Global) -> Result<Vec<Vec<Entry>>, NoMemory>
+fn empty_lists(alloc: Global) -> Result<Vec<Vec<InstructionEntry>>, NoMemory>
     ensures { IfOk result (λ lists. AreEmpty (map (λ v. v.items) lists.items)) }
 {
     let mut lists = Vec::new(alloc);
@@ -107,7 +107,7 @@ fn empty_lists(alloc: Global) -> Result<Vec<Vec<Entry>>, NoMemory>
 }
 
 // Adds an entry to the list of its action.
-fn add(lists: &mut Vec<Vec<Entry>>, entry: Entry) -> Result<(), NoMemory>
+fn add(lists: &mut Vec<Vec<InstructionEntry>>, entry: InstructionEntry) -> Result<(), NoMemory>
     requires { length lists.old.items ≡ ACTIONS }
     ensures added { OnOk result (map (λ v. v.items) lists.new.items
         ≡ with_entry entry (map (λ v. v.items) lists.old.items)) }
@@ -118,10 +118,10 @@ fn add(lists: &mut Vec<Vec<Entry>>, entry: Entry) -> Result<(), NoMemory>
 }
 
 // The lists of so many entries at the front of bytes.
-fn lists_at(alloc: Global, count: u32, bytes: &[u8]) -> Result<Vec<Vec<Entry>>, NoMemory>
+fn lists_at(alloc: Global, count: u32, bytes: &[u8]) -> Result<Vec<Vec<InstructionEntry>>, NoMemory>
     requires { ENTRY_LENGTH * count ≤ length bytes.now }
     ensures { IfOk result (λ lists.
-        map (λ v. v.items) lists.items ≡ lists_of (entries_at count bytes.now)) }
+        map (λ v. v.items) lists.items ≡ lists_of (instructions_at count bytes.now)) }
 {
     let mut lists = empty_lists(alloc)?;
     let mut rest = bytes;

@@ -16,7 +16,7 @@ use Rattle.ras_recover.proofs.OpeningCallsLemmas.{an_opening}
 use Rattle.ras_ledger.specs.KeepingCalls.{IsKeeping, write_through_calls}
 use Rattle.ras_events.specs.declared.event.Event.{Event}
 use Rattle.ras_events.specs.declared.event.Event.TheVariants.{Nothing, Settled, Counted, Put, Saved, Polled, Reopened}
-use Rattle.ras_events.specs.declared.event.Refusal.{Refusal}
+use Rattle.ras_events.specs.declared.event.LineRefusal.{LineRefusal}
 use Rattle.ras_events.specs.Reports.{NumberedLine, Place, event_at}
 use Rattle.ras_events.specs.Making.{entries_in}
 use Rattle.ras_exit.specs.declared.exit.Exit.{Exit}
@@ -55,7 +55,7 @@ news_calls (entry ∷ entries) = keep_calls _
 recovery : IsRecovery (Sync Zero ∷ Sync One ∷ [])
 recovery = record { reading = []; is = refl; alone = All-nil IsReading }
 
-event_calls : (start : Start) (place : Place) (event : Result Event Refusal) → (calls : List DiskCall) × AreEventCalls start place event calls
+event_calls : (start : Start) (place : Place) (event : Result Event LineRefusal) → (calls : List DiskCall) × AreEventCalls start place event calls
 event_calls start place (Ok Nothing) = ([], refl)
 event_calls start place (Ok Settled) = ([], refl)
 event_calls start place (Ok (Counted made)) = news_calls (news_after (history_at start place.0) (entries_in made))

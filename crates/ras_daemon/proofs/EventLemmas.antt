@@ -46,8 +46,8 @@ use Rattle.ras_events.specs.Sizes.{IsFitEvent}
 use Rattle.ras_events.specs.Texts.{event_text}
 use Rattle.ras_events.specs.Making.{entries_in}
 use Rattle.ras_events.specs.Stores.{laid}
-use Rattle.ras_events.specs.declared.event.Refusal.{Refusal}
-use Rattle.ras_events.specs.declared.event.Refusal.TheVariants.{Bad}
+use Rattle.ras_events.specs.declared.event.LineRefusal.{LineRefusal}
+use Rattle.ras_events.specs.declared.event.LineRefusal.TheVariants.{Bad}
 use Rattle.text_laws.specs.QuietLines.{AreQuietLines}
 use Rattle.ras_exit.specs.declared.exit.Exit.TheVariants.{BadLine, Full}
 use Rattle.ras_run.specs.LaterKinds.{IsTaken, taken_line}
@@ -76,7 +76,7 @@ reports-snoc before read =
     ∙ ap (λ (es : List Entry). reports [] before ++ es) (append-nil (entries_at [] (before, read)))
 
 module _ (start : Start) (before : List NumberedLine) (read : NumberedLine) where
-  along : (event : Result Event Refusal) → event_refusal start (before, read) event ≡ None → IfOk event IsFitEvent → IsAccount (account_at start before)
+  along : (event : Result Event LineRefusal) → event_refusal start (before, read) event ≡ None → IfOk event IsFitEvent → IsAccount (account_at start before)
       → IsAccount (account_after_all (account_at start before) (entries_in (made_in (settings_told before).topology (laid [] before) event)))
   along (Err why) taken fit account = account
   along (Ok Nothing) taken fit account = account
@@ -104,22 +104,22 @@ module _ (start : Start) (before : List NumberedLine) (read : NumberedLine) wher
 -- ---- what is asked for is an event
 
 -- a line asks for something, or is refused
-abbrev is_something : Result Event Refusal → Bool
+abbrev is_something : Result Event LineRefusal → Bool
 is_something (Ok Nothing) = false
 is_something event = true
 
-record IsSomething (event : Result Event Refusal) : Type 0 where
+record IsSomething (event : Result Event LineRefusal) : Type 0 where
   is : is_something event ≡ true
 
 refused-something : {E : Type 0} (why : E → Reason) (refused : Option E) → IsSomething (option_map_or (λ found. Err (Bad (why found))) refused (Ok Settled))
 refused-something why None = record { is = refl }
 refused-something why (Some found) = record { is = refl }
 
-then-something : {A E : Type 0} (why : E → Reason) (read : Result A E) (next : A → Result Event Refusal) → ((x : A) → IsSomething (next x)) → IsSomething (or_reason why read >>= next)
+then-something : {A E : Type 0} (why : E → Reason) (read : Result A E) (next : A → Result Event LineRefusal) → ((x : A) → IsSomething (next x)) → IsSomething (or_reason why read >>= next)
 then-something why (Ok x) next some = some x
 then-something why (Err found) next some = record { is = refl }
 
-either-something : (b : Bool) (one other : Result Event Refusal) → IsSomething one → IsSomething other → IsSomething (if b then one else other)
+either-something : (b : Bool) (one other : Result Event LineRefusal) → IsSomething one → IsSomething other → IsSomething (if b then one else other)
 either-something true one other some rest = some
 either-something false one other some rest = rest
 
@@ -155,7 +155,7 @@ abbrev pub Tells : Start → Place → Type 0
 Tells start place = PrintsEvent start place ⊎ PrintsNothing start place
 
 module _ (start : Start) (before : List NumberedLine) (number : ℕ) (read : Result Line LineRefused) where
-  prints : (event : Result Event Refusal) → is_event (before, (number, read)) ≡ true → event_at (before, (number, read)) ≡ event
+  prints : (event : Result Event LineRefusal) → is_event (before, (number, read)) ≡ true → event_at (before, (number, read)) ≡ event
       → event_refusal start (before, (number, read)) event ≡ None → IfOk event IsFitEvent → IsSomething event
       → IsAccount (account_at start before) → PrintsEvent start (before, (number, read))
   prints (Err why) asked is taken fit some account = cc taken

@@ -8,7 +8,7 @@ use Rattle.ras_account.specs.Account.{account_of}
 use Rattle.ras_account.specs.History.{with_entries}
 use Rattle.ras_events.specs.declared.event.Event.{Event}
 use Rattle.ras_events.specs.declared.event.Event.TheVariants.{Nothing, Settled, Counted, Put, Saved, Polled, Reopened}
-use Rattle.ras_events.specs.declared.event.Refusal.{Refusal}
+use Rattle.ras_events.specs.declared.event.LineRefusal.{LineRefusal}
 use Rattle.ras_texts.specs.Text.{end_line}
 use Rattle.ras_events.specs.Reports.{NumberedLine, Place, entries_at, event_at}
 use Rattle.ras_events.specs.Making.{entries_in}
@@ -67,7 +67,7 @@ full-not : (b : Bool) → IsNotDone (if b then Some Full else None)
 full-not true = tt
 full-not false = tt
 
-refused-not : (start : Start) (place : Place) (event : Result Event Refusal) → IsNotDone (event_refusal start place event)
+refused-not : (start : Start) (place : Place) (event : Result Event LineRefusal) → IsNotDone (event_refusal start place event)
 refused-not start (before, (number, line)) (Err why) = tt
 refused-not start (before, (number, line)) (Ok (Counted made)) = full-not (has_no_room_for (history_at start before) (standing_at start before) (entries_in made))
 refused-not start (before, (number, line)) (Ok Nothing) = tt

@@ -28,7 +28,7 @@ use Rattle.ras_script.specs.declared.line.Line.TheVariants as asks
 use Rattle.ras_texts.specs.Orders.{standing_lines}
 use Rattle.ras_events.specs.declared.event.Event.{Event}
 use Rattle.ras_events.specs.declared.event.Event.TheVariants.{Nothing}
-use Rattle.ras_events.specs.declared.event.Refusal.{Refusal}
+use Rattle.ras_events.specs.declared.event.LineRefusal.{LineRefusal}
 use Rattle.ras_events.specs.Reports.{NumberedLine, Place, entries_at, event_at, made_in, reports, settings_told}
 use Rattle.ras_events.specs.Making.{entries_in}
 use Rattle.ras_events.specs.Stores.{laid}
@@ -72,7 +72,7 @@ pub by-events : {Y : Type 0} (f : Place → List Y) → ((p : Place) → is_even
 by-events f none ps = flat_map-passing is_event f ps (all-any (λ p. is_event p ≡ false → f p ≡ []) none ps)
 
 pub reports-none : (p : Place) → is_event p ≡ false → entries_at [] p ≡ []
-reports-none p is = ap (λ (event : Result Event Refusal). entries_in (made_in (settings_told p.0).topology (laid [] p.0) event)) (no-event p is)
+reports-none p is = ap (λ (event : Result Event LineRefusal). entries_in (made_in (settings_told p.0).topology (laid [] p.0) event)) (no-event p is)
 
 prints-none : (start : Start) (p : Place) → is_event p ≡ false → output_at start p ≡ []
 prints-none start p is = ap (event_output start p) (no-event p is)

@@ -16,7 +16,7 @@ use Rattle.ras_texts.specs.Orders.{order_lines, standing_lines}
 use Rattle.ras_texts.specs.Text.{done_line}
 use Rattle.ras_events.specs.declared.event.Event.{Event}
 use Rattle.ras_events.specs.declared.event.Event.TheVariants.{Nothing, Settled, Counted, Put, Saved, Polled, Reopened}
-use Rattle.ras_events.specs.declared.event.Refusal.{Refusal}
+use Rattle.ras_events.specs.declared.event.LineRefusal.{LineRefusal}
 use Rattle.ras_events.specs.declared.made.Piece.{Piece}
 use Rattle.ras_events.specs.Preparing.{orders_along_entries, text_along}
 use Rattle.ras_events.specs.Reports.{NumberedLine, Place, entries_at, event_at, reports}
@@ -91,7 +91,7 @@ module _ (one other : Start) (same : account_of one.history ≡ account_of other
       ∙ sym (full-by (history_at other before) (standing_at other before) es)
 
   -- a line is refused alike, and prints the same
-  event-refused : (before : List NumberedLine) (read : NumberedLine) (event : Result Event Refusal) → event_refusal one (before, read) event ≡ event_refusal other (before, read) event
+  event-refused : (before : List NumberedLine) (read : NumberedLine) (event : Result Event LineRefusal) → event_refusal one (before, read) event ≡ event_refusal other (before, read) event
   event-refused before read (Err why) = refl
   event-refused before read (Ok (Counted made)) = ap (λ (b : Bool). if b then Some Full else None) (full-same before (entries_in made))
   event-refused before read (Ok Nothing) = refl
@@ -108,7 +108,7 @@ module _ (one other : Start) (same : account_of one.history ≡ account_of other
   text-same before made =
       sym (event_by_history (history_at one before) made) ∙ ap (text_in made) (account-same before) ∙ event_by_history (history_at other before) made
 
-  event-printed : (before : List NumberedLine) (read : NumberedLine) (event : Result Event Refusal) → event_output one (before, read) event ≡ event_output other (before, read) event
+  event-printed : (before : List NumberedLine) (read : NumberedLine) (event : Result Event LineRefusal) → event_output one (before, read) event ≡ event_output other (before, read) event
   event-printed before read (Err why) = refl
   event-printed before read (Ok (Counted made)) = ap (λ (text : List ℕ). text ++ done_line read.0) (text-same before made)
   event-printed before read (Ok Nothing) = refl

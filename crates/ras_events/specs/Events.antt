@@ -9,11 +9,11 @@ use Rattle.apei_sources.specs.Hest.{Sources, hest_of, type_with_id}
 use Rattle.dimm_topology.specs.declared.row.Row.{Row}
 use Rattle.erst_interp.specs.Table.{erst_of}
 use Rattle.erst_interp.specs.Walk.{is_admitted}
-use Rattle.erst_interp.specs.declared.entries.Entry.{Entry as TableEntry}
+use Rattle.erst_interp.specs.declared.entries.InstructionEntry.{InstructionEntry}
 use Rattle.mca_status.specs.Registers.{valid}
 use Rattle.ras_facts.specs.Facts.{status_in}
 use Rattle.ras_facts.specs.declared.bank.BankReport.{BankReport}
-use Rattle.ras_panic.specs.Panics.{is_reserved, panic_bytes}
+use Rattle.ras_panic.specs.Panics.{is_reserved_identifier, panic_bytes}
 use Rattle.ras_panic.specs.declared.making.PanicRefused.{PanicRefused}
 use Rattle.ras_panic.specs.declared.making.PanicRefused.TheVariants.{ReservedId, NotValid}
 use Rattle.dimm_topology.specs.Refusals.{row_refusal}
@@ -30,8 +30,8 @@ use Rattle.ras_events.specs.declared.event.Event.{Event}
 use Rattle.ras_events.specs.declared.event.Event.TheVariants.{Nothing, Settled, Counted, Put, Saved, Polled, Reopened}
 use Rattle.ras_events.specs.declared.event.EventRefused.{EventRefused}
 use Rattle.ras_events.specs.declared.event.EventRefused.TheVariants.{Refused, NoMemory}
-use Rattle.ras_events.specs.declared.event.Refusal.{Refusal}
-use Rattle.ras_events.specs.declared.event.Refusal.TheVariants.{Bad, NoTable}
+use Rattle.ras_events.specs.declared.event.LineRefusal.{LineRefusal}
+use Rattle.ras_events.specs.declared.event.LineRefusal.TheVariants.{Bad, NoTable}
 use Rattle.ras_exit.specs.declared.reason.Reason.{Reason}
 use Rattle.ras_exit.specs.declared.reason.Reason.TheVariants as reason
 use Rattle.ras_events.specs.declared.settings.Settings.{Settings}
@@ -42,40 +42,40 @@ abbrev pub no_settings : Settings
 no_settings = record { topology = []; sources = None; driver = None }
 
 -- what was read, or the reason for which the line is refused
-abbrev pub or_reason : {A E : Type 0} → (E → Reason) → Result A E → Result A Refusal
+abbrev pub or_reason : {A E : Type 0} → (E → Reason) → Result A E → Result A LineRefusal
 or_reason why (Ok x) = Ok x
 or_reason why (Err refused) = Err (Bad (why refused))
 
 -- a row of the machine, which its rows take or refuse
-abbrev pub row_event : List Row → Row → Result Event Refusal
+abbrev pub row_event : List Row → Row → Result Event LineRefusal
 row_event rows row = option_map_or (λ why. Err (Bad (reason.Topology why))) (row_refusal rows row) (Ok Settled)
 
 -- a table of error sources
-abbrev pub hest_event : List ℕ → Result Event Refusal
+abbrev pub hest_event : List ℕ → Result Event LineRefusal
 hest_event bytes = or_reason reason.Hest (hest_of bytes) >>= λ sources. Ok Settled
 
 -- what is kept of a table that drives the record store: for each action the list of its entries
 abbrev pub Lists : Type 0
-Lists = List (List TableEntry)
+Lists = List (List InstructionEntry)
 
 -- a table that drives the record store, if it is admitted
-abbrev pub erst_event : List ℕ → Result Event Refusal
+abbrev pub erst_event : List ℕ → Result Event LineRefusal
 erst_event bytes =
     or_reason reason.Erst (erst_of bytes) >>= λ lists. if is_admitted lists then Ok Settled else Err NoTable
 
 -- an event that wants a table that drives the record store
-abbrev pub with_table : Option Lists → Event → Result Event Refusal
+abbrev pub with_table : Option Lists → Event → Result Event LineRefusal
 with_table None event = Err NoTable
 with_table (Some lists) event = Ok event
 
 -- why a bank's report makes no panic record under an identifier, if it makes none
 abbrev pub panic_refusal : ℕ → BankReport → Option PanicRefused
 panic_refusal id bank =
-    if is_reserved id then Some ReservedId
+    if is_reserved_identifier id then Some ReservedId
     else (if valid (status_in bank) then None else Some NotValid)
 
 -- the report of a bank that is to be saved: as a record, by the table that drives the store
-abbrev pub panic_event : Option Lists → ℕ → BankReport → Result Event Refusal
+abbrev pub panic_event : Option Lists → ℕ → BankReport → Result Event LineRefusal
 panic_event driver id bank =
     option_map_or (λ why. Err (Bad (reason.Panic why))) (panic_refusal id bank)
     (with_table driver (Saved id (panic_bytes id bank)))
@@ -85,7 +85,7 @@ abbrev pub counts_report : Option Report → Event
 counts_report report = Counted (option_map_or made_by_report report [])
 
 -- a status block, which counts under a name and at a time
-abbrev pub block_event : List Row → Name → ℕ → List ℕ → Result Event Refusal
+abbrev pub block_event : List Row → Name → ℕ → List ℕ → Result Event LineRefusal
 block_event rows name seconds bytes =
     or_reason reason.Block (block_of bytes) >>= λ block. Ok (counts_report (block_report rows name seconds block))
 
@@ -95,7 +95,7 @@ has_source sources id = option_map_or (λ listed. is_some (type_with_id id liste
 
 -- A report. A status block has to come from a source that is known. Of a region of boot errors the
 -- block stands in as many bytes as its table says, or in all where there are fewer.
-abbrev pub report_event : Settings → ErrorReport → Result Event Refusal
+abbrev pub report_event : Settings → ErrorReport → Result Event LineRefusal
 report_event settings (Bank bank) = Ok (counts_report (bank_report bank settings.topology))
 report_event settings (Block boot seconds source number bytes) =
     if has_source settings.sources source
@@ -106,7 +106,7 @@ report_event settings (Boot boot seconds table region) =
     block_event settings.topology (names.Boot boot) seconds (take bert.length region)
 
 -- What a line asks for. Whether the record store takes a put is asked of the store alone.
-abbrev pub event_of : Settings → Line → Result Event Refusal
+abbrev pub event_of : Settings → Line → Result Event LineRefusal
 event_of settings (asks.Row row) = row_event settings.topology row
 event_of settings (asks.Table (Hest bytes)) = hest_event bytes
 event_of settings (asks.Table (Erst bytes)) = erst_event bytes
@@ -140,7 +140,7 @@ settings_after settings (asks.Table (Erst bytes)) = with_driver settings (admitt
 settings_after settings line = settings
 
 -- a call answers this, unless memory runs out
-abbrev pub AnswersEvent : Result Event EventRefused → Result Event Refusal → Type 0
+abbrev pub AnswersEvent : Result Event EventRefused → Result Event LineRefusal → Type 0
 AnswersEvent (Ok event) asked = asked ≡ Ok event
 AnswersEvent (Err (Refused why)) asked = asked ≡ Err why
 AnswersEvent (Err NoMemory) asked = ⊤

@@ -12,8 +12,8 @@ use Rattle.ras_script.specs.declared.line.Line.TheVariants as asks
 use Rattle.ras_script.specs.declared.line.Table.TheVariants.{Hest, Erst}
 use Rattle.ras_events.specs.declared.event.Event.{Event}
 use Rattle.ras_events.specs.declared.event.Event.TheVariants.{Counted, Polled}
-use Rattle.ras_events.specs.declared.event.Refusal.{Refusal}
-use Rattle.ras_events.specs.declared.event.Refusal.TheVariants.{Bad}
+use Rattle.ras_events.specs.declared.event.LineRefusal.{LineRefusal}
+use Rattle.ras_events.specs.declared.event.LineRefusal.TheVariants.{Bad}
 use Rattle.ras_exit.specs.declared.reason.Reason.TheVariants as reason
 use Rattle.ras_events.specs.declared.settings.Settings.{Settings}
 use Rattle.ras_events.specs.declared.made.Piece.{Piece}
@@ -65,23 +65,23 @@ abbrev pub Place : Type 0
 Place = List NumberedLine × NumberedLine
 
 -- what a line asks for at its place, or why it is refused there
-abbrev pub event_at : Place → Result Event Refusal
+abbrev pub event_at : Place → Result Event LineRefusal
 event_at (before, (number, Ok line)) = event_of (settings_told before) line
 event_at (before, (number, Err refused)) = Err (Bad (reason.Line refused))
 
 -- what an event makes, by the rows of the machine and the records of the store that it finds
-abbrev pub made_in : List Row → List Stored → Result Event Refusal → List Piece
+abbrev pub made_in : List Row → List Stored → Result Event LineRefusal → List Piece
 made_in rows store (Ok (Counted made)) = made
 made_in rows store (Ok (Polled seconds)) = polled rows seconds store
 made_in rows store event = []
 
 -- what a line makes at its place, where the record store was this one before the first line
-abbrev pub made_at : List Stored → Place → List Piece
-made_at store place = made_in (settings_told place.0).topology (laid store place.0) (event_at place)
+abbrev pub pieces_at : List Stored → Place → List Piece
+pieces_at store place = made_in (settings_told place.0).topology (laid store place.0) (event_at place)
 
 -- the entries that a line makes at its place, and all those that lines make, in order
 abbrev pub entries_at : List Stored → Place → List Entry
-entries_at store place = entries_in (made_at store place)
+entries_at store place = entries_in (pieces_at store place)
 
 abbrev pub reports : List Stored → List NumberedLine → List Entry
 reports store reads = flat_map (entries_at store) (places reads)

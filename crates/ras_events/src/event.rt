@@ -31,7 +31,7 @@ pub enum Event {
 
 /// Why a line is refused by what it asks for.
 #[derive(Clone, Copy, Debug, Error, PartialEq, Eq)]
-pub enum Refusal {
+pub enum LineRefusal {
     /// What it says is bad, for this reason.
     #[error("{0}")]
     Bad(Reason),
@@ -46,7 +46,7 @@ pub enum Refusal {
 pub enum EventRefused {
     /// The line is refused.
     #[error("{0}")]
-    Refused(Refusal),
+    Refused(LineRefusal),
     /// Memory ran out.
     #[error("memory ran out")]
     NoMemory,
@@ -54,12 +54,12 @@ pub enum EventRefused {
 
 impl From<Reason> for EventRefused {
     ghost use Rattle.ras_events.specs.declared.event.EventRefused.TheVariants as RefusedFor;
-    ghost use Rattle.ras_events.specs.declared.event.Refusal.TheVariants as RefusalFor;
+    ghost use Rattle.ras_events.specs.declared.event.LineRefusal.TheVariants as RefusalFor;
 
     ghost from_gives = { λ why refused. refused ≡ RefusedFor.Refused (RefusalFor.Bad why) };
 
     fn from(why: Reason) -> Self {
-        EventRefused::Refused(Refusal::Bad(why))
+        EventRefused::Refused(LineRefusal::Bad(why))
     }
 }
 

@@ -10,7 +10,7 @@ mod preparing;
 mod repeat;
 mod settings;
 
-pub use event::{Event, EventRefused, Refusal};
+pub use event::{Event, EventRefused, LineRefusal};
 pub use laws::{event_laws, poll_laws, report_laws, store_laws};
 pub use made::{Made, Piece};
 pub use preparing::{News, PrepareRefused, Prepared, count, prepare};

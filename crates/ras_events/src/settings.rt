@@ -15,7 +15,7 @@ ghost use Rattle.ras_events.specs.Events.{hest_event, no_settings, report_event,
 ghost use Rattle.ras_events.specs.Events.{settings_after, with_sources};
 ghost use Rattle.ras_events.specs.Sizes.{IsFitEvent, IsShortLine, IsShortReport};
 
-use crate::{Event, EventRefused, Made, Refusal};
+use crate::{Event, EventRefused, LineRefusal, Made};
 use apei_sources::{Hest, TableRefused, read_bert, read_block, read_hest};
 use dimm_topology::{Row, Topology, TopologyRefused};
 use erst_driver::Driver;
@@ -125,7 +125,7 @@ impl Settings {
         match read_erst(alloc, bytes) {
             Ok(table) => {
                 if !admits(&table) {
-                    return Err(EventRefused::Refused(Refusal::NoTable));
+                    return Err(EventRefused::Refused(LineRefusal::NoTable));
                 }
                 self.driver = Some(Driver::new(table));
                 Ok(Event::Settled)
@@ -154,7 +154,7 @@ impl Settings {
     {
         match self.driver {
             Some(_) => Ok(event),
-            None => Err(EventRefused::Refused(Refusal::NoTable)),
+            None => Err(EventRefused::Refused(LineRefusal::NoTable)),
         }
     }
 

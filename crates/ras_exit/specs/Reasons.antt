@@ -3,7 +3,7 @@ use Rattle.std.specs.Prelude.{ℕ, List, [], ◌++◌, Option, None, Some, codes
 use Rattle.std.specs.Option.{option_map_or}
 use Rattle.apei_sources.specs.Refusals.{block_number, table_number}
 use Rattle.dimm_topology.specs.Refusals.{topology_number}
-use Rattle.erst_interp.specs.Refusals.{table_number as erst_number}
+use Rattle.erst_interp.specs.Refusals.{erst_number}
 use Rattle.erst_store.specs.declared.store.PutRefused.{PutRefused}
 use Rattle.erst_store.specs.declared.store.PutRefused.TheVariants as put
 use Rattle.ras_panic.specs.declared.making.PanicRefused.{PanicRefused}

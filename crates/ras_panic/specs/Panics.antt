@@ -17,8 +17,8 @@ x64_type =
     0xb0 ∷ 0xa0 ∷ 0x3e ∷ 0xdc ∷ 0x44 ∷ 0xa1 ∷ 0x97 ∷ 0x47 ∷ 0xb9 ∷ 0x5b ∷ 0x53 ∷ 0xfa ∷ 0x24 ∷ 0x2b ∷ 0x6e ∷ 0x1d ∷ []
 
 -- identifiers that no record may have
-abbrev pub is_reserved : ℕ → Bool
-is_reserved id = (id == 0) || (id == 2 ^ 64 - 1)
+abbrev pub is_reserved_identifier : ℕ → Bool
+is_reserved_identifier id = (id == 0) || (id == 2 ^ 64 - 1)
 
 -- the header of a record of 456 bytes and two sections, fatal as a whole
 abbrev pub header_bytes : ℕ → List ℕ

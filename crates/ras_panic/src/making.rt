@@ -4,7 +4,7 @@ ghost use Rattle.std.specs.Prelude.{◌≡◌, ◌↔◌, IfOk, Err, IsTrue};
 ghost use Rattle.std.specs.Bool.{IsFalse};
 ghost use Rattle.mca_status.specs.Registers.{valid};
 ghost use Rattle.ras_facts.specs.Facts.{status_in};
-ghost use Rattle.ras_panic.specs.Panics.{is_reserved, header_bytes, descriptor_bytes, report_bytes, saved_bytes, panic_bytes};
+ghost use Rattle.ras_panic.specs.Panics.{is_reserved_identifier, header_bytes, descriptor_bytes, report_bytes, saved_bytes, panic_bytes};
 
 use crate::places::put;
 use mca_status::Status;
@@ -49,9 +49,9 @@ pub enum PanicRefused {
 #[tactic(auto, unfolding(crate::specs::Panics::panic_bytes, crate::specs::Panics::report_type, crate::specs::Panics::x64_type))]
 pub fn panic_record(id: u64, bank: &BankReport) -> Result<[u8; PANIC_LENGTH], PanicRefused>
     ensures record { IfOk result (λ bytes. bytes ≡ panic_bytes id bank.now) }
-    ensures reserved { (result ≡ Err PanicRefused.ReservedId) ↔ IsTrue (is_reserved id) }
+    ensures reserved { (result ≡ Err PanicRefused.ReservedId) ↔ IsTrue (is_reserved_identifier id) }
     ensures not_valid { (result ≡ Err PanicRefused.NotValid)
-        ↔ (IsFalse (is_reserved id) × IsFalse (valid (status_in bank.now))) }
+        ↔ (IsFalse (is_reserved_identifier id) × IsFalse (valid (status_in bank.now))) }
 {
     if id == 0 || id == u64::MAX {
         return Err(PanicRefused::ReservedId);

@@ -13,7 +13,7 @@ use Rattle.board_core.specs.Doing.{Act, DeviceCall, Moment, after_device, put, r
 use Rattle.board_core.specs.Stop.{InStore, Left}
 use Rattle.board_core.specs.Told.{Told, device_of, unless_refused}
 use Rattle.board_core.proofs.DoingLemmas.{moment_parts}
-use Rattle.erst_interp.specs.declared.entries.Entry.{Entry}
+use Rattle.erst_interp.specs.declared.entries.InstructionEntry.{InstructionEntry}
 use Rattle.erst_interp.specs.Admission.{IsAdmittedTable}
 use Rattle.erst_interp.specs.Run.{Keeps, acts_of}
 use Rattle.erst_interp.proofs.BreakLemmas.{acts_both, after_both}
@@ -61,7 +61,7 @@ unfolding after_steps
 steps_keep [] d inside device = device
 steps_keep (s ∷ steps) d inside device = steps_keep steps (after_step s d) inside.1 (is_device_after s d inside.0 device)
 
-pub is_device_told : (lists : List (List Entry)) (steps : List Step) (t : Told) → IsAdmittedTable lists → AreInside steps → IsDevice (device_of t) → IsDevice (device_of (told_by lists steps t))
+pub is_device_told : (lists : List (List InstructionEntry)) (steps : List Step) (t : Told) → IsAdmittedTable lists → AreInside steps → IsDevice (device_of t) → IsDevice (device_of (told_by lists steps t))
 is_device_told lists steps t admitted inside device =
     subst IsDevice (sym (told_device lists steps t admitted inside device)) (steps_keep steps (device_of t) inside device)
 
@@ -88,7 +88,7 @@ held_answer id t free held =
 
 -- ---- clears
 
-module _ (lists : List (List Entry)) (admitted : IsAdmittedTable lists) where
+module _ (lists : List (List InstructionEntry)) (admitted : IsAdmittedTable lists) where
   -- the first readable record is cleared, and then the later ones
   record OneCleared (id : ℕ) (later : List ℕ) (t : Told) : Type 0 where
     calls : each_calls (clear_calls lists) (id ∷ later) t ≡ clear_calls lists id (device_of t) ++ each_calls (clear_calls lists) later (after_calls (clear_calls lists id (device_of t)) t)

@@ -11,7 +11,7 @@ use Rattle.board_core.specs.Doing.{Act, DeviceCall, Does, Ended, IsMade, Seen, b
 use Rattle.board_core.specs.Stop.{Left}
 use Rattle.board_core.specs.Told.{Told, device_of}
 use Rattle.board_core.proofs.DoingLemmas.{does_first, does_then}
-use Rattle.erst_interp.specs.declared.entries.Entry.{Entry}
+use Rattle.erst_interp.specs.declared.entries.InstructionEntry.{InstructionEntry}
 use Rattle.erst_interp.specs.Admission.{IsAdmittedTable}
 use Rattle.erst_interp.specs.Run.{acts_of}
 use Rattle.erst_interp.proofs.BreakLemmas.{acts_both}
@@ -64,7 +64,7 @@ module _ {X : Type 0} (see : X → Seen) (xs ys : List DeviceCall) where
 list_inside : (t : Told) → AreInside (ids_steps (device_of t))
 list_inside t = inside_both (listings (left_to_list (device_of t))) (listings (min (length t.here.store + 1) most_records)) (listings_inside _) (listings_inside _)
 
-pub is_device_listed : (lists : List (List Entry)) (t : Told) → IsAdmittedTable lists → IsDevice (device_of t) → IsDevice (device_of (after_calls (list_calls lists (device_of t)) t))
+pub is_device_listed : (lists : List (List InstructionEntry)) (t : Told) → IsAdmittedTable lists → IsDevice (device_of t) → IsDevice (device_of (after_calls (list_calls lists (device_of t)) t))
 is_device_listed lists t admitted device = is_device_told lists (ids_steps (device_of t)) t admitted (list_inside t) device
 
 module _ (rows : List Row) (seconds : ℕ) (u t : Told) (store : u.here.store ≡ t.here.store) (slow : u.volatile.slow ≡ t.volatile.slow) where
@@ -83,7 +83,7 @@ module _ (rows : List Row) (seconds : ℕ) (u t : Told) (store : u.here.store �
   looks_as (Err (EndedWith code)) looks = absurd looks
   looks_as (Err NoMemory) looks = tt
 
-module _ {X : Type 0} (see : X → Seen) (lists : List (List Entry)) (a b : X) where
+module _ {X : Type 0} (see : X → Seen) (lists : List (List InstructionEntry)) (a b : X) where
   pub list_refused : (why : DriverRefused) → IsMemoryOnly {T = Unit {0}} (Err why) → IfSome (see a).told (λ t. DoesListing {T = Unit {0}} see (list_calls lists (device_of t)) (Err why) a b)
       → IfSome (see a).told (λ t. DoesListing {T = Looked} see (look_calls lists t) (Err why) a b)
   list_refused why only does = over_each _ (see a).told (λ t is.

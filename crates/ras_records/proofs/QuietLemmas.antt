@@ -9,7 +9,7 @@ use Rattle.board_core.specs.Doing.{Act, DeviceCall, Moment}
 use Rattle.board_core.specs.Stop.{Left}
 use Rattle.board_core.specs.Told.{Told, device_of}
 use Rattle.board_core.proofs.DoingLemmas.{moment_first, moment_parts}
-use Rattle.erst_interp.specs.declared.entries.Entry.{Entry}
+use Rattle.erst_interp.specs.declared.entries.InstructionEntry.{InstructionEntry}
 use Rattle.erst_interp.specs.Admission.{IsAdmittedTable}
 use Rattle.erst_interp.specs.Run.{acts_of}
 use Rattle.erst_interp.proofs.BreakLemmas.{acts_both, after_both}
@@ -56,7 +56,7 @@ quiet_begun (call ∷ done) later t quiet =
 AreNumbers : List ℕ → Type 0
 AreNumbers ids = AllByRecursion (λ id. id < 2 ^ 64) ids
 
-module _ (lists : List (List Entry)) (admitted : IsAdmittedTable lists) where
+module _ (lists : List (List InstructionEntry)) (admitted : IsAdmittedTable lists) where
   fetched : (answer : Answer) (u : Told) → IsDevice (device_of u) → IsDevice (device_of (after_calls (fetch_calls answer) u))
   fetched (Ok done) u device = device
   fetched (Err why) u device = device

@@ -15,7 +15,7 @@ use Rattle.erst_store.specs.Store.{ids as ids_in}
 use Rattle.board_core.specs.Doing.{DeviceCall, Does, Seen, went_well}
 use Rattle.board_core.specs.Stop.{Left}
 use Rattle.board_core.specs.Told.{Told, device_of}
-use Rattle.erst_interp.specs.declared.entries.Entry.{Entry}
+use Rattle.erst_interp.specs.declared.entries.InstructionEntry.{InstructionEntry}
 use Rattle.erst_interp.specs.Admission.{IsAdmittedTable}
 use Rattle.erst_interp.specs.Run.{acts_of}
 use Rattle.erst_driver.specs.declared.refusals.DriverRefused.{DriverRefused}
@@ -107,7 +107,7 @@ answered_if free = if free then Ok tt else Err Busy
 -- ---- the records so far
 
 -- what has to hold of a board that tells
-pub record IsListed (lists : List (List Entry)) (ids : List ℕ) (u : Told) : Type 0 where
+pub record IsListed (lists : List (List InstructionEntry)) (ids : List ℕ) (u : Told) : Type 0 where
   pub admitted : IsAdmittedTable lists
   pub device : IsDevice (device_of u)
   pub listed : ids ≡ ids_in u.here.store
@@ -119,7 +119,7 @@ pub record HeldTo (rows : List Row) (seconds count : ℕ) (u now : Told) (looked
   pub readable : looked.readable.items ++ readable_ids (drop count u.here.store) ≡ readable_ids u.here.store
   pub free : (count ≡ 0) ⊎ (is_free_in_time u.volatile.slow ≡ true)
 
-pub record ReadTo {X : Type 0} (see : X → Seen) (lists : List (List Entry)) (rows : List Row) (seconds : ℕ) (ids : List ℕ) (count : ℕ) (u : Told) (looked : Looked) (a b : X) : Type 0 where
+pub record ReadTo {X : Type 0} (see : X → Seen) (lists : List (List InstructionEntry)) (rows : List Row) (seconds : ℕ) (ids : List ℕ) (count : ℕ) (u : Told) (looked : Looked) (a b : X) : Type 0 where
   pub done : DoneTo see (read_calls lists) ids count u a b
   pub held : IsListed lists ids u → (n : Told) → (see b).told ≡ Some n → HeldTo rows seconds count u n looked
 
@@ -150,7 +150,7 @@ module _ (rows : List Row) (seconds : ℕ) where
   }
 
   -- what was read of one more is told of
-  module _ (lists : List (List Entry)) (ids : List ℕ) (count : ℕ) (u n m : Told) (old new : Looked) (buffer : List ℕ) (is : IsListed lists ids u) (within : count < length ids) (device : IsDevice (device_of n))
+  module _ (lists : List (List InstructionEntry)) (ids : List ℕ) (count : ℕ) (u n m : Told) (old new : Looked) (buffer : List ℕ) (is : IsListed lists ids u) (within : count < length ids) (device : IsDevice (device_of n))
       (found : HoldsRecord (get_or ids count 0) n.here.store buffer)
       (made : new.made ≡ old.made ++ piece_of rows seconds (get_or ids count 0) (read_under (get_or ids count 0) buffer) ∷ [])
       (more : new.readable.items ≡ old.readable.items ++ (if is_ok (read_under (get_or ids count 0) buffer) then get_or ids count 0 ∷ [] else []))
@@ -207,7 +207,7 @@ module _ (rows : List Row) (seconds : ℕ) where
   -- ---- how the reading ends
 
   -- a record that is listed is there
-  module _ (lists : List (List Entry)) (ids : List ℕ) (count : ℕ) (u n : Told) (looked : Looked) (is : IsListed lists ids u) (within : count < length ids) (slow : n.volatile.slow ≡ u.volatile.slow) (held : HeldTo rows seconds count u n looked) where
+  module _ (lists : List (List InstructionEntry)) (ids : List ℕ) (count : ℕ) (u n : Told) (looked : Looked) (is : IsListed lists ids u) (within : count < length ids) (slow : n.volatile.slow ≡ u.volatile.slow) (held : HeldTo rows seconds count u n looked) where
     listed_there : holds (get_or ids count 0) n.here.store ≡ true
     listed_there =
         let place = at_place ids u.here.store count is.listed within in
@@ -240,7 +240,7 @@ module _ (rows : List Row) (seconds : ℕ) where
         by true never = cc
         by false never = cc
 
-  pub looks_done : (lists : List (List Entry)) (ids : List ℕ) (count : ℕ) (u n : Told) (looked : Looked) → IsListed lists ids u → length ids ≤ count → HeldTo rows seconds count u n looked → HasLooked rows seconds u looked
+  pub looks_done : (lists : List (List InstructionEntry)) (ids : List ℕ) (count : ℕ) (u n : Told) (looked : Looked) → IsListed lists ids u → length ids ≤ count → HeldTo rows seconds count u n looked → HasLooked rows seconds u looked
   looks_done lists ids count u n looked is past held =
       let long : length u.here.store ≤ count = omega (arith, past, ap (λ (xs : List ℕ). length xs) is.listed, length-map u.here.store (λ (r : Stored). r.id)) in
       let none : drop count u.here.store ≡ [] = drop_all count u.here.store long in
@@ -265,7 +265,7 @@ listing_of see calls Busy a b answered does = does
 listing_of see calls (EndedWith code) a b answered does = does
 listing_of see calls NoMemory a b answered does = absurd answered
 
-module _ {X : Type 0} (see : X → Seen) (lists : List (List Entry)) (rows : List Row) (seconds : ℕ) (ids : List ℕ) (count : ℕ) where
+module _ {X : Type 0} (see : X → Seen) (lists : List (List InstructionEntry)) (rows : List Row) (seconds : ℕ) (ids : List ℕ) (count : ℕ) where
   pub read_none : (looked : Looked) (a : X) → looked.made ≡ [] → looked.readable.items ≡ [] → IfSome (see a).told (λ t. ReadTo see lists rows seconds ids 0 t looked a a)
   read_none looked a made readable = over_each _ (see a).told (λ t is. record {
     done = done_none see (read_calls lists) ids t a;

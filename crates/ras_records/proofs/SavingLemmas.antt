@@ -13,7 +13,7 @@ use Rattle.erst_store.specs.DeviceLaws.{IsDevice}
 use Rattle.board_core.specs.Doing.{Moment}
 use Rattle.board_core.specs.Stop.{Becomes, InStore, Left}
 use Rattle.board_core.specs.Told.{Told, device_of}
-use Rattle.erst_interp.specs.declared.entries.Entry.{Entry}
+use Rattle.erst_interp.specs.declared.entries.InstructionEntry.{InstructionEntry}
 use Rattle.erst_interp.specs.Admission.{IsAdmittedTable}
 use Rattle.erst_interp.specs.Run.{acts_of}
 use Rattle.erst_driver.specs.Operations.{write_calls}
@@ -39,7 +39,7 @@ saved_is_put bytes store short = by (is_reserved id) (is_full_for id store) (nat
     by false false true is = cc
     by false false false is = refl
 
-module _ (lists : List (List Entry)) (admitted : IsAdmittedTable lists) (t : Told) (device : IsDevice (device_of t)) (bytes : List ℕ) (length_is : length bytes ≡ 456) (told : number_at length_place 4 bytes ≡ 456) (are : AreBytes bytes) where
+module _ (lists : List (List InstructionEntry)) (admitted : IsAdmittedTable lists) (t : Told) (device : IsDevice (device_of t)) (bytes : List ℕ) (length_is : length bytes ≡ 456) (told : number_at length_place 4 bytes ≡ 456) (are : AreBytes bytes) where
   put_store : store_after_write bytes t.here.store ≡ store_with (written_id bytes) bytes t.here.store
   put_store = saved_is_put bytes t.here.store (omega (arith, length_is))
 

@@ -5,7 +5,7 @@ use Rattle.erst_store.specs.Store.{Stored, ids, most_records}
 use Rattle.board_core.specs.Doing.{DeviceCall}
 use Rattle.board_core.specs.Told.{Told, device_of}
 use Rattle.dimm_topology.specs.declared.row.Row.{Row}
-use Rattle.erst_interp.specs.declared.entries.Entry.{Entry}
+use Rattle.erst_interp.specs.declared.entries.InstructionEntry.{InstructionEntry}
 use Rattle.erst_driver.specs.declared.refusals.DriverRefused.{DriverRefused}
 use Rattle.erst_driver.specs.declared.refusals.DriverRefused.TheVariants.{Busy, Status as EndedWith}
 use Rattle.erst_driver.specs.Answers.{read_calls}
@@ -18,7 +18,7 @@ use Rattle.ras_records.specs.Each.{after_calls, each_calls}
 
 -- ---- a look: the store's records are listed, and then each is read
 
-abbrev pub look_calls : List (List Entry) → Told → List DeviceCall
+abbrev pub look_calls : List (List InstructionEntry) → Told → List DeviceCall
 look_calls lists t =
     list_calls lists (device_of t)
     ++ each_calls (read_calls lists) (ids t.here.store) (after_calls (list_calls lists (device_of t)) t)

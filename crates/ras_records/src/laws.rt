@@ -6,7 +6,7 @@ ghost use Rattle.board_core.specs.Stop.{Becomes, InStore, Left};
 ghost use Rattle.board_core.specs.Told.{Told, device_of};
 ghost use Rattle.erst_interp.specs.Admission.{IsAdmittedTable};
 ghost use Rattle.erst_interp.specs.Run.{Keeps, acts_of};
-ghost use Rattle.erst_interp.specs.declared.entries.Entry.{Entry};
+ghost use Rattle.erst_interp.specs.declared.entries.InstructionEntry.{InstructionEntry};
 ghost use Rattle.erst_driver.specs.Answers.{written_id};
 ghost use Rattle.erst_driver.specs.Operations.{clear_calls, is_free_in_time, write_calls};
 ghost use Rattle.ras_base.specs.LittleEndian.{AreBytes, number_at};
@@ -25,15 +25,15 @@ pub fn device_calls_change_the_store_alone()
 /// A look leaves files, store and text as they are, whether it is done, memory ran out after some
 /// of its calls, or the machine stopped meanwhile. The function does nothing.
 pub fn looks_leave_the_store()
-    ensures done { (lists : List (List Entry)) (t : Told) → IsAdmittedTable lists
+    ensures done { (lists : List (List InstructionEntry)) (t : Told) → IsAdmittedTable lists
         → IsDevice (device_of t) → (after_calls (look_calls lists t) t).here ≡ t.here }
-    ensures begun { (lists : List (List Entry)) (t : Told) → IsAdmittedTable lists
+    ensures begun { (lists : List (List InstructionEntry)) (t : Told) → IsAdmittedTable lists
         → IsDevice (device_of t) → (done later : List DeviceCall)
         → done ++ later ≡ look_calls lists t → (after_calls done t).here ≡ t.here }
-    ensures moments { (lists : List (List Entry)) (t : Told) → IsAdmittedTable lists
+    ensures moments { (lists : List (List InstructionEntry)) (t : Told) → IsAdmittedTable lists
         → IsDevice (device_of t) → (left : Left)
         → Moment (acts_of (look_calls lists t)) t left → left ≡ t.here }
-    ensures device { (lists : List (List Entry)) (t : Told) → IsAdmittedTable lists
+    ensures device { (lists : List (List InstructionEntry)) (t : Told) → IsAdmittedTable lists
         → IsDevice (device_of t) → IsDevice (device_of (after_calls (look_calls lists t) t)) }
 {}
 
@@ -41,15 +41,15 @@ pub fn looks_leave_the_store()
 /// well, and they leave the others. A stop meanwhile leaves a store that lacks some of these
 /// records, from the first on, and all else as it was. The function does nothing.
 pub fn clears_take_the_readable_records()
-    ensures answer { (lists : List (List Entry)) (t : Told) → IsAdmittedTable lists
+    ensures answer { (lists : List (List InstructionEntry)) (t : Told) → IsAdmittedTable lists
         → IsDevice (device_of t) → is_free_in_time t.volatile.slow ≡ true → (ids : List ℕ)
         → readable_ids t.here.store ≡ ids → each_answer (clear_calls lists) ids t ≡ Ok tt }
-    ensures done { (lists : List (List Entry)) (t : Told) → IsAdmittedTable lists
+    ensures done { (lists : List (List InstructionEntry)) (t : Told) → IsAdmittedTable lists
         → IsDevice (device_of t) → is_free_in_time t.volatile.slow ≡ true → (ids : List ℕ)
         → readable_ids t.here.store ≡ ids
         → (after_calls (each_calls (clear_calls lists) ids t) t).here
         ≡ record t.here { store = unreadable t.here.store } }
-    ensures moments { (lists : List (List Entry)) (t : Told) → IsAdmittedTable lists
+    ensures moments { (lists : List (List InstructionEntry)) (t : Told) → IsAdmittedTable lists
         → IsDevice (device_of t) → is_free_in_time t.volatile.slow ≡ true → (ids : List ℕ)
         → readable_ids t.here.store ≡ ids → (left : Left)
         → Moment (acts_of (each_calls (clear_calls lists) ids t)) t left
@@ -59,12 +59,12 @@ pub fn clears_take_the_readable_records()
 /// A saving puts its record into the store under the identifier in its header, at one moment, and
 /// all else stays as it was. The function does nothing.
 pub fn savings_are_puts()
-    ensures done { (lists : List (List Entry)) (t : Told) → IsAdmittedTable lists
+    ensures done { (lists : List (List InstructionEntry)) (t : Told) → IsAdmittedTable lists
         → IsDevice (device_of t) → (bytes : List ℕ) → length bytes ≡ 456
         → number_at length_place 4 bytes ≡ 456 → AreBytes bytes
         → (after_calls (write_calls lists bytes (device_of t)) t).here
         ≡ record t.here { store = store_with (written_id bytes) bytes t.here.store } }
-    ensures moments { (lists : List (List Entry)) (t : Told) → IsAdmittedTable lists
+    ensures moments { (lists : List (List InstructionEntry)) (t : Told) → IsAdmittedTable lists
         → IsDevice (device_of t) → (bytes : List ℕ) → length bytes ≡ 456
         → number_at length_place 4 bytes ≡ 456 → AreBytes bytes → (left : Left)
         → Moment (acts_of (write_calls lists bytes (device_of t))) t left

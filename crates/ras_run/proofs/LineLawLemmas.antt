@@ -35,7 +35,7 @@ use Rattle.ras_script.specs.declared.line.Line.{Line}
 use Rattle.ras_script.specs.declared.line.LineRefused.{LineRefused}
 use Rattle.ras_exit.specs.declared.exit.Exit.{Exit}
 use Rattle.ras_exit.specs.declared.exit.Exit.TheVariants.{Full}
-use Rattle.ras_events.specs.declared.event.Refusal.{Refusal}
+use Rattle.ras_events.specs.declared.event.LineRefusal.{LineRefusal}
 use Rattle.ras_events.specs.Making.{entries_in}
 use Rattle.ras_exit.specs.Acts.{print_acts}
 use Rattle.ras_run.specs.LineActs.{AreActsUnless, AreEventActs, AreLineActs, HoldsAfter, event_prints, made_acts, news_acts}
@@ -52,7 +52,7 @@ use Rattle.ras_run.proofs.StandsLemmas.{prints_at}
 
 -- ---- by the event of the line
 
-event_off : (start : Start) (place : Place) (t : Told) (event : Result Event Refusal) (acts : List Act) → AreEventActs start place t event acts → AreOffDevice acts
+event_off : (start : Start) (place : Place) (t : Told) (event : Result Event LineRefusal) (acts : List Act) → AreEventActs start place t event acts → AreOffDevice acts
 event_off start (before, (number, line)) t (Ok Nothing) acts are = rw are tt
 event_off start (before, (number, line)) t (Ok Settled) acts are = subst AreOffDevice (sym are) (prints_off [] number)
 event_off start (before, (number, line)) t (Ok (Counted made)) acts are =
@@ -70,7 +70,7 @@ line_off start place t acts are = by (refusal_at start place) are
     by (Some why) none = subst AreOffDevice (sym none) tt
     by None event = event_off start place t (event_at place) acts event
 
-event_calls : (start : Start) (place : Place) (t : Told) (event : Result Event Refusal) (acts : List Act) → AreEventActs start place t event acts → AreEventCalls start place t.here event (calls_of acts)
+event_calls : (start : Start) (place : Place) (t : Told) (event : Result Event LineRefusal) (acts : List Act) → AreEventActs start place t event acts → AreEventCalls start place t.here event (calls_of acts)
 event_calls start (before, (number, line)) t (Ok Nothing) acts are = ap calls_of are
 event_calls start (before, (number, line)) t (Ok Settled) acts are = ap calls_of are ∙ prints_calls [] number
 event_calls start (before, (number, line)) t (Ok (Counted made)) acts are =
@@ -86,7 +86,7 @@ event_calls start (before, (number, line)) t (Ok (Saved id bytes)) acts are = ap
 event_calls start (before, (number, line)) t (Ok (Polled seconds)) acts are = ap calls_of are
 event_calls start (before, (number, line)) t (Err why) acts are = ap calls_of are
 
-event_out : (start : Start) (place : Place) (t : Told) (event : Result Event Refusal) (acts : List Act) → AreEventActs start place t event acts → (after_acts acts t).here.out ≡ t.here.out ++ event_output start place event
+event_out : (start : Start) (place : Place) (t : Told) (event : Result Event LineRefusal) (acts : List Act) → AreEventActs start place t event acts → (after_acts acts t).here.out ≡ t.here.out ++ event_output start place event
 event_out start (before, (number, line)) t (Ok Nothing) acts are = ap (λ (l : List Act). (after_acts l t).here.out) are ∙ sym (append-nil t.here.out)
 event_out start (before, (number, line)) t (Ok Settled) acts are = ap (λ (l : List Act). (after_acts l t).here.out) are ∙ out_before [] [] (done_line number) t refl
 event_out start (before, (number, line)) t (Ok (Counted made)) acts are =
@@ -231,7 +231,7 @@ module _ (start : Start) (before : List NumberedLine) (number : ℕ) (line : Res
 
   -- ---- by the event
 
-  event_holds : (event : Result Event Refusal) (acts : List Act) → event_refusal start place event ≡ None → IfOk event IsFitEvent → AreEventActs start place t event acts → HoldsEvent (entries_made before event) (after_acts acts t)
+  event_holds : (event : Result Event LineRefusal) (acts : List Act) → event_refusal start place event ≡ None → IfOk event IsFitEvent → AreEventActs start place t event acts → HoldsEvent (entries_made before event) (after_acts acts t)
   event_holds (Ok Nothing) acts none fit are = subst (λ (l : List Act). HoldsEvent [] (after_acts l t)) (sym are) (record { account = holds.account; at = holds.at })
   event_holds (Ok Settled) acts none fit are =
       subst (λ (l : List Act). HoldsEvent [] (after_acts l t)) (sym are) (record { account = holds.account; at = prints_at [] (done_line number) s a t holds.at })
@@ -248,7 +248,7 @@ module _ (start : Start) (before : List NumberedLine) (number : ℕ) (line : Res
   event_holds (Ok (Polled seconds)) acts none fit are = absurd cc
   event_holds (Err why) acts none fit are = absurd cc
 
-  event_moment : (event : Result Event Refusal) (acts : List Act) (left : Left) → event_refusal start place event ≡ None → IfOk event IsFitEvent → AreEventActs start place t event acts → Moment acts t left
+  event_moment : (event : Result Event LineRefusal) (acts : List Act) (left : Left) → event_refusal start place event ≡ None → IfOk event IsFitEvent → AreEventActs start place t event acts → Moment acts t left
       → ((left.out ≡ t.here.out) × Recovers a left) ⊎ (Recovers (account_of (with_entries h (entries_made before event))) left × Begins (event_output start place event) t.here.out left.out)
   event_moment (Ok Nothing) acts left none fit are moment = absurd (subst (λ (l : List Act). Moment l t left) are moment)
   event_moment (Ok Settled) acts left none fit are moment =

@@ -23,7 +23,7 @@ use Rattle.ras_events.specs.Sizes.{IsFit, IsFitEvent}
 use Rattle.ras_events.specs.Making.{entries_in}
 use Rattle.ras_exit.specs.declared.exit.Exit.{Exit}
 use Rattle.ras_exit.specs.declared.exit.Exit.TheVariants.{BadLine, Full, NoMemory}
-use Rattle.ras_events.specs.declared.event.Refusal.{Refusal}
+use Rattle.ras_events.specs.declared.event.LineRefusal.{LineRefusal}
 use Rattle.ras_exit.specs.declared.reason.Reason.{Reason}
 use Rattle.ras_exit.specs.declared.reason.Reason.TheVariants as reason
 use Rattle.ras_exit.specs.Acts.{DoesBy, DoesSome, end_of, ended_with, part_end}
@@ -43,7 +43,7 @@ use Rattle.ras_run.proofs.PlaceLemmas.{event_is, run_after}
 pub some_acts : (start : Start) (place : Place) (t : Told) → (acts : List Act) × AreLineActs start place t acts
 some_acts start (before, (number, line)) t = by (refusal_at start (before, (number, line))) (event_at (before, (number, line)))
   where
-    by : (refusal : Option Exit) (event : Result Event Refusal) → (acts : List Act) × AreActsUnless refusal (AreEventActs start (before, (number, line)) t event) acts
+    by : (refusal : Option Exit) (event : Result Event LineRefusal) → (acts : List Act) × AreActsUnless refusal (AreEventActs start (before, (number, line)) t event) acts
     by (Some why) event = ([], refl)
     by None (Ok Nothing) = ([], refl)
     by None (Ok Settled) = (event_prints [] number, refl)
@@ -97,7 +97,7 @@ module _ {X : Type 0} (see : X → Seen) (start : Start) (before : List Numbered
       (ap (event_refusal start (before, (number, Ok line))) (event_is start before number line run (Ok event) is asked)
       ∙ store_refused start before number (Ok line) event of_store ∙ ap (λ (r : Reason). Some (BadLine number r)) (sym why_is)) refl
 
-  pub event_refused : (line : Line) (why : Refusal) (run : Run) → IsRunAfter start before run → event_of run.settings line ≡ Err why → DoesLine see start (before, (number, Ok line)) t (Err (BadLine number (reason_of why))) x x
+  pub event_refused : (line : Line) (why : LineRefusal) (run : Run) → IsRunAfter start before run → event_of run.settings line ≡ Err why → DoesLine see start (before, (number, Ok line)) t (Err (BadLine number (reason_of why))) x x
   event_refused line why run is asked =
       refused_line see start (before, (number, Ok line)) t (BadLine number (reason_of why)) x
       (ap (event_refusal start (before, (number, Ok line))) (event_is start before number line run (Err why) is asked)) refl
@@ -117,14 +117,14 @@ module _ (start : Start) (before : List NumberedLine) (number : ℕ) (line : Lin
   accepted : IsFitEvent event → event_refusal start place (Ok event) ≡ None → IsAccepted start place
   accepted fit none = record {
     taken = refusal_is ∙ none;
-    fit = subst (λ (e : Result Event Refusal). IfOk e IsFitEvent) (sym here) fit;
+    fit = subst (λ (e : Result Event LineRefusal). IfOk e IsFitEvent) (sym here) fit;
   }
 
   event_does : {X : Type 0} (see : X → Seen) (t : Told) (x y : X) (result : Result (Unit {0}) Exit) (acts : List Act) → event_refusal start place (Ok event) ≡ None → AreEventActs start place t (Ok event) acts
       → DoesBy see acts (ended_with result) x y → DoesLine see start place t result x y
   event_does see t x y result acts none are does = (
     acts,
-    subst (λ r. AreActsUnless r (AreEventActs start place t (event_at place)) acts) (sym (refusal_is ∙ none)) (subst (λ (e : Result Event Refusal). AreEventActs start place t e acts) (sym here) are),
+    subst (λ r. AreActsUnless r (AreEventActs start place t (event_at place)) acts) (sym (refusal_is ∙ none)) (subst (λ (e : Result Event LineRefusal). AreEventActs start place t e acts) (sym here) are),
     does,
   )
 

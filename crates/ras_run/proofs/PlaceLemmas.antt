@@ -8,7 +8,7 @@ use Rattle.ras_account.specs.History.{with_entries, with_entry}
 use Rattle.ras_journal.specs.declared.standing.Standing.{Standing}
 use Rattle.ras_script.specs.declared.line.Line.{Line}
 use Rattle.ras_events.specs.declared.event.Event.{Event}
-use Rattle.ras_events.specs.declared.event.Refusal.{Refusal}
+use Rattle.ras_events.specs.declared.event.LineRefusal.{LineRefusal}
 use Rattle.ras_events.specs.Events.{event_of, settings_after}
 use Rattle.ras_events.specs.Reports.{NumberedLine, Place, entries_at, event_at, made_in, reports, settings_told}
 use Rattle.ras_events.specs.Making.{entries_in}
@@ -26,7 +26,7 @@ pub history-snoc : (start : Start) (before : List NumberedLine) (read : Numbered
 history-snoc start before read = ap (with_entries start.history) (reports-snoc before read) ∙ fold-append with_entry start.history (reports [] before) (entries_at [] (before, read))
 
 -- the entries that an event makes behind lines
-abbrev pub entries_made : List NumberedLine → Result Event Refusal → List Entry
+abbrev pub entries_made : List NumberedLine → Result Event LineRefusal → List Entry
 entries_made before event = entries_in (made_in (settings_told before).topology (laid [] before) event)
 
 -- where the journal stands after a place more
@@ -42,7 +42,7 @@ pub standing-snoc : (start : Start) (before : List NumberedLine) (read : Numbere
 standing-snoc start before read =
     ap (standing_along start start.standing) (places-snoc before read) ∙ along-snoc start start.standing (places before) (before, read)
 
-pub event_is : (start : Start) (before : List NumberedLine) (number : ℕ) (line : Line) (run : Run) (asked : Result Event Refusal) → IsRunAfter start before run → event_of run.settings line ≡ asked
+pub event_is : (start : Start) (before : List NumberedLine) (number : ℕ) (line : Line) (run : Run) (asked : Result Event LineRefusal) → IsRunAfter start before run → event_of run.settings line ≡ asked
     → event_at (before, (number, Ok line)) ≡ asked
 event_is start before number line run asked is event = ap (λ settings. event_of settings line) (sym is.settings) ∙ event
 

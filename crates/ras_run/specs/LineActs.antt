@@ -20,7 +20,7 @@ use Rattle.ras_events.specs.Reports.{NumberedLine, Place, event_at}
 use Rattle.ras_events.specs.Texts.{event_text}
 use Rattle.ras_exit.specs.Acts.{DoesBy, ended_with, print_acts}
 use Rattle.ras_exit.specs.declared.exit.Exit.{Exit}
-use Rattle.ras_events.specs.declared.event.Refusal.{Refusal}
+use Rattle.ras_events.specs.declared.event.LineRefusal.{LineRefusal}
 use Rattle.ras_events.specs.Making.{entries_in}
 use Rattle.ras_texts.specs.Orders.{standing_lines}
 use Rattle.ras_texts.specs.Text.{done_line}
@@ -49,7 +49,7 @@ AreReopening account number here acts =
     × (acts ≡ map calls reading ++ event_prints (standing_lines account) number)
 
 -- the acts of an event; a line that asks for nothing, and one that is refused, does nothing
-abbrev pub AreEventActs : Start → Place → Told → Result Event Refusal → List Act → Type 0
+abbrev pub AreEventActs : Start → Place → Told → Result Event LineRefusal → List Act → Type 0
 AreEventActs start place t (Ok Nothing) acts = acts ≡ []
 AreEventActs start (before, (number, line)) t (Ok Settled) acts = acts ≡ event_prints [] number
 AreEventActs start (before, (number, line)) t (Ok (Counted made)) acts =

@@ -8,7 +8,7 @@ use Rattle.ras_recover.specs.OpeningCalls.{IsRecoveryOf}
 use Rattle.ras_ledger.specs.KeepingCalls.{IsKeeping}
 use Rattle.ras_events.specs.declared.event.Event.{Event}
 use Rattle.ras_events.specs.declared.event.Event.TheVariants.{Counted, Reopened}
-use Rattle.ras_events.specs.declared.event.Refusal.{Refusal}
+use Rattle.ras_events.specs.declared.event.LineRefusal.{LineRefusal}
 use Rattle.ras_events.specs.Reports.{Place, event_at}
 use Rattle.ras_events.specs.Making.{entries_in}
 use Rattle.ras_run.specs.Places.{Start, history_at, news_after}
@@ -20,7 +20,7 @@ AreNewsCalls (entry ∷ entries) calls = IsKeeping (link_bytes (entry ∷ entrie
 
 -- Of an event its news are kept. A journal that is opened again is recovered, and all that counts of
 -- the files here is read. Any other line makes no disk call.
-abbrev pub AreEventCalls : Start → Place → Left → Result Event Refusal → List DiskCall → Type 0
+abbrev pub AreEventCalls : Start → Place → Left → Result Event LineRefusal → List DiskCall → Type 0
 AreEventCalls start place here (Ok (Counted made)) calls =
     AreNewsCalls (news_after (history_at start place.0) (entries_in made)) calls
 AreEventCalls start place here (Ok Reopened) calls = IsRecoveryOf here calls

@@ -2,7 +2,7 @@
 use Rattle.std.specs.Prelude.{ℕ, List, [], ◌++◌, Result, Ok, Err}
 use Rattle.ras_events.specs.declared.event.Event.{Event}
 use Rattle.ras_events.specs.declared.event.Event.TheVariants.{Nothing, Settled, Counted, Put, Saved, Polled, Reopened}
-use Rattle.ras_events.specs.declared.event.Refusal.{Refusal}
+use Rattle.ras_events.specs.declared.event.LineRefusal.{LineRefusal}
 use Rattle.ras_events.specs.Reports.{Place, event_at}
 use Rattle.ras_events.specs.Texts.{event_text}
 use Rattle.ras_texts.specs.Orders.{standing_lines}
@@ -11,7 +11,7 @@ use Rattle.ras_run.specs.Places.{Start, account_at, history_at}
 
 -- An event's text, and its done line. Once the account was made again, the orders that stand in it
 -- are printed. A line that asks for nothing prints nothing.
-abbrev pub event_output : Start → Place → Result Event Refusal → List ℕ
+abbrev pub event_output : Start → Place → Result Event LineRefusal → List ℕ
 event_output start place (Ok Nothing) = []
 event_output start (before, (number, line)) (Ok Settled) = done_line number
 event_output start (before, (number, line)) (Ok (Counted made)) =

@@ -23,7 +23,7 @@ use crate::opening::open;
 use crate::printing::print_event;
 use board_core::Board;
 use ras_account::Account;
-use ras_events::{Event, EventRefused, Refusal};
+use ras_events::{Event, EventRefused, LineRefusal};
 use ras_exit::{Exit, Reason};
 use ras_facts::Name;
 use ras_ledger::Ledger;
@@ -88,19 +88,19 @@ pub fn take_line<B: Board>(
         Event::Reopened => reopen(alloc, number, &mut run.ledger, board),
         Event::Put { .. } | Event::Saved { .. } | Event::Polled { .. } => Err(Exit::BadLine {
             line: number,
-            reason: reason_of(Refusal::NoTable),
+            reason: reason_of(LineRefusal::NoTable),
         }),
     }
 }
 
 // The reason for which a refused line is refused. One of the record store is refused as one of no
 // kind.
-fn reason_of(refusal: Refusal) -> Reason
+fn reason_of(refusal: LineRefusal) -> Reason
     ensures { result ≡ reason_of refusal }
 {
     match refusal {
-        Refusal::Bad(reason) => reason,
-        Refusal::NoTable => Reason::Line(LineRefused::Kind),
+        LineRefusal::Bad(reason) => reason,
+        LineRefusal::NoTable => Reason::Line(LineRefused::Kind),
     }
 }
 

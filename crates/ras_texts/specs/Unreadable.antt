@@ -8,17 +8,17 @@ use Rattle.cper_records.specs.declared.refusals.Unreadable.TheVariants.{NoRecord
 use Rattle.ras_texts.specs.Text.{line_with}
 
 -- why it can't be read
-abbrev pub reason_word : Unreadable → List ℕ
-reason_word (NoRecord Short) = codes "short"
-reason_word (NoRecord Signature) = codes "signature"
-reason_word (NoRecord Length) = codes "length"
-reason_word (NoRecord DescriptorOut) = codes "descriptor"
-reason_word (NoRecord SectionOut) = codes "section-out"
-reason_word (NoRecord Section) = codes "section"
-reason_word OtherId = codes "identifier"
+abbrev pub unreadable_word : Unreadable → List ℕ
+unreadable_word (NoRecord Short) = codes "short"
+unreadable_word (NoRecord Signature) = codes "signature"
+unreadable_word (NoRecord Length) = codes "length"
+unreadable_word (NoRecord DescriptorOut) = codes "descriptor"
+unreadable_word (NoRecord SectionOut) = codes "section-out"
+unreadable_word (NoRecord Section) = codes "section"
+unreadable_word OtherId = codes "identifier"
 
 -- the record's identifier in 16 hexadecimal digits, and the reason
 unfoldable pub unreadable_line : ℕ → Unreadable → List ℕ
 unreadable_line id why = line_with (
     codes "unreadable record=" ++ encode_lower (to_be_bytes w64 id)
-    ++ codes " reason=" ++ reason_word why)
+    ++ codes " reason=" ++ unreadable_word why)

@@ -1,7 +1,7 @@
 //! The line of a record of the store that can't be read.
 
 ghost use Rattle.std.specs.Prelude.{◌≡◌, ◌++◌, OnOk};
-ghost use Rattle.ras_texts.specs.Unreadable.{reason_word, unreadable_line};
+ghost use Rattle.ras_texts.specs.Unreadable.{unreadable_word, unreadable_line};
 
 use crate::pieces::hexadecimal_digits;
 use cper_records::{RecordRefused, Unreadable};
@@ -18,14 +18,14 @@ pub fn push_unreadable(text: &mut Vec<u8>, id: u64, why: Unreadable) -> Result<(
     text.extend_from_slice(b"unreadable record=")?;
     text.extend_from_slice(&hexadecimal_digits(id))?;
     text.extend_from_slice(b" reason=")?;
-    text.extend_from_slice(reason_word(why))?;
+    text.extend_from_slice(unreadable_word(why))?;
     text.extend_from_slice(b"\n")?;
     Ok(())
 }
 
 // The word of a reason for which a record can't be read.
-fn reason_word(why: Unreadable) -> &'static [u8]
-    ensures { result.now ≡ reason_word why }
+fn unreadable_word(why: Unreadable) -> &'static [u8]
+    ensures { result.now ≡ unreadable_word why }
 {
     match why {
         Unreadable::NoRecord(RecordRefused::Short) => b"short",

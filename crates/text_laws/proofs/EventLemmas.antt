@@ -29,7 +29,7 @@ use Rattle.ras_account.specs.Sightings.{Sighting, sightings_of}
 use Rattle.ras_texts.specs.Orders.{order_lines}
 use Rattle.ras_texts.specs.Reports.{detail_text, told_line, empty_line, report_lines, entry_lines}
 use Rattle.ras_texts.specs.Text.{name_text, repeat_line}
-use Rattle.ras_texts.specs.Unreadable.{reason_word, unreadable_line}
+use Rattle.ras_texts.specs.Unreadable.{unreadable_word, unreadable_line}
 use Rattle.ras_events.specs.declared.made.Piece.{Piece}
 use Rattle.ras_events.specs.declared.made.Piece.TheVariants.{Counted, Unread}
 use Rattle.ras_events.specs.Making.{entries_in}
@@ -82,7 +82,7 @@ entry_quiet details a (PageLimit limit) valid = limit_quiet limit
 entry_quiet details a (Retire boot) valid = retire_quiet boot (count_by (is_retired boot) a.names)
 entry_quiet details a (ModuleLimit limit) valid = module_limit_quiet limit
 
-reason_unbroken : (why : Unreadable) → is_unbroken (reason_word why) ≡ true
+reason_unbroken : (why : Unreadable) → is_unbroken (unreadable_word why) ≡ true
 reason_unbroken (NoRecord Short) = refl
 reason_unbroken (NoRecord Signature) = refl
 reason_unbroken (NoRecord Length) = refl
@@ -94,7 +94,7 @@ reason_unbroken OtherId = refl
 unreadable_quiet : (id : ℕ) (why : Unreadable) → AreQuietLines (unreadable_line id why)
 unfolding unreadable_line
 unreadable_quiet id why =
-    quiet_line (codes "unreadable record=" ++ encode_lower (to_be_bytes w64 id) ++ codes " reason=" ++ reason_word why)
+    quiet_line (codes "unreadable record=" ++ encode_lower (to_be_bytes w64 id) ++ codes " reason=" ++ unreadable_word why)
     (simp (unbroken-append, hexadecimal_unbroken, reason_unbroken)) refl
 
 counted_quiet : (h : History) (details : List Detail) (entry : Entry) → IsValidEntry entry → AreQuietLines (piece_text h (Counted entry details))

@@ -7,15 +7,15 @@ use Rattle.std.proofs.Common.{inl, inr}
 use Rattle.board_core.specs.Told.{Told, device_of}
 use Rattle.erst_store.specs.DeviceLaws.{IsDevice}
 use Rattle.std.proofs.lemmas.Option.{slice_get_past}
-use Rattle.erst_interp.specs.declared.entries.Entry.{Entry}
+use Rattle.erst_interp.specs.declared.entries.InstructionEntry.{InstructionEntry}
 use Rattle.erst_interp.proofs.RunLemmas.{Way, way_on, run_on, run_refused, run_ended, run_out, turn_refused}
 use Rattle.erst_interp.proofs.ReachLemmas.{Reaches, reaches_next, reaches_failed, reaches_end}
 use Rattle.erst_interp.proofs.StraightLemmas.{at_place, refused_alone}
 use Rattle.erst_interp.proofs.run.run_turns.Goals as goal
 
-found : (list : List Entry) (i : ℕ) (e : Entry) → i < length list → e ≡ get_or list i e → slice_get list i ≡ Some e
+found : (list : List InstructionEntry) (i : ℕ) (e : InstructionEntry) → i < length list → e ≡ get_or list i e → slice_get list i ≡ Some e
 found [] i e inside is = absurd (omega (arith, inside))
-found (x ∷ xs) zero e inside is = ap (λ (y : Entry). Some y) (sym is)
+found (x ∷ xs) zero e inside is = ap (λ (y : InstructionEntry). Some y) (sym is)
 found (x ∷ xs) (suc i) e inside is = found xs i e (omega (arith, inside)) is
 
 -- what is told is as at first, or was a device's then

@@ -11,7 +11,7 @@ returns c =
       c.in_ok-extend_from_slice-3.ensures.items,
       c.in_ok-extend_from_slice-2.ensures.items,
       c.in_ok-extend_from_slice.ensures.items,
-      c.reason_word.ensures,
+      c.unreadable_word.ensures,
       c.hexadecimal_digits.ensures,
     )
     (simp append_assoc refl)

@@ -3,7 +3,7 @@ use Rattle.std.specs.Prelude.{IfSome}
 use Rattle.board_core.specs.Clock.{Passes}
 use Rattle.board_core.specs.Stop.{InStore}
 use Rattle.board_core.specs.Told.{device_of}
-use Rattle.erst_interp.specs.declared.entries.Entry.{Entry}
+use Rattle.erst_interp.specs.declared.entries.InstructionEntry.{InstructionEntry}
 use Rattle.erst_interp.specs.Admission.{IsAdmitted}
 use Rattle.erst_interp.specs.Machine.{end_of}
 use Rattle.erst_interp.specs.Run.{StoreInRun, IsRun}
@@ -19,13 +19,13 @@ pub returns-clause-runs : goal.returns-clause-runs
 returns-clause-runs g c =
     let told = g.B.Board.told c.args.board.now in
     let new = g.B.Board.told c.run_list.new.board in
-    subst (λ (list : List Entry). IfSome told (λ t. IsRun c.run_list.result (end_of list c.args.input (device_of t)) t new)) c.list.ensures c.run_list.ensures.runs
+    subst (λ (list : List InstructionEntry). IfSome told (λ t. IsRun c.run_list.result (end_of list c.args.input (device_of t)) t new)) c.list.ensures c.run_list.ensures.runs
 
 pub returns-clause-stops : goal.returns-clause-stops
 returns-clause-stops g c =
     let told = g.B.Board.told c.args.board.now in
     let list = c.list.result.now in
-    subst (λ (l : List Entry). Passes (InStore (StoreInRun l c.args.input told)) (g.B.Board.clock c.args.board.now) (g.B.Board.clock c.run_list.new.board)) c.list.ensures
+    subst (λ (l : List InstructionEntry). Passes (InStore (StoreInRun l c.args.input told)) (g.B.Board.clock c.args.board.now) (g.B.Board.clock c.run_list.new.board)) c.list.ensures
     (passes_more (StoreOver list c.args.input told) (StoreInRun list c.args.input told) (store_alone list c.args.input told) _ _
     (stops_of (StoreOver list c.args.input told) c.run_list.result _ _ c.run_list.ensures.touches))
 
