@@ -1,7 +1,7 @@
 -- An event that counts what is made of its line, by the history that it is counted behind.
 use Rattle.std.proofs.Common.{◌≡◌, ℕ, Bool, true, false, ◌||◌, List, [], ◌∷◌, ◌++◌, Result, Ok, Err, OnErr, IfErr, refl, sym, ap, subst, ◌∙◌, append-nil, arith}
 use Rattle.std.proofs.lemmas.Bool.Decides.{nat_tests}
-use Rattle.board_core.specs.Cause.{Kind, print_call}
+use Rattle.board_core.specs.Cause.{print_call}
 use Rattle.board_core.specs.Doing.{Act, Does, IsBad, Seen, one_end, went_well}
 use Rattle.board_core.proofs.DoingLemmas.{does_first, does_then, made_one}
 use Rattle.ras_account.specs.Account.{State, account_of}

@@ -1,5 +1,5 @@
 -- What the acts of a line at its place come to.
-use Rattle.std.proofs.Common.{◌≡◌, ℕ, ◌≤◌, Bool, true, false, ◌||◌, List, [], ◌∷◌, ◌++◌, length, map, Option, None, Some, Result, Ok, Err, IfOk, IsTrue, refl, sym, ap, subst, ◌∙◌, inl, inr, ◌⊎◌, if◌then◌else◌, append-nil, arith}
+use Rattle.std.proofs.Common.{◌≡◌, ℕ, Bool, true, false, ◌||◌, List, [], ◌∷◌, ◌++◌, map, Option, None, Some, Result, Ok, Err, IfOk, IsTrue, refl, sym, ap, subst, ◌∙◌, inl, inr, ◌⊎◌, if◌then◌else◌, append-nil, arith}
 use Rattle.std.proofs.lemmas.Bool.Decides.{nat_tests}
 use Rattle.board_core.specs.declared.board.DiskCall.{DiskCall}
 use Rattle.board_core.specs.Stop.{Begins, InOut, Left}
@@ -10,7 +10,7 @@ use Rattle.ras_account.specs.Account.{State, account_of}
 use Rattle.ras_account.specs.Accounts.{IsAccount}
 use Rattle.ras_account.specs.Continued.{account_after_all}
 use Rattle.ras_account.specs.History.{History, with_entries}
-use Rattle.ras_account.specs.Numbers.{AreWithin, HasRoomFor, Numbers, StaysWithin, are_past, fresh_entries_in, numbers_with}
+use Rattle.ras_account.specs.Numbers.{AreWithin, Numbers, StaysWithin, are_past, numbers_with}
 use Rattle.ras_account.proofs.LawLemmas.{entries-sound}
 use Rattle.ras_facts.specs.declared.entry.Entry.{Entry}
 use Rattle.journal_format.specs.Links.{link_bytes}
@@ -35,16 +35,15 @@ use Rattle.ras_script.specs.declared.line.LineRefused.{LineRefused}
 use Rattle.ras_exit.specs.declared.exit.Exit.{Exit}
 use Rattle.ras_exit.specs.declared.exit.Exit.TheVariants.{Full}
 use Rattle.ras_exit.specs.declared.reason.Reason.{Reason}
-use Rattle.ras_exit.specs.Acts.{print_acts}
 use Rattle.ras_run.specs.LineActs.{AreActsUnless, AreEventActs, AreLineActs, HoldsAfter, event_prints, made_acts, news_acts}
 use Rattle.ras_run.specs.LineCalls.{AreCallsAt, AreEventCalls}
 use Rattle.ras_run.specs.Output.{event_output, output_at}
 use Rattle.ras_run.specs.Places.{Start, account_at, has_no_room_for, history_at, lacks_room_for, news_after, standing_at, standing_with_news}
 use Rattle.ras_run.specs.Status.{event_refusal, refusal_at}
-use Rattle.ras_run.specs.Taking.{AfterLine, BeforeLine, IsAccepted, LineMoment}
+use Rattle.ras_run.specs.Taking.{IsAccepted, LineMoment}
 use Rattle.ras_run.proofs.NewsLemmas.{fit_news}
 use Rattle.ras_run.proofs.PlaceLemmas.{history-snoc, standing-snoc}
-use Rattle.ras_run.proofs.PrintActLemmas.{after_prints, calls_before, can_make, news_calls, news_out, news_prints_off, out_before, prints_calls, prints_moment, prints_off, reading_calls, reading_here, reading_prints_off}
+use Rattle.ras_run.proofs.PrintActLemmas.{calls_before, can_make, news_calls, news_out, news_prints_off, out_before, prints_calls, prints_moment, prints_off, reading_calls, reading_here, reading_prints_off}
 use Rattle.ras_run.proofs.ReopenLemmas.{reading_moment}
 use Rattle.ras_run.proofs.StandsLemmas.{prints_at}
 
@@ -201,18 +200,18 @@ module _ (start : Start) (before : List NumberedLine) (number : ℕ) (line : Res
         → ((left.out ≡ t.here.out) × Recovers a left) ⊎ (Recovers (account_of (with_entries h made.entries)) left × Begins (event_text h made ++ done_line number) t.here.out left.out)
     counted_moment left moment = elim (moment_parts (news_acts s a news) (event_prints (event_text h made) number) t left moment) [
       | inl keeping ↦ (
-        let kept = kept_moment left news refl parts.1 keeping in
-        elim kept.1 [
-          | inl without ↦ inl (kept.0, without)
-          | inr has ↦ inr (subst (λ (b : State). Recovers b left) account_is has, begins_nothing (event_text h made ++ done_line number) t.here left kept.0)
-        ])
+          let kept = kept_moment left news refl parts.1 keeping in
+          elim kept.1 [
+            | inl without ↦ inl (kept.0, without)
+            | inr has ↦ inr (subst (λ (b : State). Recovers b left) account_is has, begins_nothing (event_text h made ++ done_line number) t.here left kept.0)
+          ])
       | inr printing ↦ (
-        let u : Told = after_acts (news_acts s a news) t in
-        let by : InOut (Begins (event_text h made ++ done_line number)) u.here left = prints_moment (event_text h made) (done_line number) u left printing in
-        inr (
-          recovers_printed (standing_with_news h s news) (account_of (with_entries h made.entries)) (Begins (event_text h made ++ done_line number)) u.here left news_at by,
-          subst (λ out. Begins (event_text h made ++ done_line number) out left.out) (news_out s a news t) (begun (event_text h made ++ done_line number) u.here left by),
-        ))
+          let u : Told = after_acts (news_acts s a news) t in
+          let by : InOut (Begins (event_text h made ++ done_line number)) u.here left = prints_moment (event_text h made) (done_line number) u left printing in
+          inr (
+            recovers_printed (standing_with_news h s news) (account_of (with_entries h made.entries)) (Begins (event_text h made ++ done_line number)) u.here left news_at by,
+            subst (λ out. Begins (event_text h made ++ done_line number) out left.out) (news_out s a news t) (begun (event_text h made ++ done_line number) u.here left by),
+          ))
     ]
 
   -- ---- by the event
@@ -241,12 +240,12 @@ module _ (start : Start) (before : List NumberedLine) (number : ℕ) (line : Res
       counted_moment made (none_if (has_no_room_for h s made.entries) none) fit left (subst (λ (l : List Act). Moment l t left) are moment)
   event_moment (Ok Reopened) acts left none fit are moment = elim (moment_parts (map calls are.0) (event_prints (standing_lines a) number) t left (subst (λ (l : List Act). Moment l t left) are.2 moment)) [
     | inl reading ↦ (
-      let same : left ≡ t.here = reading_moment are.0 t left reading in
-      inl (ap (λ (l : Left). l.out) same, record { is = ap (λ (l : Left). recovered l.file0 l.file1) same ∙ holds.at.recovers }))
+        let same : left ≡ t.here = reading_moment are.0 t left reading in
+        inl (ap (λ (l : Left). l.out) same, record { is = ap (λ (l : Left). recovered l.file0 l.file1) same ∙ holds.at.recovers }))
     | inr printing ↦ (
-      let piece : List ℕ = standing_lines a ++ done_line number in
-      let by : InOut (Begins piece) t.here left = subst (λ (l : Left). InOut (Begins piece) l left) (reading_here are.0 t) (prints_moment (standing_lines a) (done_line number) (after_acts (map calls are.0) t) left printing) in
-      inr (recovers_printed s a (Begins piece) t.here left holds.at by, begun piece t.here left by))
+        let piece : List ℕ = standing_lines a ++ done_line number in
+        let by : InOut (Begins piece) t.here left = subst (λ (l : Left). InOut (Begins piece) l left) (reading_here are.0 t) (prints_moment (standing_lines a) (done_line number) (after_acts (map calls are.0) t) left printing) in
+        inr (recovers_printed s a (Begins piece) t.here left holds.at by, begun piece t.here left by))
   ]
   event_moment (Err why) acts left none fit are moment = absurd cc
 

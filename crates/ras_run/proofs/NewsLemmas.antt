@@ -1,5 +1,5 @@
 -- The news of an event, kept in the journal and counted.
-use Rattle.std.proofs.Common.{◌≡◌, ℕ, ◌+◌, ◌≤◌, Bool, true, false, List, [], ◌∷◌, length, All, Option, None, Some, IfSome, IsTrue, refl, sym, ap, ◌∙◌, arith}
+use Rattle.std.proofs.Common.{◌≡◌, ◌≤◌, Bool, true, false, List, [], ◌∷◌, length, All, Option, None, Some, IfSome, IsTrue, refl, sym, ap, ◌∙◌, arith}
 use Rattle.std.proofs.lemmas.List.Elements.{All-from_recursion, recursion_from_All}
 use Rattle.std.specs.List.{AllByRecursion}
 use Rattle.ras_account.specs.Account.{State}
@@ -18,7 +18,6 @@ use Rattle.ras_events.specs.Making.{Pieces}
 use Rattle.ras_events.specs.Preparing.{news_entries}
 use Rattle.ras_events.specs.Sizes.{IsFit}
 use Rattle.ras_events.proofs.NewsLemmas.{few_news, short_news, valid_news}
-use Rattle.board_core.specs.Doing.{Act}
 use Rattle.ras_run.specs.LineActs.{news_acts}
 use Rattle.ras_run.specs.Taking.{CanBeKept, has_no_room, standing_behind}
 

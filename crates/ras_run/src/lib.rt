@@ -3,8 +3,8 @@
 #![tactic(auto)]
 
 mod counting;
-mod laws;
 mod later_kinds;
+mod laws;
 mod line;
 mod opening;
 mod printing;
