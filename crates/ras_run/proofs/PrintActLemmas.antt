@@ -72,19 +72,19 @@ prints_moment one two t left moment = elim (moment_parts (print_acts one) (print
 
 -- ---- the device is left alone
 
-off_both : (xs ys : List Act) → AreOffDevice xs → AreOffDevice ys → AreOffDevice (xs ++ ys)
+pub off_both : (xs ys : List Act) → AreOffDevice xs → AreOffDevice ys → AreOffDevice (xs ++ ys)
 off_both [] ys one two = two
 off_both (x ∷ xs) ys one two = (one.0, off_both xs ys one.1 two)
 
-print_off : (text : List ℕ) → AreOffDevice (print_acts text)
+pub print_off : (text : List ℕ) → AreOffDevice (print_acts text)
 print_off [] = tt
 print_off (b ∷ text) = (tt, tt)
 
-reading_off : (made : List DiskCall) → AreOffDevice (map calls made)
+pub reading_off : (made : List DiskCall) → AreOffDevice (map calls made)
 reading_off [] = tt
 reading_off (call ∷ made) = (tt, reading_off made)
 
-news_off : (s : Standing) (a : State) (news : List Entry) → AreOffDevice (news_acts s a news)
+pub news_off : (s : Standing) (a : State) (news : List Entry) → AreOffDevice (news_acts s a news)
 news_off s a [] = tt
 news_off s a (entry ∷ entries) = (let link : List ℕ = link_bytes (entry ∷ entries) in on_disk_off _ (keeping_on_disk s a link))
 

@@ -1,6 +1,7 @@
 //! A line of a script, taken whole.
 
 ghost use Rattle.std.specs.Prelude.{◌≡◌, ◌≤◌, ◌++◌, List, false, length, IfErr, OnOk, Some};
+ghost use Rattle.board_core.specs.Device.{LeavesDevice};
 ghost use Rattle.board_core.specs.Doing.{Does, looks};
 ghost use Rattle.board_core.specs.Told.{Told};
 ghost use Rattle.ras_events.specs.Reports.{NumberedLine};
@@ -61,6 +62,9 @@ pub fn take_line<B: Board>(
         (IsReady run.new.ledger (B.told board.new) (B.clock board.new)) }
     ensures stop { IfErr result IsStop }
     ensures faults { Causes BoardCause result (B.faults board.old) (B.faults board.new) }
+    // Also over an account that no history gives.
+    ensures device { LeavesDevice (B.told board.old) (B.told board.new)
+        (B.clock board.old) (B.clock board.new) }
 {
     let line = match read_taken_line(alloc, bytes) {
         Ok(line) => line,
