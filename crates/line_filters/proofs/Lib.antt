@@ -2,3 +2,4 @@ pub mod ReadingLemmas
 pub mod StepLemmas
 pub mod EndLemmas
 pub mod CallLemmas
+pub mod PrintedLemmas

@@ -8,3 +8,4 @@ pub mod ReopenLemmas
 pub mod LineLemmas
 pub mod PrintActLemmas
 pub mod LineLawLemmas
+pub mod DeviceLemmas

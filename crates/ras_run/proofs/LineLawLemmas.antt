@@ -1,5 +1,5 @@
 -- What the acts of a line at its place come to.
-use Rattle.std.proofs.Common.{◌≡◌, ℕ, ◌≤◌, Bool, true, false, ◌||◌, List, [], ◌∷◌, ◌++◌, length, map, Option, None, Some, Result, Ok, Err, IfOk, IsTrue, refl, sym, ap, subst, ◌∙◌, inl, inr, ◌⊎◌, if◌then◌else◌, append-nil, arith}
+use Rattle.std.proofs.Common.{◌≡◌, ℕ, Bool, true, false, ◌||◌, List, [], ◌∷◌, ◌++◌, map, Option, None, Some, Result, Ok, Err, IfOk, IsTrue, refl, sym, ap, subst, ◌∙◌, inl, inr, ◌⊎◌, if◌then◌else◌, append-nil, arith}
 use Rattle.std.proofs.lemmas.Bool.Decides.{nat_tests}
 use Rattle.board_core.specs.declared.board.DiskCall.{DiskCall}
 use Rattle.board_core.specs.Stop.{Begins, InOut, Left}
@@ -10,8 +10,7 @@ use Rattle.ras_account.specs.Account.{State, account_of}
 use Rattle.ras_account.specs.Accounts.{IsAccount}
 use Rattle.ras_account.specs.Continued.{account_after_all}
 use Rattle.ras_account.specs.History.{History, with_entries}
-use Rattle.ras_account.specs.Numbers.{AreWithin, HasRoomFor, Numbers, StaysWithin, are_past, fresh_entries_in, numbers_with}
-use Rattle.ras_account.proofs.NumberLemmas.{stays-within, with_fresh_ones}
+use Rattle.ras_account.specs.Numbers.{AreWithin, Numbers, StaysWithin, are_past, numbers_with}
 use Rattle.ras_account.proofs.LawLemmas.{entries-sound}
 use Rattle.ras_facts.specs.declared.entry.Entry.{Entry}
 use Rattle.journal_format.specs.Links.{link_bytes}
@@ -37,16 +36,15 @@ use Rattle.ras_exit.specs.declared.exit.Exit.{Exit}
 use Rattle.ras_exit.specs.declared.exit.Exit.TheVariants.{Full}
 use Rattle.ras_events.specs.declared.event.LineRefusal.{LineRefusal}
 use Rattle.ras_events.specs.Making.{entries_in}
-use Rattle.ras_exit.specs.Acts.{print_acts}
 use Rattle.ras_run.specs.LineActs.{AreActsUnless, AreEventActs, AreLineActs, HoldsAfter, event_prints, made_acts, news_acts}
 use Rattle.ras_run.specs.LineCalls.{AreCallsAt, AreEventCalls}
 use Rattle.ras_run.specs.Output.{event_output, output_at}
 use Rattle.ras_run.specs.Places.{Start, account_at, has_no_room_for, history_at, lacks_room_for, news_after, standing_at, standing_with_news}
 use Rattle.ras_run.specs.Status.{event_refusal, refusal_at}
-use Rattle.ras_run.specs.Taking.{AfterLine, BeforeLine, IsAccepted, LineMoment}
+use Rattle.ras_run.specs.Taking.{IsAccepted, LineMoment}
 use Rattle.ras_run.proofs.NewsLemmas.{fit_news}
 use Rattle.ras_run.proofs.PlaceLemmas.{entries_made, history-snoc, standing-snoc}
-use Rattle.ras_run.proofs.PrintActLemmas.{after_prints, calls_before, can_make, news_calls, news_out, news_prints_off, out_before, prints_calls, prints_moment, prints_off, reading_calls, reading_here, reading_prints_off}
+use Rattle.ras_run.proofs.PrintActLemmas.{calls_before, can_make, news_calls, news_out, news_prints_off, out_before, prints_calls, prints_moment, prints_off, reading_calls, reading_here, reading_prints_off}
 use Rattle.ras_run.proofs.ReopenLemmas.{reading_moment}
 use Rattle.ras_run.proofs.StandsLemmas.{prints_at}
 

@@ -1,6 +1,5 @@
 -- A line taken at its place.
-use Rattle.std.proofs.Common.{◌≡◌, ℕ, Bool, true, false, if◌then◌else◌, List, [], ◌∷◌, ◌++◌, map, Option, None, Some, Result, Ok, Err, IfOk, OnOk, IfErr, refl, sym, ap, subst, ◌∙◌}
-use Rattle.board_core.specs.declared.board.DiskCall.{DiskCall}
+use Rattle.std.proofs.Common.{◌≡◌, ℕ, Bool, true, false, if◌then◌else◌, List, [], ◌∷◌, ◌++◌, map, Option, None, Some, Result, Ok, Err, IfOk, IfErr, refl, sym, ap, subst, ◌∙◌}
 use Rattle.board_core.specs.Cause.{print_call}
 use Rattle.board_core.specs.Told.{Told}
 use Rattle.board_core.specs.Doing.{Act, Does, GoesWell, Seen, calls}
@@ -26,9 +25,8 @@ use Rattle.ras_exit.specs.declared.exit.Exit.TheVariants.{BadLine, Full, NoMemor
 use Rattle.ras_events.specs.declared.event.LineRefusal.{LineRefusal}
 use Rattle.ras_exit.specs.declared.reason.Reason.{Reason}
 use Rattle.ras_exit.specs.declared.reason.Reason.TheVariants as reason
-use Rattle.ras_exit.specs.Acts.{DoesBy, DoesSome, end_of, ended_with, part_end}
-use Rattle.ras_exit.specs.Causes.{BoardCause}
-use Rattle.ras_exit.specs.Endings.{AnyFault, CallEnding, EndsBy, IsStop, OnlyFault, answered, ending_of, faulted, source_failed, starved, unread_exit}
+use Rattle.ras_exit.specs.Acts.{DoesBy, end_of, ended_with, part_end}
+use Rattle.ras_exit.specs.Endings.{AnyFault, CallEnding, EndsBy, OnlyFault, answered, ending_of, faulted, source_failed, starved, unread_exit}
 use Rattle.ras_exit.proofs.EndingLemmas.{ends_weaker}
 use Rattle.ras_exit.proofs.PrintLemmas.{part_does}
 use Rattle.ras_run.specs.declared.run.Run.{Run}

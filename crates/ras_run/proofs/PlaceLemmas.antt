@@ -16,7 +16,7 @@ use Rattle.ras_events.specs.Stores.{laid}
 use Rattle.ras_facts.specs.declared.entry.Entry.{Entry}
 use Rattle.ras_events.proofs.ReportLemmas.{reports-cut, settings-line}
 use Rattle.ras_run.specs.declared.run.Run.{Run}
-use Rattle.ras_run.specs.Places.{Start, account_at, history_at, news_after, standing_along, standing_at, standing_with_news}
+use Rattle.ras_run.specs.Places.{Start, history_at, news_after, standing_along, standing_at, standing_with_news}
 use Rattle.ras_run.specs.Taking.{IsRunAfter}
 
 reports-snoc : (before : List NumberedLine) (read : NumberedLine) → reports [] (before ++ read ∷ []) ≡ reports [] before ++ entries_at [] (before, read)

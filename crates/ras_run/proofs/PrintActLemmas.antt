@@ -1,5 +1,5 @@
 -- The acts of a line, one sort after another: what they leave, and which calls they are.
-use Rattle.std.proofs.Common.{◌≡◌, ℕ, ◌+◌, ◌*◌, ◌<◌, ◌≤◌, ◌^◌, Bool, true, false, ◌&&◌, ◌||◌, List, [], ◌∷◌, ◌++◌, length, map, IsTrue, refl, sym, ap, subst, ◌∙◌, inl, inr, append_assoc, append-nil, length-append, arith}
+use Rattle.std.proofs.Common.{◌≡◌, ℕ, ◌+◌, ◌≤◌, Bool, true, false, ◌&&◌, List, [], ◌∷◌, ◌++◌, length, map, IsTrue, refl, sym, ap, subst, ◌∙◌, inl, inr, append_assoc, append-nil, length-append, arith}
 use Rattle.std.proofs.lemmas.Bool.Decides.{nat_tests}
 use Rattle.std.specs.List.{flat_map}
 use Rattle.board_core.specs.declared.board.DiskCall.{DiskCall}
@@ -9,7 +9,7 @@ use Rattle.board_core.specs.Doing.{Act, AreOffDevice, Moment, after_acts, calls,
 use Rattle.board_core.proofs.ActLemmas.{acts_out, on_disk_off}
 use Rattle.board_core.proofs.DoingLemmas.{after-append, moment_parts}
 use Rattle.dimm_topology.specs.Labels.{Bytes}
-use Rattle.journal_format.specs.Checkpoints.{IsCheckpoint, checkpoint_bytes, module_bytes}
+use Rattle.journal_format.specs.Checkpoints.{checkpoint_bytes, module_bytes}
 use Rattle.journal_format.proofs.SizeLemmas.{checkpoint_size}
 use Rattle.entry_format.specs.Spelling.{label_bytes}
 use Rattle.entry_format.specs.declared.version.Version.TheVariants.{Two}
@@ -18,7 +18,7 @@ use Rattle.ras_account.specs.Accounts.{IsAccount}
 use Rattle.ras_account.specs.Modules.{Module}
 use Rattle.ras_facts.specs.declared.entry.Entry.{Entry}
 use Rattle.ras_journal.specs.declared.standing.Standing.{Standing}
-use Rattle.ras_journal.specs.Appending.{length_with, needs_switch}
+use Rattle.ras_journal.specs.Appending.{needs_switch}
 use Rattle.ras_journal.specs.declared.limits.TheConstants.{LONGEST_FILE}
 use Rattle.ras_recover.specs.Switching.{CanSwitch, has_no_room}
 use Rattle.journal_format.specs.Links.{link_bytes}
@@ -72,19 +72,19 @@ prints_moment one two t left moment = elim (moment_parts (print_acts one) (print
 
 -- ---- the device is left alone
 
-off_both : (xs ys : List Act) → AreOffDevice xs → AreOffDevice ys → AreOffDevice (xs ++ ys)
+pub off_both : (xs ys : List Act) → AreOffDevice xs → AreOffDevice ys → AreOffDevice (xs ++ ys)
 off_both [] ys one two = two
 off_both (x ∷ xs) ys one two = (one.0, off_both xs ys one.1 two)
 
-print_off : (text : List ℕ) → AreOffDevice (print_acts text)
+pub print_off : (text : List ℕ) → AreOffDevice (print_acts text)
 print_off [] = tt
 print_off (b ∷ text) = (tt, tt)
 
-reading_off : (made : List DiskCall) → AreOffDevice (map calls made)
+pub reading_off : (made : List DiskCall) → AreOffDevice (map calls made)
 reading_off [] = tt
 reading_off (call ∷ made) = (tt, reading_off made)
 
-news_off : (s : Standing) (a : State) (news : List Entry) → AreOffDevice (news_acts s a news)
+pub news_off : (s : Standing) (a : State) (news : List Entry) → AreOffDevice (news_acts s a news)
 news_off s a [] = tt
 news_off s a (entry ∷ entries) = (let link : List ℕ = link_bytes (entry ∷ entries) in on_disk_off _ (keeping_on_disk s a link))
 

@@ -1,12 +1,11 @@
 -- A journal that is opened again in the midst of a run: what is told of it, as acts.
-use Rattle.std.proofs.Common.{◌≡◌, ℕ, ◌+◌, ◌≤◌, List, [], ◌∷◌, ◌++◌, length, map, Option, None, Some, Result, Ok, Err, OnErr, IfErr, refl, sym, ap, subst, ◌∙◌, inl, inr, append_assoc, append-nil, arith}
+use Rattle.std.proofs.Common.{◌≡◌, ℕ, ◌≤◌, List, [], ◌∷◌, ◌++◌, length, map, Option, None, Some, Result, Ok, Err, OnErr, IfErr, refl, sym, ap, subst, ◌∙◌, inl, inr, append_assoc, append-nil, arith}
 use Rattle.std.specs.Option.{option_map}
 use Rattle.std.proofs.lemmas.List.{map-append}
-use Rattle.erst_store.specs.Store.{Stored}
 use Rattle.board_core.specs.declared.board.Access.{Access}
 use Rattle.board_core.specs.declared.board.DiskCall.{DiskCall}
-use Rattle.board_core.specs.Cause.{Kind, Faults, disk_call, print_call}
-use Rattle.board_core.specs.Clock.{Clock, Adds, LeftNow, Rests}
+use Rattle.board_core.specs.Cause.{Kind, disk_call, print_call}
+use Rattle.board_core.specs.Clock.{Adds, LeftNow, Rests}
 use Rattle.board_core.specs.Stop.{Left}
 use Rattle.board_core.specs.Told.{Told, Relates, with_call}
 use Rattle.board_core.specs.Doing.{Act, Breaks, Does, FailsActs, GoesWell, Moment, Raises, Seen, after_acts, calls, one_end}
@@ -23,7 +22,7 @@ use Rattle.ras_texts.specs.Orders.{standing_lines}
 use Rattle.ras_texts.specs.Text.{done_line}
 use Rattle.ras_exit.specs.declared.exit.Exit.{Exit}
 use Rattle.ras_exit.specs.declared.exit.Exit.TheVariants.{NoMemory, PrintFault}
-use Rattle.ras_exit.specs.Acts.{DoesBy, DoesSome, ended_with, part_end, print_acts}
+use Rattle.ras_exit.specs.Acts.{DoesBy, DoesSome, print_acts}
 use Rattle.ras_exit.specs.Causes.{BoardCause, BoardCauseBy}
 use Rattle.ras_exit.specs.Endings.{CallEnding, EndsBy, OnlyFault, answered, ending_of, faulted, source_failed, starved}
 use Rattle.ras_exit.proofs.PrintLemmas.{as_part, part_does}

@@ -1,9 +1,7 @@
 -- Where a ledger stands over acts that went well.
-use Rattle.std.proofs.Common.{◌≡◌, ℕ, List, [], ◌∷◌, ◌++◌, Option, None, Some, Result, Ok, Err, OnOk, refl, sym, ap, subst, ◌∙◌}
-use Rattle.std.specs.Option.{option_map}
-use Rattle.board_core.specs.Clock.{Clock, Rests}
+use Rattle.std.proofs.Common.{◌≡◌, ℕ, List, [], ◌∷◌, ◌++◌, Option, None, Some, Result, Ok, Err, OnOk, refl, sym, subst}
+use Rattle.board_core.specs.Clock.{Clock}
 use Rattle.board_core.specs.ClockLemmas.{not_told}
-use Rattle.board_core.specs.Stop.{Left}
 use Rattle.board_core.specs.Told.{Told, Steps}
 use Rattle.board_core.specs.Doing.{Act, Does, GoesWell, Seen, after_acts}
 use Rattle.board_core.proofs.DoingLemmas.{after-append}

@@ -1,6 +1,7 @@
 //! An event that counts what was made of its line.
 
 ghost use Rattle.std.specs.Prelude.{◌≡◌, ◌++◌, false, IfErr, IfSome, OnOk};
+ghost use Rattle.board_core.specs.Device.{LeavesDevice};
 ghost use Rattle.board_core.specs.Doing.{Does, looks};
 ghost use Rattle.ras_account.specs.Account.{account_of};
 ghost use Rattle.ras_account.specs.Continued.{account_after_all};
@@ -50,6 +51,9 @@ pub fn take_made<B: Board>(
     ensures ready { OnOk result (IsReady ledger.new (B.told board.new) (B.clock board.new)) }
     ensures stop { IfErr result IsStop }
     ensures faults { Causes BoardCause result (B.faults board.old) (B.faults board.new) }
+    // Also over an account that no history gives.
+    ensures device { LeavesDevice (B.told board.old) (B.told board.new)
+        (B.clock board.old) (B.clock board.new) }
 {
     let event = match prepare(alloc, number, made, &mut ledger.account) {
         Ok(event) => event,

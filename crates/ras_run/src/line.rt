@@ -1,6 +1,7 @@
 //! A line of a script, taken whole.
 
 ghost use Rattle.std.specs.Prelude.{◌≡◌, ◌≤◌, ◌++◌, List, false, length, IfErr, OnOk, Some};
+ghost use Rattle.board_core.specs.Device.{LeavesDevice};
 ghost use Rattle.board_core.specs.Doing.{Does, looks};
 ghost use Rattle.board_core.specs.Told.{Told};
 ghost use Rattle.ras_events.specs.Reports.{NumberedLine};
@@ -35,6 +36,9 @@ use std::alloc::Global;
 /// that the journal is to be opened again. It prints the event's text and its done line; a line
 /// without words and a comment are no event, and print nothing.
 ///
+/// What its acts come to, what a stop at any moment leaves of them, and which disk calls they are
+/// stands at [`crate::line_laws`].
+///
 /// # Errors
 ///
 /// `BadLine` comes exactly if the line is refused at its place, and `Full` exactly if there is no
@@ -63,6 +67,9 @@ pub fn take_line<B: Board>(
         (IsReady run.new.ledger (B.told board.new) (B.clock board.new)) }
     ensures stop { IfErr result IsStop }
     ensures faults { Causes BoardCause result (B.faults board.old) (B.faults board.new) }
+    // Also over an account that no history gives.
+    ensures device { LeavesDevice (B.told board.old) (B.told board.new)
+        (B.clock board.old) (B.clock board.new) }
 {
     let line = match read_taken_line(alloc, bytes) {
         Ok(line) => line,

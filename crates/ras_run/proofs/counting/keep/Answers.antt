@@ -1,7 +1,6 @@
 use Rattle.std.proofs.Common.{List, ap, subst, ◌∙◌}
 use Rattle.board_core.specs.Cause.{disk_call}
 use Rattle.board_core.specs.Doing.{Act, Does, broke, looks}
-use Rattle.ras_account.specs.Account.{State}
 use Rattle.ras_account.specs.Continued.{account_after_all}
 use Rattle.ras_account.specs.View.{View}
 use Rattle.ras_events.specs.Preparing.{CanTake}

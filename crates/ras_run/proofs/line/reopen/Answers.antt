@@ -1,8 +1,6 @@
 use Rattle.std.proofs.Common.{◌≡◌, ◌∙◌, ap}
 use Rattle.std.proofs.lemmas.Result.{err_from_is_err_and}
-use Rattle.board_core.specs.Clock.{LeftNow}
 use Rattle.board_core.specs.Doing.{looks}
-use Rattle.board_core.specs.Told.{Told}
 use Rattle.ras_texts.specs.Orders.{standing_lines}
 use Rattle.ras_run.proofs.ReopenLemmas.{account_held, all_read, not_reopened, opened_at, reopened, starved_reopening}
 use Rattle.ras_run.proofs.StandsLemmas.{before_of}

@@ -1,4 +1,4 @@
-use Rattle.std.proofs.Common.{Ok, ap, sym, refl, subst, List, ◌∙◌, inl, inr}
+use Rattle.std.proofs.Common.{Ok, [], ap, sym, refl, subst, List, ◌∙◌, inl, inr}
 use Rattle.board_core.specs.Doing.{Act, Does, looks}
 use Rattle.ras_events.specs.declared.event.Event.{Event}
 use Rattle.ras_events.specs.Repeats.{IsRepeat}
@@ -8,7 +8,9 @@ use Rattle.ras_texts.specs.Text.{done_line, known_line}
 use Rattle.ras_run.specs.LaterKinds.{taken_line}
 use Rattle.ras_run.specs.Places.{history_at}
 use Rattle.ras_run.proofs.CountLemmas.{repeat_acts, repeat_counted}
+use Rattle.ras_run.proofs.DeviceLemmas.{does_off, reopening_off}
 use Rattle.ras_run.proofs.LineLemmas.{IsOfStore, counted_does, event_refused, nothing_does, reopened_does, settled_does, starved_line, store_line, takes_counted, takes_nothing, takes_reopened, takes_settled, unread}
+use Rattle.ras_run.proofs.PrintActLemmas.{prints_off}
 use Rattle.ras_run.proofs.StandsLemmas.{ready_printed}
 use Rattle.ras_run.proofs.line.take_line.Goals as goal
 
@@ -107,3 +109,15 @@ returns-clause-does g c = λ start before is t at.
     rw c.in-Ok.ensures.read
     (store_line (looks g.B.Board.told g.B.Board.clock g.B.Board.faults) start before c.args.number t c.args.board.now c.in-Ok.line c.in-Ok-take.event c.reason_of-in-Put.result c.args.run.now is
     c.in-Ok-take.ensures.event of_store c.reason_of-in-Put.ensures)
+
+pub returns-in-Some-clause-device : goal.returns-in-Some-clause-device
+returns-in-Some-clause-device g c =
+    does_off (looks g.B.Board.told g.B.Board.clock g.B.Board.faults) _ _ _ _ c.requires.stands _ _ (prints_off (known_line c.args.run.now.ledger.account.state c.in-Some.name) c.args.number) c.end_repeat.ensures.does
+
+pub returns-in-Settled-clause-device : goal.returns-in-Settled-clause-device
+returns-in-Settled-clause-device g c =
+    does_off (looks g.B.Board.told g.B.Board.clock g.B.Board.faults) _ _ _ _ c.requires.stands _ _ (prints_off [] c.args.number) c.end_event.ensures.does
+
+pub returns-in-Reopened-clause-device : goal.returns-in-Reopened-clause-device
+returns-in-Reopened-clause-device g c =
+    reopening_off (looks g.B.Board.told g.B.Board.clock g.B.Board.faults) _ _ _ _ c.requires.stands c.args.run.now.ledger.account.state c.args.number c.reopen.result c.reopen.ensures.does
