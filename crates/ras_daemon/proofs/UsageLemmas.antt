@@ -6,8 +6,8 @@ use Rattle.board_core.specs.Told.{FailsPrint, Relates, Steps, Told, after_print}
 use Rattle.ras_exit.specs.declared.exit.Exit.{Exit}
 use Rattle.ras_exit.specs.declared.exit.Exit.TheVariants.{NoMemory, PrintFault, Usage}
 use Rattle.ras_exit.specs.Telling.{OnlyPrints}
-use Rattle.ras_daemon.specs.Running.{Says}
 use Rattle.ras_daemon.specs.declared.word.Task.{Task}
+use Rattle.ras_daemon.proofs.SaidLemmas.{SaysTold}
 
 -- what holds in every case holds where words are of no listed form
 pub if-none : (task : Option Task) (P : Type 0) → P → IfNone task P
@@ -28,7 +28,7 @@ printed-none line None new same = same
 printed-none line (Some t) new same =
     rw same (record { part = []; begins = (line, refl); is = sym (ap (λ (out : List ℕ). record t { here = record t.here { out = out } }) (append-nil t.here.out)) })
 
-pub only-prints : (exit result : Exit) (line : List ℕ) (old new : Option Told) → Says exit result line old new → Relates (OnlyPrints line) old new
+pub only-prints : (exit result : Exit) (line : List ℕ) (old new : Option Told) → SaysTold exit result line old new → Relates (OnlyPrints line) old new
 only-prints exit result line old new (inl said) = printed-all line old new said.1
 only-prints exit result line old new (inr (inl failed)) = printed-part line old new failed.1
 only-prints exit result line old new (inr (inr none)) = printed-none line old new none.1
@@ -40,7 +40,7 @@ no-memory : (exit : Exit) → exit ≡ NoMemory → exit ≡ Usage → ⊥
 no-memory exit one other = cc
 
 -- at `Usage` the line was printed
-pub usage-said : (result : Exit) (line : List ℕ) (old new : Option Told) → Says Usage result line old new → result ≡ Usage → Steps (after_print line) old new
+pub usage-said : (result : Exit) (line : List ℕ) (old new : Option Told) → SaysTold Usage result line old new → result ≡ Usage → Steps (after_print line) old new
 usage-said result line old new (inl said) is = said.1
 usage-said result line old new (inr (inl failed)) is = absurd (no-print result failed.0 is)
 usage-said result line old new (inr (inr none)) is = absurd (no-memory result none.0 is)

@@ -1,14 +1,13 @@
 -- Only for proofs: how far a run has come among its lines, and what stops leave of it.
-use Rattle.std.specs.Prelude.{◌≡◌, ℕ, ◌⊎◌, List, [], ◌∷◌, ◌++◌, Option, IfSome, Result, Ok, Err, ⊤, ◌+◌, ◌≤◌, length, IsSomeAnd, Some}
+use Rattle.std.specs.Prelude.{◌≡◌, ℕ, ◌⊎◌, List, [], ◌∷◌, ◌++◌, Option, ⊤, ◌+◌, ◌≤◌, length, IsSomeAnd, Some}
 use Rattle.std.specs.List.{AllByRecursion, flat_map}
-use Rattle.board_core.specs.Clock.{Clock, LeftNow, Rests}
+use Rattle.board_core.specs.Clock.{Clock, LeftNow}
 use Rattle.board_core.specs.Stop.{Left, Begins}
-use Rattle.board_core.specs.Told.{FailsPrint, Relates, Steps, Told, after_print}
+use Rattle.board_core.specs.Told.{Told}
 use Rattle.ras_base.specs.Places.{places}
 use Rattle.ras_account.specs.Account.{account_of}
 use Rattle.ras_account.specs.Accounts.{IsAccount}
 use Rattle.ras_journal.specs.Recovered.{Recovers}
-use Rattle.ras_recover.specs.DiskCalls.{IsBeginning, Makes}
 use Rattle.ras_ledger.specs.declared.ledger.Ledger.{Ledger}
 use Rattle.ras_events.specs.Reports.{NumberedLine}
 use Rattle.ras_script.specs.declared.reader.TheConstants.{LONGEST_LINE}
@@ -16,8 +15,7 @@ use Rattle.ras_script.specs.Splitting.{lines_of}
 use Rattle.ras_script.specs.SplittingLaws.{script_of}
 use Rattle.ras_texts.specs.Orders.{standing_lines}
 use Rattle.ras_exit.specs.declared.exit.Exit.{Exit}
-use Rattle.ras_exit.specs.declared.exit.Exit.TheVariants.{Done, PrintFault, NoMemory}
-use Rattle.ras_exit.specs.Endings.{CallEnding, IsAnswer, IsCut, OnWhole, answered, ending_of, faulted}
+use Rattle.ras_exit.specs.Endings.{CallEnding, answered, ending_of, faulted}
 use Rattle.ras_run.specs.Output.{output_at}
 use Rattle.ras_run.specs.Places.{Start, account_at}
 use Rattle.ras_run.specs.Status.{places_before_refusal}
@@ -25,7 +23,6 @@ use Rattle.ras_run.specs.Taking.{IsAccepted, Prints}
 use Rattle.ras_daemon.specs.RunOutput.{closing_line}
 use Rattle.text_laws.specs.DoneLines.{ended_lines}
 use Rattle.ras_daemon.specs.Ahead.{events_in}
-use Rattle.ras_daemon.specs.RunCalls.{AreCallsAlong}
 use Rattle.ras_daemon.specs.RunStatus.{run_exit}
 use Rattle.ras_daemon.specs.Script.{reads_in, reads_of}
 
@@ -100,41 +97,10 @@ RunMoment clock start script here left =
     × (AtStart start here left
     ⊎ (LinesMoment start script (lines_from start here) left ⊎ AtEnd start script (lines_from start here) left)))))
 
--- ---- where a part of a run ends
-
--- P holds unless a call of the board failed.
-abbrev pub UnlessFault : {T : Type 0} → Result T Exit → Type 0 → Type 0
-UnlessFault (Ok done) P = P
-UnlessFault (Err exit) P = OnWhole exit P
-
--- if a board tells, a stop now leaves just what is told
-abbrev pub IsAtRest : Option Told → Clock → Type 0
-IsAtRest told clock = IfSome told (λ t. Rests t told clock)
-
 -- a ledger with which a run begins so
 pub record IsStart (start : Start) (ledger : Ledger) : Type 0 where
   pub account : ledger.account.state ≡ account_of start.history
   pub standing : ledger.journal.standing ≡ start.standing
-
--- ---- how far the lines were taken
-
--- The lines were all taken, or a run ends among them.
-pub record TookLines (start : Start) (script : List ℕ) (before : List NumberedLine) (old now : Told) : Type 0 where
-  pub first : AreFirst start script before
-  pub text : Prints (outputs start before) old now
-  pub recovers : Recovers (account_at start before) now.here
-
--- A run that ends among them took some: those before the refused line, or before it was cut short.
-abbrev pub EndsAmong : Start → List ℕ → Exit → CallEnding → Told → Told → Type 0
-EndsAmong start script exit answered old now =
-    (before : List NumberedLine) × TookLines start script before old now × AreAll start script exit before
-EndsAmong start script exit (faulted kind) old now = ⊤
-EndsAmong start script exit ending old now = (before : List NumberedLine) × TookLines start script before old now
-
-abbrev pub TakesLines : Start → List ℕ → Result (Unit {0}) Exit → Told → Told → Type 0
-TakesLines start script (Ok done) old now =
-    TookLines start script (reads_of script) old now × AreAll start script Done (reads_of script)
-TakesLines start script (Err exit) old now = EndsAmong start script exit (ending_of exit) old now
 
 -- ---- how a run ends
 
@@ -164,20 +130,6 @@ EndsIn start script exit ending old now = EndsEarly start script old now
 
 abbrev pub RunEnds : Start → List ℕ → Exit → Told → Told → Type 0
 RunEnds start script exit old now = EndsIn start script exit (ending_of exit) old now
-
--- ---- the last line
-
--- A last line was printed, or that failed, or memory ran out before it.
-abbrev pub Says : Exit → Exit → List ℕ → Option Told → Option Told → Type 0
-Says exit result line old new =
-    ((result ≡ exit) × Steps (after_print line) old new)
-    ⊎ (((result ≡ PrintFault) × Relates (FailsPrint line) old new)
-    ⊎ ((result ≡ NoMemory) × (new ≡ old)))
-
--- A run that would end so ends with its last line, or as it was cut short.
-abbrev pub Ends : Exit → Exit → List ℕ → Option Told → Option Told → Type 0
-Ends exit result line old new =
-    (IsAnswer exit × Says exit result line old new) ⊎ (IsCut exit × (result ≡ exit) × (new ≡ old))
 
 -- ---- what stops leave once the journal is open
 
@@ -217,10 +169,3 @@ abbrev pub RunAhead : Type 0 → Start → List ℕ → Told → Option (List �
 RunAhead Fault start script t left told =
     (left ≡ Some script)
     ⊎ (IsAccount (account_of start.history) × EndsAhead Fault start script (lines_from start t.here) left told)
-
--- ---- disk calls
-
--- a beginning of the disk calls of a script's lines was made
-abbrev pub MakesAlong : Start → List ℕ → Told → Told → Type 0
-MakesAlong start script =
-    Makes (IsBeginning (AreCallsAlong start (places_before_refusal start (places (reads_of script)))))
