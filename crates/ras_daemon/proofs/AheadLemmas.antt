@@ -136,7 +136,7 @@ end_after (line ∷ done) more n few = by (is_event_line line) refl (λ m less. 
 -- ---- the clause
 
 -- what was read ahead where lines were taken
-takes_ahead : (exit : Exit) (start : Start) (script left : List ℕ) (t now : Told) → IsAccount (account_of start.history) → ReadAhead (exit ≡ SourceFault) start script (lines_from start t.here) left now → TakesAhead exit script left t now
+takes_ahead : (exit : Exit) (start : Start) (script left : List ℕ) (t now : Told) → IsAccount (account_of start.history) → ReadAhead (exit ≡ SourceFault) start script (lines_from start t.here.out) left now → TakesAhead exit script left t now
 takes_ahead exit start script left t now account ahead =
     let orders : List ℕ = standing_lines (account_of start.history) in
     let lines : List ℕ = outputs start (reads_in ahead.done) in

@@ -11,7 +11,7 @@ use Rattle.board_core.specs.Clock.{Clock, Adds}
 use Rattle.board_core.specs.ClockLemmas.{adds_both, adds_none, adds_weaker}
 use Rattle.board_core.specs.Device.{LeavesDevice}
 use Rattle.board_core.specs.Doing.{Seen}
-use Rattle.board_core.specs.Stop.{Left, Begins}
+use Rattle.board_core.specs.Stop.{Left}
 use Rattle.board_core.specs.Told.{FailsPrint, Relates, Told, after_print}
 use Rattle.ras_account.specs.Account.{State, account_of}
 use Rattle.ras_account.specs.Accounts.{IsAccount}
@@ -24,14 +24,13 @@ use Rattle.ras_recover.specs.Opening.{Opening, standing_opened}
 use Rattle.ras_recover.specs.OpeningCalls.{AfterOpening, AfterRecovery, MakesOpening}
 use Rattle.ras_recover.specs.Recovering.{file_number}
 use Rattle.ras_recover.proofs.OpeningCallsLemmas.{refused_keeps, told_opened}
-use Rattle.ras_texts.specs.Orders.{standing_lines}
 use Rattle.ras_exit.specs.declared.exit.Exit.{Exit}
 use Rattle.ras_exit.specs.declared.exit.Exit.TheVariants.{Damaged, NoMemory, TooLong}
 use Rattle.ras_exit.specs.Endings.{CallEnding, EndsBy, IsCut, OnlyFault, answered, ending_of, faulted, is_answered, source_failed, starved}
 use Rattle.ras_exit.proofs.DeviceLemmas.{StoreIsLeft, device_by}
 use Rattle.ras_exit.proofs.EndingLemmas.{ends_weaker, memory_ran_out, not_both, on_answer, on_cut}
 use Rattle.ras_run.specs.LineActs.{HoldsAfter}
-use Rattle.ras_run.specs.Places.{Start, account_at}
+use Rattle.ras_run.specs.Places.{Start}
 use Rattle.ras_exit.specs.StopLine.{stop_line}
 use Rattle.ras_run.specs.Files.{KeepsFiles, files_refusal, refusal_exit}
 use Rattle.ras_run.specs.Taking.{IsReady, Opens, Prints}
@@ -40,7 +39,7 @@ use Rattle.ras_daemon.specs.Ended.{OverFiles, Refuses, RefusesFiles}
 use Rattle.ras_daemon.specs.Headline.{OverRun}
 use Rattle.ras_daemon.specs.RunOutput.{closing_line}
 use Rattle.ras_daemon.specs.RunStatus.{start_of}
-use Rattle.ras_daemon.specs.Running.{EndsEarly, EndsIn, EndsSo, IsStart, LinesMoment, OpenMoment, RunEnds, RunMoment, outputs}
+use Rattle.ras_daemon.specs.Running.{EndsIn, IsStart, OpenMoment, RunEnds, RunMoment}
 use Rattle.ras_daemon.specs.declared.word.Task.{Task}
 use Rattle.ras_daemon.specs.declared.word.Task.TheVariants.{Run}
 use Rattle.ras_daemon.proofs.SaidLemmas.{EndsTold, before_at}
@@ -96,41 +95,6 @@ told_on P told new t is relates = by new (subst (λ o. Relates P o new) is relat
 told_both : (P : Told → Told → Type 0) (told new : Option Told) (t u : Told) → told ≡ Some t → new ≡ Some u → Relates P told new → P t u
 told_both P told new t u one two relates = subst (λ n. Relates P (Some t) n) two (subst (λ o. Relates P o new) one relates)
 
--- ---- a run that is told of from an earlier moment with the same text
-
-runs_from : (start : Start) (script : List ℕ) (exit : Exit) (t u now : Told) → u.here.out ≡ t.here.out → RunEnds start script exit u now → RunEnds start script exit t now
-runs_from start script exit t u now same ends = by (ending_of exit) ends
-  where
-    early : EndsEarly start script u now → EndsEarly start script t now
-    early ends = record {
-      before = ends.before;
-      first = ends.first;
-      recovers = ends.recovers;
-      text = elim ends.text [
-        | inl began ↦ inl (began.0, began.1 ∙ ap (λ out. out ++ (standing_lines (account_of start.history) ++ outputs start ends.before)) same)
-        | inr none ↦ inr (none.0 ∙ ap (λ out. out ++ []) same, none.1)
-      ];
-    }
-
-    so : (exit : Exit) → EndsSo start script exit u now → EndsSo start script exit t now
-    so exit ends = record {
-      before = ends.before;
-      all = ends.all;
-      account = ends.account;
-      recovers = ends.recovers;
-      text = ends.text ∙ ap (λ out. out ++ (standing_lines (account_of start.history) ++ (outputs start ends.before ++ closing_line (account_at start ends.before) exit))) same;
-    }
-
-    by : (ending : CallEnding) → EndsIn start script exit ending u now → EndsIn start script exit ending t now
-    by answered ends = so exit ends
-    by (faulted kind) ends = tt
-    by source_failed ends = early ends
-    by starved ends = early ends
-
-pub opened_runs : (start : Start) (script : List ℕ) (exit : Exit) (t u : Told) (new : Option Told) → u.here.out ≡ t.here.out → IsSomeAnd new (RunEnds start script exit u) → IsSomeAnd new (RunEnds start script exit t)
-opened_runs start script exit t u None same ends = absurd ends
-opened_runs start script exit t u (Some now) same ends = runs_from start script exit t u now same ends
-
 -- ---- what stops leave
 
 -- while the journal is opened
@@ -144,22 +108,11 @@ opening_moments history script t a b recovers adds = adds_weaker (Opening a t.he
         let same : account_of history ≡ account_of empty = none_empty (account_of history) t.here.file0 t.here.file1 recovers.is formats.none in
         inr (ap (λ (l : Left). l.store) formats.rest, inl (record { recovers = rw same formats.recovers; text = ap (λ (l : Left). l.out) formats.rest }))
 
-open_from : (start : Start) (script : List ℕ) (here from left : Left) → from.out ≡ here.out → OpenMoment start script from left → OpenMoment start script here left
-open_from start script here from left same (inl began) = inl (record { recovers = began.recovers; text = subst (λ out. Begins (standing_lines (account_of start.history)) out left.out) same began.text })
-open_from start script here from left same (inr (inl lines)) = inr (inl (subst (λ out. LinesMoment start script (out ++ standing_lines (account_of start.history)) left) same lines))
-open_from start script here from left same (inr (inr ended)) = inr (inr (record {
-  before = ended.before;
-  exit = ended.exit;
-  all = ended.all;
-  recovers = ended.recovers;
-  text = subst (λ out. Begins (closing_line (account_at start ended.before) ended.exit) ((out ++ standing_lines (account_of start.history)) ++ outputs start ended.before) left.out) same ended.text;
-}))
-
 -- and once it is open
 pub opened_moments : (clock : Clock) (start : Start) (script : List ℕ) (t u : Told) (b c : Clock) → IsAccount (account_of start.history) → u.here.out ≡ t.here.out → u.here.store ≡ t.here.store
     → Adds (OpenStop start script u) b c → Adds (RunMoment clock start script t.here) b c
 opened_moments clock start script t u b c account same store adds = adds_weaker (OpenStop start script u) (RunMoment clock start script t.here) b c adds
-    (λ left both. inr (both.0 ∙ store, inr (account, open_from start script t.here u.here left same both.1)))
+    (λ left both. inr (both.0 ∙ store, inr (account, subst (λ out. OpenMoment start script out left) same both.1)))
 
 -- ---- a journal that isn't opened
 
@@ -369,7 +322,7 @@ module _ {X : Type 0} (see : X → Seen) (history : History) (script : List ℕ)
   abbrev start : Start
   start = start_of history t.here
 
-  early_by : (ending : CallEnding) → ending_of exit ≡ ending → EndsBy ⊥ ⊤ (OnlyFault disk_call) ending → (u : Told) → AfterOpening t u → (exit ≡ NoMemory → AfterRecovery t u) → EndsIn start script exit ending t u
+  early_by : (ending : CallEnding) → ending_of exit ≡ ending → EndsBy ⊥ ⊤ (OnlyFault disk_call) ending → (u : Told) → AfterOpening t u → (exit ≡ NoMemory → AfterRecovery t u) → EndsIn start script exit ending t.here.out u
   early_by answered so never u after kept = absurd never
   early_by source_failed so never u after kept = absurd never
   early_by (faulted kind) so only u after kept = tt
@@ -377,11 +330,11 @@ module _ {X : Type 0} (see : X → Seen) (history : History) (script : List ℕ)
       let keeps = kept (memory_ran_out exit so) in
       early_none start script t u (record { is = rw (keeps.file0, keeps.file1) recovers.is }) keeps.text
 
-  pub run_ends : DoesRun see start script exit t old new → IsSomeAnd (see new).told (RunEnds start script exit t)
-  run_ends (inr d) = opened_runs start script exit t d.there (see new).told d.text (takes_runs see start script d.there exit d.mid new d.rests d.holds d.takes)
+  pub run_ends : DoesRun see start script exit t old new → IsSomeAnd (see new).told (RunEnds start script exit t.here.out)
+  run_ends (inr d) = subst (λ out. IsSomeAnd (see new).told (RunEnds start script exit out)) d.text (takes_runs see start script d.there exit d.mid new d.rests d.holds d.takes)
   run_ends (inl d) = by (see new).told d.told d.kept
     where
-      by : (told : Option Told) → IsSomeAnd told (AfterOpening t) → (exit ≡ NoMemory → IsSomeAnd told (AfterRecovery t)) → IsSomeAnd told (RunEnds start script exit t)
+      by : (told : Option Told) → IsSomeAnd told (AfterOpening t) → (exit ≡ NoMemory → IsSomeAnd told (AfterRecovery t)) → IsSomeAnd told (RunEnds start script exit t.here.out)
       by None after kept = absurd after
       by (Some u) after kept = early_by (ending_of exit) refl d.cut u after kept
 
@@ -394,9 +347,9 @@ module _ {X : Type 0} (see : X → Seen) (history : History) (script : List ℕ)
 
 -- what follows of it where source and board tell, and the files hold a history
 pub over_does : {X : Type 0} (see : X → Seen) (P : Start → List ℕ → Told → Type 0) (task : Option Task) (script : Option (List ℕ)) (told : Option Told) (exit : Exit) (old new : X)
-    → ((history : History) (text : List ℕ) (t : Told) → Recovers (account_of history) t.here → DoesRun see (start_of history t.here) text exit t old new → P (start_of history t.here) text t)
+    → ((history : History) (text : List ℕ) (t : Told) → told ≡ Some t → Recovers (account_of history) t.here → DoesRun see (start_of history t.here) text exit t old new → P (start_of history t.here) text t)
     → OverRun (λ start text t. DoesRun see start text exit t old new) task script told → OverRun P task script told
-over_does see P (Some Run) (Some text) (Some t) exit old new gives does = λ history recovers. gives history text t recovers (does history recovers)
+over_does see P (Some Run) (Some text) (Some t) exit old new gives does = λ history recovers. gives history text t refl recovers (does history recovers)
 over_does see P None script told exit old new gives does = tt
 over_does see P (Some Run) None told exit old new gives does = tt
 over_does see P (Some Run) (Some text) None exit old new gives does = tt

@@ -87,7 +87,7 @@ module _ (start : Start) (script : List ℕ) (t : Told) (before : List NumberedL
   after_script : after_acts script_acts t ≡ after_acts last behind_lines
   after_script = after-append (orders_acts start) (along ++ last) t ∙ after-append along last behind_orders
 
-  lines_out : behind_lines.here.out ≡ lines_from start t.here ++ outputs start before
+  lines_out : behind_lines.here.out ≡ lines_from start t.here.out ++ outputs start before
   lines_out =
       along_prints start (places before) behind_orders along first.accepted lines
       ∙ ap (λ out. out ++ outputs start before) (printed_out (standing_lines (account_of start.history)) t)
@@ -124,7 +124,7 @@ module _ (start : Start) (script : List ℕ) (t : Told) (before : List NumberedL
     lines_hold = along_done start [] before behind_orders along first.accepted (printed_holds start [] (standing_lines (account_of start.history)) t holds) lines
 
     -- what a stop at a moment of them leaves
-    at_last : (left : Left) → IsLast start script before last → Moment last behind_lines left → OpenMoment start script t.here left
+    at_last : (left : Left) → IsLast start script before last → Moment last behind_lines left → OpenMoment start script t.here.out left
     at_last left (inl none) moment = absurd (subst (λ (l : List Act). Moment l behind_lines left) none moment)
     at_last left (inr (end, all, is)) moment =
         let text : List ℕ = closing_line (account_at start before) end in
@@ -137,7 +137,7 @@ module _ (start : Start) (script : List ℕ) (t : Told) (before : List NumberedL
           text = subst (λ out. Begins text out left.out) lines_out (subst (λ out. Begins text behind_lines.here.out out) (sym (ap (λ (l : Left). l.out) by.rest)) by.step);
         }))
 
-    script_moment : (left : Left) → IsLast start script before last → Moment script_acts t left → OpenMoment start script t.here left
+    script_moment : (left : Left) → IsLast start script before last → Moment script_acts t left → OpenMoment start script t.here.out left
     script_moment left is moment = elim (moment_parts (orders_acts start) (along ++ last) t left moment) [
       | inl at ↦
           (let orders : List ℕ = standing_lines (account_of start.history) in
@@ -148,20 +148,20 @@ module _ (start : Start) (script : List ℕ) (t : Told) (before : List NumberedL
           }))
       | inr later ↦ elim (moment_parts along last behind_orders left later) [
         | inl among ↦
-            inr (inl (along_moment start script (lines_from start t.here) before behind_orders along left first (printed_out (standing_lines (account_of start.history)) t)
+            inr (inl (along_moment start script (lines_from start t.here.out) before behind_orders along left first (printed_out (standing_lines (account_of start.history)) t)
             (printed_holds start [] (standing_lines (account_of start.history)) t holds) lines among))
         | inr end ↦ at_last left is end
       ]
     ]
 
     -- between the lines, once disk calls were made that write nothing
-    called_stop : (made : List DiskCall) (left : Left) → last ≡ [] → Moment (map calls made) (after_acts script_acts t) left → OpenMoment start script t.here left
+    called_stop : (made : List DiskCall) (left : Left) → last ≡ [] → Moment (map calls made) (after_acts script_acts t) left → OpenMoment start script t.here.out left
     called_stop made left none moment =
         let here : left ≡ behind_lines.here = called_moment made (after_acts script_acts t) left moment ∙ ap (λ (u : Told). u.here) (after_script ∙ ap (λ (l : List Act). after_acts l behind_lines) none) in
         inr (inl (inl (record { before = before; first = first; recovers = rw here (record { is = lines_hold.at.recovers }); text = rw here lines_out })))
 
     -- where a run ends that comes to an answer, and one that is cut short
-    script_so : (exit : Exit) → AreAll start script exit before → last ≡ last_acts start before exit → EndsSo start script exit t (after_acts script_acts t)
+    script_so : (exit : Exit) → AreAll start script exit before → last ≡ last_acts start before exit → EndsSo start script exit t.here.out (after_acts script_acts t)
     script_so exit all is =
         let text : List ℕ = closing_line (account_at start before) exit in
         let there : after_acts script_acts t ≡ after_acts (print_acts text) behind_lines = after_script ∙ ap (λ (l : List Act). after_acts l behind_lines) is in
@@ -177,7 +177,7 @@ module _ (start : Start) (script : List ℕ) (t : Told) (before : List NumberedL
               ∙ append_assoc t.here.out orders (outputs start before ++ text);
         })
 
-    script_early : (made : List DiskCall) → last ≡ [] → EndsEarly start script t (after_acts (script_acts ++ map calls made) t)
+    script_early : (made : List DiskCall) → last ≡ [] → EndsEarly start script t.here.out (after_acts (script_acts ++ map calls made) t)
     script_early made none =
         let here : (after_acts (script_acts ++ map calls made) t).here ≡ behind_lines.here =
         ap (λ (u : Told). u.here) (after-append script_acts (map calls made) t) ∙ called_here made (after_acts script_acts t) ∙ ap (λ (u : Told). u.here) (after_script ∙ ap (λ (l : List Act). after_acts l behind_lines) none) in
@@ -202,17 +202,17 @@ told_failed kind acts t old new is fails = by new (subst (λ (o : Option Told). 
     by (Some now) fails = (now, refl, fails)
 
 -- Not even the orders at the start were printed.
-pub early_none : (start : Start) (script : List ℕ) (t now : Told) → Recovers (account_of start.history) now.here → now.here.out ≡ t.here.out → EndsEarly start script t now
+pub early_none : (start : Start) (script : List ℕ) (t now : Told) → Recovers (account_of start.history) now.here → now.here.out ≡ t.here.out → EndsEarly start script t.here.out now
 early_none start script t now recovers text = record {
   before = [];
   first = record { rest = reads_of script; splits = refl; accepted = tt };
   recovers = record { is = recovers.is };
-  text = inr (text ∙ sym (append-nil t.here.out), refl);
+  text = inr (text, refl);
 }
 
 -- since a journal was opened, with the store that was told then
 abbrev pub OpenStop : Start → List ℕ → Told → Left → Type 0
-OpenStop start script t left = (left.store ≡ t.here.store) × OpenMoment start script t.here left
+OpenStop start script t left = (left.store ≡ t.here.store) × OpenMoment start script t.here.out left
 
 -- some acts of a script
 pub script_some : (start : Start) (script : List ℕ) (t : Told) → (acts : List Act) × AreScriptActs start script t acts
@@ -254,20 +254,20 @@ module _ {X : Type 0} (see : X → Seen) (start : Start) (script : List ℕ) (t 
   module _ (holds : HoldsAfter start [] t) where
     -- how the run ends
     early_by : (d : DoesScript see start script t exit old new) → d.last ≡ [] → (made : List DiskCall) → GoesWell ((orders_acts start ++ (d.along ++ d.last)) ++ map calls made) (see old) (see new)
-        → IsSomeAnd (see new).told (EndsEarly start script t)
+        → IsSomeAnd (see new).told (EndsEarly start script t.here.out)
     early_by d last made does =
         rw (told_done ((orders_acts start ++ (d.along ++ d.last)) ++ map calls made) does) (script_early start script t d.before d.first d.along d.lines d.last holds made last)
 
     runs_by : (d : DoesScript see start script t exit old new) (ending : CallEnding) → IsLastBy start script d.before exit ending d.last
-        → DoesFirst see (AreScriptActs start script t) (orders_acts start ++ (d.along ++ d.last)) ending old new → IsSomeAnd (see new).told (EndsIn start script exit ending t)
+        → DoesFirst see (AreScriptActs start script t) (orders_acts start ++ (d.along ++ d.last)) ending old new → IsSomeAnd (see new).told (EndsIn start script exit ending t.here.out)
     runs_by d answered ends does = rw (told_done (orders_acts start ++ (d.along ++ d.last)) does) (script_so start script t d.before d.first d.along d.lines d.last holds exit ends.0 ends.1)
     runs_by d (faulted kind) ends does = rw (told_failed kind (orders_acts start ++ (d.along ++ d.last)) t (see old).told (see new).told rests.is does.told).1 tt
     runs_by d source_failed ends does = early_by d ends does.made does.does
     runs_by d starved ends does = early_by d ends does.made does.does
 
-    pub takes_runs : TakesScript see start script t exit old new → IsSomeAnd (see new).told (RunEnds start script exit t)
+    pub takes_runs : TakesScript see start script t exit old new → IsSomeAnd (see new).told (RunEnds start script exit t.here.out)
     takes_runs (inl none) =
-        rw (none.0, none.1) (subst (λ (o : Option Told). IsSomeAnd o (EndsEarly start script t)) (sym rests.is) (early_none start script t t (record { is = holds.at.recovers }) refl))
+        rw (none.0, none.1) (subst (λ (o : Option Told). IsSomeAnd o (EndsEarly start script t.here.out)) (sym rests.is) (early_none start script t t (record { is = holds.at.recovers }) refl))
     takes_runs (inr d) = runs_by d (ending_of exit) d.ends d.does
 
     -- what stops leave meanwhile

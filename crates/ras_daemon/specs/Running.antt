@@ -19,7 +19,7 @@ use Rattle.ras_exit.specs.Endings.{CallEnding, answered, ending_of, faulted}
 use Rattle.ras_run.specs.Output.{output_at}
 use Rattle.ras_run.specs.Places.{Start, account_at}
 use Rattle.ras_run.specs.Status.{places_before_refusal}
-use Rattle.ras_run.specs.Taking.{IsAccepted, Prints}
+use Rattle.ras_run.specs.Taking.{IsAccepted}
 use Rattle.ras_daemon.specs.RunOutput.{closing_line}
 use Rattle.text_laws.specs.DoneLines.{ended_lines}
 use Rattle.ras_daemon.specs.Ahead.{events_in}
@@ -67,13 +67,13 @@ LinesMoment start script out left = BetweenLines start script out left ⊎ InLin
 
 -- while the journal is opened, while the orders that stand at the start are printed, and while the
 -- last line is
-pub record AtOpening (start : Start) (here left : Left) : Type 0 where
+pub record AtOpening (start : Start) (out : List ℕ) (left : Left) : Type 0 where
   pub recovers : Recovers (account_of start.history) left
-  pub text : left.out ≡ here.out
+  pub text : left.out ≡ out
 
-pub record AtStart (start : Start) (here left : Left) : Type 0 where
+pub record AtStart (start : Start) (out : List ℕ) (left : Left) : Type 0 where
   pub recovers : Recovers (account_of start.history) left
-  pub text : Begins (standing_lines (account_of start.history)) here.out left.out
+  pub text : Begins (standing_lines (account_of start.history)) out left.out
 
 pub record AtEnd (start : Start) (script : List ℕ) (out : List ℕ) (left : Left) : Type 0 where
   pub before : List NumberedLine
@@ -83,8 +83,14 @@ pub record AtEnd (start : Start) (script : List ℕ) (out : List ℕ) (left : Le
   pub text : Begins (closing_line (account_at start before) exit) (out ++ outputs start before) left.out
 
 -- the text that stands before the lines
-abbrev pub lines_from : Start → Left → List ℕ
-lines_from start here = here.out ++ standing_lines (account_of start.history)
+abbrev pub lines_from : Start → List ℕ → List ℕ
+lines_from start out = out ++ standing_lines (account_of start.history)
+
+-- once the journal is open
+abbrev pub OpenMoment : Start → List ℕ → List ℕ → Left → Type 0
+OpenMoment start script out left =
+    AtStart start out left
+    ⊎ (LinesMoment start script (lines_from start out) left ⊎ AtEnd start script (lines_from start out) left)
 
 -- What a stop leaves of a run: what one at its start may have left, or what stands at a moment of
 -- it with the record store as it was. Once the journal is open, what it holds is an account.
@@ -92,51 +98,41 @@ abbrev pub RunMoment : Clock → Start → List ℕ → Left → Left → Type 0
 RunMoment clock start script here left =
     LeftNow clock left
     ⊎ ((left.store ≡ here.store)
-    × (AtOpening start here left
-    ⊎ (IsAccount (account_of start.history)
-    × (AtStart start here left
-    ⊎ (LinesMoment start script (lines_from start here) left ⊎ AtEnd start script (lines_from start here) left)))))
+    × (AtOpening start here.out left ⊎ (IsAccount (account_of start.history) × OpenMoment start script here.out left)))
 
 -- a ledger with which a run begins so
 pub record IsStart (start : Start) (ledger : Ledger) : Type 0 where
   pub account : ledger.account.state ≡ account_of start.history
   pub standing : ledger.journal.standing ≡ start.standing
 
--- ---- how a run ends
+-- ---- how a run ends; the text is that before it
 
 -- If memory ran out or the source failed, some first lines were taken, or not even the orders at
 -- the start were printed.
-pub record EndsEarly (start : Start) (script : List ℕ) (old now : Told) : Type 0 where
+pub record EndsEarly (start : Start) (script out : List ℕ) (now : Told) : Type 0 where
   pub before : List NumberedLine
   pub first : AreFirst start script before
   pub recovers : Recovers (account_at start before) now.here
   pub text :
       (IsAccount (account_of start.history)
-      × Prints (standing_lines (account_of start.history) ++ outputs start before) old now)
-      ⊎ (Prints [] old now × (before ≡ []))
+      × (now.here.out ≡ out ++ (standing_lines (account_of start.history) ++ outputs start before)))
+      ⊎ ((now.here.out ≡ out) × (before ≡ []))
 
 -- And if a run comes to an answer, its last line was printed.
-pub record EndsSo (start : Start) (script : List ℕ) (exit : Exit) (old now : Told) : Type 0 where
+pub record EndsSo (start : Start) (script : List ℕ) (exit : Exit) (out : List ℕ) (now : Told) : Type 0 where
   pub before : List NumberedLine
   pub all : AreAll start script exit before
   pub account : IsAccount (account_of start.history)
   pub recovers : Recovers (account_at start before) now.here
-  pub text : Prints (standing_lines (account_of start.history) ++ (outputs start before ++ closing_line (account_at start before) exit)) old now
+  pub text : now.here.out ≡ out ++ (standing_lines (account_of start.history) ++ (outputs start before ++ closing_line (account_at start before) exit))
 
-abbrev pub EndsIn : Start → List ℕ → Exit → CallEnding → Told → Told → Type 0
-EndsIn start script exit answered old now = EndsSo start script exit old now
-EndsIn start script exit (faulted kind) old now = ⊤
-EndsIn start script exit ending old now = EndsEarly start script old now
+abbrev pub EndsIn : Start → List ℕ → Exit → CallEnding → List ℕ → Told → Type 0
+EndsIn start script exit answered out now = EndsSo start script exit out now
+EndsIn start script exit (faulted kind) out now = ⊤
+EndsIn start script exit ending out now = EndsEarly start script out now
 
-abbrev pub RunEnds : Start → List ℕ → Exit → Told → Told → Type 0
-RunEnds start script exit old now = EndsIn start script exit (ending_of exit) old now
-
--- ---- what stops leave once the journal is open
-
-abbrev pub OpenMoment : Start → List ℕ → Left → Left → Type 0
-OpenMoment start script here left =
-    AtStart start here left
-    ⊎ (LinesMoment start script (lines_from start here) left ⊎ AtEnd start script (lines_from start here) left)
+abbrev pub RunEnds : Start → List ℕ → Exit → List ℕ → Told → Type 0
+RunEnds start script exit out now = EndsIn start script exit (ending_of exit) out now
 
 -- ---- how far the source was read
 
@@ -168,4 +164,4 @@ EndsAhead Fault start script from left told =
 abbrev pub RunAhead : Type 0 → Start → List ℕ → Told → Option (List ℕ) → Option Told → Type 0
 RunAhead Fault start script t left told =
     (left ≡ Some script)
-    ⊎ (IsAccount (account_of start.history) × EndsAhead Fault start script (lines_from start t.here) left told)
+    ⊎ (IsAccount (account_of start.history) × EndsAhead Fault start script (lines_from start t.here.out) left told)
