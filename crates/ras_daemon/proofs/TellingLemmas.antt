@@ -8,7 +8,7 @@ use Rattle.ras_exit.specs.declared.exit.Exit.TheVariants.{NoMemory, PrintFault, 
 use Rattle.ras_exit.specs.Endings.{CallEnding, IfAnswered, OnAnswer, answered, ending_of}
 use Rattle.ras_exit.specs.StopLine.{stop_line}
 use Rattle.ras_daemon.specs.Commands.{ByTask, OnlyTells}
-use Rattle.ras_daemon.specs.Running.{Says}
+use Rattle.ras_daemon.proofs.SaidLemmas.{SaysTold}
 use Rattle.ras_daemon.specs.declared.word.Task.{Task}
 
 on_answer : (exit : Exit) (P : Type 0) → P → OnAnswer exit P
@@ -39,7 +39,7 @@ module _ (exit : Exit) (text : List ℕ) where
   none_told None = refl
   none_told (Some t) = told_none t
 
-  pub only_told : (result : Exit) (old new : Option Told) → Says exit result text old new → Relates (OnlyTells exit text result) old new
+  pub only_told : (result : Exit) (old new : Option Told) → SaysTold exit result text old new → Relates (OnlyTells exit text result) old new
   only_told result None new (inl said) = said.1
   only_told result (Some t) new (inl said) = rw (said.1, said.0) (told_all t)
   only_told result None new (inr (inl failed)) = failed.1
@@ -50,5 +50,5 @@ module _ (exit : Exit) (text : List ℕ) where
   only_told result (Some t) new (inr (inr none)) = rw (none.1, none.0) (told_none t)
 
 pub usage_commands : (result : Exit) (task : Option Task) (script left : Option (List ℕ)) (old new : Option Told) → task ≡ None
-    → Says Usage result (stop_line Usage) old new → ByTask result task script left old new
+    → SaysTold Usage result (stop_line Usage) old new → ByTask result task script left old new
 usage_commands result task script left old new none said = rw none (only_told Usage (stop_line Usage) result old new said)

@@ -8,6 +8,7 @@ mod filters;
 mod laws;
 mod lines;
 mod load;
+mod running;
 mod word;
 
 pub use daemon::rasd;

@@ -8,8 +8,8 @@ ghost use Rattle.ras_load.specs.declared.script.TheConstants.{MOST_LINES};
 ghost use Rattle.ras_daemon.specs.Commands.{IsLoadExit, OnlyTells};
 ghost use Rattle.ras_daemon.specs.Loading.{load_output};
 
-use crate::daemon::run;
 use crate::ending::last_line;
+use crate::running::run;
 use board_core::{Board, MemBoard, MemSource};
 use erst_store::Store;
 use ras_base::NoMemory;

@@ -5,6 +5,7 @@ use Rattle.ras_load.specs.LoadScript.{load_script}
 use Rattle.ras_load.specs.Summary.{load_line}
 use Rattle.ras_daemon.specs.Loading.{load_account, nothing_there}
 use Rattle.ras_daemon.proofs.LoadLemmas.{load_found}
+use Rattle.ras_daemon.proofs.RunLemmas.{run_ends}
 use Rattle.ras_daemon.proofs.load.loaded_line.Goals as goal
 
 pub returns-in-Ok : goal.returns-in-Ok
@@ -13,5 +14,6 @@ returns-in-Ok c =
     let empty : (told_of c.in_ok-board.board).here ≡ nothing_there =
     ap (λ board. (told_of board).here) c.in_ok-board.ensures ∙ ap (λ store. (told_of (new_board [] [] store 0)).here) c.new-2.ensures in
     let account : c.in-Ok.recovered.account.state ≡ load_account c.args.n =
-    load_found c.args.n c.new-source.result.left c.run.result (told_of c.in_ok-board.board) (told_of c.run.new.board) c.in-Ok.recovered.account.state script empty c.in-Done.is c.run.ensures.runs c.in-Ok.ensures.recovers in
+    load_found c.args.n c.new-source.result.left c.run.result (told_of c.in_ok-board.board) (told_of c.run.new.board) c.in-Ok.recovered.account.state script empty c.in-Done.is
+    (λ history recovers. run_ends _ history c.new-source.result.left c.run.result (told_of c.in_ok-board.board) _ _ recovers (c.run.ensures.does history recovers)) c.in-Ok.ensures.recovers in
     subst (λ (state : State). IfOk c.load_line.result (λ line. line.items ≡ load_line c.args.n state)) account c.load_line.ensures
