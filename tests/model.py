@@ -1,19 +1,23 @@
 #!/usr/bin/env python3
 """What a run must print, how it must end and what it must leave, computed anew from the definitions.
 
-usage: tests/model.py run < SCRIPT    does what the program must do, over the working folder's files
-       tests/model.py --rows          tries the model on worked rows: tests/reference/rows.py
+usage: tests/model.py run < SCRIPT      does what the program must do, over the working folder's files
+       tests/model.py COMMAND < INPUT   the same for every other command
+       tests/model.py --rows            tries the model on worked rows: tests/reference/rows.py
 
 The model stands in tests/reference/. It is written from the description of the product alone, and
 shares nothing with the code of crates/. It is slow and plain: each rule stands once. `run` answers
-an `Outcome` for the bytes of a script and of the two journal files; tests/run compares with that.
-The number of reads of an opening is left open, so the list of disk calls doesn't hold them.
+an `Outcome` for the bytes of a script and of the two journal files, and `command` for any words;
+tests/run compares with that. The number of reads of an opening is left open, so the list of disk
+calls doesn't hold them.
 """
 import dataclasses
 import os
+import pathlib
 import sys
 
 sys.dont_write_bytecode = True
+from reference import commands
 from reference.journal import Disk, FolderDisk
 from reference.run import Run
 
@@ -35,9 +39,12 @@ def run(script, files=(None, None), events=None):
     return Outcome(b"".join(printed), status, tuple(map(bytes, disk.files)), disk.calls)
 
 
-def usage():
-    """The run of no words that are a command."""
-    return Outcome(b"stop 1 usage\n", 1, (None, None), [])
+def command(words, data, files=(None, None)):
+    """What these words come to, over an input and two files; other words than `run` leave the files."""
+    if words == [b"run"]:
+        return run(data, files)
+    printed, status = commands.answer(words, data, files) or ("stop 1 usage\n", 1)
+    return Outcome(printed.encode(), status, tuple(files), [])
 
 
 def ending(status, call):
@@ -52,6 +59,13 @@ def ending(status, call):
     return called
 
 
+def files_here():
+    """The two files of the working folder, None for one that isn't there."""
+    paths = [pathlib.Path(f"rasd.{file}") for file in (0, 1)]
+    read = ending(4, lambda path: path.read_bytes() if path.exists() else None)
+    return tuple(map(read, paths))
+
+
 def main():
     """Does as the program does, or tries the worked rows."""
     read, write = ending(3, lambda: os.read(0, 4096)), ending(6, lambda data: os.write(1, data))
@@ -59,11 +73,14 @@ def main():
         from reference import rows
 
         return rows.main()
-    if sys.argv[1:] != ["run"]:
-        write(usage().printed)
-        return usage().status
-    go = ending(4, lambda: Run(FolderDisk(), write).take_all(iter(read, b"")))
-    return go()
+    if sys.argv[1:] == ["run"]:
+        go = ending(4, lambda: Run(FolderDisk(), write).take_all(iter(read, b"")))
+        return go()
+    words = [os.fsencode(word) for word in sys.argv[1:]]
+    is_read = words[:1] in ([b"pcie"], [b"klog"])
+    outcome = command(words, b"".join(iter(read, b"")) if is_read else b"", files_here())
+    write(outcome.printed)
+    return outcome.status
 
 
 if __name__ == "__main__":

@@ -1,4 +1,4 @@
-"""What a report tells, for the model of tests/model.py: registers, sections, tables and blocks.
+"""What a report tells, for the model of tests/model.py: registers, sections, records, tables and blocks.
 
 It follows docs/FORMATS.md and the tables of the SDM, of ACPI and of UEFI that it names.
 """
@@ -147,9 +147,10 @@ def bank_detail(cap, mcg, status):
 
 
 class Section:
-    """A section: its class, what a log line says of it, and of memory the address and the place."""
+    """A section: its type, its bytes, its class, what a log line says of it, and of memory the address and the place."""
 
     def __init__(self, guid, severity, data):
+        self.guid, self.data = guid, data
         self.kind = SEVERITIES.get(severity, "ODD")
         self.address, self.place, self.is_memory = None, (), guid == MEMORY
         read = {MEMORY: self.memory, PROCESSOR: self.processor, X64: self.x64}.get(guid)
@@ -186,7 +187,25 @@ class Section:
         return f"x64 apic={digits(apic)} structures={structures} contexts={contexts}"
 
 
-# ---- tables and blocks
+# ---- records, tables and blocks
+
+
+def read_record(data):
+    """The identifier of a record, and its sections."""
+    refuse(1, len(data) < 128)
+    refuse(2, data[:4] != b"CPER" or data[6:10] != b"\xff" * 4)
+    count, length = number_at(data, 10, 2), number_at(data, 20, 4)
+    refuse(3, not 128 <= length <= len(data))
+    refuse(4, 128 + 72 * count > length)
+    found = []
+    for head in (data[it : it + 72] for it in range(128, 128 + 72 * count, 72)):
+        start, end = number_at(head, 0, 4), number_at(head, 0, 4) + number_at(head, 4, 4)
+        refuse(5, end > length)
+        found.append((uuid.UUID(bytes_le=head[16:32]), number_at(head, 48, 4), data[start:end]))
+    try:
+        return number_at(data, 96, 8), [Section(*it) for it in found]
+    except Refused:
+        raise Refused(6) from None
 
 
 def check_table(data, signature, fixed):

@@ -81,19 +81,25 @@ KINDS = {
     b"ghes": (LONG, LONG, SHORT, LONG, octets),
     b"restart": (),
 }
+# The kinds of all lines, those that a run doesn't take yet among them.
+ALL_KINDS = KINDS | {
+    b"erst": (octets,),
+    b"put": (hexadecimal, octets),
+    b"poll": (LONG,),
+    b"panic": (hexadecimal, *KINDS[b"bank"]),
+}
 
 
-def read_line(line):
-    """The kind of a line and its values; None where it is no event."""
+def read_line(line, kinds=KINDS):
+    """The kind of a line, one of these, and its values; None where it is no event."""
     kind, *words = [word for word in line.split(b" ") if word] or [b"#"]
     if kind.startswith(b"#"):
         return None
-    check(kind in KINDS, Refused("line.1"))
-    check(len(words) == len(KINDS[kind]), Refused("line.2"))
-    values = [read(word) for read, word in zip(KINDS[kind], words)]
+    check(kind in kinds, Refused("line.1"))
+    check(len(words) == len(kinds[kind]), Refused("line.2"))
+    values = [read(word) for read, word in zip(kinds[kind], words)]
     check(kind != b"range" or values[1] <= values[2], Refused("line.3"))
     return kind.decode().replace("-", "_"), values
-
 
 
 class Topology:

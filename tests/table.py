@@ -1,0 +1,86 @@
+r"""The worked runs of tests/rows.txt, which tests/rows tries.
+
+The file has, line by line, a comment from `#`, nothing, or one of
+
+  let NAME TEXT            {NAME} stands for the text, from here on
+  each FIRST LAST          the next row is a run for each number from the first to the last, and in it {NAME#} stands
+                           for as many bytes, of two digits each, from the front of that text
+  words WORD ..            the program's words, from here on; at first they are `run`
+  row INPUT | PRINTED      a run that ends with status 0
+  end PRINTED              the beginning of what each stopped run prints, from here on
+  stop INPUT | PRINTED     a run that ends with status 2, and prints that beginning and then this
+  fail STATUS INPUT | PRINTED   a run that ends with this status
+  then WORD .. | PRINTED   a run with these words and an empty input, after the row before it and over what that left
+
+In each text \n is a line feed, \r a carriage return, \t a tab and \xNN the byte of that number.
+Spaces round a text don't count.
+"""
+import dataclasses
+import pathlib
+import re
+
+TABLE = pathlib.Path(__file__).resolve().parent / "rows.txt"
+ESCAPES = {"n": b"\n", "r": b"\r", "t": b"\t", "\\": b"\\"}
+REFUSED = 2
+
+
+@dataclasses.dataclass
+class Row:
+    """A run: its words, its input, what it prints, its status, the number of its line, and the run that comes before."""
+
+    words: list
+    data: bytes
+    printed: bytes
+    status: int
+    number: int
+    before: "Row" = None
+
+
+def filled(text, names):
+    """A text with what its names stand for."""
+    return re.sub(r"\{(\w+#?)\}", lambda name: names[name[1]], text.strip())
+
+
+def bytes_of(text, names):
+    """The bytes of a text of the table."""
+    parts = re.split(r"\\(x[0-9a-f]{2}|.)", filled(text, names))
+    for at in range(1, len(parts), 2):
+        parts[at] = bytes([int(parts[at][1:], 16)]) if parts[at][0] == "x" else ESCAPES[parts[at]]
+    return b"".join(part if isinstance(part, bytes) else part.encode() for part in parts)
+
+
+def words_of(text, names):
+    """The words of a command, which stand between single spaces."""
+    return bytes_of(text, names).split(b" ")
+
+
+def rows():
+    """Each run of the table."""
+    names, front, counts, words, last = {}, "", [0], [b"run"], None
+    for number, line in enumerate(TABLE.read_text().splitlines(), 1):
+        word, _, rest = line.partition(" ")
+        if not word or word.startswith("#"):
+            continue
+        if word == "let":
+            name, _, value = rest.partition(" ")
+            names[name] = filled(value, names)
+        elif word == "each":
+            first, final = rest.split()
+            counts = range(int(first), int(final) + 1)
+        elif word == "words":
+            words = words_of(rest, names)
+        elif word == "end":
+            front = rest
+        elif word == "then":
+            text, _, printed = rest.partition("|")
+            last = Row(words_of(text, names), b"", bytes_of(printed, names), 0, number, last)
+            yield last
+        else:
+            status, rest = rest.split(" ", 1) if word == "fail" else ({"row": 0, "stop": REFUSED}[word], rest)
+            text, _, printed = rest.partition("|")
+            start = bytes_of(front, names) if word == "stop" else b""
+            for count in counts:
+                cut = names | {f"{name}#": value[:2 * count] for name, value in names.items()}
+                last = Row(words, bytes_of(text, cut), start + bytes_of(printed, cut), int(status), number)
+                yield last
+            counts = [0]
