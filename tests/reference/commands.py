@@ -1,8 +1,8 @@
-"""The commands beside `run`: listings of the account, and two that read a text and keep nothing."""
+"""The commands beside `run`: listings of the account, a run in memory, and two that read a text and keep nothing."""
 import re
 import uuid
 
-from reference import reports
+from reference import load, reports
 from reference.account import CLASSES, STATES, text_of_name
 from reference.base import Refused, Stop
 from reference.journal import recover
@@ -228,16 +228,19 @@ def klog(boot, cap, log):
 
 # ---- the words
 
-BOOT, CAP = re.compile(rb"[0-9]{1,20}"), re.compile(rb"[0-9a-fA-F]{1,16}")
+NUMBER, CAP = re.compile(rb"[0-9]{1,20}"), re.compile(rb"[0-9a-fA-F]{1,16}")
 
 
 def answer(words, data, files):
     """What a command prints over an input and two files, and its status; None where the words are none of these."""
     if len(words) == 2 and words[0] == b"report" and words[1] in LISTINGS:
         return report(LISTINGS[words[1]], files)
+    if len(words) == 2 and words[0] == b"load" and NUMBER.fullmatch(words[1]):
+        count = decimal_of(words[1], load.MOST)
+        return (load.summary(count), 0) if count else None
     if words == [b"pcie"]:
         return pcie(data)
-    if len(words) == 3 and words[0] == b"klog" and BOOT.fullmatch(words[1]) and CAP.fullmatch(words[2]):
+    if len(words) == 3 and words[0] == b"klog" and NUMBER.fullmatch(words[1]) and CAP.fullmatch(words[2]):
         boot = decimal_of(words[1])
         return None if boot is None else klog(boot, int(words[2], 16), data)
     return None

@@ -1,4 +1,4 @@
-"""The command `load`: a script that is made up from a number, and the line that sums up its account."""
+"""A script that is made up from a number, and the line that sums up its account."""
 from reference.journal import Disk
 from reference.run import Run
 
@@ -23,13 +23,6 @@ def script_of(count):
     return "".join(f"{line}\n" for line in [*MACHINE, *bank_lines(count)]).encode()
 
 
-def count_in(word):
-    """The number of a word of the call, if it is one in range."""
-    if 1 <= len(word) <= 20 and word.isascii() and word.isdigit() and 1 <= int(word) <= MOST:
-        return int(word)
-    return None
-
-
 def summary(count):
     """The line of a number: what came of a run over its script, from files that were empty."""
     taken = Run(Disk((None, None)), lambda text: None)
@@ -38,4 +31,4 @@ def summary(count):
     account = taken.journal.account
     corrected = sum(module.sums[0] for module in account.modules.values())
     soft, hard = ([page.state for page in account.pages.values()].count(state) for state in (1, 2))
-    return f"load n={count} names={len(account.names)} CE={corrected} soft={soft} hard={hard}\n".encode()
+    return f"load n={count} names={len(account.names)} CE={corrected} soft={soft} hard={hard}\n"

@@ -2,7 +2,7 @@
 use Rattle.std.proofs.Common.{◌≡◌, ℕ, ◌+◌, ◌-◌, ◌%◌, ◌==◌, suc, cond, Bool, true, false, List, [], ◌∷◌, ◌++◌, map, codes, refl, sym, ap, ◌∙◌, arith, append-nil, append_assoc}
 use Rattle.std.specs.Fmt.{digits}
 use Rattle.std.proofs.lemmas.List.Concat.{flat_map-append}
-use Rattle.ras_load.specs.LoadScript.{bank_line, bank_lines, load_bank, load_script, machine_lines, next_number, load_number, load_report}
+use Rattle.ras_load.specs.LoadScript.{bank_line, bank_lines, bank_number, generated, load_bank, load_script, machine_lines, next_number}
 use Rattle.ras_script.specs.LineLaws.{line_text}
 use Rattle.ras_script.specs.SplittingLaws.{script_of}
 use Rattle.ras_script.specs.declared.line.Line.{Line}
@@ -23,9 +23,9 @@ text_both : (xs ys : List Line) → text_of (xs ++ ys) ≡ text_of xs ++ text_of
 text_both xs ys = ap script_of (map_both xs ys) ∙ flat_map-append (λ (line : List ℕ). line ++ 10 ∷ []) (map line_text xs) (map line_text ys)
 
 -- the number after that of a place
-pub number_step : (n : ℕ) → load_number (n + 1) ≡ next_number (load_number n)
-unfolding load_number
-number_step n = let is : n + 1 ≡ suc n = omega arith in ap load_number is
+pub number_step : (n : ℕ) → generated (n + 1) ≡ next_number (generated n)
+unfolding generated
+number_step n = let is : n + 1 ≡ suc n = omega arith in ap generated is
 
 lines_step : (n : ℕ) → bank_lines (n + 1) ≡ bank_lines n ++ bank_line (n + 1) ∷ []
 unfolding bank_lines
@@ -35,8 +35,8 @@ pub no_lines : bank_lines 0 ≡ []
 unfolding bank_lines
 no_lines = refl
 
-pub first_number : load_number 0 ≡ 1
-unfolding load_number
+pub first_number : generated 0 ≡ 1
+unfolding generated
 first_number = refl
 
 -- which report a line asks for
@@ -50,7 +50,7 @@ other_is n false isnt t = refl
 
 -- a line more: its own report, or for every tenth that of the line before it
 module _ (start text new : List ℕ) (n : ℕ) (bank : BankReport) (so_far : text ≡ start ++ text_of (bank_lines n)) (added : new ≡ text ++ line_with (line_text (Report (Bank bank)))) where
-  line_more : bank ≡ load_bank (load_report (n + 1)) (load_number (load_report (n + 1))) → new ≡ start ++ text_of (bank_lines (n + 1))
+  line_more : bank ≡ load_bank (bank_number (n + 1)) (generated (bank_number (n + 1))) → new ≡ start ++ text_of (bank_lines (n + 1))
   line_more is =
       added ∙ ap (λ t. t ++ line_with (line_text (Report (Bank bank)))) so_far
       ∙ append_assoc start (text_of (bank_lines n)) (line_with (line_text (Report (Bank bank))))
@@ -60,11 +60,11 @@ module _ (start text new : List ℕ) (n : ℕ) (bank : BankReport) (so_far : tex
       ∙ sym (text_both (bank_lines n) (bank_line (n + 1) ∷ []))
       ∙ sym (ap text_of (lines_step n)))
 
-  pub tenth_more : (n + 1) % 10 ≡ 0 → bank ≡ load_bank n (load_number n) → new ≡ start ++ text_of (bank_lines (n + 1))
-  tenth_more tenth is = line_more (is ∙ ap (λ r. load_bank r (load_number r)) (sym (tenth_is n ((n + 1) % 10 == 0) tenth refl)))
+  pub tenth_more : (n + 1) % 10 ≡ 0 → bank ≡ load_bank n (generated n) → new ≡ start ++ text_of (bank_lines (n + 1))
+  tenth_more tenth is = line_more (is ∙ ap (λ r. load_bank r (generated r)) (sym (tenth_is n ((n + 1) % 10 == 0) tenth refl)))
 
-  pub other_more : ¬ ((n + 1) % 10 ≡ 0) → bank ≡ load_bank (n + 1) (load_number (n + 1)) → new ≡ start ++ text_of (bank_lines (n + 1))
-  other_more other is = line_more (is ∙ ap (λ r. load_bank r (load_number r)) (sym (other_is n ((n + 1) % 10 == 0) other refl)))
+  pub other_more : ¬ ((n + 1) % 10 ≡ 0) → bank ≡ load_bank (n + 1) (generated (n + 1)) → new ≡ start ++ text_of (bank_lines (n + 1))
+  other_more other is = line_more (is ∙ ap (λ r. load_bank r (generated r)) (sym (other_is n ((n + 1) % 10 == 0) other refl)))
 
 -- the machine as text, and the script
 abbrev pub machine_bytes : List ℕ

@@ -15,9 +15,9 @@ use Rattle.ras_script.specs.declared.line.ErrorReport.TheVariants.{Bank}
 abbrev pub next_number : ℕ → ℕ
 next_number x = (x * 6364136223846793005 + 1442695040888963407) % 2 ^ 64
 
-unfoldable pub load_number : ℕ → ℕ
-load_number zero = 1
-load_number (suc i) = next_number (load_number i)
+unfoldable pub generated : ℕ → ℕ
+generated zero = 1
+generated (suc i) = next_number (generated i)
 
 -- A corrected read error (90h) of the memory controller in bank 7, on one of its channels 0 to 3,
 -- in one of 1,000 pages. Channel and page are chosen by the upper bits of a number.
@@ -36,11 +36,11 @@ load_bank i number = record {
 }
 
 -- which report the line of a number asks for: every tenth the one before it, the others their own
-abbrev pub load_report : ℕ → ℕ
-load_report i = if i % 10 == 0 then i - 1 else i
+abbrev pub bank_number : ℕ → ℕ
+bank_number i = if i % 10 == 0 then i - 1 else i
 
 abbrev pub bank_line : ℕ → Line
-bank_line i = Report (Bank (load_bank (load_report i) (load_number (load_report i))))
+bank_line i = Report (Bank (load_bank (bank_number i) (generated (bank_number i))))
 
 -- the lines of the first n numbers from 1, in order
 unfoldable pub bank_lines : ℕ → List Line

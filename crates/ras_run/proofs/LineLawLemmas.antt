@@ -11,6 +11,7 @@ use Rattle.ras_account.specs.Accounts.{IsAccount}
 use Rattle.ras_account.specs.Continued.{account_after_all}
 use Rattle.ras_account.specs.History.{History, with_entries}
 use Rattle.ras_account.specs.Numbers.{AreWithin, Numbers, StaysWithin, are_past, numbers_with}
+use Rattle.ras_account.proofs.NumberLemmas.{stays-within, with_fresh_ones}
 use Rattle.ras_account.proofs.LawLemmas.{entries-sound}
 use Rattle.ras_facts.specs.declared.entry.Entry.{Entry}
 use Rattle.journal_format.specs.Links.{link_bytes}

@@ -1,5 +1,5 @@
 use Rattle.std.proofs.Common.{◌∙◌, ◌++◌, sym, ap, append-nil, string_bytes, arith, map, ◌≡◌, ◌-◌, ◌+◌}
-use Rattle.ras_load.specs.LoadScript.{load_bank, load_number, next_number}
+use Rattle.ras_load.specs.LoadScript.{load_bank, generated, next_number}
 use Rattle.ras_load.proofs.ScriptLemmas.{first_number, no_lines, number_step, other_more, tenth_more}
 use Rattle.ras_script.specs.LineLaws.{line_text}
 use Rattle.ras_script.specs.SplittingLaws.{script_of}
@@ -14,7 +14,7 @@ pub loop-done-preserved : goal.loop-done-preserved
 loop-done-preserved c =
     let before = c.loop-done.invariant in
     let n = c.loop-done.done in
-    let number : c.next_number-number.result ≡ load_number (n + 1) = c.next_number-number.ensures ∙ ap next_number before.1 ∙ sym (number_step n) in
+    let number : c.next_number-number.result ≡ generated (n + 1) = c.next_number-number.ensures ∙ ap next_number before.1 ∙ sym (number_step n) in
     elim c.if-i-eq0.branch [
       | then-i-eq0+in_ok-push_bank w ↦
           let is : n + 1 - 1 ≡ n = omega arith in (

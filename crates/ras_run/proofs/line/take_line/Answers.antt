@@ -9,7 +9,7 @@ use Rattle.ras_run.specs.LaterKinds.{taken_line}
 use Rattle.ras_run.specs.Places.{history_at}
 use Rattle.ras_run.proofs.CountLemmas.{repeat_acts, repeat_counted}
 use Rattle.ras_run.proofs.DeviceLemmas.{does_off, reopening_off}
-use Rattle.ras_run.proofs.LineLemmas.{IsOfStore, counted_does, event_refused, nothing_does, reopened_does, settled_does, starved_line, store_line, takes_counted, takes_nothing, takes_reopened, takes_settled, unread}
+use Rattle.ras_run.proofs.LineLemmas.{IsOfStore, counted_does, nothing_does, reopened_does, settled_does, starved_line, store_line, takes_counted, takes_nothing, takes_reopened, takes_settled, unread}
 use Rattle.ras_run.proofs.PrintActLemmas.{prints_off}
 use Rattle.ras_run.proofs.StandsLemmas.{ready_printed}
 use Rattle.ras_run.proofs.line.take_line.Goals as goal
