@@ -42,8 +42,8 @@ pub fn operations_on_the_store()
         → IsDevice (device_of t) → (id : ℕ) → id < 2 ^ 64
         → (after_acts (acts_of (clear_calls lists id (device_of t))) t).here
         ≡ record t.here { store = without id t.here.store } }
-    ensures clear_moments { (lists : List (List InstructionEntry)) (t : Told) → IsAdmittedTable lists
-        → IsDevice (device_of t) → (id : ℕ) → id < 2 ^ 64 → (left : Left)
+    ensures clear_moments { (lists : List (List InstructionEntry)) (t : Told)
+        → IsAdmittedTable lists → IsDevice (device_of t) → (id : ℕ) → id < 2 ^ 64 → (left : Left)
         → Moment (acts_of (clear_calls lists id (device_of t))) t left
         → InStore (Becomes (without id t.here.store)) t.here left }
 
@@ -66,9 +66,10 @@ pub fn operations_on_the_store()
         → length bytes ≤ range_length → number_at length_place 4 bytes ≡ length bytes
         → AreBytes bytes → (after_acts (acts_of (write_calls lists bytes (device_of t))) t).here
         ≡ record t.here { store = store_after_write bytes t.here.store } }
-    ensures write_moments { (lists : List (List InstructionEntry)) (t : Told) → IsAdmittedTable lists
-        → IsDevice (device_of t) → (bytes : List ℕ) → header_length ≤ length bytes
-        → length bytes ≤ range_length → number_at length_place 4 bytes ≡ length bytes
+    ensures write_moments { (lists : List (List InstructionEntry)) (t : Told)
+        → IsAdmittedTable lists → IsDevice (device_of t) → (bytes : List ℕ)
+        → header_length ≤ length bytes → length bytes ≤ range_length
+        → number_at length_place 4 bytes ≡ length bytes
         → AreBytes bytes → (left : Left)
         → Moment (acts_of (write_calls lists bytes (device_of t))) t left
         → InStore (Becomes (store_after_write bytes t.here.store)) t.here left }

@@ -4,7 +4,7 @@ ghost use Rattle.std.specs.Prelude.{◌≡◌, ◌↔◌, ◌≤◌, length, IsT
 ghost use Rattle.erst_interp.specs.Admission.{takes_input, gives_answer, input_bits, answer_bits, is_action, is_value, is_constant, holds_bits, is_idle, is_whole, is_act, is_input, is_free, is_read, is_answer, IsAdmitted, IsAdmittedTable};
 ghost use Rattle.erst_interp.specs.Walk.{first_awaited, awaited_after, next_awaited, walks, is_admitted};
 
-use crate::entries::{InstructionEntry, Instruction};
+use crate::entries::{Instruction, InstructionEntry};
 use crate::run::MOST_TURNS;
 use crate::table::Table;
 use board_core::Reg;

@@ -13,7 +13,7 @@ mod run;
 mod table;
 
 pub use admission::admits;
-pub use entries::{InstructionEntry, Instruction};
+pub use entries::{Instruction, InstructionEntry};
 pub use laws::{admitted_lists_are_faithful, lists_are_of_the_entries, table_limits};
 pub use refusals::{ErstTableRefused, RunRefused};
 pub use run::MOST_TURNS;

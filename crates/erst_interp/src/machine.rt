@@ -4,7 +4,7 @@ ghost use Rattle.std.specs.Prelude.{◌≡◌, ◌+◌, ◌*◌, ◌/◌, ◌%�
 ghost use Rattle.erst_interp.specs.Machine.{new_variables, next, field_of, alone, with_field, in_place};
 ghost use Rattle.erst_interp.specs.Parts.{work_of, computed, taken, given, changed};
 
-use crate::entries::{InstructionEntry, Instruction};
+use crate::entries::{Instruction, InstructionEntry};
 
 // The variables of a run: the index of the next entry in the list, the value, two variables, and
 // the bases of the bytes that are moved.
@@ -95,7 +95,11 @@ impl Variables {
     }
 
     // The variables after an instruction that uses no register.
-    pub(crate) fn computed(mut self, instruction: Instruction, entry: &InstructionEntry) -> Variables
+    pub(crate) fn computed(
+        mut self,
+        instruction: Instruction,
+        entry: &InstructionEntry,
+    ) -> Variables
         requires { self.index + 2 < 2 ^ 64 }
         ensures { result ≡ computed instruction entry.now self }
     {
@@ -115,7 +119,12 @@ impl Variables {
     }
 
     // The variables after an instruction that read this number.
-    pub(crate) fn taken(mut self, instruction: Instruction, entry: &InstructionEntry, number: u64) -> Variables
+    pub(crate) fn taken(
+        mut self,
+        instruction: Instruction,
+        entry: &InstructionEntry,
+        number: u64,
+    ) -> Variables
         requires { self.index + 2 < 2 ^ 64 }
         ensures { result ≡ taken instruction entry.now number self }
     {

@@ -75,7 +75,11 @@ pub(crate) fn write_field<B: Board>(
 }
 
 // Reads an entry's field of a register.
-pub(crate) fn read_field<B: Board>(entry: &InstructionEntry, reg: Reg, board: &mut B) -> Result<u64, Failed>
+pub(crate) fn read_field<B: Board>(
+    entry: &InstructionEntry,
+    reg: Reg,
+    board: &mut B,
+) -> Result<u64, Failed>
     ensures told { IfOk result (λ x. IsFieldRead entry.now reg x (B.told board.old)
         (B.told board.new)) }
     ensures breaks { OnErr result (BreaksIn (after_register_read reg) (B.told board.old)

@@ -62,7 +62,11 @@ impl Table {
 }
 
 // Runs a list from an input on.
-fn run_list<B: Board>(list: &[InstructionEntry], input: u64, board: &mut B) -> Result<u64, RunRefused>
+fn run_list<B: Board>(
+    list: &[InstructionEntry],
+    input: u64,
+    board: &mut B,
+) -> Result<u64, RunRefused>
     ensures runs { IfSome (B.told board.old)
         (λ t. IsRun result (end_over list.now input t) t (B.told board.new)) }
     ensures touches { TouchesAs (StoreOver list.now input (B.told board.old)) result
