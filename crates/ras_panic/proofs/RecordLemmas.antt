@@ -5,7 +5,7 @@ use Rattle.ras_base.specs.LittleEndianLemmas.{number_at-u64_bytes}
 use Rattle.cper_sections.specs.Guids.{memory_guid, processor_guid, x64_guid, section_type_of}
 use Rattle.cper_sections.specs.Sections.{section_of}
 use Rattle.cper_records.specs.Header.{record_id}
-use Rattle.cper_records.specs.Descriptors.{is_out, is_refused, some_below}
+use Rattle.cper_records.specs.Descriptors.{is_out, is_section_refused, some_below}
 use Rattle.cper_records.specs.Records.{sections_of, record_of}
 use Rattle.cper_records.proofs.LaidLemmas.{IsAnswer, answered, reads}
 use Rattle.ras_facts.specs.declared.bank.BankReport.{BankReport}
@@ -17,7 +17,7 @@ use Rattle.ras_panic.specs.Panics.{report_type, x64_type, report_bytes, saved_by
 
 pub is_read : (id : ℕ) (bank : BankReport) → record_of (panic_bytes id bank) ≡ Ok (panic_bytes id bank)
 unfolding
-    record_of sections_of is_out is_refused some_below section_of section_type_of memory_guid processor_guid x64_guid
+    record_of sections_of is_out is_section_refused some_below section_of section_type_of memory_guid processor_guid x64_guid
     number_at u16_bytes u32_bytes u64_bytes with_run panic_bytes report_bytes saved_bytes report_type x64_type
 is_read id bank = refl
 
