@@ -1,2 +1,3 @@
 mod ScriptLemmas
+pub mod ReadingLemmas
 mod SumLemmas
