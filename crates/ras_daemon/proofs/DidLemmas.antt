@@ -41,8 +41,7 @@ use Rattle.ras_daemon.proofs.ScriptLemmas.{script_some, takes_did}
 did_behind : (first acts : List Act) (ending : CallEnding) (t now : Told) → DidOf acts ending (after_acts first t) now → DidOf (first ++ acts) ending t now
 did_behind first acts answered t now is = is ∙ sym (after-append first acts t)
 did_behind first acts (faulted kind) t now fails = fails_then kind first acts t now fails
-did_behind first acts source_failed t now (done, begins, is) = (first ++ done, (begins.0, append_assoc first done begins.0 ∙ ap (λ more. first ++ more) begins.1), is ∙ sym (after-append first done t))
-did_behind first acts starved t now (done, begins, is) = (first ++ done, (begins.0, append_assoc first done begins.0 ∙ ap (λ more. first ++ more) begins.1), is ∙ sym (after-append first done t))
+did_behind first acts ending t now (done, begins, is) = (first ++ done, (begins.0, append_assoc first done begins.0 ∙ ap (λ more. first ++ more) begins.1), is ∙ sym (after-append first done t))
 
 run_acts : (start : Start) (script : List ℕ) (t : Told) (first rest : List Act) → AreOpeningActs t.here first → AreScriptActs start script (after_acts first t) rest → AreRunActs start script t (first ++ rest)
 run_acts start script t first rest opens takes = record { first = first; rest = rest; opens = opens; takes = takes; is = refl }
@@ -214,8 +213,7 @@ acts_make start script acts answered t now are is = record {
 acts_make start script acts (faulted kind) t now are fails =
     let begun = calls_by_fails kind acts t now fails in
     record { made = begun.made; listed = begun.listed; are = record { whole = calls_of acts; are = (acts, are, refl); begins = begun.begins } }
-acts_make start script acts source_failed t now are did = done_make start script acts t now are did
-acts_make start script acts starved t now are did = done_make start script acts t now are did
+acts_make start script acts ending t now are did = done_make start script acts t now are did
 
 pub did_calls : (start : Start) (script : List ℕ) (ending : CallEnding) (t now : Told) → DidRun start script ending t now → MakesRun start script t now
 did_calls start script ending t now (inl (acts, are, did)) = acts_make start script acts ending t now are did

@@ -7,7 +7,7 @@ use Rattle.board_core.specs.Doing.{Act, AreOffDevice, FailsAct, FailsActs, IsOff
 use Rattle.board_core.specs.declared.board.DiskCall.{DiskCall}
 use Rattle.board_core.specs.Told.{Relates, Told}
 use Rattle.ras_exit.specs.Acts.{DoesBy}
-use Rattle.ras_exit.specs.Endings.{CallEnding, answered, faulted, source_failed, starved}
+use Rattle.ras_exit.specs.Endings.{CallEnding, answered, faulted}
 
 pub record Grows (old now : Told) : Type 0 where
   pub part : List ℕ
@@ -64,5 +64,4 @@ part_grows see acts (faulted kind) t a b off is does = by (see b).told (subst (�
     by : (o : Option Told) → Relates (FailsActs kind acts) (Some t) o → IsSomeAnd o (Grows t)
     by None fails = absurd fails
     by (Some now) fails = fails_grow kind acts off t now fails
-part_grows see acts source_failed t a b off is some = rw (some.does.told ∙ ap (option_map (after_acts (map calls some.made))) is) (same t (after_acts (map calls some.made) t) (called_out some.made t))
-part_grows see acts starved t a b off is some = rw (some.does.told ∙ ap (option_map (after_acts (map calls some.made))) is) (same t (after_acts (map calls some.made) t) (called_out some.made t))
+part_grows see acts ending t a b off is some = rw (some.does.told ∙ ap (option_map (after_acts (map calls some.made))) is) (same t (after_acts (map calls some.made) t) (called_out some.made t))

@@ -16,7 +16,7 @@ use Rattle.ras_account.specs.Account.{account_of}
 use Rattle.ras_journal.specs.Recovered.{Recovers}
 use Rattle.ras_events.specs.Reports.{NumberedLine}
 use Rattle.ras_exit.specs.Acts.{print_acts}
-use Rattle.ras_exit.specs.Endings.{CallEnding, answered, ending_of, faulted, source_failed, starved}
+use Rattle.ras_exit.specs.Endings.{CallEnding, answered, ending_of, faulted, starved}
 use Rattle.ras_exit.specs.declared.exit.Exit.{Exit}
 use Rattle.ras_exit.proofs.PrintLemmas.{after_printed, print_moment}
 use Rattle.ras_run.specs.LineActs.{HoldsAfter}
@@ -64,8 +64,7 @@ IsLast start script before last = (last ≡ []) ⊎ ((end : Exit) × AreAll star
 last_of : (start : Start) (script : List ℕ) (before : List NumberedLine) (exit : Exit) (ending : CallEnding) (last : List Act) → IsLastBy start script before exit ending last → IsLast start script before last
 last_of start script before exit answered last is = inr (exit, is.0, is.1)
 last_of start script before exit (faulted kind) last is = is
-last_of start script before exit source_failed last is = inl is
-last_of start script before exit starved last is = inl is
+last_of start script before exit ending last is = inl is
 
 last_off : (start : Start) (script : List ℕ) (before : List NumberedLine) (last : List Act) → IsLast start script before last → AreOffDevice last
 last_off start script before last (inl none) = rw none tt
@@ -238,10 +237,7 @@ module _ {X : Type 0} (see : X → Seen) (start : Start) (script : List ℕ) (t 
       let all = script_begun start script t d.before d.first d.along d.lines d.last ends in
       let failed = told_failed kind acts t (see old).told (see new).told rests.is does.told in
       rw failed.1 (acts ++ all.0, all.1, fails_first kind acts all.0 t failed.0 failed.2)
-  did_by d source_failed ends does =
-      let done : List Act = (orders_acts start ++ (d.along ++ d.last)) ++ map calls does.made in
-      rw (told_done done does.does) (done ++ does.later, does.are, (done, (does.later, refl), refl))
-  did_by d starved ends does =
+  did_by d ending ends does =
       let done : List Act = (orders_acts start ++ (d.along ++ d.last)) ++ map calls does.made in
       rw (told_done done does.does) (done ++ does.later, does.are, (done, (does.later, refl), refl))
 
@@ -262,8 +258,7 @@ module _ {X : Type 0} (see : X → Seen) (start : Start) (script : List ℕ) (t 
         → DoesFirst see (AreScriptActs start script t) (orders_acts start ++ (d.along ++ d.last)) ending old new → IsSomeAnd (see new).told (EndsIn start script exit ending t.here.out)
     runs_by d answered ends does = rw (told_done (orders_acts start ++ (d.along ++ d.last)) does) (script_so start script t d.before d.first d.along d.lines d.last holds exit ends.0 ends.1)
     runs_by d (faulted kind) ends does = rw (told_failed kind (orders_acts start ++ (d.along ++ d.last)) t (see old).told (see new).told rests.is does.told).1 tt
-    runs_by d source_failed ends does = early_by d ends does.made does.does
-    runs_by d starved ends does = early_by d ends does.made does.does
+    runs_by d ending ends does = early_by d ends does.made does.does
 
     pub takes_runs : TakesScript see start script t exit old new → IsSomeAnd (see new).told (RunEnds start script exit t.here.out)
     takes_runs (inl none) =
@@ -299,8 +294,7 @@ module _ {X : Type 0} (see : X → Seen) (start : Start) (script : List ℕ) (t 
         → DoesFirst see (AreScriptActs start script t) (orders_acts start ++ (d.along ++ d.last)) ending old new → Adds (OpenStop start script t) (see old).clock (see new).clock
     stops_by d answered ends does = stops_whole d (inr (exit, ends.0, ends.1)) (does.stops t rests)
     stops_by d (faulted kind) ends does = stops_whole d ends (does.stops t rests)
-    stops_by d source_failed ends does = stops_part d ends does.made (does.does.stops t rests)
-    stops_by d starved ends does = stops_part d ends does.made (does.does.stops t rests)
+    stops_by d ending ends does = stops_part d ends does.made (does.does.stops t rests)
 
     pub takes_stops : TakesScript see start script t exit old new → Adds (OpenStop start script t) (see old).clock (see new).clock
     takes_stops (inl none) = rw none.1 (adds_none (OpenStop start script t) (see old).clock)

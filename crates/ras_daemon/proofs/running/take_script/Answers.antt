@@ -13,7 +13,7 @@ use Rattle.ras_daemon.specs.RunActs.{orders_acts}
 use Rattle.ras_daemon.specs.Running.{EndsAhead, lines_from}
 use Rattle.ras_exit.proofs.DeviceLemmas.{device_goes_on}
 use Rattle.ras_daemon.proofs.AheadLemmas.{ahead_end, fault_before}
-use Rattle.ras_daemon.proofs.SaidLemmas.{ends_causes, ends_listed, ends_told, orders_causes, print_device}
+use Rattle.ras_daemon.proofs.SaidLemmas.{ends_causes, ends_listed, ends_printed, orders_causes, print_device}
 use Rattle.ras_daemon.proofs.ScriptLemmas.{printed_out, told_after}
 use Rattle.ras_daemon.proofs.TakenLemmas.{EndsAs, lines_taken, no_orders}
 use Rattle.ras_daemon.proofs.running.take_script.Goals as goal
@@ -58,7 +58,6 @@ returns-clause-ahead g c = λ start script t is_start left is.
     let u = after_acts (orders_acts start) t in
     let told = told_after (orders_acts start) t _ _ is orders.told in
     let after : IsRunAfter start [] (record { settings = c.new.result; ledger = c.args.ledger; text = c.new-2.result }) = record { settings = c.new.ensures; account = is_start.account; standing = is_start.standing } in
-    let ends = ends_told see _ _ _ c.take_lines.new.board c.end_run.new.board c.end_run.ensures.ends in
     let lines_fault : c.match-take_lines.exit ≡ SourceFault → c.take_lines.result ≡ Err SourceFault = (λ fault. elim c.match-take_lines.branch [
       | in-Ok w ↦ (let e = sym w.exit-is ∙ fault in absurd cc)
       | in-Err-take_lines w ↦ w.in-Err-take_lines.is ∙ ap Err (sym w.exit-is ∙ fault)
@@ -66,8 +65,8 @@ returns-clause-ahead g c = λ start script t is_start left is.
     inr (
       subst IsAccount is_start.account c.requires.account,
       ahead_end (c.take_lines.result ≡ Err SourceFault) (c.end_run.result ≡ SourceFault)
-          (λ fault. lines_fault (fault_before _ _ _ _ _ ends fault))
-          start script (lines_from start t.here.out) _ _ c.end_run.result _ _ _ ends
+          (λ fault. lines_fault (fault_before see _ _ _ c.take_lines.new.board c.end_run.new.board c.end_run.ensures.ends fault))
+          start script (lines_from start t.here.out) _ _ c.end_run.result _ _ _ (ends_printed see _ _ _ c.take_lines.new.board c.end_run.new.board c.end_run.ensures.ends)
           (subst (λ out. EndsAhead (c.take_lines.result ≡ Err SourceFault) start script out (g.S.Source.left c.take_lines.new.source) (g.B.Board.told c.take_lines.new.board)) (printed_out (standing_lines (account_of start.history)) t)
           (c.take_lines.ensures.ahead start script u after left told)),
     )
