@@ -35,6 +35,7 @@ use Rattle.ras_run.specs.Places.{Start}
 use Rattle.ras_exit.specs.StopLine.{stop_line}
 use Rattle.ras_run.specs.Files.{KeepsFiles, files_refusal, refusal_exit}
 use Rattle.ras_run.specs.Taking.{IsReady, Opens, Prints}
+use Rattle.ras_run.proofs.StandsLemmas.{before_of}
 use Rattle.ras_daemon.specs.Doing.{DoesRun, Ends, TakesScript}
 use Rattle.ras_daemon.specs.Ended.{OverFiles, Refuses, RefusesFiles}
 use Rattle.ras_daemon.specs.Headline.{OverRun}
@@ -43,7 +44,7 @@ use Rattle.ras_daemon.specs.RunStatus.{start_of}
 use Rattle.ras_daemon.specs.Running.{EndsIn, IsStart, OpenMoment, RunEnds, RunMoment}
 use Rattle.ras_daemon.specs.declared.word.Task.{Task}
 use Rattle.ras_daemon.specs.declared.word.Task.TheVariants.{Run}
-use Rattle.ras_daemon.proofs.SaidLemmas.{Printed, before_at, says_printed}
+use Rattle.ras_daemon.proofs.SaidLemmas.{Printed, says_printed}
 use Rattle.ras_daemon.proofs.ScriptLemmas.{OpenStop, early_none, takes_runs, takes_stops}
 
 -- ---- where source and board tell, and the files hold a history
@@ -277,7 +278,7 @@ pub was_opened : {X : Type 0} (see : X → Seen) (start : Start) (script : List 
     → TakesScript see start script (told_on AfterOpening (see a).told (see b).told t is after).0 exit b new → DoesRun see start script exit t a new
 was_opened see start script exit ledger t a b new is begins account after makes stops ready takes =
     let found = told_on AfterOpening (see a).told (see b).told t is after in
-    let before = before_at ledger.journal.standing ledger.account.state (see b).told (see b).clock found.0 ready.stands found.1 in
+    let before = before_of ledger.journal.standing ledger.account.state (see b).told (see b).clock found.0 ready.stands found.1 in
     inr (record {
       mid = b;
       there = found.0;
