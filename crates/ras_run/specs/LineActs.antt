@@ -47,7 +47,8 @@ AreReopening account number here acts =
     (reading : List DiskCall) × IsRecoveryOf here reading
     × (acts ≡ map calls reading ++ event_prints (standing_lines account) number)
 
--- the acts of an event; a line that asks for nothing, and one that is refused, does nothing
+-- the acts of what a line asks for at its place, over a board that tells this; a line that asks for
+-- nothing does nothing
 abbrev pub AreEventActs : Start → Place → Told → Result Event Reason → List Act → Type 0
 AreEventActs start place t (Ok Nothing) acts = acts ≡ []
 AreEventActs start (before, (number, line)) t (Ok Settled) acts = acts ≡ event_prints [] number
@@ -56,11 +57,12 @@ AreEventActs start (before, (number, line)) t (Ok (Counted made)) acts =
 AreEventActs start (before, (number, line)) t (Ok Reopened) acts = AreReopening (account_at start before) number t.here acts
 AreEventActs start place t (Err why) acts = acts ≡ []
 
--- the acts of a line at its place, over a board that tells this
+-- a line that is refused does nothing
 abbrev pub AreActsUnless : Option Exit → (List Act → Type 0) → List Act → Type 0
 AreActsUnless (Some why) Are acts = acts ≡ []
 AreActsUnless None Are acts = Are acts
 
+-- the acts of a line at its place, over a board that tells this
 abbrev pub AreLineActs : Start → Place → Told → List Act → Type 0
 AreLineActs start place t acts = AreActsUnless (refusal_at start place) (AreEventActs start place t (event_at place)) acts
 

@@ -34,6 +34,9 @@ use std::alloc::Global;
 /// that the journal is to be opened again. It prints the event's text and its done line; a line
 /// without words and a comment are no event, and print nothing.
 ///
+/// What its acts come to, what a stop at any moment leaves of them, and which disk calls they are
+/// stands at [`crate::line_laws`].
+///
 /// # Errors
 ///
 /// `BadLine` comes exactly if the line is refused at its place, and `Full` exactly if there is no
