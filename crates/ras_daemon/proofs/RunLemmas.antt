@@ -44,7 +44,7 @@ use Rattle.ras_daemon.specs.RunStatus.{start_of}
 use Rattle.ras_daemon.specs.Running.{EndsIn, IsStart, OpenMoment, RunEnds, RunMoment}
 use Rattle.ras_daemon.specs.declared.word.Task.{Task}
 use Rattle.ras_daemon.specs.declared.word.Task.TheVariants.{Run}
-use Rattle.ras_daemon.proofs.SaidLemmas.{Printed, says_printed}
+use Rattle.ras_daemon.proofs.SaidLemmas.{Printed, none_printed, says_printed}
 use Rattle.ras_daemon.proofs.ScriptLemmas.{OpenStop, early_none, takes_runs, takes_stops}
 
 -- ---- where source and board tell, and the files hold a history
@@ -137,17 +137,6 @@ cut_is exit cut = by (ending_of exit) cut
 
 -- ---- files that are refused
 
--- nothing was printed, and the run was cut short
-pub refuses_cut : (why result : Exit) (before now : Told) → IsCut result → Prints [] before now → KeepsFiles before now → Refuses why result before now
-refuses_cut why result before now cut text keeps = record {
-  tells = record {
-    answers = on_cut result (result ≡ why) cut;
-    begun = ([], (stop_line why, refl), text);
-    whole = on_cut result (now.here.out ≡ before.here.out ++ stop_line why) cut;
-  };
-  files = keeps;
-}
-
 some_same : {A : Type 0} (x y : A) → Some x ≡ Some y → x ≡ y
 some_same x y is = ap (λ o. unwrap_or o x) is
 
@@ -208,7 +197,9 @@ files_refused see exit result state before now old mid new one two after opens e
     text = found.2.text ∙ sym (append-nil before.here.out)
 
     last : (why : Exit) → refusal_exit held ≡ Some why → KeepsFiles before found.0 → (exit ≡ why) ⊎ IsCut exit → Ends see exit result (closing_line state exit) mid new → IsSomeAnd (see new).told (Refuses why result before)
-    last why is keeps as_found (inr cut) = rw (cut.2, found.1) (refuses_cut why result before found.0 (rw cut.1 cut.0) text keeps)
+    last why is keeps as_found (inr cut) =
+        refuses_printed why result (stop_line why) before found.0 text keeps (see new).told refl
+        (none_printed why result (stop_line why) (Some found.0) (see new).told (on_cut result ((result ≡ why) × ([] ≡ stop_line why)) (rw cut.1 cut.0)) (ap (λ x. (see x).told) cut.2 ∙ found.1))
     last why is keeps (inr cut) (inl said) = absurd (not_both exit cut said.0)
     last why is keeps (inl same) (inl said) =
         refuses_printed why result (closing_line state exit) before found.0 text keeps (see new).told (ap (closing_line state) same ∙ refusal_line held why state is)

@@ -25,7 +25,7 @@ pub record Printed (exit result : Exit) (line : List ℕ) (old now : Told) : Typ
   pub is : now ≡ after_print part old
   pub answers : OnAnswer result ((result ≡ exit) × (part ≡ line))
 
-none_printed : (exit result : Exit) (line : List ℕ) (a b : Option Told) → OnAnswer result ((result ≡ exit) × ([] ≡ line)) → b ≡ a → Relates (Printed exit result line) a b
+pub none_printed : (exit result : Exit) (line : List ℕ) (a b : Option Told) → OnAnswer result ((result ≡ exit) × ([] ≡ line)) → b ≡ a → Relates (Printed exit result line) a b
 none_printed exit result line None b answers same = same
 none_printed exit result line (Some t) b answers same =
     rw same (record { part = []; begins = (line, refl); is = ap (λ out. record t { here = record t.here { out = out } }) (sym (append-nil t.here.out)); answers = answers })

@@ -16,8 +16,8 @@ use Rattle.ras_exit.proofs.EndingLemmas.{memory_ran_out, not_both}
 use Rattle.ras_run.specs.declared.run.Run.{Run}
 use Rattle.ras_run.specs.Places.{Start, account_at}
 use Rattle.ras_run.specs.Taking.{IsPrintExit}
-use Rattle.ras_daemon.specs.Doing.{AreLinesActs, DoesFirst, DoesLines, DoesPart, DoesScript, Ends, IsLastBy, Says, TakesScript}
-use Rattle.ras_daemon.specs.RunActs.{AreActsAlong, AreScriptActs, last_acts, orders_acts}
+use Rattle.ras_daemon.specs.Doing.{DoesFirst, DoesLines, DoesPart, DoesScript, Ends, IsLastBy, Says, TakesScript}
+use Rattle.ras_daemon.specs.RunActs.{AreActsAlong, AreLinesActs, AreScriptActs, last_acts, orders_acts}
 use Rattle.ras_daemon.specs.RunOutput.{closing_line}
 use Rattle.ras_daemon.specs.RunStatus.{run_exit}
 use Rattle.ras_daemon.specs.Running.{AreAll, AreFirst}
