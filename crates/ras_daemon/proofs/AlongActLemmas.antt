@@ -15,6 +15,7 @@ use Rattle.ras_run.specs.Status.{places_before_refusal}
 use Rattle.ras_run.specs.Taking.{IsAccepted, LineMoment}
 use Rattle.ras_run.proofs.LineLawLemmas.{line_holds, line_moment, line_off, line_out}
 use Rattle.ras_run.proofs.LineLemmas.{some_acts}
+use Rattle.ras_run.proofs.PrintActLemmas.{off_both}
 use Rattle.ras_daemon.specs.RunActs.{AreActsAlong}
 use Rattle.ras_daemon.specs.Running.{AreAccepted, AreFirst, LinesMoment, outputs}
 use Rattle.ras_daemon.specs.Script.{reads_of}
@@ -47,13 +48,9 @@ along_some start (p ∷ ps) t =
     let rest = along_some start ps (after_acts here.0 t) in
     (here.0 ++ rest.0, (here.0, rest.0, refl, here.1, rest.1))
 
-pub off-append : (xs ys : List Act) → AreOffDevice xs → AreOffDevice ys → AreOffDevice (xs ++ ys)
-off-append [] ys first second = second
-off-append (x ∷ xs) ys first second = (first.0, off-append xs ys first.1 second)
-
 pub along_off : (start : Start) (ps : List Place) (t : Told) (acts : List Act) → AreActsAlong start ps t acts → AreOffDevice acts
 along_off start [] t acts is = rw is tt
-along_off start (p ∷ ps) t acts (here, rest, is, at, along) = rw is (off-append here rest (line_off start p t here at) (along_off start ps (after_acts here t) rest along))
+along_off start (p ∷ ps) t acts (here, rest, is, at, along) = rw is (off_both here rest (line_off start p t here at) (along_off start ps (after_acts here t) rest along))
 
 -- ---- what they come to, each line being accepted
 

@@ -28,10 +28,12 @@ use Rattle.ras_exit.specs.declared.exit.Exit.{Exit}
 use Rattle.ras_exit.specs.declared.exit.Exit.TheVariants.{NoMemory}
 use Rattle.ras_exit.proofs.EndingLemmas.{memory_ran_out}
 use Rattle.ras_run.specs.Places.{Start}
+use Rattle.ras_run.proofs.PrintActLemmas.{reading_calls}
 use Rattle.ras_run.proofs.ReopenLemmas.{after_reading}
 use Rattle.ras_daemon.specs.Doing.{DoesRun}
 use Rattle.ras_daemon.specs.RunActs.{AreOpeningActs, AreRunActs, AreRunCalls, AreScriptActs, DidOf, DidRun}
 use Rattle.ras_daemon.specs.RunStatus.{start_of}
+use Rattle.ras_daemon.proofs.CallLemmas.{some-weaker}
 use Rattle.ras_daemon.proofs.RunLemmas.{none_empty}
 use Rattle.ras_daemon.proofs.ScriptLemmas.{script_some, takes_did}
 
@@ -41,8 +43,7 @@ use Rattle.ras_daemon.proofs.ScriptLemmas.{script_some, takes_did}
 did_behind : (first acts : List Act) (ending : CallEnding) (t now : Told) → DidOf acts ending (after_acts first t) now → DidOf (first ++ acts) ending t now
 did_behind first acts answered t now is = is ∙ sym (after-append first acts t)
 did_behind first acts (faulted kind) t now fails = fails_then kind first acts t now fails
-did_behind first acts source_failed t now (done, begins, is) = (first ++ done, (begins.0, append_assoc first done begins.0 ∙ ap (λ more. first ++ more) begins.1), is ∙ sym (after-append first done t))
-did_behind first acts starved t now (done, begins, is) = (first ++ done, (begins.0, append_assoc first done begins.0 ∙ ap (λ more. first ++ more) begins.1), is ∙ sym (after-append first done t))
+did_behind first acts ending t now (done, begins, is) = (first ++ done, (begins.0, append_assoc first done begins.0 ∙ ap (λ more. first ++ more) begins.1), is ∙ sym (after-append first done t))
 
 run_acts : (start : Start) (script : List ℕ) (t : Told) (first rest : List Act) → AreOpeningActs t.here first → AreScriptActs start script (after_acts first t) rest → AreRunActs start script t (first ++ rest)
 run_acts start script t first rest opens takes = record { first = first; rest = rest; opens = opens; takes = takes; is = refl }
@@ -162,15 +163,11 @@ module _ (history : History) (script : List ℕ) (t u : Told) (recovers : Recove
 
 -- ---- of a run
 
-some_weaker : (P Q : Told → Type 0) (told : Option Told) → ((t : Told) → P t → Q t) → IsSomeAnd told P → IsSomeAnd told Q
-some_weaker P Q None weaker has = absurd has
-some_weaker P Q (Some t) weaker has = weaker t has
-
 pub run_did : {X : Type 0} (see : X → Seen) (history : History) (script : List ℕ) (exit : Exit) (t : Told) (old new : X) → Recovers (account_of history) t.here → DoesRun see (start_of history t.here) script exit t old new
     → IsSomeAnd (see new).told (DidRun (start_of history t.here) script (ending_of exit) t)
 run_did see history script exit t old new recovers (inr d) =
     let start : Start = start_of history t.here in
-    some_weaker (λ now. (acts : List Act) × AreScriptActs start script d.there acts × DidOf acts (ending_of exit) d.there now) (DidRun start script (ending_of exit) t) (see new).told
+    some-weaker (λ now. (acts : List Act) × AreScriptActs start script d.there acts × DidOf acts (ending_of exit) d.there now) (DidRun start script (ending_of exit) t) (see new).told
     (λ now did. opened_did start script (ending_of exit) t d.there now d.makes did)
     (takes_did see start script d.there exit d.mid new d.rests d.takes)
 run_did see history script exit t old new recovers (inl d) = by (see new).told d.told d.kept
@@ -191,10 +188,6 @@ calls-append : (xs ys : List Act) → calls_of (xs ++ ys) ≡ calls_of xs ++ cal
 calls-append [] ys = refl
 calls-append (x ∷ xs) ys = ap (λ l. disk_calls_by x ++ l) (calls-append xs ys) ∙ sym (append_assoc (disk_calls_by x) (calls_of xs) (calls_of ys))
 
-calls_called : (made : List DiskCall) → calls_of (map calls made) ≡ made
-calls_called [] = refl
-calls_called (call ∷ made) = ap (λ l. call ∷ l) (calls_called made)
-
 abbrev pub MakesRun : Start → List ℕ → Told → Told → Type 0
 MakesRun start script t = Makes (IsBeginning (AreRunCalls start script t)) t
 
@@ -214,8 +207,7 @@ acts_make start script acts answered t now are is = record {
 acts_make start script acts (faulted kind) t now are fails =
     let begun = calls_by_fails kind acts t now fails in
     record { made = begun.made; listed = begun.listed; are = record { whole = calls_of acts; are = (acts, are, refl); begins = begun.begins } }
-acts_make start script acts source_failed t now are did = done_make start script acts t now are did
-acts_make start script acts starved t now are did = done_make start script acts t now are did
+acts_make start script acts ending t now are did = done_make start script acts t now are did
 
 pub did_calls : (start : Start) (script : List ℕ) (ending : CallEnding) (t now : Told) → DidRun start script ending t now → MakesRun start script t now
 did_calls start script ending t now (inl (acts, are, did)) = acts_make start script acts ending t now are did
@@ -225,7 +217,7 @@ did_calls start script ending t now (inr failed) =
     let first : List Act = map calls opening.recovery ++ opening_acts t.here in
     let rest = script_some start script (after_acts first t) in
     let whole : calls_of (first ++ rest.0) ≡ begun.are.whole ++ calls_of rest.0 =
-    calls-append first rest.0 ∙ ap (λ l. l ++ calls_of rest.0) (calls-append (map calls opening.recovery) (opening_acts t.here) ∙ ap (λ l. l ++ calls_of (opening_acts t.here)) (calls_called opening.recovery) ∙ sym opening.is) in
+    calls-append first rest.0 ∙ ap (λ l. l ++ calls_of rest.0) (calls-append (map calls opening.recovery) (opening_acts t.here) ∙ ap (λ l. l ++ calls_of (opening_acts t.here)) (reading_calls opening.recovery) ∙ sym opening.is) in
     record {
       made = begun.made;
       listed = begun.listed;

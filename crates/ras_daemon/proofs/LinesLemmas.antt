@@ -14,7 +14,7 @@ use Rattle.ras_script.specs.SplittingLaws.{script_of}
 use Rattle.ras_script.proofs.LinesLemmas.{line_alone, line_cut}
 use Rattle.std.proofs.lemmas.Grind.{flat_map-append}
 use Rattle.ras_base.specs.Places.{places, places_behind}
-use Rattle.ras_exit.specs.Acts.{DoesBy}
+use Rattle.ras_exit.specs.Acts.{DoesBy, ended_with}
 use Rattle.ras_exit.specs.declared.exit.Exit.{Exit}
 use Rattle.ras_exit.specs.declared.exit.Exit.TheVariants.{Done, SourceFault}
 use Rattle.ras_exit.specs.Endings.{CallEnding, EndsBy, IfAnswered, answered, ending_of, faulted, source_failed, starved}
@@ -25,8 +25,8 @@ use Rattle.ras_run.specs.LineActs.{AreActsUnless, AreEventActs, AreLineActs}
 use Rattle.ras_run.specs.Places.{Start}
 use Rattle.ras_run.specs.Status.{places_before_refusal, refusal_at}
 use Rattle.ras_run.specs.Taking.{IsAccepted, IsRunAfter, TakesLine}
-use Rattle.ras_daemon.specs.Doing.{AreLinesActs, DoesFirst, DoesLines}
-use Rattle.ras_daemon.specs.RunActs.{AreActsAlong}
+use Rattle.ras_daemon.specs.Doing.{DoesFirst, DoesLines, EndsBehind}
+use Rattle.ras_daemon.specs.RunActs.{AreActsAlong, AreLinesActs}
 use Rattle.ras_daemon.specs.Running.{AreAccepted, AreAll, AreFirst}
 use Rattle.ras_exit.specs.ScriptEnd.{ending_exit}
 use Rattle.ras_daemon.specs.Script.{reads_in, reads_of}
@@ -342,18 +342,14 @@ module _ {X : Type 0} (see : X → Seen) (start : Start) (script : List ℕ) (t 
   first_taken : AreFirst start script (reads_in taking.done)
   first_taken = lines_first start script t number reader left run taking
 
+  ends_here : (result : Result (Unit {0}) Exit) → DoesFirst see (AreLinesActs start script t) taking.acts (ended_with result) old new → EndsBehind start script (reads_in taking.done) result run → DoesLines see start script t result run old new
+  ends_here result does ends = record { before = reads_in taking.done; first = first_taken; acts = taking.acts; along = taking.along; does = does; ends = ends }
+
   -- the source failed
   pub took_now : DoesLines see start script t (Err SourceFault) run old new
   took_now =
       let begun = along_begun start script (reads_in taking.done) t taking.acts first_taken taking.along in
-      record {
-        before = reads_in taking.done;
-        first = first_taken;
-        acts = taking.acts;
-        along = taking.along;
-        does = record { made = []; later = begun.0; are = rw append-nil begun.1; does = rw append-nil well };
-        ends = tt;
-      }
+      ends_here (Err SourceFault) (record { made = []; later = begun.0; are = rw append-nil begun.1; does = rw append-nil well }) tt
 
   whole_given : (ending : Ending) → lines_to_come reader taking.now ≡ no_line ending → script_lines script ≡ record { whole = taking.done; ending = ending }
   whole_given ending none = taking.lines ∙ ap (with_lines taking.done) none ∙ ap (λ whole. record { whole = whole; ending = ending }) (append-nil taking.done)
@@ -365,25 +361,13 @@ module _ {X : Type 0} (see : X → Seen) (start : Start) (script : List ℕ) (t 
 
   -- they end here, in this way
   pub lines_end : (ending : Ending) (exit : Exit) → ending_of exit ≡ answered → exit ≡ ending_exit number ending → lines_to_come reader taking.now ≡ no_line ending → DoesLines see start script t (Err exit) run old new
-  lines_end ending exit answer is none = record {
-    before = reads_in taking.done;
-    first = first_taken;
-    acts = taking.acts;
-    along = taking.along;
-    does = subst (λ (e : CallEnding). DoesFirst see (AreLinesActs start script t) taking.acts e old new) (sym answer) well;
-    ends = on_answer exit (AreAll start script exit (reads_in taking.done)) (all_given ending exit is none);
-  }
+  lines_end ending exit answer is none = ends_here (Err exit)
+      (subst (λ (e : CallEnding). DoesFirst see (AreLinesActs start script t) taking.acts e old new) (sym answer) well)
+      (on_answer exit (AreAll start script exit (reads_in taking.done)) (all_given ending exit is none))
 
   -- all of them were taken
   pub all_taken : lines_to_come reader taking.now ≡ no_line script_ended → DoesLines see start script t (Ok tt) run old new
-  all_taken none = record {
-    before = reads_in taking.done;
-    first = first_taken;
-    acts = taking.acts;
-    along = taking.along;
-    does = well;
-    ends = (all_given script_ended Done refl none, taking.after);
-  }
+  all_taken none = ends_here (Ok tt) well (all_given script_ended Done refl none, taking.after)
 
   -- what the reader said of the lines to come
   pub none_given : (result : Result Bool NextRefused) (other : Reader) (now : Option (List ℕ)) (ending : Ending) → MovesLine result reader other left now → Gave result reader other left now

@@ -1,9 +1,8 @@
 -- Lists that are cut, filtered and joined, and their beginnings.
-use Rattle.std.proofs.Common.{◌≡◌, ℕ, suc, zero, ◌<◌, ◌≤◌, Bool, true, false, List, [], ◌∷◌, ◌++◌, length, take, refl, ap, ◌∙◌, append_assoc, arith, length-append}
+use Rattle.std.proofs.Common.{◌≡◌, ℕ, suc, zero, ◌≤◌, Bool, true, false, List, [], ◌∷◌, ◌++◌, length, take, refl, ap, ◌∙◌, arith}
 use Rattle.std.specs.Prelude.{filter}
 use Rattle.std.specs.List.{AllByRecursion, flat_map}
 use Rattle.std.proofs.lemmas.List.Elements.{filter-append}
-use Rattle.ras_base.specs.Prefix.{IsPrefixOf}
 
 -- the first of two lists that are joined, and all of a list
 pub take-front : {X : Type 0} (xs ys : List X) → take (length xs) (xs ++ ys) ≡ xs
@@ -39,10 +38,3 @@ all-front P (x ∷ xs) ys all = (all.0, all-front P xs ys all.1)
 pub all-weaker : {X : Type 0} (P Q : X → Type 0) → ((x : X) → P x → Q x) → (xs : List X) → AllByRecursion P xs → AllByRecursion Q xs
 all-weaker P Q weaker [] all = tt
 all-weaker P Q weaker (x ∷ xs) all = (weaker x all.0, all-weaker P Q weaker xs all.1)
-
--- a text before two beginnings
-pub prefix-behind : {X : Type 0} (front xs ys : List X) → IsPrefixOf xs ys → IsPrefixOf (front ++ xs) (front ++ ys)
-prefix-behind {X} front xs ys (rest, is) = (rest, append_assoc front xs rest ∙ ap (λ (zs : List X). front ++ zs) is)
-
-pub not-shorter : {X : Type 0} (xs ys : List X) → length (xs ++ ys) < length xs → ⊥
-not-shorter xs ys less = omega (arith, length-append xs ys)

@@ -12,7 +12,8 @@ use Rattle.board_core.specs.ClockLemmas.{adds_both, adds_none, adds_weaker}
 use Rattle.board_core.specs.Device.{LeavesDevice}
 use Rattle.board_core.specs.Doing.{Seen}
 use Rattle.board_core.specs.Stop.{Left}
-use Rattle.board_core.specs.Told.{FailsPrint, Relates, Told, after_print}
+use Rattle.board_core.specs.Told.{Relates, Told}
+use Rattle.ras_base.specs.Prefix.{IsPrefixOf}
 use Rattle.ras_account.specs.Account.{State, account_of}
 use Rattle.ras_account.specs.Accounts.{IsAccount}
 use Rattle.ras_account.specs.History.{History, empty}
@@ -26,14 +27,15 @@ use Rattle.ras_recover.specs.Recovering.{file_number}
 use Rattle.ras_recover.proofs.OpeningCallsLemmas.{refused_keeps, told_opened}
 use Rattle.ras_exit.specs.declared.exit.Exit.{Exit}
 use Rattle.ras_exit.specs.declared.exit.Exit.TheVariants.{Damaged, NoMemory, TooLong}
-use Rattle.ras_exit.specs.Endings.{CallEnding, EndsBy, IsCut, OnlyFault, answered, ending_of, faulted, is_answered, source_failed, starved}
+use Rattle.ras_exit.specs.Endings.{CallEnding, EndsBy, IfAnswered, IsCut, OnAnswer, OnlyFault, answered, ending_of, faulted, is_answered, source_failed, starved}
 use Rattle.ras_exit.proofs.DeviceLemmas.{StoreIsLeft, device_by}
-use Rattle.ras_exit.proofs.EndingLemmas.{ends_weaker, memory_ran_out, not_both, on_answer, on_cut}
+use Rattle.ras_exit.proofs.EndingLemmas.{ends_weaker, memory_ran_out, not_both, on_cut}
 use Rattle.ras_run.specs.LineActs.{HoldsAfter}
 use Rattle.ras_run.specs.Places.{Start}
 use Rattle.ras_exit.specs.StopLine.{stop_line}
 use Rattle.ras_run.specs.Files.{KeepsFiles, files_refusal, refusal_exit}
 use Rattle.ras_run.specs.Taking.{IsReady, Opens, Prints}
+use Rattle.ras_run.proofs.StandsLemmas.{before_of}
 use Rattle.ras_daemon.specs.Doing.{DoesRun, Ends, TakesScript}
 use Rattle.ras_daemon.specs.Ended.{OverFiles, Refuses, RefusesFiles}
 use Rattle.ras_daemon.specs.Headline.{OverRun}
@@ -42,7 +44,7 @@ use Rattle.ras_daemon.specs.RunStatus.{start_of}
 use Rattle.ras_daemon.specs.Running.{EndsIn, IsStart, OpenMoment, RunEnds, RunMoment}
 use Rattle.ras_daemon.specs.declared.word.Task.{Task}
 use Rattle.ras_daemon.specs.declared.word.Task.TheVariants.{Run}
-use Rattle.ras_daemon.proofs.SaidLemmas.{EndsTold, before_at}
+use Rattle.ras_daemon.proofs.SaidLemmas.{Printed, none_printed, says_printed}
 use Rattle.ras_daemon.proofs.ScriptLemmas.{OpenStop, early_none, takes_runs, takes_stops}
 
 -- ---- where source and board tell, and the files hold a history
@@ -133,29 +135,7 @@ cut_is exit cut = by (ending_of exit) cut
     by answered cut = absurd cut
     by ending cut = refl
 
--- ---- how a last line ends a run
-
--- where a run is cut short its exit is that
-pub ends_cut : (exit result : Exit) (line : List ℕ) (old new : Option Told) → IsCut exit → EndsTold exit result line old new → result ≡ exit
-ends_cut exit result line old new cut (inr is) = is.1
-ends_cut exit result line old new cut (inl said) = absurd (not_both exit cut said.0)
-
 -- ---- files that are refused
-
--- nothing was printed, and the run was cut short
-pub refuses_cut : (why result : Exit) (before now : Told) → IsCut result → Prints [] before now → KeepsFiles before now → Refuses why result before now
-refuses_cut why result before now cut text keeps = record {
-  tells = record {
-    answers = on_cut result (result ≡ why) cut;
-    begun = ([], (stop_line why, refl), text);
-    whole = on_cut result (now.here.out ≡ before.here.out ++ stop_line why) cut;
-  };
-  files = keeps;
-}
-
-pub files_cut : (why : Option Exit) (result : Exit) (before now : Told) → IsCut result → Prints [] before now → KeepsFiles before now → RefusesFiles why result before now
-files_cut None result before now cut text keeps = tt
-files_cut (Some why) result before now cut text keeps = refuses_cut why result before now cut text keeps
 
 some_same : {A : Type 0} (x y : A) → Some x ≡ Some y → x ≡ y
 some_same x y is = ap (λ o. unwrap_or o x) is
@@ -180,63 +160,59 @@ refused_as held why exit is opens = by (ending_of exit) refl opens
     by (faulted kind) so found = inr (ap is_answered so)
     by starved so found = inr (ap is_answered so)
 
-module _ (why exit result : Exit) (line : List ℕ) (before mid : Told) (text : Prints [] before mid) (keeps : KeepsFiles before mid) where
-  refuses_short : IsCut result → Refuses why result before mid
-  refuses_short cut = refuses_cut why result before mid cut text keeps
+pub answer_weaker : (result : Exit) (P Q : Type 0) → OnAnswer result P → (P → Q) → OnAnswer result Q
+answer_weaker result P Q holds gives = by (ending_of result) holds
+  where
+    by : (ending : CallEnding) → IfAnswered ending P → IfAnswered ending Q
+    by answered holds = gives holds
+    by ending holds = tt
 
-  refuses_printed : line ≡ stop_line why → result ≡ why → Refuses why result before (after_print line mid)
-  refuses_printed same is =
-      let all : mid.here.out ++ line ≡ before.here.out ++ stop_line why = ap (λ out. out ++ line) (text ∙ append-nil before.here.out) ∙ ap (λ last. before.here.out ++ last) same in
+module _ (why result : Exit) (line : List ℕ) (before mid : Told) (text : Prints [] before mid) (keeps : KeepsFiles before mid) where
+  -- a last line, or a beginning of it
+  refuses_printed : (new : Option Told) → line ≡ stop_line why → Relates (Printed why result line) (Some mid) new → IsSomeAnd new (Refuses why result before)
+  refuses_printed None same printed = absurd printed
+  refuses_printed (Some now) same printed =
+      let out : (part : List ℕ) → now.here.out ≡ mid.here.out ++ part → now.here.out ≡ before.here.out ++ part = (λ part is. is ∙ ap (λ out. out ++ part) (text ∙ append-nil before.here.out)) in
+      let told : now.here.out ≡ before.here.out ++ printed.part = out printed.part (ap (λ (t : Told). t.here.out) printed.is) in
       record {
         tells = record {
-          answers = on_answer result (result ≡ why) is;
-          begun = (stop_line why, ([], append-nil (stop_line why)), all);
-          whole = on_answer result (mid.here.out ++ line ≡ before.here.out ++ stop_line why) all;
+          answers = answer_weaker result ((result ≡ why) × (printed.part ≡ line)) (result ≡ why) printed.answers (λ both. both.0);
+          begun = (printed.part, subst (IsPrefixOf printed.part) same printed.begins, told);
+          whole = answer_weaker result ((result ≡ why) × (printed.part ≡ line)) (now.here.out ≡ before.here.out ++ stop_line why) printed.answers (λ both. told ∙ ap (λ last. before.here.out ++ last) (both.1 ∙ same));
         };
-        files = record { file0 = keeps.file0; file1 = keeps.file1 };
+        files = rw printed.is (record { file0 = keeps.file0; file1 = keeps.file1 });
       }
 
-  refuses_failed : (new : Option Told) → line ≡ stop_line why → IsCut result → Relates (FailsPrint line) (Some mid) new → IsSomeAnd new (Refuses why result before)
-  refuses_failed None same cut fails = absurd fails
-  refuses_failed (Some now) same cut (part, rest, splits, is) = rw is (record {
-    tells = record {
-      answers = on_cut result (result ≡ why) cut;
-      begun = (part, (rest, splits ∙ same), ap (λ out. out ++ part) (text ∙ append-nil before.here.out));
-      whole = on_cut result (mid.here.out ++ part ≡ before.here.out ++ stop_line why) cut;
-    };
-    files = record { file0 = keeps.file0; file1 = keeps.file1 };
-  })
-
-  -- the last line of a run whose files are refused
-  refuses_end : (new : Option Told) → (exit ≡ why) ⊎ IsCut exit → (exit ≡ why → line ≡ stop_line why) → EndsTold exit result line (Some mid) new → IsSomeAnd new (Refuses why result before)
-  refuses_end new found same (inr cut) = rw cut.2 (refuses_short (rw cut.1 cut.0))
-  refuses_end new (inl is) same (inl (answer, inl said)) = rw said.1 (refuses_printed (same is) (said.0 ∙ is))
-  refuses_end new (inl is) same (inl (answer, inr (inl failed))) = refuses_failed new (same is) (rw failed.0 refl) failed.1
-  refuses_end new (inl is) same (inl (answer, inr (inr short))) = rw short.1 (refuses_short (rw short.0 refl))
-  refuses_end new (inr cut) same (inl said) =
-      absurd (not_both exit cut said.0)
-
-pub files_opened : (held : Result State Refusal) (account : State) (result : Exit) (before now : Told) → held ≡ Ok account → RefusesFiles (refusal_exit held) result before now
-files_opened held account result before now is = rw is tt
-
-pub files_refused : (exit result : Exit) (state : State) (before now : Told) (old mid new : Option Told) → old ≡ Some before → new ≡ Some now → Relates AfterOpening old mid
-    → IfSome old (λ t. Opens (Err exit) (recovered t.here.file0 t.here.file1)) → EndsTold exit result (closing_line state exit) mid new → RefusesFiles (files_refusal before.here) result before now
-files_refused exit result state before now old mid new one two after opens ends = by (files_refusal before.here) refl
+pub files_refused : {X : Type 0} (see : X → Seen) (exit result : Exit) (state : State) (before now : Told) (old mid new : X) → (see old).told ≡ Some before → (see new).told ≡ Some now → Relates AfterOpening (see old).told (see mid).told
+    → IfSome (see old).told (λ t. Opens (Err exit) (recovered t.here.file0 t.here.file1)) → Ends see exit result (closing_line state exit) mid new → RefusesFiles (files_refusal before.here) result before now
+files_refused see exit result state before now old mid new one two after opens ends = by (files_refusal before.here) refl
   where
-    found : (u : Told) × (mid ≡ Some u) × AfterOpening before u
-    found = told_on AfterOpening old mid before one after
+    found : (u : Told) × ((see mid).told ≡ Some u) × AfterOpening before u
+    found = told_on AfterOpening (see old).told (see mid).told before one after
+
+    held : Result State Refusal
+    held = recovered before.here.file0 before.here.file1
+
+    text : Prints [] before found.0
+    text = found.2.text ∙ sym (append-nil before.here.out)
+
+    last : (why : Exit) → refusal_exit held ≡ Some why → KeepsFiles before found.0 → (exit ≡ why) ⊎ IsCut exit → Ends see exit result (closing_line state exit) mid new → IsSomeAnd (see new).told (Refuses why result before)
+    last why is keeps as_found (inr cut) =
+        refuses_printed why result (stop_line why) before found.0 text keeps (see new).told refl
+        (none_printed why result (stop_line why) (Some found.0) (see new).told (on_cut result ((result ≡ why) × ([] ≡ stop_line why)) (rw cut.1 cut.0)) (ap (λ x. (see x).told) cut.2 ∙ found.1))
+    last why is keeps (inr cut) (inl said) = absurd (not_both exit cut said.0)
+    last why is keeps (inl same) (inl said) =
+        refuses_printed why result (closing_line state exit) before found.0 text keeps (see new).told (ap (closing_line state) same ∙ refusal_line held why state is)
+        (subst (λ (o : Option Told). Relates (Printed why result (closing_line state exit)) o (see new).told) found.1
+        (subst (λ (e : Exit). Relates (Printed e result (closing_line state exit)) (see mid).told (see new).told) same (says_printed see exit result (closing_line state exit) mid new said.1)))
 
     by : (refusal : Option Exit) → files_refusal before.here ≡ refusal → RefusesFiles refusal result before now
     by None is = tt
     by (Some why) is =
-        let held : Result State Refusal = recovered before.here.file0 before.here.file1 in
         let err = refusal_err held why is in
         let kept : KeepsFiles before found.0 = record { file0 = refused_keeps err.0 before found.0 err.1 found.2; file1 = found.2.file1 } in
-        let text : Prints [] before found.0 = found.2.text ∙ sym (append-nil before.here.out) in
-        let as_found = refused_as held why exit is (if_told (λ t. Opens (Err exit) (recovered t.here.file0 t.here.file1)) old before one opens) in
-        let line : exit ≡ why → closing_line state exit ≡ stop_line why = (λ same. ap (closing_line state) same ∙ refusal_line held why state is) in
-        let all : IsSomeAnd new (Refuses why result before) = refuses_end why exit result (closing_line state exit) before found.0 text kept new as_found line (subst (λ o. EndsTold exit result (closing_line state exit) o new) found.1 ends) in
-        let here : IsSomeAnd (Some now) (Refuses why result before) = subst (λ o. IsSomeAnd o (Refuses why result before)) two all in
+        let as_found = refused_as held why exit is (if_told (λ t. Opens (Err exit) (recovered t.here.file0 t.here.file1)) (see old).told before one opens) in
+        let here : IsSomeAnd (Some now) (Refuses why result before) = subst (λ o. IsSomeAnd o (Refuses why result before)) two (last why is kept as_found ends) in
         here
 
 -- ---- a run, from what its parts did
@@ -293,7 +269,7 @@ pub was_opened : {X : Type 0} (see : X → Seen) (start : Start) (script : List 
     → TakesScript see start script (told_on AfterOpening (see a).told (see b).told t is after).0 exit b new → DoesRun see start script exit t a new
 was_opened see start script exit ledger t a b new is begins account after makes stops ready takes =
     let found = told_on AfterOpening (see a).told (see b).told t is after in
-    let before = before_at ledger.journal.standing ledger.account.state (see b).told (see b).clock found.0 ready.stands found.1 in
+    let before = before_of ledger.journal.standing ledger.account.state (see b).told (see b).clock found.0 ready.stands found.1 in
     inr (record {
       mid = b;
       there = found.0;

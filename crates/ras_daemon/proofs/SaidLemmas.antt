@@ -1,48 +1,53 @@
 -- What is told once a last line was printed or not, and why it ends so.
-use Rattle.std.proofs.Common.{◌≡◌, ℕ, List, Option, Result, Ok, Err, refl, ap, sym, ◌∙◌, subst, inl, inr}
-use Rattle.std.specs.Prelude.{⊤, ◌⊎◌, IfSome, IsSomeAnd, Some}
+use Rattle.std.proofs.Common.{◌≡◌, ℕ, List, Option, Result, Ok, Err, refl, ap, sym, ◌∙◌, subst, inl, inr, [], None, Some, append-nil}
+use Rattle.std.specs.Prelude.{⊤}
 use Rattle.board_core.specs.Cause.{Faults, print_call}
-use Rattle.board_core.specs.Clock.{Clock}
-use Rattle.board_core.specs.Device.{LeavesDevice}
-use Rattle.board_core.specs.Doing.{Act, Does, Ended, Seen}
+use Rattle.board_core.specs.Doing.{Act, Does, Seen}
 use Rattle.board_core.specs.Told.{FailsPrint, Relates, Steps, Told, after_print}
-use Rattle.board_core.proofs.ActLemmas.{does_leave_device}
-use Rattle.ras_account.specs.Account.{State}
-use Rattle.ras_journal.specs.declared.standing.Standing.{Standing}
-use Rattle.ras_journal.specs.Appending.{Before}
-use Rattle.ras_ledger.specs.Keeping.{Stands}
-use Rattle.ras_exit.specs.Acts.{end_of, print_acts}
+use Rattle.ras_exit.specs.Acts.{end_of}
 use Rattle.ras_exit.specs.Causes.{BoardCause, BoardCauseBy, Causes, SourceCause, SourceCauseBy}
-use Rattle.ras_exit.specs.Endings.{CallEnding, EndsBy, IsAnswer, IsCut, IsLineExit, OnlyFault, answered, ending_of, faulted, source_failed, starved}
+use Rattle.ras_exit.specs.Endings.{OnAnswer, CallEnding, EndsBy, IsAnswer, IsCut, IsLineExit, OnlyFault, answered, ending_of, faulted, source_failed, starved}
 use Rattle.ras_exit.specs.declared.exit.Exit.{Exit}
-use Rattle.ras_exit.specs.declared.exit.Exit.TheVariants.{NoMemory, PrintFault, Usage}
-use Rattle.ras_exit.proofs.EndingLemmas.{not_both}
+use Rattle.ras_exit.specs.declared.exit.Exit.TheVariants.{PrintFault, Usage}
+use Rattle.ras_exit.proofs.EndingLemmas.{not_both, on_answer, on_cut}
 use Rattle.ras_exit.proofs.PrintLemmas.{not_printed, part_causes, printed}
 use Rattle.ras_run.specs.Taking.{IsPrintExit}
+use Rattle.ras_base.specs.Prefix.{IsPrefixOf}
 use Rattle.ras_daemon.specs.Doing.{Ends, Says}
-use Rattle.ras_daemon.proofs.ScriptLemmas.{prints_off}
 use Rattle.ras_daemon.proofs.TakenLemmas.{EndsAs, answers}
 
 -- ---- what is told
 
-abbrev pub SaysTold : Exit → Exit → List ℕ → Option Told → Option Told → Type 0
-SaysTold exit result line old new =
-    ((result ≡ exit) × Steps (after_print line) old new)
-    ⊎ (((result ≡ PrintFault) × Relates (FailsPrint line) old new)
-    ⊎ ((result ≡ NoMemory) × (new ≡ old)))
+-- Of a last line a beginning was printed, and all of it if that is the answer.
+pub record Printed (exit result : Exit) (line : List ℕ) (old now : Told) : Type 0 where
+  pub part : List ℕ
+  pub begins : IsPrefixOf part line
+  pub is : now ≡ after_print part old
+  pub answers : OnAnswer result ((result ≡ exit) × (part ≡ line))
 
-abbrev pub EndsTold : Exit → Exit → List ℕ → Option Told → Option Told → Type 0
-EndsTold exit result line old new =
-    (IsAnswer exit × SaysTold exit result line old new) ⊎ (IsCut exit × (result ≡ exit) × (new ≡ old))
+pub none_printed : (exit result : Exit) (line : List ℕ) (a b : Option Told) → OnAnswer result ((result ≡ exit) × ([] ≡ line)) → b ≡ a → Relates (Printed exit result line) a b
+none_printed exit result line None b answers same = same
+none_printed exit result line (Some t) b answers same =
+    rw same (record { part = []; begins = (line, refl); is = ap (λ out. record t { here = record t.here { out = out } }) (sym (append-nil t.here.out)); answers = answers })
 
-pub says_told : {X : Type 0} (see : X → Seen) (exit result : Exit) (line : List ℕ) (a b : X) → Says see exit result line a b → SaysTold exit result line (see a).told (see b).told
-says_told see exit result line a b (inl said) = inl (said.0, printed {T = Unit {0}} see line (Ok tt) a b said.1)
-says_told see exit result line a b (inr (inl failed)) = inr (inl (failed.0, not_printed {T = Unit {0}} see line (Err PrintFault) a b failed.1))
-says_told see exit result line a b (inr (inr short)) = inr (inr (short.0, ap (λ x. (see x).told) short.1))
+pub says_printed : {X : Type 0} (see : X → Seen) (exit result : Exit) (line : List ℕ) (a b : X) → Says see exit result line a b → Relates (Printed exit result line) (see a).told (see b).told
+says_printed see exit result line a b (inl said) = by (see a).told (printed {T = Unit {0}} see line (Ok tt) a b said.1)
+  where
+    by : (told : Option Told) → Steps (after_print line) told (see b).told → Relates (Printed exit result line) told (see b).told
+    by None steps = steps
+    by (Some t) steps = rw steps (record { part = line; begins = ([], append-nil line); is = refl; answers = on_answer result ((result ≡ exit) × (line ≡ line)) (said.0, refl) })
+says_printed see exit result line a b (inr (inl failed)) = by (see a).told (see b).told (not_printed {T = Unit {0}} see line (Err PrintFault) a b failed.1)
+  where
+    by : (old new : Option Told) → Relates (FailsPrint line) old new → Relates (Printed exit result line) old new
+    by None new fails = fails
+    by (Some t) None fails = fails
+    by (Some t) (Some now) (part, rest, splits, is) = record { part = part; begins = (rest, splits); is = is; answers = rw failed.0 tt }
+says_printed see exit result line a b (inr (inr short)) = none_printed exit result line (see a).told (see b).told (rw short.0 tt) (ap (λ x. (see x).told) short.1)
 
-pub ends_told : {X : Type 0} (see : X → Seen) (exit result : Exit) (line : List ℕ) (a b : X) → Ends see exit result line a b → EndsTold exit result line (see a).told (see b).told
-ends_told see exit result line a b (inl said) = inl (said.0, says_told see exit result line a b said.1)
-ends_told see exit result line a b (inr cut) = inr (cut.0, cut.1, ap (λ x. (see x).told) cut.2)
+pub ends_printed : {X : Type 0} (see : X → Seen) (exit result : Exit) (line : List ℕ) (a b : X) → Ends see exit result line a b → Relates (Printed exit result line) (see a).told (see b).told
+ends_printed see exit result line a b (inl said) = says_printed see exit result line a b said.1
+ends_printed see exit result line a b (inr cut) =
+    none_printed exit result line (see a).told (see b).told (on_cut result ((result ≡ exit) × ([] ≡ line)) (subst IsCut (sym cut.1) cut.0)) (ap (λ x. (see x).told) cut.2)
 
 -- ---- why it ends so
 
@@ -108,15 +113,3 @@ ends_listed see (Err found) exit result line a b is ends usage = by ends
     by (inl (answer, inr (inl failed))) = let e = sym failed.0 ∙ usage in cc
     by (inl (answer, inr (inr short))) = let e = sym short.0 ∙ usage in cc
     by (inr cut) = no_usage found is.1 (sym (cut.1 ∙ is.0) ∙ usage)
-
--- ---- over a ledger that stands
-
-pub before_at : (standing : Standing) (account : State) (told : Option Told) (clock : Clock) (t : Told) → Stands standing account told clock → told ≡ Some t → Before standing account t told clock
-before_at standing account told clock t stands is =
-    let here : IsSomeAnd (Some t) (λ u. Before standing account u told clock) = subst (λ o. IfSome o (λ u. Before standing account u told clock)) is stands in here
-
--- a print there leaves the device alone
-pub print_device : {X : Type 0} (see : X → Seen) (text : List ℕ) (ended : Ended) (standing : Standing) (account : State) (a b : X) → Stands standing account (see a).told (see a).clock → Does see (print_acts text) ended a b
-    → LeavesDevice (see a).told (see b).told (see a).clock (see b).clock
-print_device see text ended standing account a b stands does =
-    does_leave_device see (print_acts text) ended a b (prints_off text) (λ t is. (before_at standing account (see a).told (see a).clock t stands is).rests) does

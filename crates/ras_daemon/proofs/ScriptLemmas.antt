@@ -1,5 +1,5 @@
 -- What taking a script comes to, over a journal that was opened.
-use Rattle.std.proofs.Common.{◌≡◌, ℕ, List, [], ◌∷◌, ◌++◌, map, Option, None, Some, IsSomeAnd, refl, ap, sym, ◌∙◌, subst, append_assoc, append-nil, inl, inr}
+use Rattle.std.proofs.Common.{◌≡◌, ℕ, List, [], ◌++◌, map, Option, None, Some, IsSomeAnd, refl, ap, sym, ◌∙◌, subst, append_assoc, append-nil, inl, inr}
 use Rattle.std.specs.Prelude.{◌⊎◌}
 use Rattle.std.specs.Option.{option_map}
 use Rattle.board_core.specs.Cause.{Kind}
@@ -16,11 +16,14 @@ use Rattle.ras_account.specs.Account.{account_of}
 use Rattle.ras_journal.specs.Recovered.{Recovers}
 use Rattle.ras_events.specs.Reports.{NumberedLine}
 use Rattle.ras_exit.specs.Acts.{print_acts}
-use Rattle.ras_exit.specs.Endings.{CallEnding, answered, ending_of, faulted, source_failed, starved}
+use Rattle.ras_exit.specs.Endings.{CallEnding, answered, ending_of, faulted, starved}
 use Rattle.ras_exit.specs.declared.exit.Exit.{Exit}
 use Rattle.ras_exit.proofs.PrintLemmas.{after_printed, print_moment}
 use Rattle.ras_run.specs.LineActs.{HoldsAfter}
-use Rattle.ras_run.specs.Places.{Start, account_at}
+use Rattle.ras_run.specs.Places.{Start, account_at, standing_at}
+use Rattle.ras_run.proofs.PrintActLemmas.{off_both, print_off, reading_here, reading_off}
+use Rattle.ras_run.proofs.ReopenLemmas.{reading_moment}
+use Rattle.ras_run.proofs.StandsLemmas.{print_at}
 use Rattle.ras_texts.specs.Orders.{standing_lines}
 use Rattle.ras_daemon.specs.Doing.{DoesFirst, DoesScript, IsLastBy, TakesScript}
 use Rattle.ras_daemon.specs.RunActs.{AreActsAlong, AreScriptActs, DidOf, last_acts, orders_acts}
@@ -28,7 +31,7 @@ use Rattle.ras_daemon.specs.RunOutput.{closing_line}
 use Rattle.ras_daemon.specs.RunStatus.{run_exit}
 use Rattle.ras_daemon.specs.Running.{AreAll, AreFirst, EndsEarly, EndsIn, EndsSo, OpenMoment, RunEnds, lines_from, outputs}
 use Rattle.ras_daemon.specs.Script.{reads_of}
-use Rattle.ras_daemon.proofs.AlongActLemmas.{along_begun, along_done, along_moment, along_off, along_prints, off-append}
+use Rattle.ras_daemon.proofs.AlongActLemmas.{along_begun, along_done, along_moment, along_off, along_prints}
 use Rattle.ras_daemon.proofs.FirstLinesLemmas.{closing-same}
 
 -- ---- prints, and disk calls that write nothing
@@ -36,26 +39,8 @@ use Rattle.ras_daemon.proofs.FirstLinesLemmas.{closing-same}
 pub printed_out : (text : List ℕ) (t : Told) → (after_acts (print_acts text) t).here.out ≡ t.here.out ++ text
 printed_out text t = ap (λ (u : Told). u.here.out) (after_printed text t)
 
-pub printed_holds : (start : Start) (before : List NumberedLine) (text : List ℕ) (t : Told) → HoldsAfter start before t → HoldsAfter start before (after_acts (print_acts text) t)
-printed_holds start before [] t holds = holds
-printed_holds start before (b ∷ text) t holds = record { account = holds.account; at = record { recovers = holds.at.recovers; position = holds.at.position } }
-
-pub prints_off : (text : List ℕ) → AreOffDevice (print_acts text)
-prints_off [] = tt
-prints_off (b ∷ text) = (tt, tt)
-
-pub calls_off : (made : List DiskCall) → AreOffDevice (map calls made)
-calls_off [] = tt
-calls_off (call ∷ made) = (tt, calls_off made)
-
-pub called_here : (made : List DiskCall) (t : Told) → (after_acts (map calls made) t).here ≡ t.here
-called_here [] t = refl
-called_here (call ∷ made) t = called_here made (record t { disk_calls = t.disk_calls ++ call ∷ [] })
-
-called_moment : (made : List DiskCall) (t : Told) (left : Left) → Moment (map calls made) t left → left ≡ t.here
-called_moment [] t left never = absurd never
-called_moment (call ∷ made) t left (inl same) = same
-called_moment (call ∷ made) t left (inr later) = called_moment made (record t { disk_calls = t.disk_calls ++ call ∷ [] }) left later
+printed_holds : (start : Start) (before : List NumberedLine) (text : List ℕ) (t : Told) → HoldsAfter start before t → HoldsAfter start before (after_acts (print_acts text) t)
+printed_holds start before text t holds = record { account = holds.account; at = print_at text (standing_at start before) (account_at start before) t holds.at }
 
 -- what stands behind the lines: no last line, or one
 abbrev pub IsLast : Start → List ℕ → List NumberedLine → List Act → Type 0
@@ -64,12 +49,11 @@ IsLast start script before last = (last ≡ []) ⊎ ((end : Exit) × AreAll star
 last_of : (start : Start) (script : List ℕ) (before : List NumberedLine) (exit : Exit) (ending : CallEnding) (last : List Act) → IsLastBy start script before exit ending last → IsLast start script before last
 last_of start script before exit answered last is = inr (exit, is.0, is.1)
 last_of start script before exit (faulted kind) last is = is
-last_of start script before exit source_failed last is = inl is
-last_of start script before exit starved last is = inl is
+last_of start script before exit ending last is = inl is
 
 last_off : (start : Start) (script : List ℕ) (before : List NumberedLine) (last : List Act) → IsLast start script before last → AreOffDevice last
 last_off start script before last (inl none) = rw none tt
-last_off start script before last (inr (end, all, is)) = rw is (prints_off (closing_line (account_at start before) end))
+last_off start script before last (inr (end, all, is)) = rw is (print_off (closing_line (account_at start before) end))
 
 -- ---- the acts of a script, up to these lines
 
@@ -93,8 +77,8 @@ module _ (start : Start) (script : List ℕ) (t : Told) (before : List NumberedL
       ∙ ap (λ out. out ++ outputs start before) (printed_out (standing_lines (account_of start.history)) t)
 
   script_off : IsLast start script before last → AreOffDevice script_acts
-  script_off is = off-append (orders_acts start) (along ++ last) (prints_off (standing_lines (account_of start.history)))
-      (off-append along last (along_off start (places before) behind_orders along lines) (last_off start script before last is))
+  script_off is = off_both (orders_acts start) (along ++ last) (print_off (standing_lines (account_of start.history)))
+      (off_both along last (along_off start (places before) behind_orders along lines) (last_off start script before last is))
 
   -- with the last line they are all acts of the script
   script_whole : (end : Exit) → AreAll start script end before → last ≡ last_acts start before end → AreScriptActs start script t script_acts
@@ -157,7 +141,7 @@ module _ (start : Start) (script : List ℕ) (t : Told) (before : List NumberedL
     -- between the lines, once disk calls were made that write nothing
     called_stop : (made : List DiskCall) (left : Left) → last ≡ [] → Moment (map calls made) (after_acts script_acts t) left → OpenMoment start script t.here.out left
     called_stop made left none moment =
-        let here : left ≡ behind_lines.here = called_moment made (after_acts script_acts t) left moment ∙ ap (λ (u : Told). u.here) (after_script ∙ ap (λ (l : List Act). after_acts l behind_lines) none) in
+        let here : left ≡ behind_lines.here = reading_moment made (after_acts script_acts t) left moment ∙ ap (λ (u : Told). u.here) (after_script ∙ ap (λ (l : List Act). after_acts l behind_lines) none) in
         inr (inl (inl (record { before = before; first = first; recovers = rw here (record { is = lines_hold.at.recovers }); text = rw here lines_out })))
 
     -- where a run ends that comes to an answer, and one that is cut short
@@ -180,7 +164,7 @@ module _ (start : Start) (script : List ℕ) (t : Told) (before : List NumberedL
     script_early : (made : List DiskCall) → last ≡ [] → EndsEarly start script t.here.out (after_acts (script_acts ++ map calls made) t)
     script_early made none =
         let here : (after_acts (script_acts ++ map calls made) t).here ≡ behind_lines.here =
-        ap (λ (u : Told). u.here) (after-append script_acts (map calls made) t) ∙ called_here made (after_acts script_acts t) ∙ ap (λ (u : Told). u.here) (after_script ∙ ap (λ (l : List Act). after_acts l behind_lines) none) in
+        ap (λ (u : Told). u.here) (after-append script_acts (map calls made) t) ∙ reading_here made (after_acts script_acts t) ∙ ap (λ (u : Told). u.here) (after_script ∙ ap (λ (l : List Act). after_acts l behind_lines) none) in
         record {
           before = before;
           first = first;
@@ -238,10 +222,7 @@ module _ {X : Type 0} (see : X → Seen) (start : Start) (script : List ℕ) (t 
       let all = script_begun start script t d.before d.first d.along d.lines d.last ends in
       let failed = told_failed kind acts t (see old).told (see new).told rests.is does.told in
       rw failed.1 (acts ++ all.0, all.1, fails_first kind acts all.0 t failed.0 failed.2)
-  did_by d source_failed ends does =
-      let done : List Act = (orders_acts start ++ (d.along ++ d.last)) ++ map calls does.made in
-      rw (told_done done does.does) (done ++ does.later, does.are, (done, (does.later, refl), refl))
-  did_by d starved ends does =
+  did_by d ending ends does =
       let done : List Act = (orders_acts start ++ (d.along ++ d.last)) ++ map calls does.made in
       rw (told_done done does.does) (done ++ does.later, does.are, (done, (does.later, refl), refl))
 
@@ -262,8 +243,7 @@ module _ {X : Type 0} (see : X → Seen) (start : Start) (script : List ℕ) (t 
         → DoesFirst see (AreScriptActs start script t) (orders_acts start ++ (d.along ++ d.last)) ending old new → IsSomeAnd (see new).told (EndsIn start script exit ending t.here.out)
     runs_by d answered ends does = rw (told_done (orders_acts start ++ (d.along ++ d.last)) does) (script_so start script t d.before d.first d.along d.lines d.last holds exit ends.0 ends.1)
     runs_by d (faulted kind) ends does = rw (told_failed kind (orders_acts start ++ (d.along ++ d.last)) t (see old).told (see new).told rests.is does.told).1 tt
-    runs_by d source_failed ends does = early_by d ends does.made does.does
-    runs_by d starved ends does = early_by d ends does.made does.does
+    runs_by d ending ends does = early_by d ends does.made does.does
 
     pub takes_runs : TakesScript see start script t exit old new → IsSomeAnd (see new).told (RunEnds start script exit t.here.out)
     takes_runs (inl none) =
@@ -288,7 +268,7 @@ module _ {X : Type 0} (see : X → Seen) (start : Start) (script : List ℕ) (t 
         let off : AreOffDevice acts = script_off start script t d.before d.first d.along d.lines d.last (inl last) in
         adds_weaker (Moment (acts ++ map calls made) t) (OpenStop start script t) (see old).clock (see new).clock adds
         (λ left moment. (
-          moment_store (acts ++ map calls made) (off-append acts (map calls made) off (calls_off made)) t left moment,
+          moment_store (acts ++ map calls made) (off_both acts (map calls made) off (reading_off made)) t left moment,
           elim (moment_parts acts (map calls made) t left moment) [
             | inl at ↦ script_moment start script t d.before d.first d.along d.lines d.last holds left (inl last) at
             | inr called ↦ called_stop start script t d.before d.first d.along d.lines d.last holds made left last called
@@ -299,8 +279,7 @@ module _ {X : Type 0} (see : X → Seen) (start : Start) (script : List ℕ) (t 
         → DoesFirst see (AreScriptActs start script t) (orders_acts start ++ (d.along ++ d.last)) ending old new → Adds (OpenStop start script t) (see old).clock (see new).clock
     stops_by d answered ends does = stops_whole d (inr (exit, ends.0, ends.1)) (does.stops t rests)
     stops_by d (faulted kind) ends does = stops_whole d ends (does.stops t rests)
-    stops_by d source_failed ends does = stops_part d ends does.made (does.does.stops t rests)
-    stops_by d starved ends does = stops_part d ends does.made (does.does.stops t rests)
+    stops_by d ending ends does = stops_part d ends does.made (does.does.stops t rests)
 
     pub takes_stops : TakesScript see start script t exit old new → Adds (OpenStop start script t) (see old).clock (see new).clock
     takes_stops (inl none) = rw none.1 (adds_none (OpenStop start script t) (see old).clock)

@@ -16,8 +16,8 @@ use Rattle.ras_exit.proofs.EndingLemmas.{memory_ran_out, not_both}
 use Rattle.ras_run.specs.declared.run.Run.{Run}
 use Rattle.ras_run.specs.Places.{Start, account_at}
 use Rattle.ras_run.specs.Taking.{IsPrintExit}
-use Rattle.ras_daemon.specs.Doing.{AreLinesActs, DoesFirst, DoesLines, DoesPart, DoesScript, Ends, IsLastBy, Says, TakesScript}
-use Rattle.ras_daemon.specs.RunActs.{AreActsAlong, AreScriptActs, last_acts, orders_acts}
+use Rattle.ras_daemon.specs.Doing.{DoesFirst, DoesLines, DoesPart, DoesScript, Ends, IsLastBy, Says, TakesScript}
+use Rattle.ras_daemon.specs.RunActs.{AreActsAlong, AreLinesActs, AreScriptActs, last_acts, orders_acts}
 use Rattle.ras_daemon.specs.RunOutput.{closing_line}
 use Rattle.ras_daemon.specs.RunStatus.{run_exit}
 use Rattle.ras_daemon.specs.Running.{AreAll, AreFirst}
@@ -132,7 +132,5 @@ module _ {X : Type 0} (see : X → Seen) (start : Start) (script : List ℕ) (t 
       by (faulted kind) so failed all (inr cut) =
           inr (rw (cut.1, cut.2) (taken found (faulted kind) d.before d.acts [] old b so d.first d.along (inl refl)
           (subst (λ (l : List Act). Breaks kind l (see old) (see b)) (ap (λ l. orders_acts start ++ l) (sym (append-nil d.acts))) (does_then see (orders_acts start) d.acts (broke kind) old a b orders tt failed))))
-      by source_failed so part all (inl said) = absurd (not_both found (ap is_answered so) said.0)
-      by source_failed so part all (inr cut) = inr (rw (cut.1, cut.2) (taken found source_failed d.before d.acts [] old b so d.first d.along refl (parts part)))
-      by starved so part all (inl said) = absurd (not_both found (ap is_answered so) said.0)
-      by starved so part all (inr cut) = inr (rw (cut.1, cut.2) (taken found starved d.before d.acts [] old b so d.first d.along refl (parts part)))
+      by ending so part all (inl said) = absurd (not_both found (ap is_answered so) said.0)
+      by ending so part all (inr cut) = inr (rw (cut.1, cut.2) (taken found ending d.before d.acts [] old b so d.first d.along refl (parts part)))

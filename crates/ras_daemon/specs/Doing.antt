@@ -16,11 +16,9 @@ use Rattle.ras_exit.specs.declared.exit.Exit.TheVariants.{Done, NoMemory, PrintF
 use Rattle.ras_run.specs.declared.run.Run.{Run}
 use Rattle.ras_run.specs.LineActs.{HoldsAfter}
 use Rattle.ras_run.specs.Places.{Start}
-use Rattle.ras_run.specs.Status.{places_before_refusal}
 use Rattle.ras_run.specs.Taking.{IsRunAfter}
-use Rattle.ras_daemon.specs.RunActs.{AreActsAlong, AreScriptActs, last_acts, orders_acts}
+use Rattle.ras_daemon.specs.RunActs.{AreActsAlong, AreLinesActs, AreScriptActs, last_acts, orders_acts}
 use Rattle.ras_daemon.specs.Running.{AreAll, AreFirst}
-use Rattle.ras_daemon.specs.Script.{reads_of}
 
 -- Behind these acts a line made disk calls that write nothing, maybe none, and then memory ran out
 -- or the source failed. Together they are the first ones of such acts.
@@ -36,10 +34,6 @@ DoesFirst see Are acts (faulted kind) old new = Breaks kind acts (see old) (see 
 DoesFirst see Are acts ending old new = DoesPart see Are acts old new
 
 -- ---- lines
-
--- the acts of all lines before the first refused one
-abbrev pub AreLinesActs : Start → List ℕ → Told → List Act → Type 0
-AreLinesActs start script t acts = AreActsAlong start (places_before_refusal start (places (reads_of script))) t acts
 
 -- These lines are all that a run takes, if it isn't cut short among them.
 abbrev pub EndsBehind : Start → List ℕ → List NumberedLine → Result (Unit {0}) Exit → Run → Type 0

@@ -31,6 +31,10 @@ AreActsAlong start (place ∷ places) t acts =
     (here : List Act) × (rest : List Act) × (acts ≡ here ++ rest)
     × AreLineActs start place t here × AreActsAlong start places (after_acts here t) rest
 
+-- the acts of all lines before the first refused one
+abbrev pub AreLinesActs : Start → List ℕ → Told → List Act → Type 0
+AreLinesActs start script t acts = AreActsAlong start (places_before_refusal start (places (reads_of script))) t acts
+
 -- The journal is opened over the files that are here: all that counts of them is read, and if no
 -- file stands file 0 is formatted.
 pub record AreOpeningActs (here : Left) (acts : List Act) : Type 0 where
@@ -49,7 +53,7 @@ last_acts start before exit = print_acts (closing_line (account_at start before)
 -- taken, and then the last line is printed.
 pub record AreScriptActs (start : Start) (script : List ℕ) (t : Told) (acts : List Act) : Type 0 where
   pub along : List Act
-  pub lines : AreActsAlong start (places_before_refusal start (places (reads_of script))) (after_acts (orders_acts start) t) along
+  pub lines : AreLinesActs start script (after_acts (orders_acts start) t) along
   pub is : acts ≡ orders_acts start ++ (along ++ last_acts start (reads_of script) (run_exit start script))
 
 -- the acts of a run over a board that tells this

@@ -1,6 +1,6 @@
 -- What a call has printed, by how it ends.
 use Rattle.std.specs.Prelude.{◌≡◌, ℕ, List, ◌++◌}
-use Rattle.board_core.specs.Told.{Told, after_print}
+use Rattle.board_core.specs.Told.{Told}
 use Rattle.ras_base.specs.Prefix.{IsPrefixOf}
 use Rattle.ras_exit.specs.declared.exit.Exit.{Exit}
 use Rattle.ras_exit.specs.Endings.{OnAnswer}
@@ -8,12 +8,6 @@ use Rattle.ras_exit.specs.Endings.{OnAnswer}
 -- the bytes printed now are those printed before and a beginning of the output, or all of it
 abbrev pub PrintsPart : List ℕ → List ℕ → List ℕ → Type 0
 PrintsPart output before now = (part : List ℕ) × IsPrefixOf part output × (now ≡ before ++ part)
-
--- of what is told only the text printed so far is new, by a beginning of this one or all of it
-pub record OnlyPrints (text : List ℕ) (before now : Told) : Type 0 where
-  pub part : List ℕ
-  pub begins : IsPrefixOf part text
-  pub is : now ≡ after_print part before
 
 -- of what is told only the text printed so far is new
 abbrev pub OnlyText : Told → Told → Type 0

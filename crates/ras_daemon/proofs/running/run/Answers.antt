@@ -8,7 +8,6 @@ use Rattle.ras_daemon.specs.Running.{RunAhead}
 use Rattle.ras_exit.proofs.DeviceLemmas.{device_goes_on}
 use Rattle.ras_daemon.proofs.AheadLemmas.{ahead_opened}
 use Rattle.ras_daemon.proofs.RunLemmas.{files_refused, if_told, none_called, not_opened, opening_device, over_files, over_run, start_opened, told_on, was_opened}
-use Rattle.ras_daemon.proofs.SaidLemmas.{ends_told}
 use Rattle.ras_daemon.proofs.running.run.Goals as goal
 
 pub returns-in-Err-clause-does : goal.returns-in-Err-clause-does
@@ -52,8 +51,8 @@ pub returns-clause-refused : goal.returns-clause-refused
 returns-clause-refused g c =
     let see = looks g.B.Board.told g.B.Board.clock g.B.Board.faults in
     over_files _ _ _ _ _ (returns-clause-device g c) (λ before now one two.
-    files_refused c.in-Err-open.exit c.end_run-in-Err-open.result c.new-in-Err-open.result.state before now _ _ _ one two
-    c.in-Err-open.ensures.told c.in-Err-open.ensures.opens (ends_told see _ _ _ c.open.new.board c.end_run-in-Err-open.new.board c.end_run-in-Err-open.ensures.ends))
+    files_refused see c.in-Err-open.exit c.end_run-in-Err-open.result c.new-in-Err-open.result.state before now c.args.board.now c.open.new.board c.end_run-in-Err-open.new.board one two
+    c.in-Err-open.ensures.told c.in-Err-open.ensures.opens c.end_run-in-Err-open.ensures.ends)
 
 pub returns-in-Ok-open-clause-device : goal.returns-in-Ok-open-clause-device
 returns-in-Ok-open-clause-device g c =

@@ -9,11 +9,13 @@ use Rattle.ras_exit.specs.Endings.{ending_of}
 use Rattle.ras_exit.specs.declared.exit.Exit.TheVariants.{SourceFault}
 use Rattle.ras_run.specs.Taking.{IsRunAfter}
 use Rattle.ras_texts.specs.Orders.{standing_lines}
+use Rattle.ras_run.proofs.DeviceLemmas.{does_off}
+use Rattle.ras_run.proofs.PrintActLemmas.{print_off}
 use Rattle.ras_daemon.specs.RunActs.{orders_acts}
 use Rattle.ras_daemon.specs.Running.{EndsAhead, lines_from}
 use Rattle.ras_exit.proofs.DeviceLemmas.{device_goes_on}
 use Rattle.ras_daemon.proofs.AheadLemmas.{ahead_end, fault_before}
-use Rattle.ras_daemon.proofs.SaidLemmas.{ends_causes, ends_listed, ends_told, orders_causes, print_device}
+use Rattle.ras_daemon.proofs.SaidLemmas.{ends_causes, ends_listed, ends_printed, orders_causes}
 use Rattle.ras_daemon.proofs.ScriptLemmas.{printed_out, told_after}
 use Rattle.ras_daemon.proofs.TakenLemmas.{EndsAs, lines_taken, no_orders}
 use Rattle.ras_daemon.proofs.running.take_script.Goals as goal
@@ -29,7 +31,7 @@ returns-in-Err-clause-ahead g c = λ start script t is_start left is. inl left
 
 pub returns-in-Err-clause-device : goal.returns-in-Err-clause-device
 returns-in-Err-clause-device g c =
-    print_device (looks g.B.Board.told g.B.Board.clock g.B.Board.faults) _ _ _ _ c.args.board.now c.print_standing.new.board c.requires.ready.stands c.in-Err.ensures.does
+    does_off (looks g.B.Board.told g.B.Board.clock g.B.Board.faults) _ _ c.args.board.now c.print_standing.new.board c.requires.ready.stands _ (end_of (ending_of c.in-Err.exit)) (print_off (standing_lines c.args.ledger.account.state)) c.in-Err.ensures.does
 
 pub returns-in-Err-clause-causes : goal.returns-in-Err-clause-causes
 returns-in-Err-clause-causes g c =
@@ -58,7 +60,6 @@ returns-clause-ahead g c = λ start script t is_start left is.
     let u = after_acts (orders_acts start) t in
     let told = told_after (orders_acts start) t _ _ is orders.told in
     let after : IsRunAfter start [] (record { settings = c.new.result; ledger = c.args.ledger; text = c.new-2.result }) = record { settings = c.new.ensures; account = is_start.account; standing = is_start.standing } in
-    let ends = ends_told see _ _ _ c.take_lines.new.board c.end_run.new.board c.end_run.ensures.ends in
     let lines_fault : c.match-take_lines.exit ≡ SourceFault → c.take_lines.result ≡ Err SourceFault = (λ fault. elim c.match-take_lines.branch [
       | in-Ok w ↦ (let e = sym w.exit-is ∙ fault in absurd cc)
       | in-Err-take_lines w ↦ w.in-Err-take_lines.is ∙ ap Err (sym w.exit-is ∙ fault)
@@ -66,8 +67,8 @@ returns-clause-ahead g c = λ start script t is_start left is.
     inr (
       subst IsAccount is_start.account c.requires.account,
       ahead_end (c.take_lines.result ≡ Err SourceFault) (c.end_run.result ≡ SourceFault)
-          (λ fault. lines_fault (fault_before _ _ _ _ _ ends fault))
-          start script (lines_from start t.here.out) _ _ c.end_run.result _ _ _ ends
+          (λ fault. lines_fault (fault_before see _ _ _ c.take_lines.new.board c.end_run.new.board c.end_run.ensures.ends fault))
+          start script (lines_from start t.here.out) _ _ c.end_run.result _ _ _ (ends_printed see _ _ _ c.take_lines.new.board c.end_run.new.board c.end_run.ensures.ends)
           (subst (λ out. EndsAhead (c.take_lines.result ≡ Err SourceFault) start script out (g.S.Source.left c.take_lines.new.source) (g.B.Board.told c.take_lines.new.board)) (printed_out (standing_lines (account_of start.history)) t)
           (c.take_lines.ensures.ahead start script u after left told)),
     )
@@ -85,7 +86,7 @@ returns-clause-causes g c =
 pub returns-clause-device : goal.returns-clause-device
 returns-clause-device g c =
     device_goes_on _ _ _ _ _ _
-    (print_device (looks g.B.Board.told g.B.Board.clock g.B.Board.faults) _ went_well _ _ c.args.board.now c.print_standing.new.board c.requires.ready.stands c.in_default.ensures.does)
+    (does_off (looks g.B.Board.told g.B.Board.clock g.B.Board.faults) _ _ c.args.board.now c.print_standing.new.board c.requires.ready.stands _ went_well (print_off (standing_lines c.args.ledger.account.state)) c.in_default.ensures.does)
     (device_goes_on _ _ _ _ _ _ c.take_lines.ensures.device c.end_run.ensures.device)
 
 pub returns-clause-listed : goal.returns-clause-listed
