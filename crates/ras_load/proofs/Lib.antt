@@ -1,3 +1,4 @@
 mod ScriptLemmas
 pub mod ReadingLemmas
 mod SumLemmas
+mod FeedLemmas

@@ -32,13 +32,16 @@ number_within : (i : ℕ) (test : Bool) → cond test (i - 1) i ≤ i
 number_within i true = omega arith
 number_within i false = omega arith
 
+pub line_in_range : (i : ℕ) → i ≤ MOST_LINES → IsBankInRange (load_bank (bank_number i) (generated (bank_number i)))
+line_in_range i few =
+    let within : bank_number i ≤ i = number_within i (i % 10 == 0) in
+    bank_in_range (bank_number i) (generated (bank_number i)) (omega (arith, within))
+
 banks_in_range : (n : ℕ) → n ≤ MOST_LINES → AllByRecursion IsInRange (bank_lines n)
 unfolding bank_lines
 banks_in_range zero few = tt
 banks_in_range (suc n) few =
-    let within : bank_number (n + 1) ≤ n + 1 = number_within (n + 1) ((n + 1) % 10 == 0) in
-    both IsInRange (bank_lines n) (bank_line (n + 1) ∷ []) (banks_in_range n (omega arith))
-    (bank_in_range (bank_number (n + 1)) (generated (bank_number (n + 1))) (omega (arith, within)), tt)
+    both IsInRange (bank_lines n) (bank_line (n + 1) ∷ []) (banks_in_range n (omega arith)) (line_in_range (n + 1) (omega arith), tt)
 
 pub lines_in_range : (n : ℕ) → n ≤ MOST_LINES → AllByRecursion IsInRange (load_lines n)
 lines_in_range n few = both IsInRange machine_lines (bank_lines n) machine_in_range (banks_in_range n few)

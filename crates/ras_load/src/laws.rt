@@ -2,14 +2,18 @@
 
 ghost use Rattle.std.specs.Prelude.{◌≡◌, ◌≤◌, ℕ, Ok, map};
 ghost use Rattle.std.specs.List.{AllByRecursion};
-ghost use Rattle.ras_load.specs.LoadScript.{load_lines};
+ghost use Rattle.ras_load.specs.LoadScript.{load_lines, load_script};
 ghost use Rattle.ras_load.specs.declared.script.TheConstants.{MOST_LINES};
 ghost use Rattle.ras_script.specs.Line.{line_of};
 ghost use Rattle.ras_script.specs.LineLaws.{IsInRange, line_text};
+ghost use Rattle.ras_script.specs.Lines.{script_ended, script_lines};
 
-/// The lines of a script that is made up have their numbers in range, and each is read as what was
-/// written down. The function does nothing: its clauses are what it is for.
+/// A script that is made up is within the limits of scripts, and its lines are those that were
+/// written down: their numbers are in range, and each is read as what was written. The function does
+/// nothing: its clauses are what it is for.
 pub fn load_laws()
+    ensures lines { (n : ℕ) → n ≤ MOST_LINES → script_lines (load_script n)
+        ≡ record { whole = map line_text (load_lines n); ending = script_ended } }
     ensures range { (n : ℕ) → n ≤ MOST_LINES → AllByRecursion IsInRange (load_lines n) }
     ensures read { (n : ℕ) → n ≤ MOST_LINES
         → map line_of (map line_text (load_lines n)) ≡ map Ok (load_lines n) }
