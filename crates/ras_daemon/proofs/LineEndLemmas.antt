@@ -24,6 +24,7 @@ use Rattle.ras_daemon.specs.Running.{EndsAhead, ReadAhead, first_size, outputs}
 use Rattle.ras_daemon.specs.Script.{reads_in, reads_of}
 use Rattle.ras_daemon.proofs.AlongActLemmas.{along_prints}
 use Rattle.ras_daemon.proofs.GrowLemmas.{Grows}
+use Rattle.ras_daemon.proofs.ListLemmas.{all-front}
 use Rattle.ras_daemon.proofs.LinesLemmas.{Taking, given_here, lines_first, some_more, taken_tells}
 
 -- ---- lines that were taken with their line feeds
@@ -41,10 +42,6 @@ ended_done (line ∷ done) held all lacks =
     ∙ ap without_last (split_between 10 line more ∙ ap (λ (front : List (List ℕ)). front ++ parts) (split_lacking 10 line all.0))
     ∙ without_first line parts (some_part (λ b. b == 10) more)
     ∙ ap (λ lines. line ∷ lines) (ended_done done held all.1 lacks)
-
-all_front : {X : Type 0} (P : X → Type 0) (xs ys : List X) → AllByRecursion P (xs ++ ys) → AllByRecursion P xs
-all_front P [] ys all = tt
-all_front P (x ∷ xs) ys all = (all.0, all_front P xs ys all.1)
 
 ended_few : (parts : List (List ℕ)) → events_in (without_last parts) ≤ events_in (without_empty_last parts)
 ended_few [] = omega arith
@@ -74,7 +71,7 @@ taken_none Fault start script t number reader new left run taking rest went lack
         let whole : AllByRecursion (Lacks 10) (taking.done ++ lines_of (reader.held ++ taking.now)) = subst (AllByRecursion (Lacks 10)) taking.cut (lines_unbroken script) in (
           script_of taking.done ++ new.held,
           append_assoc (script_of taking.done) new.held rest ∙ ap (λ bytes. script_of taking.done ++ bytes) held ∙ sym is,
-          λ fault. rw (ended_done taking.done new.held (all_front (Lacks 10) taking.done (lines_of (reader.held ++ taking.now)) whole) (lacks fault)) (omega arith),
+          λ fault. rw (ended_done taking.done new.held (all-front (Lacks 10) taking.done (lines_of (reader.held ++ taking.now)) whole) (lacks fault)) (omega arith),
         )
     by (inr none) =
         let empty : rest ≡ [] = both_nil went.bytes rest (sym none.1 ∙ went.taken) in
