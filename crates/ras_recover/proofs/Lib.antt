@@ -12,6 +12,7 @@ pub mod CountingLemmas
 pub mod CallsLemmas
 pub mod DoneLemmas
 pub mod OpeningCallsLemmas
+pub mod OpeningActsLemmas
 pub mod WindowLemmas
 pub mod LooksLemmas
 pub mod HoldingLemmas

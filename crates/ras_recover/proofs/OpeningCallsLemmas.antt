@@ -132,7 +132,7 @@ reads_recovered (Err why) a b calls = tt
 -- ---- whole recoveries and openings of any files
 
 -- each place of both files
-abbrev reads_all : Left → List DiskCall
+abbrev pub reads_all : Left → List DiskCall
 reads_all here = ReadAt Zero 0 (length here.file0) ∷ ReadAt One 0 (length here.file1) ∷ []
 
 reads_all_alone : (here : Left) → All IsReading (reads_all here)
@@ -149,7 +149,7 @@ reads_all_both here = record {
 }
 
 -- a recovery goes on to one that reads all that counts
-recovery_on : (here : Left) (calls : List DiskCall) → IsRecovery calls → IsRecoveryOf here (calls ++ reads_all here)
+pub recovery_on : (here : Left) (calls : List DiskCall) → IsRecovery calls → IsRecoveryOf here (calls ++ reads_all here)
 recovery_on here calls is = record {
   recovery = record {
     reading = is.reading ++ reads_all here;

@@ -5,6 +5,7 @@ pub mod Reading
 pub mod Recovering
 pub mod Opening
 pub mod OpeningCalls
+pub mod OpeningActs
 pub mod Looking
 pub mod Life
 pub mod Windows

@@ -14,6 +14,7 @@ ghost use Rattle.ras_recover.specs.Formatting.{behind_gate, formatting_acts};
 ghost use Rattle.ras_recover.specs.Recovering.{Refuses, Tells, open_end, open_failure};
 ghost use Rattle.ras_recover.specs.Looking.{standing_begun};
 ghost use Rattle.ras_recover.specs.Opening.{Opening, IsOpened, standing_opened};
+ghost use Rattle.ras_recover.specs.OpeningActs.{FailsOpening};
 ghost use Rattle.ras_recover.specs.OpeningCalls.{AfterOpening, AfterRecovery, MakesOpening};
 
 use crate::formatting::{format_file, next_bytes};
@@ -97,6 +98,10 @@ pub fn open_journal<B: Board>(
     // Where memory runs out nothing was written.
     ensures kept { result ≡ Err OpenRefused.NoMemory
         → Relates AfterRecovery (B.told board.old) (B.told board.new) }
+    // If a disk call failed it is one of the acts of an opening, and the last that was begun: a call
+    // of a recovery of the files there, or one of the formatting.
+    ensures fails { result ≡ Err OpenRefused.Disk
+        → Relates FailsOpening (B.told board.old) (B.told board.new) }
 
     ensures cause { FailsAs disk_call (B.faults board.old) (B.faults board.new)
         (open_failure result) }
