@@ -29,7 +29,7 @@ use Rattle.ras_exit.specs.Acts.{print_acts}
 use Rattle.ras_exit.proofs.PrintLemmas.{after_printed, print_moment}
 use Rattle.ras_run.specs.LineActs.{event_prints, news_acts}
 use Rattle.ras_run.specs.LineCalls.{AreNewsCalls}
-use Rattle.ras_run.proofs.ReopenLemmas.{after_reading}
+use Rattle.ras_recover.proofs.OpeningActsLemmas.{after_reading}
 
 -- ---- two texts
 

@@ -1,5 +1,5 @@
 -- A journal that is opened again in the midst of a run: what is told of it, as acts.
-use Rattle.std.proofs.Common.{◌≡◌, ℕ, ◌≤◌, List, [], ◌∷◌, ◌++◌, length, map, Option, None, Some, Result, Ok, Err, OnErr, IfErr, refl, sym, ap, subst, ◌∙◌, inl, inr, append_assoc, append-nil, arith}
+use Rattle.std.proofs.Common.{◌≡◌, ℕ, ◌≤◌, List, [], ◌∷◌, ◌++◌, length, map, Option, None, Some, Result, Ok, Err, OnErr, IfErr, refl, sym, ap, subst, ◌∙◌, inl, inr, append_assoc, arith}
 use Rattle.std.specs.Option.{option_map}
 use Rattle.std.proofs.lemmas.List.{map-append}
 use Rattle.board_core.specs.declared.board.Access.{Access}
@@ -17,6 +17,7 @@ use Rattle.ras_journal.specs.Recovered.{Refusal, position_of, recovered}
 use Rattle.ras_recover.specs.DiskCalls.{IsBeginning, Makes, with_calls}
 use Rattle.ras_recover.specs.Opening.{Opening}
 use Rattle.ras_recover.specs.OpeningCalls.{AfterOpening, IsOpening, IsRecoveryOf, MakesOpening}
+use Rattle.ras_recover.proofs.OpeningActsLemmas.{after_reading, reading_fails}
 use Rattle.ras_recover.proofs.OpeningCallsLemmas.{calls_opened, standing_recovers}
 use Rattle.ras_texts.specs.Orders.{standing_lines}
 use Rattle.ras_texts.specs.Text.{done_line}
@@ -33,27 +34,10 @@ use Rattle.ras_run.proofs.OpenLemmas.{CountsEarlier, here_kept, opening_left}
 
 -- ---- calls that write nothing, as acts
 
-with_more : (call : DiskCall) (made : List DiskCall) (t : Told) → with_calls made (with_call call t) ≡ with_calls (call ∷ made) t
-with_more call made t = ap (λ (l : List DiskCall). record t { disk_calls = l }) (append_assoc t.disk_calls (call ∷ []) made)
-
-pub after_reading : (made : List DiskCall) (t : Told) → after_acts (map calls made) t ≡ with_calls made t
-after_reading [] t = ap (λ (l : List DiskCall). record t { disk_calls = l }) (sym (append-nil t.disk_calls))
-after_reading (call ∷ made) t = after_reading made (with_call call t) ∙ with_more call made t
-
 pub reading_moment : (made : List DiskCall) (t : Told) (left : Left) → Moment (map calls made) t left → left ≡ t.here
 reading_moment [] t left never = absurd never
 reading_moment (call ∷ made) t left (inl same) = same
 reading_moment (call ∷ made) t left (inr later) = reading_moment made (with_call call t) left later
-
--- a beginning of them was made, and the next failed
-reading_fails : (made rest : List DiskCall) (more : List Act) (t : Told) → 1 ≤ length (made ++ rest) → FailsActs disk_call (map calls (made ++ rest) ++ more) t (with_calls made t)
-reading_fails [] [] more t some = absurd (omega arith)
-reading_fails [] (call ∷ rest) more t some = inl (refl, inl (ap (λ (l : List DiskCall). record t { disk_calls = l }) (append-nil t.disk_calls)))
-reading_fails (call ∷ []) [] more t some = inl (refl, inr refl)
-reading_fails (call ∷ []) (next ∷ rest) more t some =
-    inr (subst (FailsActs disk_call (map calls (next ∷ rest) ++ more) (with_call call t)) (with_more call [] t) (reading_fails [] (next ∷ rest) more (with_call call t) (omega arith)))
-reading_fails (call ∷ next ∷ made) rest more t some =
-    inr (subst (FailsActs disk_call (map calls (next ∷ made ++ rest) ++ more) (with_call call t)) (with_more call (next ∷ made) t) (reading_fails (next ∷ made) rest more (with_call call t) (omega arith)))
 
 -- ---- what is told of an opening over a journal that stands
 

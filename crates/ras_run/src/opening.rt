@@ -7,6 +7,7 @@ ghost use Rattle.board_core.specs.Told.{Relates, Told};
 ghost use Rattle.ras_account.specs.Accounts.{IsAccount};
 ghost use Rattle.ras_journal.specs.Recovered.{recovered};
 ghost use Rattle.ras_recover.specs.Opening.{Opening, standing_opened};
+ghost use Rattle.ras_recover.specs.OpeningActs.{FailsOpening};
 ghost use Rattle.ras_recover.specs.OpeningCalls.{AfterOpening, AfterRecovery, MakesOpening};
 ghost use Rattle.ras_texts.specs.Orders.{standing_lines};
 ghost use Rattle.ras_exit.specs.Acts.{part_end, print_acts};
@@ -43,6 +44,9 @@ pub fn open<B: Board>(alloc: Global, board: &mut B) -> Result<Ledger, Exit>
     ensures whole { OnOk result (Relates MakesOpening (B.told board.old) (B.told board.new)) }
     ensures kept { result ≡ Err Exit.NoMemory
         → Relates AfterRecovery (B.told board.old) (B.told board.new) }
+    // If a disk call failed it is one of the acts of the opening, and the last that was begun.
+    ensures fails { result ≡ Err Exit.DiskFault
+        → Relates FailsOpening (B.told board.old) (B.told board.new) }
     ensures stop { IfErr result IsStop }
     ensures faults { Causes BoardCause result (B.faults board.old) (B.faults board.new) }
 {
