@@ -22,11 +22,12 @@ use Rattle.ras_journal.specs.Appending.{Before}
 use Rattle.ras_ledger.specs.declared.ledger.Ledger.{Ledger}
 use Rattle.ras_recover.specs.DiskCalls.{IsReading}
 use Rattle.ras_recover.specs.Opening.{Opening, standing_opened}
+use Rattle.ras_recover.specs.OpeningActs.{FailsOpening}
 use Rattle.ras_recover.specs.OpeningCalls.{AfterOpening, AfterRecovery, MakesOpening}
 use Rattle.ras_recover.specs.Recovering.{file_number}
 use Rattle.ras_recover.proofs.OpeningCallsLemmas.{refused_keeps, told_opened}
 use Rattle.ras_exit.specs.declared.exit.Exit.{Exit}
-use Rattle.ras_exit.specs.declared.exit.Exit.TheVariants.{Damaged, NoMemory, TooLong}
+use Rattle.ras_exit.specs.declared.exit.Exit.TheVariants.{Damaged, DiskFault, NoMemory, TooLong}
 use Rattle.ras_exit.specs.Endings.{CallEnding, EndsBy, IfAnswered, IsCut, OnAnswer, OnlyFault, answered, ending_of, faulted, is_answered, source_failed, starved}
 use Rattle.ras_exit.proofs.DeviceLemmas.{StoreIsLeft, device_by}
 use Rattle.ras_exit.proofs.EndingLemmas.{ends_weaker, memory_ran_out, not_both, on_cut}
@@ -239,13 +240,13 @@ recovery_none t = record {
 pub none_called : {X : Type 0} (see : X → Seen) (start : Start) (script : List ℕ) (t : Told) (x : X) → (see x).told ≡ Some t → DoesRun see start script NoMemory t x x
 none_called see start script t x is =
     let opened : AfterOpening t t = told_opened (Some t) (Some t) (recovery_none t) in
-    inl (record { cut = tt; told = rw is opened; kept = λ memory. rw is (recovery_none t); stops = adds_none (Opening (see x).clock t.here) (see x).clock })
+    inl (record { cut = tt; told = rw is opened; kept = λ memory. rw is (recovery_none t); fails = λ disk. absurd cc; stops = adds_none (Opening (see x).clock t.here) (see x).clock })
 
 -- the journal wasn't opened
 pub not_opened : {X : Type 0} (see : X → Seen) (history : History) (script : List ℕ) (exit result : Exit) (line : List ℕ) (t : Told) (a b new : X) → (see a).told ≡ Some t → Recovers (account_of history) t.here
     → IfSome (see a).told (λ u. Opens (Err exit) (recovered u.here.file0 u.here.file1)) → Relates AfterOpening (see a).told (see b).told → (exit ≡ NoMemory → Relates AfterRecovery (see a).told (see b).told)
-    → Adds (Opening (see a).clock t.here) (see a).clock (see b).clock → Ends see exit result line b new → DoesRun see (start_of history t.here) script result t a new
-not_opened see history script exit result line t a b new is recovers opens after kept stops ends = by ends
+    → (exit ≡ DiskFault → Relates FailsOpening (see a).told (see b).told) → Adds (Opening (see a).clock t.here) (see a).clock (see b).clock → Ends see exit result line b new → DoesRun see (start_of history t.here) script result t a new
+not_opened see history script exit result line t a b new is recovers opens after kept fails stops ends = by ends
   where
     cut : IsCutOpening exit
     cut = cut_opening exit (account_of history) (recovered t.here.file0 t.here.file1) recovers.is (if_told (λ u. Opens (Err exit) (recovered u.here.file0 u.here.file1)) (see a).told t is opens)
@@ -255,7 +256,7 @@ not_opened see history script exit result line t a b new is recovers opens after
 
     by : Ends see exit result line b new → DoesRun see (start_of history t.here) script result t a new
     by (inl said) = absurd (not_both exit (cut_is exit cut) said.0)
-    by (inr ended) = rw (ended.1, ended.2) (inl (record { cut = cut; told = some AfterOpening after; kept = λ memory. some AfterRecovery (kept memory); stops = stops }))
+    by (inr ended) = rw (ended.1, ended.2) (inl (record { cut = cut; told = some AfterOpening after; kept = λ memory. some AfterRecovery (kept memory); fails = λ disk. some FailsOpening (fails disk); stops = stops }))
 
 -- it was opened
 pub ledger_holds : (start : Start) (ledger : Ledger) (u : Told) (told : Option Told) (clock : Clock) → IsStart start ledger → IsAccount ledger.account.state → Before ledger.journal.standing ledger.account.state u told clock → HoldsAfter start [] u

@@ -7,12 +7,13 @@ use Rattle.board_core.specs.Doing.{Act, Breaks, GoesWell, Seen, after_acts, call
 use Rattle.board_core.specs.Told.{Told}
 use Rattle.ras_base.specs.Places.{places}
 use Rattle.ras_recover.specs.Opening.{Opening}
+use Rattle.ras_recover.specs.OpeningActs.{FailsOpening}
 use Rattle.ras_recover.specs.OpeningCalls.{AfterOpening, AfterRecovery, MakesOpening}
 use Rattle.ras_events.specs.Reports.{NumberedLine}
 use Rattle.ras_exit.specs.Acts.{ended_with, print_acts}
 use Rattle.ras_exit.specs.Endings.{CallEnding, EndsBy, IsAnswer, IsCut, OnAnswer, OnlyFault, answered, ending_of, faulted}
 use Rattle.ras_exit.specs.declared.exit.Exit.{Exit}
-use Rattle.ras_exit.specs.declared.exit.Exit.TheVariants.{Done, NoMemory, PrintFault}
+use Rattle.ras_exit.specs.declared.exit.Exit.TheVariants.{DiskFault, Done, NoMemory, PrintFault}
 use Rattle.ras_run.specs.declared.run.Run.{Run}
 use Rattle.ras_run.specs.LineActs.{HoldsAfter}
 use Rattle.ras_run.specs.Places.{Start}
@@ -94,6 +95,7 @@ pub record DoesNotOpen {X : Type 0} (see : X → Seen) (exit : Exit) (t : Told) 
   pub cut : EndsBy ⊥ (Unit {0}) (OnlyFault disk_call) (ending_of exit)
   pub told : IsSomeAnd (see new).told (AfterOpening t)
   pub kept : exit ≡ NoMemory → IsSomeAnd (see new).told (AfterRecovery t)
+  pub fails : exit ≡ DiskFault → IsSomeAnd (see new).told (FailsOpening t)
   pub stops : Adds (Opening (see old).clock t.here) (see old).clock (see new).clock
 
 -- It was opened, and then the script was taken.

@@ -1,16 +1,12 @@
 -- What a run does to the board, as a list of acts, and how much of it was done.
-use Rattle.std.specs.Prelude.{◌≡◌, ℕ, ◌⊎◌, List, [], ◌∷◌, ◌++◌, map}
-use Rattle.board_core.specs.Cause.{disk_call}
+use Rattle.std.specs.Prelude.{◌≡◌, ℕ, List, [], ◌∷◌, ◌++◌}
 use Rattle.board_core.specs.declared.board.DiskCall.{DiskCall}
-use Rattle.board_core.specs.Doing.{Act, FailsActs, after_acts, calls, calls_of}
-use Rattle.board_core.specs.Stop.{Left}
+use Rattle.board_core.specs.Doing.{Act, FailsActs, after_acts, calls_of}
 use Rattle.board_core.specs.Told.{Told}
 use Rattle.ras_account.specs.Account.{account_of}
-use Rattle.ras_account.specs.History.{empty}
 use Rattle.ras_base.specs.Places.{places}
 use Rattle.ras_base.specs.Prefix.{IsPrefixOf}
-use Rattle.ras_recover.specs.Opening.{HoldsNone, opening_acts}
-use Rattle.ras_recover.specs.OpeningCalls.{AfterOpening, IsRecoveryOf}
+use Rattle.ras_recover.specs.OpeningActs.{AreOpeningActs}
 use Rattle.ras_events.specs.Reports.{NumberedLine, Place}
 use Rattle.ras_exit.specs.Acts.{print_acts}
 use Rattle.ras_exit.specs.Endings.{CallEnding, answered, faulted}
@@ -34,13 +30,6 @@ AreActsAlong start (place ∷ places) t acts =
 -- the acts of all lines before the first refused one
 abbrev pub AreLinesActs : Start → List ℕ → Told → List Act → Type 0
 AreLinesActs start script t acts = AreActsAlong start (places_before_refusal start (places (reads_of script))) t acts
-
--- The journal is opened over the files that are here: all that counts of them is read, and if no
--- file stands file 0 is formatted.
-pub record AreOpeningActs (here : Left) (acts : List Act) : Type 0 where
-  pub recovery : List DiskCall
-  pub recovers : IsRecoveryOf here recovery
-  pub is : acts ≡ map calls recovery ++ opening_acts here
 
 -- the print of the orders that stand at the start, and of the last line behind these lines
 abbrev pub orders_acts : Start → List Act
@@ -75,14 +64,7 @@ DidOf acts answered old now = now ≡ after_acts acts old
 DidOf acts (faulted kind) old now = FailsActs kind acts old now
 DidOf acts ending old now = (done : List Act) × IsPrefixOf done acts × (now ≡ after_acts done old)
 
--- A disk call failed while file 0 was formatted, since no file stood.
-pub record FailsFormatting (ending : CallEnding) (old now : Told) : Type 0 where
-  pub on_disk : ending ≡ faulted disk_call
-  pub none : HoldsNone (account_of empty) old.here
-  pub after : AfterOpening old now
-
 -- A run did its acts, by how it ended.
 abbrev pub DidRun : Start → List ℕ → CallEnding → Told → Told → Type 0
 DidRun start script ending old now =
-    ((acts : List Act) × AreRunActs start script old acts × DidOf acts ending old now)
-    ⊎ FailsFormatting ending old now
+    (acts : List Act) × AreRunActs start script old acts × DidOf acts ending old now

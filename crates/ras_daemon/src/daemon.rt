@@ -72,9 +72,8 @@ pub fn rasd<S: Source, B: Board>(
 
     // A run does its acts in order: the opening's, the print of the orders that stand, those of each
     // line before the first refused one, and the print of the last line. At an answer all of them
-    // are done. If a call of the board failed it is the last that was made of them, but a failed
-    // formatting of file 0 may have left that file anyhow. Else some first ones are done. The disk
-    // calls are theirs, or at any exit a beginning of them.
+    // are done. If a call of the board failed it is the last that was begun of them. Else some first
+    // ones are done. The disk calls are theirs, or at any exit a beginning of them.
     ensures acts { OverRun (λ start script told. IsSomeAnd (B.told board.new)
         (DidRun start script (ending_of result) told))
         (task_of words.now) (S.left source.old) (B.told board.old) }

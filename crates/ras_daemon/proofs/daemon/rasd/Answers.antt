@@ -8,7 +8,7 @@ use Rattle.text_laws.specs.DoneLines.{done_count}
 use Rattle.ras_daemon.specs.Headline.{Headline, IsWhole, StopsRecover}
 use Rattle.ras_daemon.specs.RunActs.{DidRun}
 use Rattle.ras_daemon.specs.RunOutput.{run_output}
-use Rattle.ras_daemon.specs.RunStatus.{run_exit}
+use Rattle.ras_daemon.specs.RunStatus.{run_exit, start_of}
 use Rattle.ras_daemon.specs.Script.{events_of}
 use Rattle.ras_daemon.specs.Task.{task_of}
 use Rattle.ras_daemon.proofs.AheadLemmas.{run-ahead}
@@ -68,7 +68,7 @@ returns-clause-acts g c =
     over_does (looks g.B.Board.told g.B.Board.clock g.B.Board.faults)
     (λ start script told. IsSomeAnd (g.B.Board.told c.call.new.board) (DidRun start script (ending_of c.call.result) told))
     (task_of c.args.words.now) (g.S.Source.left c.args.source.now) (g.B.Board.told c.args.board.now) c.call.result c.args.board.now c.call.new.board
-    (λ history script t is recovers does. run_did (looks g.B.Board.told g.B.Board.clock g.B.Board.faults) history script c.call.result t c.args.board.now c.call.new.board recovers does) c.call.ensures.does
+    (λ history script t is recovers does. run_did (looks g.B.Board.told g.B.Board.clock g.B.Board.faults) (start_of history t.here) script c.call.result t c.args.board.now c.call.new.board does) c.call.ensures.does
 
 pub returns-clause-calls : goal.returns-clause-calls
 returns-clause-calls g c =

@@ -33,7 +33,7 @@ returns-clause-does g c =
     over_run (λ start script told. DoesRun see start script c.end_run-in-Err-open.result told c.args.board.now c.end_run-in-Err-open.new.board) _ _
     (λ history script t left is recovers.
     not_opened see history script c.in-Err-open.exit c.end_run-in-Err-open.result _ t c.args.board.now c.open.new.board c.end_run-in-Err-open.new.board is recovers
-    c.in-Err-open.ensures.opens c.in-Err-open.ensures.told (λ memory. c.in-Err-open.ensures.kept (ap Err memory)) (c.in-Err-open.ensures.stops t is) c.end_run-in-Err-open.ensures.ends)
+    c.in-Err-open.ensures.opens c.in-Err-open.ensures.told (λ memory. c.in-Err-open.ensures.kept (ap Err memory)) (λ disk. c.in-Err-open.ensures.fails (ap Err disk)) (c.in-Err-open.ensures.stops t is) c.end_run-in-Err-open.ensures.ends)
 
 pub returns-in-Ok-open-clause-ahead : goal.returns-in-Ok-open-clause-ahead
 returns-in-Ok-open-clause-ahead g c = over_run (λ start script told. RunAhead (c.take_script.result ≡ SourceFault) start script told (g.S.Source.left c.take_script.new.source) (g.B.Board.told c.take_script.new.board)) _ _ (λ history script t left is recovers.
