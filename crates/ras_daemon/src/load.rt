@@ -1,12 +1,14 @@
 //! A run over a script that is made up, on a board in memory.
 
-ghost use Rattle.std.specs.Prelude.{◌≡◌, ◌≤◌, IfOk};
+ghost use Rattle.std.specs.Prelude.{◌≡◌, ◌≤◌, ℕ, IfOk};
 ghost use Rattle.board_core.specs.Device.{LeavesDevice};
 ghost use Rattle.board_core.specs.Told.{Relates};
 ghost use Rattle.ras_exit.specs.Causes.{BoardCause};
+ghost use Rattle.ras_load.specs.LoadScript.{load_script};
 ghost use Rattle.ras_load.specs.declared.script.TheConstants.{MOST_LINES};
 ghost use Rattle.ras_daemon.specs.Commands.{IsLoadExit, OnlyTells};
-ghost use Rattle.ras_daemon.specs.Loading.{load_output};
+ghost use Rattle.ras_daemon.specs.Loading.{load_output, load_start};
+ghost use Rattle.ras_daemon.specs.RunStatus.{run_exit};
 
 use crate::ending::last_line;
 use crate::running::run;
@@ -53,3 +55,11 @@ fn loaded_line(alloc: Global, n: u64) -> Result<Vec<u8>, NoMemory>
         Err(_) => Err(NoMemory),
     }
 }
+
+/// The law of a run over a script that is made up: none of its lines is refused. The account and the
+/// journal have room for all that they report, so a run over empty files comes to its end. The
+/// function does nothing: its clause is what it is for.
+pub fn loading_laws()
+    ensures taken { (n : ℕ) → n ≤ MOST_LINES
+        → run_exit load_start (load_script n) ≡ Exit.Done }
+{}
