@@ -27,3 +27,4 @@ pub mod JoinedLemmas
 pub mod LoadLemmas
 pub mod LoadRoomLemmas
 pub mod LoadTakenLemmas
+pub mod LoadCountLemmas

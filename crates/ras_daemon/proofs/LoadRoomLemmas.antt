@@ -123,7 +123,7 @@ generation_most false standing a link = omega arith
 
 -- ---- one item more
 
-abbrev module_with : Bytes × Module → Sighting → Bytes × Module
+abbrev pub module_with : Bytes × Module → Sighting → Bytes × Module
 module_with row s = (row.0, module_after row.1 s)
 
 modules_grow : (rows : List (Bytes × Module)) (s : Sighting) → length (modules_after rows s) ≤ length rows + 1

@@ -64,11 +64,11 @@ use Rattle.ras_daemon.proofs.LoadRoomLemmas.{HasPlace, account_has_room, entry_o
 
 -- ---- what the lines are read as
 
-abbrev asked : Line → Result Line LineRefused
+abbrev pub asked : Line → Result Line LineRefused
 asked line = Ok line
 
 -- lines as they were written down, numbered from 1 on
-abbrev numbered : List Line → List NumberedLine
+abbrev pub numbered : List Line → List NumberedLine
 numbered lines = enumerate_from 1 (map asked lines)
 
 -- a line whose first word is of a kind that a run takes
@@ -115,7 +115,7 @@ map_taken : (lines : List Line) → AllByRecursion IsReadTaken lines → map tak
 map_taken [] all = refl
 map_taken (line ∷ lines) all = λ i. all.0 i ∷ map_taken lines all.1 i
 
-reads_are : (n : ℕ) → n ≤ MOST_LINES → reads_in (map line_text (load_lines n)) ≡ numbered (load_lines n)
+pub reads_are : (n : ℕ) → n ≤ MOST_LINES → reads_in (map line_text (load_lines n)) ≡ numbered (load_lines n)
 reads_are n few = ap (enumerate_from 1) (map_taken (load_lines n) (lines_taken n few))
 
 enumerate-snoc : {X : Type 0} (n : ℕ) (xs : List X) (x : X) → enumerate_from n (xs ++ x ∷ []) ≡ enumerate_from n xs ++ (n + length xs, x) ∷ []
@@ -124,7 +124,7 @@ enumerate-snoc n (y ∷ ys) x =
     let same : n + 1 + length ys ≡ n + length (y ∷ ys) = omega arith in
     ap (λ tail. (n, y) ∷ tail) (rw same at (enumerate-snoc (n + 1) ys x))
 
-numbered-snoc : (lines : List Line) (line : Line) → numbered (lines ++ line ∷ []) ≡ numbered lines ++ (1 + length (map asked lines), asked line) ∷ []
+pub numbered-snoc : (lines : List Line) (line : Line) → numbered (lines ++ line ∷ []) ≡ numbered lines ++ (1 + length (map asked lines), asked line) ∷ []
 numbered-snoc lines line = ap (enumerate_from 1) (map-append asked lines (line ∷ [])) ∙ enumerate-snoc 1 (map asked lines) (asked line)
 
 -- ---- what a report adds after a history
@@ -159,7 +159,7 @@ module _ (k : ℕ) (history : History) (standing : Standing) (name : Name) (seco
   }
 
 -- what the report of a bank makes: nothing, or the fact of its one item
-abbrev made_by : {C : Type 0} → BankReport → (C → Item) → Option C → List Piece
+abbrev pub made_by : {C : Type 0} → BankReport → (C → Item) → Option C → List Piece
 made_by bank item_of class =
     option_map_or made_by_report (
     option_map (λ (fact : FactOf). record { fact = fact; details = bank_detail bank ∷ [] })
@@ -181,12 +181,12 @@ machine_is : IsTopology machine_rows
 machine_is = record { apart = (refl, (refl, (refl, (refl, (refl, tt))))); upright = refl; named = refl; labelled = refl; small = omega arith }
 
 -- none of them is refused, and so many reports were taken
-record AreTaken (start : Start) (k : ℕ) (before : List NumberedLine) : Type 0 where
+pub record AreTaken (start : Start) (k : ℕ) (before : List NumberedLine) : Type 0 where
   pub none : filter_map (refusal_at start) (places before) ≡ []
   pub rows : (settings_told before).topology ≡ machine_rows
   pub place : HasPlace k (account_at start before) (standing_at start before)
 
-account-snoc : (start : Start) (before : List NumberedLine) (read : NumberedLine) → account_at start (before ++ read ∷ []) ≡ account_after_all (account_at start before) (entries_at [] (before, read))
+pub account-snoc : (start : Start) (before : List NumberedLine) (read : NumberedLine) → account_at start (before ++ read ∷ []) ≡ account_after_all (account_at start before) (entries_at [] (before, read))
 account-snoc start before read = ap account_of (history-snoc start before read) ∙ account_of-entries (history_at start before) (entries_at [] (before, read))
 
 module _ (start : Start) (k : ℕ) (before : List NumberedLine) (number : ℕ) (bank : BankReport) (few : k < 50000) (are : AreTaken start k before) (range : IsBankInRange bank) where
@@ -221,7 +221,7 @@ module _ (start : Start) (k : ℕ) (before : List NumberedLine) (number : ℕ) (
 machine_taken : (start : Start) → HasPlace 0 (account_of start.history) start.standing → AreTaken start 0 (numbered machine_lines)
 machine_taken start place = record { none = refl; rows = refl; place = place }
 
-banks_more : (start : Start) (n : ℕ) → HasPlace 0 (account_of start.history) start.standing → n ≤ MOST_LINES → AreTaken start n (numbered (load_lines n))
+pub banks_more : (start : Start) (n : ℕ) → HasPlace 0 (account_of start.history) start.standing → n ≤ MOST_LINES → AreTaken start n (numbered (load_lines n))
 unfolding bank_lines
 banks_more start zero place few = machine_taken start place
 banks_more start (suc n) place few =
@@ -234,7 +234,7 @@ banks_more start (suc n) place few =
 
 -- ---- the whole script
 
-nothing_opened : HasPlace 0 (account_of load_start.history) load_start.standing
+pub nothing_opened : HasPlace 0 (account_of load_start.history) load_start.standing
 unfolding position_of journal_of front_of
 nothing_opened = record {
   account = empty-sound;
