@@ -25,3 +25,6 @@ pub mod TellingLemmas
 pub mod FilterLemmas
 pub mod JoinedLemmas
 pub mod LoadLemmas
+pub mod LoadRoomLemmas
+pub mod LoadTakenLemmas
+pub mod LoadCountLemmas

@@ -13,6 +13,7 @@ mod word;
 
 pub use daemon::rasd;
 pub use laws::run_laws;
+pub use load::loading_laws;
 pub use ras_exit::{Exit, Reason};
 pub use ras_texts::Listing;
 pub use word::{RasWord, Task, task_of};

@@ -1,12 +1,16 @@
 //! A run over a script that is made up, on a board in memory.
 
-ghost use Rattle.std.specs.Prelude.{◌≡◌, ◌≤◌, IfOk};
+ghost use Rattle.std.specs.Prelude.{◌≡◌, ◌≤◌, ◌-◌, ◌/◌, ℕ, length, IfOk};
 ghost use Rattle.board_core.specs.Device.{LeavesDevice};
 ghost use Rattle.board_core.specs.Told.{Relates};
+ghost use Rattle.mca_status.specs.declared.classes.ItemClass.TheVariants.{Ce};
 ghost use Rattle.ras_exit.specs.Causes.{BoardCause};
+ghost use Rattle.ras_load.specs.LoadScript.{load_script};
+ghost use Rattle.ras_load.specs.Summary.{class_total};
 ghost use Rattle.ras_load.specs.declared.script.TheConstants.{MOST_LINES};
 ghost use Rattle.ras_daemon.specs.Commands.{IsLoadExit, OnlyTells};
-ghost use Rattle.ras_daemon.specs.Loading.{load_output};
+ghost use Rattle.ras_daemon.specs.Loading.{load_account, load_output, load_start};
+ghost use Rattle.ras_daemon.specs.RunStatus.{run_exit};
 
 use crate::ending::last_line;
 use crate::running::run;
@@ -53,3 +57,18 @@ fn loaded_line(alloc: Global, n: u64) -> Result<Vec<u8>, NoMemory>
         Err(_) => Err(NoMemory),
     }
 }
+
+/// The laws of a run over a script that is made up. The function does nothing: its clauses are what
+/// it is for.
+pub fn loading_laws()
+    // None of its lines is refused: the account and the journal have room for all that they report.
+    // So a run over empty files comes to its end.
+    ensures taken { (n : ℕ) → n ≤ MOST_LINES
+        → run_exit load_start (load_script n) ≡ Exit.Done }
+
+    // Every report counts as one corrected error, but for each tenth, which repeats the one before.
+    ensures names { (n : ℕ) → n ≤ MOST_LINES
+        → length (load_account n).names ≡ n - n / 10 }
+    ensures corrected { (n : ℕ) → n ≤ MOST_LINES
+        → class_total Ce (load_account n).modules ≡ n - n / 10 }
+{}

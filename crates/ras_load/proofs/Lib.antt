@@ -1,4 +1,4 @@
 mod ScriptLemmas
 pub mod ReadingLemmas
 mod SumLemmas
-mod FeedLemmas
+pub mod FeedLemmas

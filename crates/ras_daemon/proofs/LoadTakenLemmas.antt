@@ -1,0 +1,254 @@
+-- No line of a script that is made up is refused: its machine is taken, and the account and the
+-- journal have room for all that its reports add.
+use Rattle.std.proofs.Common.{◌≡◌, ℕ, ◌+◌, ◌<◌, ◌≤◌, suc, zero, cond, Bool, true, false, ◌||◌, List, [], ◌∷◌, ◌++◌, codes, length, map, Option, Some, None, Result, Ok, Err, IfSome, refl, sym, ap, subst, ◌∙◌, arith}
+use Rattle.std.specs.Prelude.{if◌then◌else◌, unwrap_or}
+use Rattle.std.specs.Fmt.{decimal}
+use Rattle.std.specs.List.{AllByRecursion, cons_option, enumerate_from, filter_map, join_with_byte, list_any}
+use Rattle.std.specs.Option.{option_map, option_map_or}
+use Rattle.std.specs.Str.{bytes_eq}
+use Rattle.std.proofs.lemmas.List.{map-append}
+use Rattle.std.proofs.lemmas.List.Elements.{filter_map-append}
+use Rattle.ras_base.specs.Places.{places}
+use Rattle.ras_base.specs.PlacesLemmas.{places-snoc}
+use Rattle.mca_status.specs.Classes.{class_of_rows}
+use Rattle.dimm_topology.specs.declared.row.Row.{Row as RowOf}
+use Rattle.dimm_topology.specs.declared.row.Row.TheVariants.{Cpu, Module}
+use Rattle.dimm_topology.specs.Topology.{IsTopology}
+use Rattle.ras_facts.specs.declared.bank.BankReport.{BankReport}
+use Rattle.ras_facts.specs.declared.entry.Entry.{Entry}
+use Rattle.ras_facts.specs.declared.fact.Fact.{Fact as FactOf}
+use Rattle.ras_facts.specs.declared.items.Item.{Item}
+use Rattle.ras_facts.specs.declared.name.Name.{Name}
+use Rattle.ras_facts.specs.Facts.{bank_item, bank_name, cap_in, status_in}
+use Rattle.ras_facts.specs.Valid.{IsValidFact}
+use Rattle.ras_facts.proofs.BankLemmas.{bank_valid}
+use Rattle.ras_reports.specs.declared.details.Detail.TheVariants.{Bank as bank_detail}
+use Rattle.ras_account.specs.Account.{account_of}
+use Rattle.ras_account.specs.Continued.{account_after, account_after_all, is_fresh_in}
+use Rattle.ras_account.specs.History.{History}
+use Rattle.ras_account.proofs.AccountLemmas.{account_of-entries}
+use Rattle.ras_account.proofs.SoundLemmas.{empty-sound}
+use Rattle.ras_journal.specs.declared.standing.Standing.{Standing}
+use Rattle.ras_journal.specs.File.{front_of}
+use Rattle.ras_journal.specs.Recovered.{journal_of, position_of}
+use Rattle.ras_script.specs.Line.{line_of}
+use Rattle.ras_script.specs.LineLaws.{IsBankInRange, IsInRange, bank_words, line_text}
+use Rattle.ras_script.specs.Lines.{Lines, script_ended, script_lines}
+use Rattle.ras_script.specs.Splitting.{words_of}
+use Rattle.ras_script.specs.declared.line.Line.{Line}
+use Rattle.ras_script.specs.declared.line.Line.TheVariants.{Report, Row}
+use Rattle.ras_script.specs.declared.line.LineRefused.{LineRefused}
+use Rattle.ras_script.specs.declared.line.LineRefused.TheVariants.{Kind}
+use Rattle.ras_script.specs.declared.line.ErrorReport.TheVariants.{Bank}
+use Rattle.ras_script.proofs.LineAndWordLemmas.{words_separated}
+use Rattle.ras_script.proofs.LineTextLemmas.{text_read}
+use Rattle.ras_events.specs.Making.{entries_in, made_by_report}
+use Rattle.ras_events.specs.declared.made.Piece.{Piece}
+use Rattle.ras_events.specs.Reports.{NumberedLine, entries_at, settings_told}
+use Rattle.ras_events.proofs.ReportLemmas.{settings-line}
+use Rattle.ras_exit.specs.declared.exit.Exit.{Exit}
+use Rattle.ras_exit.specs.declared.exit.Exit.TheVariants.{Done, Full}
+use Rattle.ras_exit.specs.ScriptEnd.{ending_exit}
+use Rattle.ras_load.specs.LoadScript.{bank_line, bank_lines, bank_number, generated, load_bank, load_lines, load_script, machine_lines}
+use Rattle.ras_load.specs.declared.script.TheConstants.{MOST_LINES}
+use Rattle.ras_load.proofs.FeedLemmas.{lines_whole}
+use Rattle.ras_load.proofs.ReadingLemmas.{line_in_range, lines_in_range}
+use Rattle.ras_run.specs.LaterKinds.{is_later, later_kinds, taken_line}
+use Rattle.ras_run.specs.Places.{Start, account_at, has_no_room_for, history_at, lacks_room_for, news_after, standing_at, standing_with_news}
+use Rattle.ras_run.specs.Status.{refusal_at}
+use Rattle.ras_run.proofs.PlaceLemmas.{history-snoc, standing-snoc}
+use Rattle.ras_daemon.specs.Loading.{load_start}
+use Rattle.ras_daemon.specs.RunStatus.{first_among, refusal_among, run_exit}
+use Rattle.ras_daemon.specs.Script.{reads_in}
+use Rattle.ras_daemon.proofs.LoadRoomLemmas.{HasPlace, account_has_room, entry_of_one, journal_has_room, kept, nothing_past, report_of_one, stays, wider}
+
+-- ---- what the lines are read as
+
+abbrev pub asked : Line → Result Line LineRefused
+asked line = Ok line
+
+-- lines as they were written down, numbered from 1 on
+abbrev pub numbered : List Line → List NumberedLine
+numbered lines = enumerate_from 1 (map asked lines)
+
+-- a line whose first word is of a kind that a run takes
+first_taken : (kind rest : List ℕ) → words_of kind ≡ kind ∷ [] → list_any (bytes_eq kind) later_kinds ≡ false → taken_line (kind ++ 32 ∷ rest) ≡ line_of (kind ++ 32 ∷ rest)
+first_taken kind rest one other =
+    let words : words_of (kind ++ 32 ∷ rest) ≡ kind ∷ words_of rest = words_separated kind rest ∙ ap (λ ws. ws ++ words_of rest) one in
+    ap (λ later. cond later (Err Kind) (line_of (kind ++ 32 ∷ rest))) (ap is_later words ∙ other)
+
+abbrev IsReadTaken : Line → Type 0
+IsReadTaken line = taken_line (line_text line) ≡ Ok line
+
+read_taken : (line : Line) (kind rest : List ℕ) → IsInRange line → line_text line ≡ kind ++ 32 ∷ rest → words_of kind ≡ kind ∷ [] → list_any (bytes_eq kind) later_kinds ≡ false → IsReadTaken line
+read_taken line kind rest range is one other = ap taken_line is ∙ first_taken kind rest one other ∙ ap line_of (sym is) ∙ text_read line range
+
+all_both : (P : Line → Type 0) (xs ys : List Line) → AllByRecursion P xs → AllByRecursion P ys → AllByRecursion P (xs ++ ys)
+all_both P [] ys one other = other
+all_both P (x ∷ xs) ys one other = (one.0, all_both P xs ys one.1 other)
+
+bank_taken : (bank : BankReport) → IsBankInRange bank → IsReadTaken (Report (Bank bank))
+bank_taken bank range = read_taken (Report (Bank bank)) (codes "bank") (join_with_byte 32 (bank_words bank)) range refl refl refl
+
+banks_taken : (n : ℕ) → n ≤ MOST_LINES → AllByRecursion IsReadTaken (bank_lines n)
+unfolding bank_lines
+banks_taken zero few = tt
+banks_taken (suc n) few =
+    all_both IsReadTaken (bank_lines n) (bank_line (n + 1) ∷ []) (banks_taken n (omega arith))
+    (bank_taken (load_bank (bank_number (n + 1)) (generated (bank_number (n + 1)))) (line_in_range (n + 1) (omega arith)), tt)
+
+module_taken : (label : List ℕ) (channel : ℕ) → IsInRange (Row (Module label 0 7 channel)) → IsReadTaken (Row (Module label 0 7 channel))
+module_taken label channel range =
+    read_taken (Row (Module label 0 7 channel)) (codes "module") (join_with_byte 32 (label ∷ decimal 0 ∷ decimal 7 ∷ decimal channel ∷ [])) range refl refl refl
+
+lines_taken : (n : ℕ) → n ≤ MOST_LINES → AllByRecursion IsReadTaken (load_lines n)
+lines_taken n few =
+    let range : AllByRecursion IsInRange (load_lines n) = lines_in_range n few in (
+      read_taken (Row (Cpu 0 0)) (codes "cpu") (join_with_byte 32 (decimal 0 ∷ decimal 0 ∷ [])) range.0 refl refl refl,
+      (
+        module_taken (codes "M0") 0 range.1.0,
+        (module_taken (codes "M1") 1 range.1.1.0, (module_taken (codes "M2") 2 range.1.1.1.0, (module_taken (codes "M3") 3 range.1.1.1.1.0, banks_taken n few))),
+      ),
+    )
+
+map_taken : (lines : List Line) → AllByRecursion IsReadTaken lines → map taken_line (map line_text lines) ≡ map asked lines
+map_taken [] all = refl
+map_taken (line ∷ lines) all = λ i. all.0 i ∷ map_taken lines all.1 i
+
+pub reads_are : (n : ℕ) → n ≤ MOST_LINES → reads_in (map line_text (load_lines n)) ≡ numbered (load_lines n)
+reads_are n few = ap (enumerate_from 1) (map_taken (load_lines n) (lines_taken n few))
+
+enumerate-snoc : {X : Type 0} (n : ℕ) (xs : List X) (x : X) → enumerate_from n (xs ++ x ∷ []) ≡ enumerate_from n xs ++ (n + length xs, x) ∷ []
+enumerate-snoc n [] x = let same : n + 0 ≡ n = omega arith in rw same refl
+enumerate-snoc n (y ∷ ys) x =
+    let same : n + 1 + length ys ≡ n + length (y ∷ ys) = omega arith in
+    ap (λ tail. (n, y) ∷ tail) (rw same at (enumerate-snoc (n + 1) ys x))
+
+pub numbered-snoc : (lines : List Line) (line : Line) → numbered (lines ++ line ∷ []) ≡ numbered lines ++ (1 + length (map asked lines), asked line) ∷ []
+numbered-snoc lines line = ap (enumerate_from 1) (map-append asked lines (line ∷ [])) ∙ enumerate-snoc 1 (map asked lines) (asked line)
+
+-- ---- what a report adds after a history
+
+record TakesEntries (k : ℕ) (history : History) (standing : Standing) (entries : List Entry) : Type 0 where
+  pub room : has_no_room_for history standing entries ≡ false
+  pub place : HasPlace (k + 1) (account_after_all (account_of history) entries) (standing_with_news history standing (news_after history entries))
+
+neither : (a b : Bool) → a ≡ false → b ≡ false → (a || b) ≡ false
+neither true b one other = absurd cc
+neither false b one other = other
+
+takes_none : (k : ℕ) (history : History) (standing : Standing) → k < 50000 → HasPlace k (account_of history) standing → TakesEntries k history standing []
+takes_none k history standing few is = record { room = neither _ false (nothing_past k (account_of history) standing few is) refl; place = wider k (account_of history) standing is }
+
+module _ (k : ℕ) (history : History) (standing : Standing) (name : Name) (seconds : ℕ) (item : Item) (few : k < 50000) (is : HasPlace k (account_of history) standing) (valid : IsValidFact (report_of_one name seconds item)) where
+  abbrev entry : Entry
+  entry = entry_of_one name seconds item
+
+  news_room : (fresh : Bool) → lacks_room_for history standing (if fresh then entry ∷ [] else []) ≡ false
+  news_room true = journal_has_room k (account_of history) standing name seconds item few is valid
+  news_room false = refl
+
+  news_place : (fresh : Bool) → HasPlace (k + 1) (account_after (account_of history) entry) (standing_with_news history standing (if fresh then entry ∷ [] else []))
+  news_place true = kept k (account_of history) standing name seconds item few is valid
+  news_place false = stays k (account_of history) standing name seconds item few is valid
+
+  takes_one : TakesEntries k history standing (entry ∷ [])
+  takes_one = record {
+    room = neither _ _ (account_has_room k (account_of history) standing name seconds item few is valid) (news_room (is_fresh_in (account_of history) entry));
+    place = news_place (is_fresh_in (account_of history) entry);
+  }
+
+-- what the report of a bank makes: nothing, or the fact of its one item
+abbrev pub made_by : {C : Type 0} → BankReport → (C → Item) → Option C → List Piece
+made_by bank item_of class =
+    option_map_or made_by_report (
+    option_map (λ (fact : FactOf). record { fact = fact; details = bank_detail bank ∷ [] })
+    (option_map (λ c. report_of_one (bank_name bank) bank.seconds (item_of c)) class))
+    []
+
+takes_made : {C : Type 0} (k : ℕ) (history : History) (standing : Standing) (bank : BankReport) (item_of : C → Item) (class : Option C) → k < 50000 → HasPlace k (account_of history) standing
+    → IfSome (option_map (λ c. report_of_one (bank_name bank) bank.seconds (item_of c)) class) IsValidFact
+    → TakesEntries k history standing (entries_in (made_by bank item_of class))
+takes_made k history standing bank item_of None few is valid = takes_none k history standing few is
+takes_made k history standing bank item_of (Some c) few is valid = takes_one k history standing (bank_name bank) bank.seconds (item_of c) few is valid
+
+-- ---- the lines so far
+
+abbrev machine_rows : List RowOf
+machine_rows = Cpu 0 0 ∷ Module (codes "M0") 0 7 0 ∷ Module (codes "M1") 0 7 1 ∷ Module (codes "M2") 0 7 2 ∷ Module (codes "M3") 0 7 3 ∷ []
+
+machine_is : IsTopology machine_rows
+machine_is = record { apart = (refl, (refl, (refl, (refl, (refl, tt))))); upright = refl; named = refl; labelled = refl; small = omega arith }
+
+-- none of them is refused, and so many reports were taken
+pub record AreTaken (start : Start) (k : ℕ) (before : List NumberedLine) : Type 0 where
+  pub none : filter_map (refusal_at start) (places before) ≡ []
+  pub rows : (settings_told before).topology ≡ machine_rows
+  pub place : HasPlace k (account_at start before) (standing_at start before)
+
+pub account-snoc : (start : Start) (before : List NumberedLine) (read : NumberedLine) → account_at start (before ++ read ∷ []) ≡ account_after_all (account_at start before) (entries_at [] (before, read))
+account-snoc start before read = ap account_of (history-snoc start before read) ∙ account_of-entries (history_at start before) (entries_at [] (before, read))
+
+module _ (start : Start) (k : ℕ) (before : List NumberedLine) (number : ℕ) (bank : BankReport) (few : k < 50000) (are : AreTaken start k before) (range : IsBankInRange bank) where
+  abbrev read : NumberedLine
+  read = (number, Ok (Report (Bank bank)))
+
+  abbrev rows : List RowOf
+  rows = (settings_told before).topology
+
+  takes : TakesEntries k (history_at start before) (standing_at start before) (entries_at [] (before, read))
+  takes =
+      let numbers = range.0 in
+      takes_made k (history_at start before) (standing_at start before) bank (bank_item bank rows) (class_of_rows (cap_in bank) (status_in bank)) few are.place
+      (bank_valid bank rows (numbers.0, range.1, range.2, numbers.1.1.0) numbers.1.0 numbers.1.1.1.1.1.1.0 (subst IsTopology (sym are.rows) machine_is))
+
+  not_refused : refusal_at start (before, read) ≡ None
+  not_refused = ap (λ full. cond full (Some Full) None) takes.room
+
+  taken_more : AreTaken start (k + 1) (before ++ read ∷ [])
+  taken_more = record {
+    none =
+        ap (filter_map (refusal_at start)) (places-snoc before read)
+        ∙ filter_map-append (refusal_at start) (places before) ((before, read) ∷ [])
+        ∙ ap (λ refusals. refusals ++ filter_map (refusal_at start) ((before, read) ∷ [])) are.none
+        ∙ ap (λ (refusal : Option Exit). cons_option refusal []) not_refused;
+    rows = ap (λ settings. settings.topology) (settings-line before number (Report (Bank bank))) ∙ are.rows;
+    place =
+        subst (λ account. HasPlace (k + 1) account (standing_at start (before ++ read ∷ []))) (sym (account-snoc start before read))
+        (subst (HasPlace (k + 1) (account_after_all (account_at start before) (entries_at [] (before, read)))) (sym (standing-snoc start before read)) takes.place);
+  }
+
+machine_taken : (start : Start) → HasPlace 0 (account_of start.history) start.standing → AreTaken start 0 (numbered machine_lines)
+machine_taken start place = record { none = refl; rows = refl; place = place }
+
+pub banks_more : (start : Start) (n : ℕ) → HasPlace 0 (account_of start.history) start.standing → n ≤ MOST_LINES → AreTaken start n (numbered (load_lines n))
+unfolding bank_lines
+banks_more start zero place few = machine_taken start place
+banks_more start (suc n) place few =
+    let next : ℕ = bank_number (n + 1) in
+    let more : AreTaken start (n + 1) (numbered (load_lines n) ++ (1 + length (map asked (load_lines n)), asked (bank_line (n + 1))) ∷ []) =
+    taken_more start n (numbered (load_lines n)) (1 + length (map asked (load_lines n))) (load_bank next (generated next)) (omega (arith, few)) (banks_more start n place (omega (arith, few))) (line_in_range (n + 1) (omega (arith, few))) in
+    let count : n + 1 ≡ suc n = omega arith in
+    subst (λ k. AreTaken start k (numbered (load_lines n ++ bank_line (n + 1) ∷ []))) count
+    (subst (AreTaken start (n + 1)) (sym (numbered-snoc (load_lines n) (bank_line (n + 1)))) more)
+
+-- ---- the whole script
+
+pub nothing_opened : HasPlace 0 (account_of load_start.history) load_start.standing
+unfolding position_of journal_of front_of
+nothing_opened = record {
+  account = empty-sound;
+  numbers = record { names = omega arith; entries = omega arith; total = omega arith; modules = omega arith; pages = omega arith };
+  generation = omega arith;
+}
+
+exit_of : (start : Start) (script : List ℕ) (lines : List (List ℕ)) → script_lines script ≡ record { whole = lines; ending = script_ended } → filter_map (refusal_at start) (places (reads_in lines)) ≡ []
+    → run_exit start script ≡ Done
+exit_of start script lines is none =
+    ap (λ (ls : Lines). unwrap_or (refusal_among start (places (reads_in ls.whole))) (ending_exit (length ls.whole) ls.ending)) is
+    ∙ ap (λ (refusals : List Exit). unwrap_or (first_among refusals) Done) none
+
+pub taken_whole : (n : ℕ) → n ≤ MOST_LINES → run_exit load_start (load_script n) ≡ Done
+taken_whole n few =
+    let taken : AreTaken load_start n (numbered (load_lines n)) = banks_more load_start n nothing_opened few in
+    exit_of load_start (load_script n) (map line_text (load_lines n)) (lines_whole n few) (ap (λ reads. filter_map (refusal_at load_start) (places reads)) (reads_are n few) ∙ taken.none)
