@@ -48,9 +48,9 @@ def bytes_of_entry(entry):
     return b"".join(parts)
 
 
-def bytes_of_link(entry):
-    """A link of one entry."""
-    payload = struct.pack("<I", 1) + bytes_of_entry(entry)
+def bytes_of_link(entries):
+    """A link of entries."""
+    payload = struct.pack("<I", len(entries)) + b"".join(map(bytes_of_entry, entries))
     return struct.pack("<I", len(payload)) + payload
 
 
@@ -226,11 +226,19 @@ def recover(files):
 
 
 class Disk:
-    """The two files in memory, and the calls made."""
+    """The two files and that of the record store in memory, and the calls made on the two."""
 
-    def __init__(self, files=(None, None)):
-        self.files = [bytearray(data or b"") for data in files]
+    def __init__(self, files=(None, None), store=None):
+        self.files, self.store = [bytearray(data or b"") for data in files], store
         self.calls = []
+
+    def read_store(self):
+        """The bytes of the record store's file, or None if it is missing."""
+        return self.store
+
+    def replace_store(self, data):
+        """Puts a new file in the place of the record store's."""
+        self.store = data
 
     def sync(self, file):
         """Makes a file durable."""
@@ -254,6 +262,18 @@ class FolderDisk(Disk):
         flags = os.O_RDWR | os.O_CREAT
         self.numbers = [os.open(f"rasd.{file}", flags, 0o666) for file in (0, 1)]
         super().__init__([os.pread(it, MOST_BYTES + 1, 0) for it in self.numbers])
+
+    def read_store(self):
+        try:
+            with open("rasd.store", "rb") as file:
+                return file.read()
+        except FileNotFoundError:
+            return None
+
+    def replace_store(self, data):
+        with open("rasd.new", "wb") as file:
+            file.write(data)
+        os.replace("rasd.new", "rasd.store")
 
     def sync(self, file):
         super().sync(file)
