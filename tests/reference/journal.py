@@ -3,10 +3,11 @@ import contextlib
 import dataclasses
 import itertools
 import os
+import stat
 import struct
 
 from reference.account import CLASSES, MOST_COUNTED, MOST_NAMES, Account, Bucket, Entry, Item, Module, Page
-from reference.base import Bytes, Stop, Unreadable, check
+from reference.base import Bytes, Fault, Stop, Unreadable, check
 from reference.script import is_label
 
 MOST_BYTES = 67_108_864
@@ -255,6 +256,15 @@ class Disk:
         self.sync(file)
 
 
+@contextlib.contextmanager
+def faults_of_store():
+    """What fails here is a fault of the device that keeps the record store."""
+    try:
+        yield
+    except OSError:
+        raise Fault(5) from None
+
+
 class FolderDisk(Disk):
     """The files of the working folder."""
 
@@ -264,16 +274,22 @@ class FolderDisk(Disk):
         super().__init__([os.pread(it, MOST_BYTES + 1, 0) for it in self.numbers])
 
     def read_store(self):
-        try:
+        with faults_of_store():
+            if not os.path.lexists("rasd.store"):
+                return None
+            check(stat.S_ISREG(os.lstat("rasd.store").st_mode), Fault(5))
             with open("rasd.store", "rb") as file:
                 return file.read()
-        except FileNotFoundError:
-            return None
 
     def replace_store(self, data):
-        with open("rasd.new", "wb") as file:
-            file.write(data)
-        os.replace("rasd.new", "rasd.store")
+        with faults_of_store():
+            with contextlib.suppress(OSError):
+                os.remove("rasd.new")
+            with open("rasd.new", "xb", 0) as file:
+                done = 0
+                while done < len(data):
+                    done += file.write(data[done:])
+            os.replace("rasd.new", "rasd.store")
 
     def sync(self, file):
         super().sync(file)
