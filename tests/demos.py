@@ -19,7 +19,8 @@ KINDS = (
     "log bank=", "log record=", "log block=", "log bert=", "repeat ", "stale ", "limit ", "module-limit ", "retire ",
     "order soft ", "order hard ", "order module ", "done ", "end entries=", "stop 1 usage", "stop 2 ", "stop 7 ",
     "stop 8 full", "stop 9 ", "stop 10 busy", "stop 11 ", "stop 13 too-long", "unreadable ", "counts ", "page=", "bank=",
-    "record=", "block=", "bert=", "module ", "pcie block=", "pcie record=", "device=", "end sections=", "partial ", "end reports=",
+    "record=", "block=", "bert=", "module ", "pcie block=", "pcie record=", "device=", "end sections=", "partial ",
+    "end reports=",
 )  # fmt: skip
 # Lines of kinds that no row and no case has, made by hand: records are told of once a run takes them.
 MORE = (

@@ -15,7 +15,7 @@ class NoTable(Exception):
 
 @dataclasses.dataclass
 class Piece:
-    """A part of what a line makes: its entry, or None, and its lines if that is fresh; the lines alone, without an entry."""
+    """A part of what a line makes: its entry, if it has one, and the lines that tell it, if that is fresh."""
 
     entry: Entry
     lines: list

@@ -1,10 +1,13 @@
 """Worked rows of the record store: tables, puts, polls and panic records, whose answers were worked out by hand."""
+import re
 import struct
 
 import model
 from reference import reports, store
 from reference.base import Unreadable
+from reference.journal import Disk, recover
 from reference.rows import EVERYDAY, LOGGED, MEMORY_TYPE, bytes_at, expect, with_bytes
+from reference.run import Run
 from reference.script import ALL_KINDS
 
 ONES = 16 * "f"
@@ -339,7 +342,8 @@ def panic_records():
     gives(saved, "done 1\ndone 2\nend entries=0 names=0\n", left=stored((9, PANIC_RECORD)))
     polled = f"done 1\ndone 2\n{PANIC_LOGGED}done 3\n"
     gives(f"{saved}poll 200\n", f"{polled}end entries=1 names=1\n", left=stored())
-    gives(f"{saved}poll 200\nbank {BANK}\n", f"{polled}repeat bank=1/0/4/3\ndone 4\nend entries=1 names=1\n", left=stored())
+    text = f"{polled}repeat bank=1/0/4/3\ndone 4\nend entries=1 names=1\n"
+    gives(f"{saved}poll 200\nbank {BANK}\n", text, left=stored())
     twice = f"{saved}panic a {BANK}\npoll 200\n"
     text = f"done 1\ndone 2\ndone 3\n{PANIC_LOGGED}repeat bank=1/0/4/3\ndone 4\nend entries=1 names=1\n"
     gives(twice, text, left=stored())
@@ -383,7 +387,61 @@ def panic_records_that_are_none():
     gives(TABLE + put(9, data) + "poll 200\n", text.format(store.PANIC), left=stored())
     # Whatever its severities, its revision and its creator are, it is one.
     kept = with_bytes(PANIC_RECORD, {4: "00 02", 12: "03", 64: "FF", 104: "01", 136: "01", 176: "02", 248: "02"})
-    gives(TABLE + put(9, kept) + "poll 200\n", f"done 1\ndone 2\n{PANIC_LOGGED}done 3\nend entries=1 names=1\n", left=stored())
+    text = f"done 1\ndone 2\n{PANIC_LOGGED}done 3\nend entries=1 names=1\n"
+    gives(TABLE + put(9, kept) + "poll 200\n", text, left=stored())
+
+
+class Recorded(Disk):
+    """A disk that keeps what a stop may leave at each moment: the two files, the store's, and the text."""
+
+    def __init__(self, files, held):
+        super().__init__(files, held)
+        self.lefts, self.text = [], b""
+
+    def keep(self):
+        """Keeps what a stop now leaves."""
+        self.lefts.append((tuple(map(bytes, self.files)), self.store, self.text))
+
+    def write(self, file, place, data):
+        before = bytes(self.files[file])
+        for torn in (b"", data[: len(data) // 2], len(data) * b"\xa5"):
+            self.files[file] = bytearray(before[:place] + torn + before[place + len(torn) :])
+            self.keep()
+        self.files[file] = bytearray(before)
+        super().write(file, place, data)
+        self.keep()
+
+    def replace_store(self, data):
+        super().replace_store(data)
+        self.keep()
+
+    def print(self, text):
+        """Prints a text, in pieces."""
+        for at in range(0, len(text), 7):
+            self.text += text[at : at + 7]
+            self.keep()
+
+
+def stops():
+    """At each moment of puts, polls and panic records each record is in the store or in the account, and told later."""
+    names = {5: ("record", 5), 7: ("record", 7), 9: ("bank", 1, 0, 4, 3)}
+    script = TABLE + put(5, RECORD) + put(6, SECTION_OUT) + PANIC + "poll 300\n" + put(7, RECORD_7) + "poll 400\n"
+    disk = Recorded((None, None), None)
+    expect(Run(disk, disk.print, ALL_KINDS).take_all([script.encode()]), 0)
+    end = model.run(script.encode(), kinds=ALL_KINDS)
+    expect((disk.text, disk.store, len(disk.lefts) > 150), (end.printed, stored((6, SECTION_OUT)), True))
+    for files, held, text in disk.lefts:
+        known, done = recover(files)[1].names, len(re.findall(rb"^done \d+\n", text, re.M))
+        laid = [it for it, line in ((5, 2), (9, 4), (7, 6)) if line <= done]
+        kept = store.read_store(held) if held else {}
+        expect([it for it in laid if it not in kept and names[it] not in known], [])
+        polled = {it for it in (5, 9) if names[it] in known}
+        expect(len(polled) in (0, 2), True)
+        expect(b"log" not in text or len(polled) == 2, True)
+        expect(done < 5 or len(polled) == 2 and not {5, 9} & set(kept), True)
+        again = model.run(script.encode(), files, store=held, kinds=ALL_KINDS)
+        expect((again.status, again.store), (0, stored((6, SECTION_OUT))))
+        expect(again.printed.endswith(b"end entries=3 names=3\n"), True)
 
 
 def kinds_that_a_run_does_not_take():
@@ -396,5 +454,5 @@ def kinds_that_a_run_does_not_take():
 
 ROWS = (
     samples, tables, puts, malformed_stores, a_poll, polls, one_link_for_a_poll, reasons, panic_records,
-    panic_lines_that_are_refused, panic_records_that_are_none, kinds_that_a_run_does_not_take,
+    panic_lines_that_are_refused, panic_records_that_are_none, stops, kinds_that_a_run_does_not_take,
 )  # fmt: skip
