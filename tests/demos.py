@@ -18,11 +18,16 @@ DEMO, TESTS = TOP / "demo", TOP / "tests"
 KINDS = (
     "log bank=", "log record=", "log block=", "log bert=", "repeat ", "stale ", "limit ", "module-limit ", "retire ",
     "order soft ", "order hard ", "order module ", "done ", "end entries=", "stop 1 usage", "stop 2 ", "stop 7 ",
-    "stop 8 full", "stop 13 too-long", "counts ", "page=", "bank=", "record=", "block=", "bert=", "module ",
-    "pcie block=", "pcie record=", "device=", "end sections=", "partial ", "end reports=",
+    "stop 8 full", "stop 9 ", "stop 10 busy", "stop 11 ", "stop 13 too-long", "unreadable ", "counts ", "page=", "bank=",
+    "record=", "block=", "bert=", "module ", "pcie block=", "pcie record=", "device=", "end sections=", "partial ",
+    "end reports=",
 )  # fmt: skip
-# Lines of kinds that no row and no case has, made by hand: records are logged once a run takes them.
+# Lines of kinds that no row and no case has, made by hand: records are told of once a run takes them.
 MORE = (
+    "stop 9 line=1",
+    "stop 10 busy",
+    "stop 11 code=1",
+    "unreadable record=1234567890123456 reason=section-out",
     "log record=1234567890123456 t=300 class=corrected weight=1 label=A page=1234567890123000 memory type=single-bit-ecc"
     " node=- card=- module=- mask=1234567890123456",
     "log bert=1 t=50 class=fatal weight=1 label=- page=- processor type=2 isa=1 error=4 op=0 level=3",

@@ -20,31 +20,33 @@ sys.dont_write_bytecode = True
 from reference import commands
 from reference.journal import Disk, FolderDisk
 from reference.run import Run
+from reference.script import KINDS
 
 
 @dataclasses.dataclass
 class Outcome:
-    """What a run comes to: what it printed, its status, the two files, and the disk calls."""
+    """What a run comes to: what it printed, its status, the two files, the record store's, and the disk calls."""
 
     printed: bytes
     status: int
     files: tuple
+    store: bytes
     calls: list
 
 
-def run(script, files=(None, None), events=None):
-    """The run over a script and two files, to its end, or so many events of it."""
-    disk, printed = Disk(files), []
-    status = Run(disk, printed.append).take_all([script], events)
-    return Outcome(b"".join(printed), status, tuple(map(bytes, disk.files)), disk.calls)
+def run(script, files=(None, None), events=None, store=None, kinds=KINDS):
+    """The run over a script, two files and the record store's file, to its end, or so many events of it."""
+    disk, printed = Disk(files, store), []
+    status = Run(disk, printed.append, kinds).take_all([script], events)
+    return Outcome(b"".join(printed), status, tuple(map(bytes, disk.files)), disk.store, disk.calls)
 
 
-def command(words, data, files=(None, None)):
-    """What these words come to, over an input and two files; other words than `run` leave the files."""
+def command(words, data, files=(None, None), store=None):
+    """What these words come to, over an input and the files; other words than `run` leave the files."""
     if words == [b"run"]:
-        return run(data, files)
+        return run(data, files, store=store)
     printed, status = commands.answer(words, data, files) or ("stop 1 usage\n", 1)
-    return Outcome(printed.encode(), status, tuple(files), [])
+    return Outcome(printed.encode(), status, tuple(files), store, [])
 
 
 def ending(status, call):

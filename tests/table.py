@@ -11,6 +11,12 @@ The file has, line by line, a comment from `#`, nothing, or one of
   stop INPUT | PRINTED     a run that ends with status 2, and prints that beginning and then this
   fail STATUS INPUT | PRINTED   a run that ends with this status
   then WORD .. | PRINTED   a run with these words and an empty input, after the row before it and over what that left
+  leaves BYTES             the file of the record store that the next row has to leave, in hexadecimal
+  if KIND ..               the rows from here on are tried if a run takes all these kinds of lines
+  unless KIND ..           they are tried if it takes none of these
+  always                   they are tried
+
+Which kinds a run takes stands in tests/reference/script.py.
 
 In each text \n is a line feed, \r a carriage return, \t a tab and \xNN the byte of that number.
 Spaces round a text don't count.
@@ -19,6 +25,8 @@ import dataclasses
 import pathlib
 import re
 
+from reference.script import KINDS
+
 TABLE = pathlib.Path(__file__).resolve().parent / "rows.txt"
 ESCAPES = {"n": b"\n", "r": b"\r", "t": b"\t", "\\": b"\\"}
 REFUSED = 2
@@ -26,7 +34,10 @@ REFUSED = 2
 
 @dataclasses.dataclass
 class Row:
-    """A run: its words, its input, what it prints, its status, the number of its line, and the run that comes before."""
+    """A run: its words, its input, what it prints, its status, the number of its line, and the run that comes before.
+
+    Where the record store's file has to be something, that is its bytes.
+    """
 
     words: list
     data: bytes
@@ -34,6 +45,7 @@ class Row:
     status: int
     number: int
     before: "Row" = None
+    store: bytes = None
 
 
 def filled(text, names):
@@ -54,9 +66,15 @@ def words_of(text, names):
     return bytes_of(text, names).split(b" ")
 
 
+def is_tried(word, kinds):
+    """Whether rows are tried that are for these kinds of lines, or for runs without these."""
+    taken = [kind.encode() in KINDS for kind in kinds.split()]
+    return all(taken) if word == "if" else not any(taken)
+
+
 def rows():
-    """Each run of the table."""
-    names, front, counts, words, last = {}, "", [0], [b"run"], None
+    """Each run of the table that is tried."""
+    names, front, counts, words, last, store, is_for_now = {}, "", [0], [b"run"], None, None, True
     for number, line in enumerate(TABLE.read_text().splitlines(), 1):
         word, _, rest = line.partition(" ")
         if not word or word.startswith("#"):
@@ -64,6 +82,12 @@ def rows():
         if word == "let":
             name, _, value = rest.partition(" ")
             names[name] = filled(value, names)
+        elif word in ("if", "unless", "always"):
+            is_for_now = is_tried(word, rest)
+        elif not is_for_now and word not in ("words", "end"):
+            continue
+        elif word == "leaves":
+            store = bytes.fromhex(filled(rest, names))
         elif word == "each":
             first, final = rest.split()
             counts = range(int(first), int(final) + 1)
@@ -81,6 +105,6 @@ def rows():
             start = bytes_of(front, names) if word == "stop" else b""
             for count in counts:
                 cut = names | {f"{name}#": value[:2 * count] for name, value in names.items()}
-                last = Row(words, bytes_of(text, cut), start + bytes_of(printed, cut), int(status), number)
+                last = Row(words, bytes_of(text, cut), start + bytes_of(printed, cut), int(status), number, None, store)
                 yield last
-            counts = [0]
+            counts, store = [0], None

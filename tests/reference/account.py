@@ -106,11 +106,13 @@ class Account:
             return entry.numbers[0] > self.floor
         return entry.numbers != (self.limit if entry.kind == "limit" else self.module_limit)
 
-    def has_room(self, entry):
-        """Whether a fresh entry keeps the account within its limits."""
-        weight = sum(item.weight for item in entry.items)
-        is_named = entry.kind != "fact" or len(self.names) < MOST_NAMES
-        return is_named and self.entries < MOST_COUNTED and self.total() + weight <= MOST_COUNTED
+    def has_room(self, *entries):
+        """Whether fresh entries keep the account within its limits."""
+        weight = sum(item.weight for entry in entries for item in entry.items)
+        names = sum(entry.kind == "fact" for entry in entries)
+        is_named = not names or len(self.names) + names <= MOST_NAMES
+        is_counted = self.entries + len(entries) <= MOST_COUNTED
+        return is_named and is_counted and self.total() + weight <= MOST_COUNTED
 
     def take(self, entry):
         """Continues the account by a fresh entry, and answers the orders that it gives."""

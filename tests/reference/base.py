@@ -9,6 +9,14 @@ class Stop(Exception):
         self.status, self.text = status, text
 
 
+class Fault(Exception):
+    """A call of the outside fails, and the run ends with this status."""
+
+    def __init__(self, status):
+        super().__init__(status)
+        self.status = status
+
+
 class Unreadable(Exception):
     """Bytes that aren't what is read."""
 

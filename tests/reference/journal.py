@@ -3,10 +3,11 @@ import contextlib
 import dataclasses
 import itertools
 import os
+import stat
 import struct
 
 from reference.account import CLASSES, MOST_COUNTED, MOST_NAMES, Account, Bucket, Entry, Item, Module, Page
-from reference.base import Bytes, Stop, Unreadable, check
+from reference.base import Bytes, Fault, Stop, Unreadable, check
 from reference.script import is_label
 
 MOST_BYTES = 67_108_864
@@ -48,9 +49,9 @@ def bytes_of_entry(entry):
     return b"".join(parts)
 
 
-def bytes_of_link(entry):
-    """A link of one entry."""
-    payload = struct.pack("<I", 1) + bytes_of_entry(entry)
+def bytes_of_link(entries):
+    """A link of entries."""
+    payload = struct.pack("<I", len(entries)) + b"".join(map(bytes_of_entry, entries))
     return struct.pack("<I", len(payload)) + payload
 
 
@@ -226,11 +227,19 @@ def recover(files):
 
 
 class Disk:
-    """The two files in memory, and the calls made."""
+    """The two files and that of the record store in memory, and the calls made on the two."""
 
-    def __init__(self, files=(None, None)):
-        self.files = [bytearray(data or b"") for data in files]
+    def __init__(self, files=(None, None), store=None):
+        self.files, self.store = [bytearray(data or b"") for data in files], store
         self.calls = []
+
+    def read_store(self):
+        """The bytes of the record store's file, or None if it is missing."""
+        return self.store
+
+    def replace_store(self, data):
+        """Puts a new file in the place of the record store's."""
+        self.store = data
 
     def sync(self, file):
         """Makes a file durable."""
@@ -247,6 +256,15 @@ class Disk:
         self.sync(file)
 
 
+@contextlib.contextmanager
+def faults_of_store():
+    """What fails here is a fault of the device that keeps the record store."""
+    try:
+        yield
+    except OSError:
+        raise Fault(5) from None
+
+
 class FolderDisk(Disk):
     """The files of the working folder."""
 
@@ -254,6 +272,24 @@ class FolderDisk(Disk):
         flags = os.O_RDWR | os.O_CREAT
         self.numbers = [os.open(f"rasd.{file}", flags, 0o666) for file in (0, 1)]
         super().__init__([os.pread(it, MOST_BYTES + 1, 0) for it in self.numbers])
+
+    def read_store(self):
+        with faults_of_store():
+            if not os.path.lexists("rasd.store"):
+                return None
+            check(stat.S_ISREG(os.lstat("rasd.store").st_mode), Fault(5))
+            with open("rasd.store", "rb") as file:
+                return file.read()
+
+    def replace_store(self, data):
+        with faults_of_store():
+            with contextlib.suppress(OSError):
+                os.remove("rasd.new")
+            with open("rasd.new", "xb", 0) as file:
+                done = 0
+                while done < len(data):
+                    done += file.write(data[done:])
+            os.replace("rasd.new", "rasd.store")
 
     def sync(self, file):
         super().sync(file)

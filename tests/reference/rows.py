@@ -272,7 +272,7 @@ def refused_lines():
     """A line for each reason."""
     lines = {
         "frob": "line.1", "bank 1": "line.2", "cpu x 0": "line.3", "hest 0g": "line.4", "#" * 40_001: "line.5",
-        "module - 0 7 0": "line.6", "put 0 00": "line.1", "place A 0 0 0": "topology.1",
+        "module - 0 7 0": "line.6", "place A 0 0 0": "topology.1",
     }  # fmt: skip
     for line, reason in lines.items():
         gives(line, f"stop 2 line=1 reason={reason}\n", 2)
@@ -362,7 +362,10 @@ ROWS = (
 
 def main():
     """Tries all rows."""
-    for row in ROWS:
+    from reference import store_rows
+
+    all_rows = ROWS + store_rows.ROWS
+    for row in all_rows:
         row()
-    print(f"rows: {len(ROWS)} hold")
+    print(f"rows: {len(all_rows)} hold")
     return 0
