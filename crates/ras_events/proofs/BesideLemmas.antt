@@ -79,16 +79,6 @@ swap true false k = refl
 swap false true k = refl
 swap false false k = refl
 
-knows_all : (a : State) (facts : List Entry) (name : Name) → AllByRecursion IsFact facts → knows (account_after_all a facts) name ≡ (is_among (names_of facts) name || knows a name)
-knows_all a [] name all = refl
-knows_all a (Fact fact ∷ facts) name all =
-    knows_all (account_after a (Fact fact)) facts name all.1
-    ∙ ap (λ k. is_among (names_of facts) name || k) (knows_fact a fact name)
-    ∙ swap (same_name name fact.name) (is_among (names_of facts) name) (knows a name)
-knows_all a (Limit limit ∷ facts) name all = absurd all.0
-knows_all a (Retire boot ∷ facts) name all = absurd all.0
-knows_all a (ModuleLimit limit ∷ facts) name all = absurd all.0
-
 floor_all : (a : State) (facts : List Entry) → AllByRecursion IsFact facts → (account_after_all a facts).floor ≡ a.floor
 floor_all a [] all = refl
 floor_all a (Fact fact ∷ facts) all = floor_all (account_after a (Fact fact)) facts all.1 ∙ floor_fact a fact
@@ -148,14 +138,12 @@ alone a (ModuleLimit limit) = kept _
 
 -- an entry behind others that are all facts or none is judged so
 pub record IsBeside (a : State) (taken : List Entry) (e : Entry) : Type 0 where
-  pub fresh : is_fresh_in (account_after_all a taken) e ≡ is_news_beside a taken e
   pub news : is_fresh_in (account_after_all a taken) e ≡ is_news_beside a (fresh_entries_in a taken) e
   pub log : (details : List Detail) → entry_lines details (account_after_all a taken) e ≡ entry_lines details a e
   pub repeat : repeat_line (account_after_all a taken) e ≡ repeat_line a e
 
 beside_facts : (a : State) (taken : List Entry) (e : Entry) → AllByRecursion IsFact taken → IsFact e → IsBeside a taken e
 beside_facts a taken (Fact fact) all is = record {
-  fresh = ap not (knows_all a taken fact.name all) ∙ turned (is_among (names_of taken) fact.name) (knows a fact.name);
   news = ap not (knows_news a taken fact.name all) ∙ turned (is_among (names_of (fresh_entries_in a taken)) fact.name) (knows a fact.name);
   log = λ details. refl;
   repeat = λ i. repeat_line (record a { floor = floor_all a taken all i }) (Fact fact);
@@ -165,7 +153,7 @@ beside_facts a taken (Retire boot) all is = absurd is
 beside_facts a taken (ModuleLimit limit) all is = absurd is
 
 beside_none : (a : State) (e : Entry) → IsBeside a [] e
-beside_none a e = record { fresh = alone a e; news = alone a e; log = λ details. refl; repeat = refl }
+beside_none a e = record { news = alone a e; log = λ details. refl; repeat = refl }
 
 pub beside : (a : State) (taken left : List Entry) (e : Entry) → AreAlike (taken ++ e ∷ left) → IsBeside a taken e
 beside a taken left e (inl facts) =

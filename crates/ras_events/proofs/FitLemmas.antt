@@ -21,7 +21,7 @@ use Rattle.ras_script.specs.LineLaws.{IsEntryInRange}
 use Rattle.entry_format.specs.Spelling.{entry_bytes}
 use Rattle.entry_format.proofs.SizeLemmas.{entry_most}
 use Rattle.journal_format.specs.Links.{payload_bytes}
-use Rattle.ras_events.specs.Making.{made_by_report, made_of_entry, nothing_made}
+use Rattle.ras_events.specs.Making.{made_by_report, made_of_entry}
 use Rattle.ras_events.specs.Sizes.{IsFit}
 
 payload_most : (e : Entry) → IsValidEntry e → length (payload_bytes (e ∷ [])) ≤ 67108864
@@ -33,7 +33,7 @@ nothing_short : length (payload_bytes []) ≤ 67108864
 unfolding payload_bytes
 nothing_short = omega (arith, length-append (u32_bytes 0) [], length-u32_bytes 0)
 
-pub nothing_fits : IsFit nothing_made
+pub nothing_fits : IsFit []
 nothing_fits = record { valid = All-from_recursion IsValidEntry [] tt; few = omega arith; short = nothing_short; alike = inr (omega arith) }
 
 pub entry_fits : (e : Entry) → IsValidEntry e → IsFit (made_of_entry e)
@@ -44,7 +44,7 @@ entry_fits e valid = record {
   alike = inr (omega arith);
 }
 
-pub report_fits : (report : Option Report) → IfSome report (λ r. IsValidFact r.fact) → IsFit (option_map_or made_by_report report nothing_made)
+pub report_fits : (report : Option Report) → IfSome report (λ r. IsValidFact r.fact) → IsFit (option_map_or made_by_report report [])
 report_fits None valid = nothing_fits
 report_fits (Some report) valid = record {
   valid = All-from_recursion IsValidEntry (entry.Fact report.fact ∷ []) (valid, tt);

@@ -1,7 +1,7 @@
 -- What an event makes, by the history that it is prepared for.
-use Rattle.std.proofs.Common.{◌≡◌, Bool, true, false, if◌then◌else◌, List, [], ◌∷◌, ◌++◌, map, refl, sym, ap, ◌∙◌, append_assoc, append-nil}
+use Rattle.std.proofs.Common.{◌≡◌, Bool, true, false, if◌then◌else◌, List, [], ◌∷◌, ◌++◌, refl, sym, ap, ◌∙◌, append_assoc, append-nil}
 use Rattle.std.specs.List.{flat_map}
-use Rattle.std.proofs.lemmas.List.{map-append}
+use Rattle.std.proofs.lemmas.List.Elements.{filter_map-append}
 use Rattle.std.proofs.lemmas.List.Sums.{fold-append}
 use Rattle.page_policy.specs.declared.rows.Order.{Order}
 use Rattle.ras_base.specs.Places.{places_behind}
@@ -19,7 +19,10 @@ use Rattle.ras_account.proofs.OrderLemmas.{orders_at-account_of}
 use Rattle.ras_texts.specs.Orders.{order_lines}
 use Rattle.ras_texts.specs.Reports.{entry_lines}
 use Rattle.ras_texts.specs.Text.{repeat_line}
-use Rattle.ras_events.specs.Making.{Piece, Pieces, pieces_in}
+use Rattle.ras_texts.specs.Unreadable.{unreadable_line}
+use Rattle.ras_events.specs.declared.made.Piece.{Piece}
+use Rattle.ras_events.specs.declared.made.Piece.TheVariants.{Counted, Unread}
+use Rattle.ras_events.specs.Making.{entries_in, entry_in}
 use Rattle.ras_events.specs.Preparing.{orders_along_entries, text_along}
 use Rattle.ras_events.proofs.BesideLemmas.{after_if}
 use Rattle.ras_events.specs.Texts.{event_text, orders_of_entries, piece_text, pieces_text}
@@ -70,21 +73,24 @@ news_behind h (e ∷ es) =
     by true = append_assoc (fresh_entries h) (e ∷ []) (fresh_entries_in (after_if (account_of h) e true) es)
     by false = refl
 
-abbrev entry_of : Piece → Entry
-entry_of piece = piece.0
-
 text_behind : (h : History) (before pieces : List Piece)
-    → text_along (account_of (with_entries h (map entry_of before))) pieces
-    ≡ flat_map (λ p. piece_text (with_entries h (map {B = Entry} (λ piece. piece.0) p.0)) p.1) (places_behind before pieces)
+    → text_along (account_of (with_entries h (entries_in before))) pieces
+    ≡ flat_map (λ p. piece_text (with_entries h (entries_in p.0)) p.1) (places_behind before pieces)
 text_behind h before [] = refl
-text_behind h before (piece ∷ pieces) =
-    let here : History = with_entries h (map entry_of before) in
-    let told : map entry_of (before ++ piece ∷ []) ≡ map entry_of before ++ piece.0 ∷ [] = map-append entry_of before (piece ∷ []) in
-    let after : account_after (account_of here) piece.0 ≡ account_of (with_entries h (map entry_of (before ++ piece ∷ []))) =
-    account_more h (map entry_of before) piece.0 ∙ ap (λ es. account_of (with_entries h es)) (sym told) in
-    (λ i. (if is_fresh_in-account_of here piece.0 i then entry_lines piece.1 (account_of here) piece.0 else repeat_line (account_of here) piece.0)
+text_behind h before (Counted e details ∷ pieces) =
+    let p : Piece = Counted e details in
+    let here : History = with_entries h (entries_in before) in
+    let told : entries_in (before ++ p ∷ []) ≡ entries_in before ++ e ∷ [] = filter_map-append entry_in before (p ∷ []) in
+    let after : account_after (account_of here) e ≡ account_of (with_entries h (entries_in (before ++ p ∷ []))) =
+    account_more h (entries_in before) e ∙ ap (λ es. account_of (with_entries h es)) (sym told) in
+    (λ i. (if is_fresh_in-account_of here e i then entry_lines details (account_of here) e else repeat_line (account_of here) e)
     ++ text_along (after i) pieces)
-    ∙ ap (λ text. piece_text here piece ++ text) (text_behind h (before ++ piece ∷ []) pieces)
+    ∙ ap (λ text. piece_text here p ++ text) (text_behind h (before ++ p ∷ []) pieces)
+text_behind h before (Unread id why ∷ pieces) =
+    let p : Piece = Unread id why in
+    let told : entries_in before ≡ entries_in (before ++ p ∷ []) = sym (append-nil (entries_in before)) ∙ sym (filter_map-append entry_in before (p ∷ [])) in
+    ap (λ es. unreadable_line id why ++ text_along (account_of (with_entries h es)) pieces) told
+    ∙ ap (λ text. unreadable_line id why ++ text) (text_behind h (before ++ p ∷ []) pieces)
 
 pub text_by_history : (h : History) (pieces : List Piece) → text_along (account_of h) pieces ≡ pieces_text h pieces
 text_by_history h pieces = text_behind h [] pieces
@@ -103,10 +109,11 @@ pub account_by_history : (h : History) (es : List Entry) → account_after_all (
 account_by_history h es = sym (account_of-entries h es)
 
 -- the whole text of an event, with the orders of its news
-pub event_by_history : (h : History) (made : Pieces)
-    → text_along (account_of h) (pieces_in made)
-    ++ order_lines (account_after_all (account_of h) (fresh_entries_in (account_of h) made.entries)).modules (orders_along_entries (account_of h) (fresh_entries_in (account_of h) made.entries))
+pub event_by_history : (h : History) (made : List Piece)
+    → text_along (account_of h) made
+    ++ order_lines (account_after_all (account_of h) (fresh_entries_in (account_of h) (entries_in made))).modules (orders_along_entries (account_of h) (fresh_entries_in (account_of h) (entries_in made)))
     ≡ event_text h made
 event_by_history h made =
-    λ i. text_by_history h (pieces_in made) i
-    ++ order_lines ((news_account (account_of h) made.entries ∙ account_by_history h made.entries) i).modules ((news_orders (account_of h) made.entries ∙ orders_by_history h made.entries) i)
+    let es : List Entry = entries_in made in
+    λ i. text_by_history h made i
+    ++ order_lines ((news_account (account_of h) es ∙ account_by_history h es) i).modules ((news_orders (account_of h) es ∙ orders_by_history h es) i)

@@ -7,3 +7,5 @@ pub mod ReadyLemmas
 pub mod FitLemmas
 pub mod ReportLemmas
 pub mod RepeatLemmas
+pub mod PollLemmas
+pub mod StoreLemmas

@@ -1,58 +1,97 @@
--- The lines of what an event makes, entry by entry.
-use Rattle.std.proofs.Common.{◌≡◌, ℕ, ◌+◌, ◌<◌, ◌≤◌, if◌then◌else◌, List, [], ◌∷◌, ◌++◌, length, take, drop, get_or, zero, suc, refl, sym, ap, subst, ◌∙◌, append_assoc, append-nil}
-use Rattle.std.specs.List.{zip}
-use Rattle.std.proofs.lemmas.List.{take_more, drop_all}
+-- The lines and the news of an event, piece by piece.
+use Rattle.std.proofs.Common.{◌≡◌, ℕ, ◌+◌, if◌then◌else◌, List, [], ◌∷◌, ◌++◌, length, refl, sym, ap, subst, ◌∙◌, append_assoc, append-nil, arith}
+use Rattle.std.proofs.lemmas.List.Elements.{filter_map-append}
+use Rattle.cper_records.specs.declared.refusals.Unreadable.{Unreadable}
 use Rattle.ras_facts.specs.declared.entry.Entry.{Entry}
 use Rattle.ras_reports.specs.declared.details.Detail.{Detail}
 use Rattle.ras_account.specs.Account.{State}
-use Rattle.ras_account.specs.Continued.{account_after, account_after_all}
-use Rattle.ras_account.proofs.ReserveLemmas.{after-snoc}
-use Rattle.ras_account.proofs.StateLemmas.{drop-at}
-use Rattle.ras_events.specs.Beside.{AreAlike, lines_beside}
+use Rattle.ras_account.specs.Continued.{is_fresh_in, account_after, account_after_all}
+use Rattle.ras_account.specs.Numbers.{fresh_entries_in}
+use Rattle.ras_account.proofs.ReserveLemmas.{fresh-snoc}
+use Rattle.ras_texts.specs.Reports.{entry_lines}
+use Rattle.ras_texts.specs.Text.{repeat_line}
+use Rattle.ras_texts.specs.Unreadable.{unreadable_line}
+use Rattle.ras_events.specs.declared.made.Piece.{Piece}
+use Rattle.ras_events.specs.declared.made.Piece.TheVariants.{Counted, Unread}
+use Rattle.ras_events.specs.Beside.{AreAlike, KeepsNews, TellsEntry, is_news_beside}
+use Rattle.ras_events.specs.Making.{entries_in, entry_in}
 use Rattle.ras_events.specs.Preparing.{text_along}
 use Rattle.ras_events.proofs.BesideLemmas.{IsBeside, beside}
 
-take_drop : {X : Type 0} (xs : List X) (i : ℕ) → take i xs ++ drop i xs ≡ xs
-take_drop [] zero = refl
-take_drop [] (suc i) = refl
-take_drop (x ∷ xs) zero = refl
-take_drop {X} (x ∷ xs) (suc i) = ap (λ (ys : List X). x ∷ ys) (take_drop xs i)
+-- the lines of pieces with one more
+text_along-snoc : (a : State) (taken : List Piece) (p : Piece)
+    → text_along a (taken ++ p ∷ []) ≡ text_along a taken ++ text_along (account_after_all a (entries_in taken)) (p ∷ [])
+text_along-snoc a [] p = refl
+text_along-snoc a (Counted e details ∷ taken) p =
+    let lines : List ℕ = if is_fresh_in a e then entry_lines details a e else repeat_line a e in
+    ap (λ text. lines ++ text) (text_along-snoc (account_after a e) taken p)
+    ∙ sym (append_assoc lines (text_along (account_after a e) taken) (text_along (account_after_all (account_after a e) (entries_in taken)) (p ∷ [])))
+text_along-snoc a (Unread id why ∷ taken) p =
+    ap (λ text. unreadable_line id why ++ text) (text_along-snoc a taken p)
+    ∙ sym (append_assoc (unreadable_line id why) (text_along a taken) (text_along (account_after_all a (entries_in taken)) (p ∷ [])))
 
--- the lines of what is left of an event, behind the entries before it
-abbrev pub text_from : State → List Entry → List (List Detail) → ℕ → List ℕ
-text_from a entries details i = text_along (account_after_all a (take i entries)) (zip (drop i entries) (drop i details))
+pub keeps_first : (a : State) (all left : List Piece) (news : List Entry) (text : List ℕ) (number : ℕ)
+    → left ≡ all → number ≡ length left → news ≡ [] → text ≡ [] → KeepsNews a all [] left number news text
+keeps_first a all left news text number is count none empty = record { pieces = is; count = count; news_are = none; text_is = empty }
 
--- the lines of an entry at its own place, and those of the entries after it
-pub text_step : (a : State) (entries : List Entry) (details : List (List Detail)) (i : ℕ) (e : Entry) (told : List Detail)
-    → AreAlike entries → i < length entries → i < length details → e ≡ get_or entries i e → told ≡ get_or details i told
-    → text_from a entries details i ≡ lines_beside a (take i entries) told e ++ text_from a entries details (i + 1)
-text_step a entries details i e told alike here there is tells =
-    let rest : drop i entries ≡ e ∷ drop (i + 1) entries = drop-at entries i e here is in
-    let more : drop i details ≡ told ∷ drop (i + 1) details = drop-at details i told there tells in
-    let whole : take i entries ++ e ∷ drop (i + 1) entries ≡ entries = ap (λ (es : List Entry). take i entries ++ es) (sym rest) ∙ take_drop entries i in
-    let judged : IsBeside a (take i entries) e = beside a (take i entries) (drop (i + 1) entries) e (subst AreAlike (sym whole) alike) in
-    let taken : take (i + 1) entries ≡ take i entries ++ e ∷ [] = take_more entries i e here ∙ ap (λ (x : Entry). take i entries ++ x ∷ []) (sym is) in
-    let after : account_after (account_after_all a (take i entries)) e ≡ account_after_all a (take (i + 1) entries) =
-    sym (after-snoc a (take i entries) e) ∙ ap (account_after_all a) (sym taken) in
-    (λ j. text_along (account_after_all a (take i entries)) (zip (rest j) (more j)))
-    ∙ (λ j. (if judged.fresh j then judged.log told j else judged.repeat j) ++ text_along (after j) (zip (drop (i + 1) entries) (drop (i + 1) details)))
+-- what stays of pieces with one more: how many are left, and all of them
+whole : (all taken left rest : List Piece) (p : Piece) → taken ++ left ≡ all → left ≡ p ∷ rest → taken ++ p ∷ rest ≡ all
+whole all taken left rest p pieces is = ap (λ ps. taken ++ ps) (sym is) ∙ pieces
 
--- an entry more
-pub text_more : (a : State) (entries : List Entry) (details : List (List Detail)) (i : ℕ) (e : Entry) (told : List Detail) (text next : List ℕ)
-    → AreAlike entries → i < length entries → i < length details → e ≡ get_or entries i e → told ≡ get_or details i told
-    → text ++ text_from a entries details i ≡ text_along a (zip entries details) → next ≡ text ++ lines_beside a (take i entries) told e
-    → next ++ text_from a entries details (i + 1) ≡ text_along a (zip entries details)
-text_more a entries details i e told text next alike here there is tells so_far put =
-    ap (λ (t : List ℕ). t ++ text_from a entries details (i + 1)) put
-    ∙ append_assoc text (lines_beside a (take i entries) told e) (text_from a entries details (i + 1))
-    ∙ ap (λ (t : List ℕ). text ++ t) (sym (text_step a entries details i e told alike here there is tells))
-    ∙ so_far
+pub keeps_counted : (a : State) (all taken left rest : List Piece) (news more : List Entry) (text next : List ℕ) (number fewer : ℕ) (e : Entry) (details : List Detail)
+    → AreAlike (entries_in all) → KeepsNews a all taken left number news text → left ≡ Counted e details ∷ rest → fewer + 1 ≡ number
+    → TellsEntry (is_news_beside a news e) a details e text next news more
+    → KeepsNews a all (taken ++ Counted e details ∷ []) rest fewer more next
+keeps_counted a all taken left rest news more text next number fewer e details alike so_far is one told =
+    let p : Piece = Counted e details in
+    let es : List Entry = entries_in taken in
+    let pieces : taken ++ p ∷ rest ≡ all = whole all taken left rest p so_far.pieces is in
+    let entries : es ++ e ∷ entries_in rest ≡ entries_in all = sym (filter_map-append entry_in taken (p ∷ rest)) ∙ ap entries_in pieces in
+    let judged : IsBeside a es e = beside a es (entries_in rest) e (subst AreAlike (sym entries) alike) in
+    let fresh : is_fresh_in (account_after_all a es) e ≡ is_news_beside a news e = judged.news ∙ ap (λ fs. is_news_beside a fs e) (sym so_far.news_are) in
+    record {
+      pieces = append_assoc taken (p ∷ []) rest ∙ pieces;
+      count = omega (arith, so_far.count, one, ap length is);
+      news_are =
+          told.news
+          ∙ (λ i. if sym fresh i then so_far.news_are i ++ e ∷ [] else so_far.news_are i)
+          ∙ sym (fresh-snoc a es e)
+          ∙ ap (fresh_entries_in a) (sym (filter_map-append entry_in taken (p ∷ [])));
+      text_is =
+          told.text
+          ∙ (λ i. so_far.text_is i ++ (if sym fresh i then sym (judged.log details) i else sym judged.repeat i))
+          ∙ ap (λ lines. text_along a taken ++ lines) (sym (append-nil (if is_fresh_in (account_after_all a es) e then entry_lines details (account_after_all a es) e else repeat_line (account_after_all a es) e)))
+          ∙ sym (text_along-snoc a taken p);
+    }
 
--- all entries
-pub text_end : (a : State) (entries : List Entry) (details : List (List Detail)) (i : ℕ) (text : List ℕ) → length entries ≤ i
-    → text ++ text_from a entries details i ≡ text_along a (zip entries details) → text ≡ text_along a (zip entries details)
-text_end a entries details i text all so_far =
-    sym (append-nil text) ∙ ap (λ (t : List ℕ). text ++ t) (sym none) ∙ so_far
-  where
-    none : text_from a entries details i ≡ []
-    none = ap (λ (es : List Entry). text_along (account_after_all a (take i entries)) (zip es (drop i details))) (drop_all i entries all)
+pub keeps_unread : (a : State) (all taken left rest : List Piece) (news : List Entry) (text next : List ℕ) (number fewer : ℕ) (id : ℕ) (why : Unreadable)
+    → KeepsNews a all taken left number news text → left ≡ Unread id why ∷ rest → fewer + 1 ≡ number → next ≡ text ++ unreadable_line id why
+    → KeepsNews a all (taken ++ Unread id why ∷ []) rest fewer news next
+keeps_unread a all taken left rest news text next number fewer id why so_far is one put =
+    let p : Piece = Unread id why in
+    record {
+      pieces = append_assoc taken (p ∷ []) rest ∙ whole all taken left rest p so_far.pieces is;
+      count = omega (arith, so_far.count, one, ap length is);
+      news_are =
+          so_far.news_are
+          ∙ ap (fresh_entries_in a) (sym (append-nil (entries_in taken)) ∙ sym (filter_map-append entry_in taken (p ∷ [])));
+      text_is =
+          put
+          ∙ (λ i. so_far.text_is i ++ sym (append-nil (unreadable_line id why)) i)
+          ∙ sym (text_along-snoc a taken p);
+    }
+
+none_left : (left : List Piece) (number : ℕ) → number ≡ length left → number ≡ 0 → left ≡ []
+none_left [] number count zero = refl
+none_left (p ∷ left) number count zero = absurd (omega (arith, count, zero))
+
+-- once no piece is left, all are taken
+module _ (a : State) (all taken left : List Piece) (news : List Entry) (text : List ℕ) (number : ℕ) (so_far : KeepsNews a all taken left number news text) (zero : number ≡ 0) where
+  taken_all : taken ≡ all
+  taken_all = sym (append-nil taken) ∙ ap (λ ps. taken ++ ps) (sym (none_left left number so_far.count zero)) ∙ so_far.pieces
+
+  pub all_news : news ≡ fresh_entries_in a (entries_in all)
+  all_news = so_far.news_are ∙ ap (λ ps. fresh_entries_in a (entries_in ps)) taken_all
+
+  pub all_text : text ≡ text_along a all
+  all_text = so_far.text_is ∙ ap (text_along a) taken_all

@@ -4,25 +4,26 @@ use Rattle.std.specs.Global.{Vec}
 use Rattle.std.specs.List.{sum_by}
 use Rattle.ras_facts.specs.declared.entry.Entry.{Entry}
 use Rattle.ras_facts.specs.Entries.{IsValidEntry, most_orders}
-use Rattle.ras_account.specs.Numbers.{HasRoomFor, StaysWithin, fresh_entries_in}
+use Rattle.ras_account.specs.Numbers.{HasRoomFor, StaysWithin}
 use Rattle.ras_account.specs.View.{View, added_by}
+use Rattle.ras_account.proofs.NumberLemmas.{stays-within}
 use Rattle.ras_texts.specs.OrderRoom.{HasOrderRoom}
 use Rattle.ras_events.specs.declared.preparing.News.{News}
 use Rattle.ras_events.specs.Beside.{IsNewsOf}
 use Rattle.ras_events.specs.Preparing.{CanTake, IsReady, news_entries}
-use Rattle.ras_events.proofs.NewsLemmas.{adds_news, stays_news}
 
-module _ (account : View) (made news : List Entry) (room : ℕ) (waits : account.waiting ≡ added_by account.state made) (within : HasRoomFor account.state made) (news_are : news ≡ fresh_entries_in account.state made) (valid : All IsValidEntry news) (enough : room ≡ sum_by most_orders news) where
-  can_take : (new : News) → new.entries.items ≡ news → IsNewsOf room new → CanTake account new
+module _ (account : View) (news : List Entry) (waits : account.waiting ≡ added_by account.state news) (within : HasRoomFor account.state news) (valid : All IsValidEntry news) where
+  can_take : (new : News) → new.entries.items ≡ news → IsNewsOf (sum_by most_orders news) new → CanTake account new
   can_take new same is = record {
-    reserved = waits ∙ sym (adds_news account.state made) ∙ ap (added_by account.state) (sym (same ∙ news_are));
+    reserved = waits ∙ ap (added_by account.state) (sym same);
     valid = subst (All IsValidEntry) (sym same) valid;
-    within = subst (StaysWithin account.state) (sym (same ∙ news_are)) (stays_news account.state made within);
+    within = subst (StaysWithin account.state) (sym same) (stays-within account.state news within);
     none = is.none;
-    room = omega (arith, is.room_is, enough, ap (sum_by most_orders) same);
+    room = omega (arith, is.room_is, ap (sum_by most_orders) same);
   }
 
-  pub ready : (found : Option News) (text done : Vec ℕ) → news_entries found ≡ news → IfSome found (IsNewsOf room) → HasOrderRoom room text → IsReady account (record { news = found; text = text; done = done })
+  pub ready : (found : Option News) (text done : Vec ℕ) → news_entries found ≡ news → IfSome found (IsNewsOf (sum_by most_orders news))
+      → HasOrderRoom (sum_by most_orders news) text → IsReady account (record { news = found; text = text; done = done })
   ready None text done same is has = record { news = tt; room = tt }
   ready (Some new) text done same is has = record {
     news = can_take new same is;

@@ -1,8 +1,9 @@
 -- What lines tell and report, a line at a time.
-use Rattle.std.proofs.Common.{◌≡◌, ℕ, List, [], ◌∷◌, ◌++◌, Some, Result, Ok, Err, ap, refl, ◌∙◌, append-nil}
+use Rattle.std.proofs.Common.{◌≡◌, ℕ, List, [], ◌∷◌, ◌++◌, Option, None, Some, Result, Ok, Err, ap, refl, ◌∙◌, append-nil}
 use Rattle.std.proofs.lemmas.List.Elements.{filter_map-append}
 use Rattle.std.proofs.lemmas.List.Concat.{flat_map-append}
-use Rattle.std.specs.List.{filter_map, flat_map}
+use Rattle.std.specs.List.{cons_option, filter_map, flat_map}
+use Rattle.std.specs.Option.{option_map_or}
 use Rattle.ras_base.specs.Places.{places, places_behind}
 use Rattle.ras_base.specs.PlacesLemmas.{places_behind-append}
 use Rattle.apei_sources.specs.Hest.{Sources, hest_of}
@@ -11,8 +12,11 @@ use Rattle.ras_script.specs.declared.line.Line.{Line}
 use Rattle.ras_script.specs.declared.line.Line.TheVariants as asks
 use Rattle.ras_script.specs.declared.line.Table.TheVariants.{Hest, Erst}
 use Rattle.ras_events.specs.declared.settings.Settings.{Settings}
-use Rattle.ras_events.specs.Events.{settings_after, with_sources}
-use Rattle.ras_events.specs.Reports.{NumberedLine, entries_at, last_of, reports, row_by, rows_told, settings_told, sources_by, sources_in_table}
+use Rattle.erst_interp.specs.Table.{erst_of}
+use Rattle.erst_store.specs.Store.{Stored}
+use Rattle.dimm_topology.specs.declared.row.Row.{Row}
+use Rattle.ras_events.specs.Events.{Lists, admitted_in, settings_after, with_driver, with_sources}
+use Rattle.ras_events.specs.Reports.{NumberedLine, driver_by, entries_at, last_of, reports, row_by, settings_told, sources_by, sources_in_table}
 
 -- the last of a list with one more
 last-snoc : {X : Type 0} (xs : List X) (x : X) → last_of (xs ++ x ∷ []) ≡ Some x
@@ -20,36 +24,60 @@ last-snoc [] x = refl
 last-snoc (y ∷ []) x = refl
 last-snoc (y ∷ z ∷ xs) x = last-snoc (z ∷ xs) x
 
-settings-snoc : (before : List NumberedLine) (read : NumberedLine) → settings_told (before ++ read ∷ [])
-    ≡ record { topology = rows_told before ++ filter_map row_by (read ∷ []); sources = last_of (filter_map sources_by before ++ filter_map sources_by (read ∷ [])) }
-settings-snoc before read = rw (filter_map-append row_by before (read ∷ []), filter_map-append sources_by before (read ∷ [])) refl
+-- the last of a list with one more, if there is one more
+last-found : {X : Type 0} (xs : List X) (found : Option X) → last_of (xs ++ cons_option found []) ≡ option_map_or Some found (last_of xs)
+last-found xs None = ap last_of (append-nil xs)
+last-found xs (Some x) = last-snoc xs x
+
+-- settings with what a line tells
+abbrev with_told : Settings → Option Row → Option Sources → Option Lists → Settings
+with_told settings row sources lists = record {
+  topology = settings.topology ++ cons_option row [];
+  sources = option_map_or Some sources settings.sources;
+  driver = option_map_or Some lists settings.driver;
+}
+
+settings-snoc : (before : List NumberedLine) (read : NumberedLine)
+    → settings_told (before ++ read ∷ []) ≡ with_told (settings_told before) (row_by read) (sources_by read) (driver_by read)
+settings-snoc before read =
+    rw (
+      filter_map-append row_by before (read ∷ []),
+      filter_map-append sources_by before (read ∷ []),
+      filter_map-append driver_by before (read ∷ []),
+      last-found (filter_map sources_by before) (sources_by read),
+      last-found (filter_map driver_by before) (driver_by read),
+    )
+    refl
 
 -- a line that tells nothing of the machine
-same : (before : List NumberedLine) → ◌≡◌ {A = Settings} (record { topology = rows_told before ++ []; sources = last_of (filter_map sources_by before ++ []) }) (settings_told before)
-same before = rw (append-nil (rows_told before), append-nil (filter_map sources_by before)) refl
+same : (settings : Settings) → with_told settings None None None ≡ settings
+same settings = λ i. record settings { topology = append-nil settings.topology i }
 
--- a table of error sources
-with-table : (before : List NumberedLine) (table : Result Sources TableRefused)
-    → ◌≡◌ {A = Settings} (record { topology = rows_told before ++ []; sources = last_of (filter_map sources_by before ++ filter_map (λ (t : Result Sources TableRefused). sources_in_table t) (table ∷ [])) }) (with_sources (settings_told before) table)
-with-table before (Ok sources) = rw (append-nil (rows_told before), last-snoc (filter_map sources_by before) sources) refl
-with-table before (Err why) = same before
+with-sources : (settings : Settings) (table : Result Sources TableRefused) → with_told settings None (sources_in_table table) None ≡ with_sources settings table
+with-sources settings (Ok sources) = λ i. record settings { topology = append-nil settings.topology i; sources = Some sources }
+with-sources settings (Err why) = same settings
+
+with-driver : (settings : Settings) (lists : Option Lists) → with_told settings None None lists ≡ with_driver settings lists
+with-driver settings (Some lists) = λ i. record settings { topology = append-nil settings.topology i; driver = Some lists }
+with-driver settings None = same settings
 
 pub settings-line : (before : List NumberedLine) (number : ℕ) (line : Line) → settings_told (before ++ (number, Ok line) ∷ []) ≡ settings_after (settings_told before) line
-settings-line before number line = settings-snoc before (number, Ok line) ∙ by line
+settings-line before number line = settings-snoc before (number, Ok line) ∙ by (settings_told before) line
   where
-    by : (l : Line) → ◌≡◌ {A = Settings} (record { topology = rows_told before ++ filter_map row_by ((number, Ok l) ∷ []); sources = last_of (filter_map sources_by before ++ filter_map sources_by ((number, Ok l) ∷ [])) }) (settings_after (settings_told before) l)
-    by asks.Nothing = same before
-    by (asks.Row row) = rw (append-nil (filter_map sources_by before)) refl
-    by (asks.Table (Hest bytes)) = with-table before (hest_of bytes)
-    by (asks.Table (Erst bytes)) = same before
-    by (asks.Report report) = same before
-    by (asks.Entry entry) = same before
-    by (asks.Put id bytes) = same before
-    by (asks.Panic id bank) = same before
-    by (asks.Poll seconds) = same before
-    by asks.Restart = same before
+    by : (s : Settings) (l : Line) → with_told s (row_by (number, Ok l)) (sources_by (number, Ok l)) (driver_by (number, Ok l)) ≡ settings_after s l
+    by s asks.Nothing = same s
+    by s (asks.Row row) = refl
+    by s (asks.Table (Hest bytes)) = with-sources s (hest_of bytes)
+    by s (asks.Table (Erst bytes)) = with-driver s (admitted_in (erst_of bytes))
+    by s (asks.Report report) = same s
+    by s (asks.Entry entry) = same s
+    by s (asks.Put id bytes) = same s
+    by s (asks.Panic id bank) = same s
+    by s (asks.Poll seconds) = same s
+    by s asks.Restart = same s
 
-pub reports-cut : (first others : List NumberedLine) → reports (first ++ others) ≡ reports first ++ flat_map entries_at (places_behind first others)
-reports-cut first others =
-    ap (flat_map entries_at) (places_behind-append [] first others)
-    ∙ flat_map-append entries_at (places first) (places_behind first others)
+pub reports-cut : (store : List Stored) (first others : List NumberedLine)
+    → reports store (first ++ others) ≡ reports store first ++ flat_map (entries_at store) (places_behind first others)
+reports-cut store first others =
+    ap (flat_map (entries_at store)) (places_behind-append [] first others)
+    ∙ flat_map-append (entries_at store) (places first) (places_behind first others)

@@ -1,5 +1,5 @@
 -- Only for proofs: the entries of an event, each judged by the account before the event.
-use Rattle.std.specs.Prelude.{◌≡◌, ℕ, ◌+◌, ◌≤◌, ◌⊎◌, Bool, false, ◌&&◌, not, if◌then◌else◌, List, [], ◌∷◌, ◌++◌, length, All}
+use Rattle.std.specs.Prelude.{◌≡◌, ℕ, ◌+◌, ◌≤◌, ◌⊎◌, Bool, false, ◌&&◌, not, if◌then◌else◌, List, [], ◌∷◌, ◌++◌, length, All, IfSome}
 use Rattle.std.specs.List.{sum_by, AllByRecursion}
 use Rattle.ras_facts.specs.declared.entry.Entry.{Entry}
 use Rattle.ras_facts.specs.declared.entry.Entry.TheVariants.{Fact}
@@ -12,9 +12,14 @@ use Rattle.ras_account.specs.Numbers.{StaysWithin, fresh_entries_in}
 use Rattle.ras_account.specs.View.{OrderList, View, IsReservedFor}
 use Rattle.journal_format.specs.Links.{link_bytes}
 use Rattle.ras_texts.specs.Reports.{entry_lines}
-use Rattle.ras_texts.specs.Text.{repeat_line}
+use Rattle.ras_texts.specs.OrderRoom.{HasOrderRoom}
+use Rattle.ras_texts.specs.Text.{done_line, repeat_line}
+use Rattle.ras_events.specs.declared.beside.TextAndNews.{TextAndNews}
 use Rattle.ras_events.specs.declared.preparing.News.{News}
-use Rattle.ras_events.specs.Preparing.{orders_along_entries}
+use Rattle.ras_events.specs.declared.preparing.Prepared.{Prepared}
+use Rattle.ras_events.specs.declared.made.Piece.{Piece}
+use Rattle.ras_events.specs.Making.{entries_in}
+use Rattle.ras_events.specs.Preparing.{news_entries, orders_along_entries, text_along}
 use Rattle.ras_events.specs.Sizes.{IsFact}
 
 -- entries are facts, or one alone
@@ -26,24 +31,21 @@ abbrev pub has_name_of : List Entry → Entry → Bool
 has_name_of entries (Fact fact) = is_among (names_of entries) fact.name
 has_name_of entries other = false
 
--- whether an entry of an event is news by the account before the event
+-- whether an entry of an event is news by the account before the event and the event's news so far
 abbrev pub is_news_beside : State → List Entry → Entry → Bool
-is_news_beside account earlier entry = is_fresh_in account entry && not (has_name_of earlier entry)
+is_news_beside account news entry = is_fresh_in account entry && not (has_name_of news entry)
 
--- its lines
-abbrev pub lines_beside : State → List Entry → List Detail → Entry → List ℕ
-lines_beside account earlier details entry =
-    if is_news_beside account earlier entry then entry_lines details account entry else repeat_line account entry
+-- a text and news with an entry, which is news or a repeat
+pub record TellsEntry (is_news : Bool) (account : State) (details : List Detail) (entry : Entry) (old new : List ℕ) (before after : List Entry) : Type 0 where
+  pub text : new ≡ old ++ (if is_news then entry_lines details account entry else repeat_line account entry)
+  pub news : after ≡ (if is_news then before ++ entry ∷ [] else before)
 
--- the news of an event with an entry that may be one
-abbrev pub with_news : State → List Entry → Entry → List Entry
-with_news account news entry = if is_news_beside account news entry then news ++ entry ∷ [] else news
-
--- the entries so far and those that are left, and the news of the former
-pub record KeepsNews (account : State) (all taken left : List Entry) (number : ℕ) (news : List Entry) : Type 0 where
-  pub entries : taken ++ left ≡ all
+-- the pieces so far and those that are left, with the news and the lines of the former
+pub record KeepsNews (account : State) (all taken left : List Piece) (number : ℕ) (news : List Entry) (text : List ℕ) : Type 0 where
+  pub pieces : taken ++ left ≡ all
   pub count : number ≡ length left
-  pub news_are : news ≡ fresh_entries_in account taken
+  pub news_are : news ≡ fresh_entries_in account (entries_in taken)
+  pub text_is : text ≡ text_along account taken
 
 -- the news of an event: some entries, their link, and room for so many orders
 pub record IsNewsOf (room : ℕ) (news : News) : Type 0 where
@@ -51,6 +53,15 @@ pub record IsNewsOf (room : ℕ) (news : News) : Type 0 where
   pub link : news.link ≡ link_bytes news.entries.items
   pub none : news.orders.orders ≡ []
   pub room_is : news.orders.room ≡ room
+
+-- an event with the text and the news that it tells has its link, room for the orders, and the line
+-- that it ends with
+pub record IsLinked (number : ℕ) (told : TextAndNews) (event : Prepared) : Type 0 where
+  pub entries : news_entries event.news ≡ told.news.items
+  pub news : IfSome event.news (IsNewsOf (sum_by most_orders told.news.items))
+  pub text : event.text.items ≡ told.text.items
+  pub room : HasOrderRoom (sum_by most_orders told.news.items) event.text
+  pub done : event.done.items ≡ done_line number
 
 -- these entries can be taken in turn, with room for their orders
 pub record CanTakeAll (account : View) (orders : OrderList) (entries : List Entry) : Type 0 where

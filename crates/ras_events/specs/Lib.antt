@@ -1,3 +1,4 @@
+pub mod Stores
 pub mod Making
 pub mod Events
 pub mod Sizes

@@ -1,29 +1,41 @@
--- What an event makes for the account: entries in order, and beside each what is told of its items.
-use Rattle.std.specs.Prelude.{List, [], ◌∷◌}
-use Rattle.std.specs.List.{zip}
+-- What an event makes: pieces in order, each an entry for the account or a record that can't be read.
+use Rattle.std.specs.Prelude.{ℕ, List, [], ◌∷◌, map, Option, None, Some, Result, Ok, Err}
+use Rattle.std.specs.List.{filter_map}
+use Rattle.cper_records.specs.declared.refusals.Unreadable.{Unreadable as Why}
+use Rattle.dimm_topology.specs.declared.row.Row.{Row}
+use Rattle.erst_store.specs.Store.{Stored}
 use Rattle.ras_facts.specs.declared.entry.Entry.{Entry}
 use Rattle.ras_facts.specs.declared.entry.Entry.TheVariants.{Fact}
-use Rattle.ras_reports.specs.declared.details.Detail.{Detail}
 use Rattle.ras_reports.specs.declared.details.Report.{Report}
+use Rattle.ras_reports.specs.Reports.{stored_report}
+use Rattle.ras_events.specs.declared.made.Piece.{Piece}
+use Rattle.ras_events.specs.declared.made.Piece.TheVariants.{Counted, Unread}
+use Rattle.ras_events.specs.Stores.{read_stored}
 
--- entries, and a list of details for each
-pub record Pieces : Type 0 where
-  pub entries : List Entry
-  pub details : List (List Detail)
+-- the entry of a piece, if it has one, and the entries of pieces in order
+abbrev pub entry_in : Piece → Option Entry
+entry_in (Counted entry details) = Some entry
+entry_in (Unread id why) = None
 
--- an entry with what is told of its items
-abbrev pub Piece : Type 0
-Piece = Entry × List Detail
+abbrev pub entries_in : List Piece → List Entry
+entries_in pieces = filter_map entry_in pieces
 
-abbrev pub pieces_in : Pieces → List Piece
-pieces_in made = zip made.entries made.details
+-- an entry by itself, of which nothing is told beside it
+abbrev pub made_of_entry : Entry → List Piece
+made_of_entry entry = Counted entry [] ∷ []
 
--- nothing, an entry by itself, and the fact of a report with its details
-abbrev pub nothing_made : Pieces
-nothing_made = record { entries = []; details = [] }
+-- the piece of a report, and what an event makes of one
+abbrev pub piece_of_report : Report → Piece
+piece_of_report report = Counted (Fact report.fact) report.details
 
-abbrev pub made_of_entry : Entry → Pieces
-made_of_entry entry = record { entries = entry ∷ []; details = [] ∷ [] }
+abbrev pub made_by_report : Report → List Piece
+made_by_report report = piece_of_report report ∷ []
 
-abbrev pub made_by_report : Report → Pieces
-made_by_report report = record { entries = Fact report.fact ∷ []; details = report.details ∷ [] }
+-- what a poll makes of what it read under an identifier at this time, by the rows of the machine
+abbrev pub piece_of : List Row → ℕ → ℕ → Result (List ℕ) Why → Piece
+piece_of rows seconds id (Ok own) = piece_of_report (stored_report rows seconds own)
+piece_of rows seconds id (Err why) = Unread id why
+
+-- what a poll makes of the records of a store, in their order
+abbrev pub polled : List Row → ℕ → List Stored → List Piece
+polled rows seconds store = map (λ (r : Stored). piece_of rows seconds r.id (read_stored r)) store

@@ -13,16 +13,20 @@ use Rattle.journal_format.specs.Links.{link_bytes}
 use Rattle.ras_texts.specs.OrderRoom.{HasOrderRoom}
 use Rattle.ras_texts.specs.Reports.{entry_lines}
 use Rattle.ras_texts.specs.Text.{done_line, repeat_line}
+use Rattle.ras_texts.specs.Unreadable.{unreadable_line}
 use Rattle.ras_events.specs.declared.preparing.News.{News}
 use Rattle.ras_events.specs.declared.preparing.Prepared.{Prepared}
-use Rattle.ras_events.specs.Making.{Piece, Pieces, pieces_in}
+use Rattle.ras_events.specs.declared.made.Piece.{Piece}
+use Rattle.ras_events.specs.declared.made.Piece.TheVariants.{Counted, Unread}
+use Rattle.ras_events.specs.Making.{entries_in}
 
--- the lines of entries by which an account is continued in turn
+-- the lines of pieces by whose entries an account is continued in turn
 abbrev pub text_along : State → List Piece → List ℕ
 text_along account [] = []
-text_along account (piece ∷ pieces) =
-    (if is_fresh_in account piece.0 then entry_lines piece.1 account piece.0 else repeat_line account piece.0)
-    ++ text_along (account_after account piece.0) pieces
+text_along account (Counted entry details ∷ pieces) =
+    (if is_fresh_in account entry then entry_lines details account entry else repeat_line account entry)
+    ++ text_along (account_after account entry) pieces
+text_along account (Unread id why ∷ pieces) = unreadable_line id why ++ text_along account pieces
 
 -- the orders of entries by which an account is continued in turn
 abbrev pub orders_along_entries : State → List Entry → List Order
@@ -37,11 +41,11 @@ news_entries (Some news) = news.entries.items
 
 -- an event is prepared: its news are the fresh entries, its link is theirs, and its texts are those
 -- of what it makes
-pub record IsPrepared (account : State) (number : ℕ) (made : Pieces) (event : Prepared) : Type 0 where
-  pub news : news_entries event.news ≡ fresh_entries_in account made.entries
+pub record IsPrepared (account : State) (number : ℕ) (made : List Piece) (event : Prepared) : Type 0 where
+  pub news : news_entries event.news ≡ fresh_entries_in account (entries_in made)
   pub some : IfSome event.news (λ news. 1 ≤ length news.entries.items)
   pub link : IfSome event.news (λ news. news.link ≡ link_bytes news.entries.items)
-  pub text : event.text.items ≡ text_along account (pieces_in made)
+  pub text : event.text.items ≡ text_along account made
   pub done : event.done.items ≡ done_line number
 
 -- The account can take the news in turn with no memory, and there is room for their orders.

@@ -13,20 +13,21 @@ use Rattle.ras_script.specs.declared.line.Line.TheVariants as asks
 use Rattle.ras_events.specs.declared.event.Event.TheVariants.{Counted}
 use Rattle.ras_events.specs.declared.settings.Settings.{Settings}
 use Rattle.ras_events.specs.Events.{event_of, settings_after}
-use Rattle.ras_events.specs.Making.{Pieces, pieces_in}
+use Rattle.ras_events.specs.declared.made.Piece.{Piece}
+use Rattle.ras_events.specs.Making.{entries_in}
 use Rattle.ras_events.specs.Preparing.{text_along}
 use Rattle.ras_events.specs.Sizes.{IsFit}
 
 -- A line reports entries of which none is news to an account, and this text is their lines. So it
 -- changes neither the account nor the settings, and there is room for it.
 pub record IsRepeat (account : State) (settings : Settings) (line : Line) (text : List ℕ) : Type 0 where
-  pub made : Pieces
+  pub made : List Piece
   pub asked : event_of settings line ≡ Ok (Counted made)
   pub settled : settings_after settings line ≡ settings
   pub fit : IsFit made
-  pub none : fresh_entries_in account made.entries ≡ []
-  pub room : HasRoomFor account made.entries
-  pub lines : text ≡ text_along account (pieces_in made)
+  pub none : fresh_entries_in account (entries_in made) ≡ []
+  pub room : HasRoomFor account (entries_in made)
+  pub lines : text ≡ text_along account made
 
 -- A line reports a bank's error that an account knows: its fact isn't fresh.
 pub record IsKnownBank (account : State) (settings : Settings) (line : Line) : Type 0 where

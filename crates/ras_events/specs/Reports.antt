@@ -1,25 +1,26 @@
--- What the lines of a script report, each under what the lines before it tell of the machine.
-use Rattle.std.specs.Prelude.{ℕ, List, [], ◌∷◌, Option, None, Some, Result, Ok, Err}
+-- What the lines of a script report, each under what the lines before it tell of the machine and lay
+-- into the record store.
+use Rattle.std.specs.Prelude.{List, [], ◌∷◌, Option, None, Some, Result, Ok, Err}
 use Rattle.std.specs.List.{filter_map, flat_map}
 use Rattle.ras_base.specs.Places.{places}
 use Rattle.apei_sources.specs.Hest.{Sources, hest_of}
 use Rattle.dimm_topology.specs.declared.row.Row.{Row}
+use Rattle.erst_interp.specs.Table.{erst_of}
+use Rattle.erst_store.specs.Store.{Stored}
 use Rattle.ras_facts.specs.declared.entry.Entry.{Entry}
-use Rattle.ras_script.specs.declared.line.Line.{Line}
 use Rattle.ras_script.specs.declared.line.Line.TheVariants as asks
-use Rattle.ras_script.specs.declared.line.LineRefused.{LineRefused}
-use Rattle.ras_script.specs.declared.line.Table.TheVariants.{Hest}
+use Rattle.ras_script.specs.declared.line.Table.TheVariants.{Hest, Erst}
 use Rattle.ras_events.specs.declared.event.Event.{Event}
-use Rattle.ras_events.specs.declared.event.Event.TheVariants.{Counted}
-use Rattle.ras_exit.specs.declared.reason.Reason.{Reason}
+use Rattle.ras_events.specs.declared.event.Event.TheVariants.{Counted, Polled}
+use Rattle.ras_events.specs.declared.event.Refusal.{Refusal}
+use Rattle.ras_events.specs.declared.event.Refusal.TheVariants.{Bad}
 use Rattle.ras_exit.specs.declared.reason.Reason.TheVariants as reason
 use Rattle.ras_events.specs.declared.settings.Settings.{Settings}
-use Rattle.ras_events.specs.Events.{event_of}
-use Rattle.ras_events.specs.Making.{Pieces, nothing_made}
-
--- a line's number, and what the line asks for or why it can't be read
-abbrev pub NumberedLine : Type 0
-NumberedLine = ℕ × Result Line LineRefused
+use Rattle.ras_events.specs.declared.made.Piece.{Piece}
+use Rattle.ras_events.specs.Events.{Lists, admitted_in, event_of}
+use Rattle.ras_events.specs.Making.{entries_in, polled}
+use Rattle.ras_events.specs.Stores.{laid}
+pub use Rattle.ras_events.specs.Stores.{NumberedLine}
 
 -- the row of the machine that a line tells, and the rows that lines tell, in order
 abbrev pub row_by : NumberedLine → Option Row
@@ -38,33 +39,49 @@ abbrev pub sources_by : NumberedLine → Option Sources
 sources_by (number, Ok (asks.Table (Hest bytes))) = sources_in_table (hest_of bytes)
 sources_by read = None
 
+-- the lists that a line tells, by which the record store is driven: those of a table that reads and
+-- is admitted
+abbrev pub driver_by : NumberedLine → Option Lists
+driver_by (number, Ok (asks.Table (Erst bytes))) = admitted_in (erst_of bytes)
+driver_by read = None
+
 -- the last of a list
 abbrev pub last_of : {X : Type 0} → List X → Option X
 last_of [] = None
 last_of (x ∷ []) = Some x
 last_of (x ∷ y ∷ xs) = last_of (y ∷ xs)
 
--- what lines tell of the machine: their rows, and the sources of the last table
+-- what lines tell of the machine: their rows, the sources of the last table of them, and the lists of
+-- the last table that drives the record store
 abbrev pub settings_told : List NumberedLine → Settings
-settings_told reads = record { topology = rows_told reads; sources = last_of (filter_map sources_by reads) }
+settings_told reads = record {
+  topology = rows_told reads;
+  sources = last_of (filter_map sources_by reads);
+  driver = last_of (filter_map driver_by reads);
+}
 
 -- a line with all the lines before it
 abbrev pub Place : Type 0
 Place = List NumberedLine × NumberedLine
 
 -- what a line asks for at its place, or why it is refused there
-abbrev pub event_at : Place → Result Event Reason
+abbrev pub event_at : Place → Result Event Refusal
 event_at (before, (number, Ok line)) = event_of (settings_told before) line
-event_at (before, (number, Err refused)) = Err (reason.Line refused)
+event_at (before, (number, Err refused)) = Err (Bad (reason.Line refused))
 
--- what an event makes
-abbrev pub made_in : Result Event Reason → Pieces
-made_in (Ok (Counted made)) = made
-made_in event = nothing_made
+-- what an event makes, by the rows of the machine and the records of the store that it finds
+abbrev pub made_in : List Row → List Stored → Result Event Refusal → List Piece
+made_in rows store (Ok (Counted made)) = made
+made_in rows store (Ok (Polled seconds)) = polled rows seconds store
+made_in rows store event = []
+
+-- what a line makes at its place, where the record store was this one before the first line
+abbrev pub made_at : List Stored → Place → List Piece
+made_at store place = made_in (settings_told place.0).topology (laid store place.0) (event_at place)
 
 -- the entries that a line makes at its place, and all those that lines make, in order
-abbrev pub entries_at : Place → List Entry
-entries_at place = (made_in (event_at place)).entries
+abbrev pub entries_at : List Stored → Place → List Entry
+entries_at store place = entries_in (made_at store place)
 
-abbrev pub reports : List NumberedLine → List Entry
-reports reads = flat_map entries_at (places reads)
+abbrev pub reports : List Stored → List NumberedLine → List Entry
+reports store reads = flat_map (entries_at store) (places reads)

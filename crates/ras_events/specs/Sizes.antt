@@ -1,5 +1,5 @@
 -- Which lines are short, and which events can be counted: what they make can be one link.
-use Rattle.std.specs.Prelude.{◌≤◌, ◌⊎◌, length, All, ⊤}
+use Rattle.std.specs.Prelude.{◌≤◌, ◌⊎◌, List, length, All, ⊤}
 use Rattle.ras_facts.specs.declared.entry.Entry.{Entry}
 use Rattle.ras_facts.specs.declared.entry.Entry.TheVariants.{Fact}
 use Rattle.ras_facts.specs.Entries.{IsValidEntry}
@@ -12,7 +12,8 @@ use Rattle.ras_script.specs.declared.line.Line.{Line}
 use Rattle.ras_script.specs.declared.line.Line.TheVariants as asks
 use Rattle.ras_events.specs.declared.event.Event.{Event}
 use Rattle.ras_events.specs.declared.event.Event.TheVariants.{Counted}
-use Rattle.ras_events.specs.Making.{Pieces}
+use Rattle.ras_events.specs.declared.made.Piece.{Piece}
+use Rattle.ras_events.specs.Making.{entries_in}
 
 -- the bytes that a line tells are no more than a line may have
 abbrev pub IsShortReport : ErrorReport → Type 0
@@ -31,11 +32,11 @@ IsFact entry = ⊥
 
 -- What is made can be one link: valid entries, not too many or too long. They are facts, or one
 -- entry alone.
-pub record IsFit (made : Pieces) : Type 0 where
-  pub valid : All IsValidEntry made.entries
-  pub few : length made.entries ≤ MOST_LINK_ENTRIES
-  pub short : length (payload_bytes made.entries) ≤ MOST_PAYLOAD
-  pub alike : All IsFact made.entries ⊎ (length made.entries ≤ 1)
+pub record IsFit (made : List Piece) : Type 0 where
+  pub valid : All IsValidEntry (entries_in made)
+  pub few : length (entries_in made) ≤ MOST_LINK_ENTRIES
+  pub short : length (payload_bytes (entries_in made)) ≤ MOST_PAYLOAD
+  pub alike : All IsFact (entries_in made) ⊎ (length (entries_in made) ≤ 1)
 
 abbrev pub IsFitEvent : Event → Type 0
 IsFitEvent (Counted made) = IsFit made

@@ -1,6 +1,6 @@
--- The text of an event: the lines of what it makes, each entry judged at its own place in the
+-- The text of an event: the lines of its pieces in order, each entry judged at its own place in the
 -- history, and then the lines of the orders that these entries give.
-use Rattle.std.specs.Prelude.{ℕ, List, ◌++◌, map, if◌then◌else◌}
+use Rattle.std.specs.Prelude.{ℕ, List, ◌++◌, if◌then◌else◌}
 use Rattle.std.specs.List.{flat_map}
 use Rattle.page_policy.specs.declared.rows.Order.{Order}
 use Rattle.ras_base.specs.Places.{places}
@@ -12,26 +12,32 @@ use Rattle.ras_account.specs.Orders.{orders_behind}
 use Rattle.ras_texts.specs.Orders.{order_lines}
 use Rattle.ras_texts.specs.Reports.{entry_lines}
 use Rattle.ras_texts.specs.Text.{repeat_line}
-use Rattle.ras_events.specs.Making.{Piece, Pieces, pieces_in}
+use Rattle.ras_texts.specs.Unreadable.{unreadable_line}
+use Rattle.ras_events.specs.declared.made.Piece.{Piece}
+use Rattle.ras_events.specs.declared.made.Piece.TheVariants.{Counted, Unread}
+use Rattle.ras_events.specs.Making.{entries_in}
 
--- the lines of an entry behind a history: those of news, or the one of what isn't news
+-- the lines of a piece behind a history: of an entry those of news, or the one of what isn't news;
+-- of a record that can't be read its own line
 abbrev pub piece_text : History → Piece → List ℕ
-piece_text history piece =
-    if is_fresh_behind history piece.0
-    then entry_lines piece.1 (account_of history) piece.0
-    else repeat_line (account_of history) piece.0
+piece_text history (Counted entry details) =
+    if is_fresh_behind history entry
+    then entry_lines details (account_of history) entry
+    else repeat_line (account_of history) entry
+piece_text history (Unread id why) = unreadable_line id why
 
--- the lines of entries, each behind the history with those before it
+-- the lines of pieces, each behind the history with the entries of those before it
 abbrev pub pieces_text : History → List Piece → List ℕ
 pieces_text history pieces =
-    flat_map (λ p. piece_text (with_entries history (map {B = Entry} (λ piece. piece.0) p.0)) p.1) (places pieces)
+    flat_map (λ p. piece_text (with_entries history (entries_in p.0)) p.1) (places pieces)
 
 -- the orders that entries give, each behind the history with those before it
 abbrev pub orders_of_entries : History → List Entry → List Order
 orders_of_entries history entries =
     flat_map (λ p. orders_behind (with_entries history p.0) p.1) (places entries)
 
-abbrev pub event_text : History → Pieces → List ℕ
+abbrev pub event_text : History → List Piece → List ℕ
 event_text history made =
-    pieces_text history (pieces_in made)
-    ++ order_lines (account_of (with_entries history made.entries)).modules (orders_of_entries history made.entries)
+    pieces_text history made
+    ++ order_lines (account_of (with_entries history (entries_in made))).modules
+    (orders_of_entries history (entries_in made))

@@ -1,97 +1,93 @@
-//! The entries of an event beside each other: which of them are news, and the lines of each. The
+//! The pieces of an event beside each other: their lines, and which of their entries are news. The
 //! account is the one before the event.
 
-ghost use Rattle.std.specs.Prelude.{◌≡◌, [], ◌∷◌, ◌++◌, IfOk, OnOk};
+ghost use Rattle.std.specs.Prelude.{◌≡◌, [], ◌∷◌, IfOk, OnOk};
 ghost use Rattle.ras_account.specs.Account.{names_of};
 ghost use Rattle.ras_account.specs.Fresh.{is_among};
 ghost use Rattle.ras_account.specs.Numbers.{fresh_entries_in};
-ghost use Rattle.ras_events.specs.Beside.{AreAlike, has_name_of, is_news_beside, lines_beside, with_news};
-ghost use Rattle.ras_events.specs.Making.{pieces_in};
+ghost use Rattle.ras_events.specs.Beside.{AreAlike, TellsEntry, has_name_of, is_news_beside};
+ghost use Rattle.ras_events.specs.Making.{entries_in};
 ghost use Rattle.ras_events.specs.Preparing.{text_along};
 
-use crate::Made;
+use crate::{Made, Piece};
 use ras_account::Account;
 use ras_base::NoMemory;
 use ras_facts::{Entry, Name};
 use ras_reports::Detail;
-use ras_texts::{push_entry, push_repeat};
+use ras_texts::{push_entry, push_repeat, push_unreadable};
 use std::alloc::Global;
 
-/// The lines of what an event makes: those of each entry at its own place.
+/// What an event tells: its lines, and its entries that are news, both in order.
+#[derive(Drop)]
+pub(crate) struct TextAndNews {
+    pub(crate) text: Vec<u8>,
+    pub(crate) news: Vec<Entry>,
+}
+
+/// The lines of what an event makes, those of each entry at its own place, and the entries that are
+/// news. The other entries are dropped.
 ///
 /// # Errors
 ///
 /// `NoMemory` comes only if memory runs out.
-pub(crate) fn lines_of(alloc: Global, account: &Account, made: &Made) -> Result<Vec<u8>, NoMemory>
-    requires alike { AreAlike made.now.entries }
-    ensures { IfOk result (λ text. text.items ≡ text_along account.now.state (pieces_in made.now)) }
+pub(crate) fn text_and_news(
+    alloc: Global,
+    account: &Account,
+    made: Made,
+) -> Result<TextAndNews, NoMemory>
+    requires alike { AreAlike (entries_in made) }
+    ensures text { IfOk result (λ told. told.text.items ≡ text_along account.now.state made) }
+    ensures news { IfOk result
+        (λ told. told.news.items ≡ fresh_entries_in account.now.state (entries_in made)) }
 {
-    let entries = made.entries();
-    let details = made.details();
     let mut text = Vec::new(alloc);
-    for i in 0..entries.len() {
-        let told = details[i].as_slice();
-        push_lines(alloc, &mut text, account, &entries[..i], told, &entries[i])?;
-    }
-    Ok(text)
-}
-
-// Adds the lines of an entry behind the earlier ones of its event: all that is told of it where it
-// is news, and else that it was told before.
-fn push_lines(
-    alloc: Global,
-    text: &mut Vec<u8>,
-    account: &Account,
-    earlier: &[Entry],
-    details: &[Detail],
-    entry: &Entry,
-) -> Result<(), NoMemory>
-    ensures { OnOk result (text.new.items
-        ≡ text.old.items ++ lines_beside account.now.state earlier.now details.now entry.now) }
-{
-    if is_news(account, earlier, entry) {
-        push_entry(alloc, text, details, account, entry)
-    } else {
-        push_repeat(text, account, entry)
-    }
-}
-
-/// The entries of an event that are news, in order. The others are dropped.
-///
-/// # Errors
-///
-/// `NoMemory` comes only if memory runs out.
-pub(crate) fn news_of(
-    alloc: Global,
-    account: &Account,
-    entries: Vec<Entry>,
-) -> Result<Vec<Entry>, NoMemory>
-    requires alike { AreAlike entries.items }
-    ensures { IfOk result (λ news. news.items ≡ fresh_entries_in account.now.state entries.items) }
-{
     let mut news = Vec::new(alloc);
-    for entry in entries {
-        push_news(account, &mut news, entry)?;
+    for piece in made.into_pieces() {
+        match piece {
+            Piece::Counted { entry, details } => {
+                push_counted(
+                    alloc,
+                    account,
+                    entry,
+                    details.as_slice(),
+                    &mut text,
+                    &mut news,
+                )?;
+            }
+            Piece::Unread { id, why } => push_unreadable(&mut text, id, why)?,
+        }
     }
-    Ok(news)
+    Ok(TextAndNews { text, news })
 }
 
-// Puts an entry behind the news before it, if it is news.
-fn push_news(account: &Account, news: &mut Vec<Entry>, entry: Entry) -> Result<(), NoMemory>
-    ensures { OnOk result (news.new.items ≡ with_news account.now.state news.old.items entry) }
+// Adds the lines of an entry, behind those of the earlier ones of its event: all that is told of it
+// if it is news, and else that it was told before. News go behind the earlier news.
+fn push_counted(
+    alloc: Global,
+    account: &Account,
+    entry: Entry,
+    details: &[Detail],
+    text: &mut Vec<u8>,
+    news: &mut Vec<Entry>,
+) -> Result<(), NoMemory>
+    ensures { OnOk result
+        (TellsEntry (is_news_beside account.now.state news.old.items entry) account.now.state
+        details.now entry text.old.items text.new.items news.old.items news.new.items) }
 {
-    if is_news(account, news, &entry) {
-        news.push(entry)?;
+    if !is_news(account, news, &entry) {
+        return push_repeat(text, account, &entry);
     }
+    push_entry(alloc, text, details, account, &entry)?;
+    news.push(entry)?;
     Ok(())
 }
 
-// Whether an entry is news behind earlier ones of its event: it is fresh in the account, and none
-// of them has its name. It is enough to know the earlier ones that are news.
-fn is_news(account: &Account, earlier: &[Entry], entry: &Entry) -> bool
-    ensures { result ≡ is_news_beside account.now.state earlier.now entry.now }
+// Whether an entry is news behind the earlier news of its event: it is fresh in the account, and
+// none of them has its name.
+fn is_news(account: &Account, news: &[Entry], entry: &Entry) -> bool
+    ensures { result ≡ is_news_beside account.now.state news.now entry.now }
 {
-    account.is_fresh(entry) && !has_name_of(earlier, entry)
+    account.is_fresh(entry) && !has_name_of(news, entry)
 }
 
 // Whether one of some entries has the name of an entry that is a fact.

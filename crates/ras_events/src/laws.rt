@@ -1,7 +1,18 @@
 //! What an event is by the history of its account, in other words than its definitions.
 
-ghost use Rattle.std.specs.Prelude.{◌≡◌, ℕ, List, [], ◌∷◌, ◌++◌, Ok};
-ghost use Rattle.std.specs.List.{flat_map};
+ghost use Rattle.std.specs.Prelude.{◌≡◌, ◌<◌, ◌^◌, ℕ, List, [], ◌∷◌, ◌++◌, Ok, Some, IsTrue, IsFalse};
+ghost use Rattle.std.specs.Option.{option_map_or};
+ghost use Rattle.dimm_topology.specs.declared.row.Row.{Row};
+ghost use Rattle.mca_status.specs.Registers.{valid};
+ghost use Rattle.ras_facts.specs.Facts.{status_in};
+ghost use Rattle.ras_facts.specs.declared.bank.BankReport.{BankReport};
+ghost use Rattle.ras_panic.specs.Panics.{panic_bytes};
+ghost use Rattle.ras_panic.specs.Reports.{FitsFields};
+ghost use Rattle.ras_reports.specs.Reports.{bank_report};
+ghost use Rattle.std.specs.List.{flat_map, fold};
+ghost use Rattle.std.specs.Result.{is_ok};
+ghost use Rattle.cper_records.specs.Readable.{filled, read_under};
+ghost use Rattle.erst_store.specs.Store.{Stored, bytes_under};
 ghost use Rattle.ras_base.specs.Places.{places_behind};
 ghost use Rattle.ras_facts.specs.declared.entry.Entry.{Entry};
 ghost use Rattle.ras_account.specs.Account.{State, account_of};
@@ -13,7 +24,9 @@ ghost use Rattle.ras_texts.specs.Orders.{order_lines};
 ghost use Rattle.ras_script.specs.declared.line.Line.{Line};
 ghost use Rattle.ras_events.specs.Events.{settings_after};
 ghost use Rattle.ras_events.specs.Reports.{NumberedLine, entries_at, reports, settings_told};
-ghost use Rattle.ras_events.specs.Making.{Piece, Pieces, pieces_in};
+ghost use Rattle.ras_events.specs.declared.made.Piece.{Piece};
+ghost use Rattle.ras_events.specs.Making.{entries_in, made_by_report, polled};
+ghost use Rattle.ras_events.specs.Stores.{found_after, laid, last_laid, unreadable};
 ghost use Rattle.ras_events.specs.Preparing.{orders_along_entries, text_along};
 ghost use Rattle.ras_events.specs.Texts.{event_text, orders_of_entries, pieces_text};
 
@@ -43,12 +56,12 @@ pub fn event_laws()
 
     // What is prepared of an event, and the lines of the orders that its news give when they are
     // counted, are the event's text.
-    ensures event { (history : History) (made : Pieces)
-        → text_along (account_of history) (pieces_in made)
+    ensures event { (history : History) (made : List Piece)
+        → text_along (account_of history) made
         ++ order_lines (account_after_all (account_of history)
-        (fresh_entries_in (account_of history) made.entries)).modules
+        (fresh_entries_in (account_of history) (entries_in made))).modules
         (orders_along_entries (account_of history)
-        (fresh_entries_in (account_of history) made.entries))
+        (fresh_entries_in (account_of history) (entries_in made)))
         ≡ event_text history made }
 {}
 
@@ -62,7 +75,34 @@ pub fn report_laws()
 
     // Lines report what the first ones of them report, and then what the others report where these
     // stand before them.
-    ensures cut { (first others : List NumberedLine)
-        → reports (first ++ others)
-        ≡ reports first ++ flat_map entries_at (places_behind first others) }
+    ensures cut { (store : List Stored) (first others : List NumberedLine)
+        → reports store (first ++ others)
+        ≡ reports store first ++ flat_map (entries_at store) (places_behind first others) }
+{}
+
+/// The laws of what lines do to the record store. The function does nothing: its clauses are what
+/// it is for.
+pub fn store_laws()
+    // The store after lines is the one that the others leave of what the first of them left, and so
+    // is what was last laid under an identifier.
+    ensures laid { (store : List Stored) (first others : List NumberedLine)
+        → laid store (first ++ others) ≡ laid (laid store first) others }
+    ensures last { (store : List Stored) (first others : List NumberedLine) (id : ℕ)
+        → last_laid store (first ++ others) id
+        ≡ fold (found_after id) (last_laid store first id) others }
+
+    // A poll leaves the bytes that can't be read under their identifier.
+    ensures unread { (id : ℕ) (bytes : List ℕ) (store : List Stored)
+        → IsFalse (is_ok (read_under id (filled bytes)))
+        → bytes_under id store ≡ Some bytes → bytes_under id (unreadable store) ≡ Some bytes }
+{}
+
+/// The laws of polls. The function does nothing: its clauses are what it is for.
+pub fn poll_laws()
+    // The record of a panic makes the very piece that the report of its bank makes: an error that
+    // is reported by both has one name, and the same lines.
+    ensures panic { (rows : List Row) (seconds id : ℕ) (bank : BankReport) → id < 2 ^ 64
+        → FitsFields bank → IsTrue (valid (status_in bank))
+        → polled rows seconds (record { id = id; bytes = panic_bytes id bank } ∷ [])
+        ≡ option_map_or made_by_report (bank_report bank rows) [] }
 {}

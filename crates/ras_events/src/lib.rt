@@ -10,8 +10,8 @@ mod preparing;
 mod repeat;
 mod settings;
 
-pub use event::{Event, EventRefused};
-pub use laws::{event_laws, report_laws};
-pub use made::Made;
+pub use event::{Event, EventRefused, Refusal};
+pub use laws::{event_laws, poll_laws, report_laws, store_laws};
+pub use made::{Made, Piece};
 pub use preparing::{News, PrepareRefused, Prepared, count, prepare};
 pub use settings::Settings;

@@ -1,42 +1,48 @@
-//! What an event makes for the account.
+//! What an event makes.
 
-ghost use Rattle.std.specs.Prelude.{◌≡◌, [], ◌∷◌, IfOk, length};
-ghost use Rattle.ras_events.specs.Making.{made_by_report, made_of_entry, nothing_made};
+ghost use Rattle.std.specs.Prelude.{◌≡◌, [], ◌∷◌, ◌++◌, IfOk, OnOk};
 ghost use Rattle.std.specs.Option.{option_map_or};
+ghost use Rattle.ras_events.specs.declared.made.Piece.TheVariants as PieceFor;
+ghost use Rattle.ras_events.specs.Making.{made_by_report, made_of_entry, piece_of_report};
 
+use cper_records::Unreadable;
 use ras_base::NoMemory;
 use ras_facts::Entry;
 use ras_reports::{Details, Report};
 use std::alloc::Global;
 use std::marker::Model;
 
-/// The entries that an event makes for the account, in order, and what is told of the items of
-/// each.
+/// A piece of what an event makes.
+#[derive(Debug, Drop)]
+pub enum Piece {
+    /// An entry for the account, and what is told of each of its items.
+    Counted { entry: Entry, details: Details },
+    /// A record of the store, by its identifier, that can't be read, and why.
+    Unread { id: u64, why: Unreadable },
+}
+
+/// The pieces that an event makes, in order.
 #[derive(Debug, Drop)]
 pub struct Made {
-    entries: Vec<Entry>,
-    details: Vec<Details>,
+    pieces: Vec<Piece>,
 }
 
 impl Model for Made {
-    ghost use Rattle.std.specs.Prelude.{◌≡◌, length};
-    ghost use Rattle.ras_events.specs.Making.{Pieces};
+    ghost use Rattle.std.specs.Prelude.{List};
+    ghost use Rattle.ras_events.specs.declared.made.Piece.{Piece};
 
-    ghost Value = { Pieces };
+    ghost Value = { List Piece };
 
-    ghost view = { λ m. record { entries = m.entries.items; details = m.details.items } };
-
-    ghost invariant = { λ m. length m.entries.items ≡ length m.details.items };
+    ghost view = { λ m. m.pieces.items };
 }
 
 impl Made {
     /// What an event makes that makes nothing.
-    pub fn nothing(alloc: Global) -> Made
-        ensures { result ≡ nothing_made }
+    pub fn new(alloc: Global) -> Made
+        ensures { result ≡ [] }
     {
         Made {
-            entries: Vec::new(alloc),
-            details: Vec::new(alloc),
+            pieces: Vec::new(alloc),
         }
     }
 
@@ -48,7 +54,12 @@ impl Made {
     pub fn of_entry(alloc: Global, entry: Entry) -> Result<Made, NoMemory>
         ensures { IfOk result (λ made. made ≡ made_of_entry entry) }
     {
-        Made::of(alloc, entry, Details::new(alloc))
+        let mut made = Made::new(alloc);
+        made.push(Piece::Counted {
+            entry,
+            details: Details::new(alloc),
+        })?;
+        Ok(made)
     }
 
     /// What an event makes of a report, or of none.
@@ -57,44 +68,53 @@ impl Made {
     ///
     /// `NoMemory` comes only if memory runs out.
     pub fn of_report(alloc: Global, report: Option<Report>) -> Result<Made, NoMemory>
-        ensures { IfOk result (λ made. made ≡ option_map_or made_by_report report nothing_made) }
+        ensures { IfOk result (λ made. made ≡ option_map_or made_by_report report []) }
     {
-        match report {
-            Some(Report { fact, details }) => Made::of(alloc, Entry::Fact(fact), details),
-            None => Ok(Made::nothing(alloc)),
+        let mut made = Made::new(alloc);
+        if let Some(report) = report {
+            made.push_report(report)?;
         }
-    }
-
-    /// The entries, in order.
-    pub fn entries(&self) -> &[Entry]
-        ensures { result.now ≡ self.now.entries }
-    {
-        &self.entries
-    }
-
-    // What is told of the items of each entry.
-    pub(crate) fn details(&self) -> &[Details]
-        ensures details { result.now ≡ self.now.details }
-        ensures length { length result.now ≡ length self.now.entries }
-    {
-        &self.details
-    }
-
-    // The entries alone.
-    pub(crate) fn into_entries(self) -> Vec<Entry>
-        ensures { result.items ≡ self.entries }
-    {
-        self.entries
-    }
-
-    // One entry with what is told of its items.
-    fn of(alloc: Global, entry: Entry, details: Details) -> Result<Made, NoMemory>
-        ensures { IfOk result
-            (λ made. made ≡ record { entries = entry ∷ []; details = details ∷ [] }) }
-    {
-        let mut made = Made::nothing(alloc);
-        made.entries.push(entry)?;
-        made.details.push(details)?;
         Ok(made)
+    }
+
+    /// Puts the piece of a report behind the others: its fact, and what is told of its items.
+    ///
+    /// # Errors
+    ///
+    /// `NoMemory` comes only if memory runs out.
+    pub fn push_report(&mut self, report: Report) -> Result<(), NoMemory>
+        ensures { OnOk result (self.new ≡ self.old ++ piece_of_report report ∷ []) }
+    {
+        let Report { fact, details } = report;
+        self.push(Piece::Counted {
+            entry: Entry::Fact(fact),
+            details,
+        })
+    }
+
+    /// Puts a record of the store that can't be read behind the other pieces.
+    ///
+    /// # Errors
+    ///
+    /// `NoMemory` comes only if memory runs out.
+    pub fn push_unread(&mut self, id: u64, why: Unreadable) -> Result<(), NoMemory>
+        ensures { OnOk result (self.new ≡ self.old ++ PieceFor.Unread id why ∷ []) }
+    {
+        self.push(Piece::Unread { id, why })
+    }
+
+    // The pieces, in order.
+    pub(crate) fn into_pieces(self) -> Vec<Piece>
+        ensures { result.items ≡ self }
+    {
+        self.pieces
+    }
+
+    // Puts a piece behind the others.
+    fn push(&mut self, piece: Piece) -> Result<(), NoMemory>
+        ensures { OnOk result (self.new ≡ self.old ++ piece ∷ []) }
+    {
+        self.pieces.push(piece)?;
+        Ok(())
     }
 }

@@ -9,13 +9,14 @@ ghost use Rattle.ras_account.specs.View.{added_by};
 ghost use Rattle.journal_format.specs.Links.{payload_bytes};
 ghost use Rattle.ras_texts.specs.OrderRoom.{HasOrderRoom};
 ghost use Rattle.ras_texts.specs.Orders.{order_lines};
-ghost use Rattle.ras_events.specs.Beside.{CanTakeAll, IsNewsOf};
+ghost use Rattle.ras_events.specs.Beside.{CanTakeAll, IsLinked, IsNewsOf};
 ghost use Rattle.ras_events.specs.Preparing.{CanTake, IsPrepared, IsReady, news_entries};
+ghost use Rattle.ras_events.specs.Making.{entries_in};
 ghost use Rattle.ras_events.specs.Preparing.{orders_along_entries};
 ghost use Rattle.ras_events.specs.Sizes.{IsFit};
 
 use crate::Made;
-use crate::beside::{lines_of, news_of};
+use crate::beside::{TextAndNews, text_and_news};
 use journal_format::{Link, MOST_LINK_ENTRIES, MOST_PAYLOAD, encode_link};
 use ras_account::{Account, Orders, ReserveRefused};
 use ras_base::NoMemory;
@@ -81,14 +82,16 @@ pub fn prepare(
     ensures prepared { IfOk result (IsPrepared account.old.state number made) }
     ensures ready { IfOk result (IsReady account.new) }
     ensures state { account.new.state ≡ account.old.state }
-    ensures room { OnOk result (HasRoomFor account.old.state made.entries) }
-    ensures full { result ≡ Err PrepareRefused.Full → HasNoRoomFor account.old.state made.entries }
+    ensures room { OnOk result (HasRoomFor account.old.state (entries_in made)) }
+    ensures full { result ≡ Err PrepareRefused.Full
+        → HasNoRoomFor account.old.state (entries_in made) }
 {
-    reserve(account, made.entries())?;
-    Ok(prepare_reserved(alloc, number, made, account)?)
+    let told = text_and_news(alloc, account, made)?;
+    reserve(account, &told.news)?;
+    Ok(link_told(alloc, number, told)?)
 }
 
-// Makes room in the account for what an event makes.
+// Makes room in the account for what is news of an event.
 fn reserve(account: &mut Account, entries: &[Entry]) -> Result<(), PrepareRefused>
     ensures state { account.new.state ≡ account.old.state }
     ensures waits { OnOk result (account.new.waiting ≡ added_by account.new.state entries.now) }
@@ -102,25 +105,18 @@ fn reserve(account: &mut Account, entries: &[Entry]) -> Result<(), PrepareRefuse
     }
 }
 
-// Takes the memory of an event that makes what the account has room for.
-fn prepare_reserved(
-    alloc: Global,
-    number: u64,
-    made: Made,
-    account: &Account,
-) -> Result<Prepared, NoMemory>
-    requires fit { IsFit made }
-    requires waits { account.now.waiting ≡ added_by account.now.state made.entries }
-    requires within { HasRoomFor account.now.state made.entries }
-    ensures prepared { IfOk result (IsPrepared account.now.state number made) }
-    ensures ready { IfOk result (IsReady account.now) }
+// Takes the memory that an event needs besides its text and the room of its news in the account.
+fn link_told(alloc: Global, number: u64, told: TextAndNews) -> Result<Prepared, NoMemory>
+    requires few { length told.news.items ≤ MOST_LINK_ENTRIES }
+    requires valid { All IsValidEntry told.news.items }
+    requires payload { length (payload_bytes told.news.items) ≤ MOST_PAYLOAD }
+    ensures { IfOk result (IsLinked number told) }
 {
-    let done = done_line(alloc, number)?;
-    let mut text = lines_of(alloc, account, &made)?;
-    let entries = news_of(alloc, account, made.into_entries())?;
-    let orders = orders_len(&entries);
+    let TextAndNews { mut text, news } = told;
+    let orders = orders_len(&news);
     text.reserve(ORDER_LENGTH * orders)?;
-    let news = link_news(alloc, entries, orders)?;
+    let news = link_news(alloc, news, orders)?;
+    let done = done_line(alloc, number)?;
     Ok(Prepared { news, text, done })
 }
 

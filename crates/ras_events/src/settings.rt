@@ -7,26 +7,34 @@ ghost use Rattle.ras_script.specs.LineLaws.{IsInRange, IsReportInRange, IsRowInR
 ghost use Rattle.ras_script.specs.declared.reader.TheConstants.{LONGEST_LINE};
 ghost use Rattle.apei_sources.specs.Hest.{hest_of};
 ghost use Rattle.std.specs.Prelude.{length, ◌≤◌, ◌<◌, ◌^◌};
-ghost use Rattle.ras_events.specs.Events.{AnswersEvent, block_event, event_of, has_source};
+ghost use Rattle.erst_interp.specs.Table.{erst_of};
+ghost use Rattle.ras_events.specs.Events.{AnswersEvent, admitted_in, block_event, erst_event};
+ghost use Rattle.ras_events.specs.Events.{event_of, has_source, panic_event, with_driver};
+ghost use Rattle.ras_events.specs.Events.{with_table};
 ghost use Rattle.ras_events.specs.Events.{hest_event, no_settings, report_event, row_event};
 ghost use Rattle.ras_events.specs.Events.{settings_after, with_sources};
 ghost use Rattle.ras_events.specs.Sizes.{IsFitEvent, IsShortLine, IsShortReport};
 
-use crate::{Event, EventRefused, Made};
+use crate::{Event, EventRefused, Made, Refusal};
 use apei_sources::{Hest, TableRefused, read_bert, read_block, read_hest};
 use dimm_topology::{Row, Topology, TopologyRefused};
+use erst_driver::Driver;
+use erst_interp::{ErstTableRefused, admits, read_erst};
 use ras_exit::Reason;
-use ras_facts::Name;
+use ras_facts::{BankReport, Name};
+use ras_panic::panic_record;
 use ras_reports::{report_of_bank, report_of_block};
 use ras_script::{ErrorReport, Line, Table};
 use std::alloc::Global;
 
-/// What the lines of a run have told of the machine: the rows of its topology, and the error
-/// sources that the last table of them lists.
+/// What the lines of a run have told of the machine: the rows of its topology, the error sources
+/// that the last table of them lists, and the driver of the record store, by the last table that
+/// is admitted.
 #[derive(Drop)]
 pub struct Settings {
     pub topology: Topology,
     pub sources: Option<Hest>,
+    pub driver: Option<Driver>,
 }
 
 impl Settings {
@@ -37,17 +45,20 @@ impl Settings {
         Settings {
             topology: Topology::new(alloc),
             sources: None,
+            driver: None,
         }
     }
 
     /// Takes a line: what it tells of the machine from now on, and what else it asks for. A later
-    /// table of error sources takes the place of the one before. The settings stay after a refusal.
+    /// table takes the place of the one of its kind before. The settings stay after a refusal.
     ///
     /// # Errors
     ///
-    /// `Refused` with the first reason that applies: of a row `Topology`; of a table of error
+    /// `Refused` with the first refusal that applies: of a row `Topology`; of a table of error
     /// sources `Hest`; of a status block first `Source`, and then `Block`; of boot errors first
-    /// `Bert`, and then `Block`. `NoMemory` comes only if memory runs out.
+    /// `Bert`, and then `Block`; of a table of the record store first `Erst`, and then `NoTable` if
+    /// it isn't admitted; of a panic first `Panic`, and then, as of a poll, `NoTable` if no table
+    /// was admitted. `NoMemory` comes only if memory runs out.
     pub fn take(&mut self, alloc: Global, line: Line) -> Result<Event, EventRefused>
         requires range { IsInRange line }
         requires short { IsShortLine line }
@@ -62,11 +73,11 @@ impl Settings {
             Line::Report(report) => self.event_of_report(alloc, &report),
             Line::Entry(entry) => Ok(Event::Counted(Made::of_entry(alloc, entry)?)),
             Line::Restart => Ok(Event::Reopened),
-            Line::Nothing
-            | Line::Table(Table::Erst(_))
-            | Line::Put { .. }
-            | Line::Panic { .. }
-            | Line::Poll { .. } => Ok(Event::Nothing),
+            Line::Nothing => Ok(Event::Nothing),
+            Line::Table(Table::Erst(bytes)) => self.take_driver(alloc, bytes.bytes()),
+            Line::Put { id, bytes } => Ok(Event::Put { id, bytes }),
+            Line::Panic { id, bank } => self.event_of_panic(id, &bank),
+            Line::Poll { seconds } => self.event_by_driver(Event::Polled { seconds }),
         }
     }
 
@@ -82,7 +93,7 @@ impl Settings {
         match self.topology.add(row) {
             Ok(()) => Ok(Event::Settled),
             Err(TopologyRefused::NoMemory) => Err(EventRefused::NoMemory),
-            Err(refused) => Err(EventRefused::Refused(Reason::Topology(refused))),
+            Err(refused) => Err(Reason::Topology(refused).into()),
         }
     }
 
@@ -99,7 +110,51 @@ impl Settings {
                 Ok(Event::Settled)
             }
             Err(TableRefused::NoMemory) => Err(EventRefused::NoMemory),
-            Err(refused) => Err(EventRefused::Refused(Reason::Hest(refused))),
+            Err(refused) => Err(Reason::Hest(refused).into()),
+        }
+    }
+
+    // Takes a table that drives the record store, if it is admitted.
+    fn take_driver(&mut self, alloc: Global, bytes: &[u8]) -> Result<Event, EventRefused>
+        ensures event { AnswersEvent result (erst_event bytes.now) }
+        ensures settings { OnOk result
+            (self.new ≡ with_driver self.old (admitted_in (erst_of bytes.now))) }
+        ensures stays { OnErr result (self.new ≡ self.old) }
+        ensures fit { IfOk result IsFitEvent }
+    {
+        match read_erst(alloc, bytes) {
+            Ok(table) => {
+                if !admits(&table) {
+                    return Err(EventRefused::Refused(Refusal::NoTable));
+                }
+                self.driver = Some(Driver::new(table));
+                Ok(Event::Settled)
+            }
+            Err(ErstTableRefused::NoMemory) => Err(EventRefused::NoMemory),
+            Err(refused) => Err(Reason::Erst(refused).into()),
+        }
+    }
+
+    // The event of a bank's report that is to be saved as a record under an identifier.
+    fn event_of_panic(&self, id: u64, bank: &BankReport) -> Result<Event, EventRefused>
+        ensures event { AnswersEvent result (panic_event self.now.driver id bank.now) }
+        ensures fit { IfOk result IsFitEvent }
+    {
+        match panic_record(id, bank) {
+            Ok(bytes) => self.event_by_driver(Event::Saved { id, bytes }),
+            Err(refused) => Err(Reason::Panic(refused).into()),
+        }
+    }
+
+    // An event that wants a driver of the record store.
+    fn event_by_driver(&self, event: Event) -> Result<Event, EventRefused>
+        requires { IsFitEvent event }
+        ensures event { AnswersEvent result (with_table self.now.driver event) }
+        ensures fit { IfOk result IsFitEvent }
+    {
+        match self.driver {
+            Some(_) => Ok(event),
+            None => Err(EventRefused::Refused(Refusal::NoTable)),
         }
     }
 
@@ -123,7 +178,7 @@ impl Settings {
                 bytes,
             } => {
                 if !self.has_source(*source) {
-                    return Err(EventRefused::Refused(Reason::Source));
+                    return Err(Reason::Source.into());
                 }
                 let name = Name::Block {
                     boot: *boot,
@@ -140,7 +195,7 @@ impl Settings {
             } => {
                 let bert = match read_bert(table.bytes()) {
                     Ok(bert) => bert,
-                    Err(refused) => return Err(EventRefused::Refused(Reason::Bert(refused))),
+                    Err(refused) => return Err(Reason::Bert(refused).into()),
                 };
                 let region = region.bytes();
                 let length = region.len().min(bert.length as usize);
@@ -181,7 +236,7 @@ impl Settings {
                 let report = report_of_block(alloc, name, seconds, &block, &self.topology)?;
                 Ok(Event::Counted(Made::of_report(alloc, report)?))
             }
-            Err(refused) => Err(EventRefused::Refused(Reason::Block(refused))),
+            Err(refused) => Err(Reason::Block(refused).into()),
         }
     }
 }

@@ -1,10 +1,13 @@
 //! Why a line of a script is refused.
 
 ghost use Rattle.std.specs.Prelude.{◌≡◌};
-ghost use Rattle.ras_exit.specs.Reasons.{reason_number, reason_word};
+ghost use Rattle.ras_exit.specs.Reasons.{panic_number, put_number, reason_number, reason_word};
 
 use apei_sources::{BlockRefused, TableRefused};
 use dimm_topology::TopologyRefused;
+use erst_interp::ErstTableRefused;
+use erst_store::PutRefused;
+use ras_panic::PanicRefused;
 use ras_script::LineRefused;
 use thiserror::Error;
 
@@ -33,6 +36,15 @@ pub enum Reason {
     /// No table of error sources was read, or it has no source of the line's identifier.
     #[error("no such error source is known")]
     Source,
+    /// The line's error record serialization table doesn't read.
+    #[error("the error record serialization table can't be read: {0}")]
+    Erst(ErstTableRefused),
+    /// The record store doesn't take the line's record.
+    #[error("the record store doesn't take the record: {0}")]
+    Put(PutRefused),
+    /// The line's report makes no panic record.
+    #[error("the report makes no panic record: {0}")]
+    Panic(PanicRefused),
 }
 
 impl Reason {
@@ -47,6 +59,9 @@ impl Reason {
             Reason::Bert(_) => b"bert",
             Reason::Block(_) => b"block",
             Reason::Source => b"source",
+            Reason::Erst(_) => b"erst",
+            Reason::Put(_) => b"put",
+            Reason::Panic(_) => b"panic",
         }
     }
 
@@ -61,6 +76,31 @@ impl Reason {
             Reason::Hest(refused) | Reason::Bert(refused) => refused.number(),
             Reason::Block(refused) => Some(refused.number()),
             Reason::Source => None,
+            Reason::Erst(refused) => refused.number(),
+            Reason::Put(refused) => put_number(refused),
+            Reason::Panic(refused) => Some(panic_number(refused)),
         }
+    }
+}
+
+// The number of a refusal by the record store. Want of memory has none.
+fn put_number(refused: PutRefused) -> Option<u8>
+    ensures { result ≡ put_number refused }
+{
+    match refused {
+        PutRefused::ReservedId => Some(1),
+        PutRefused::TooLong => Some(2),
+        PutRefused::StoreFull => Some(3),
+        PutRefused::NoMemory => None,
+    }
+}
+
+// The number of a refusal to make a panic record.
+fn panic_number(refused: PanicRefused) -> u8
+    ensures { result ≡ panic_number refused }
+{
+    match refused {
+        PanicRefused::ReservedId => 1,
+        PanicRefused::NotValid => 2,
     }
 }

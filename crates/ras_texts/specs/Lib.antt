@@ -5,3 +5,4 @@ pub mod Reports
 pub mod Orders
 pub mod OrderRoom
 pub mod Listing
+pub mod Unreadable

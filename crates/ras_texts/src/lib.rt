@@ -10,6 +10,7 @@ mod order;
 mod pieces;
 mod report;
 mod section;
+mod unreadable;
 
 pub use ends::{done_line, end_line, push_done};
 pub use listing::{Listing, push_listing};
@@ -17,3 +18,4 @@ pub use log::{push_known, push_repeat};
 pub use order::{ORDER_LENGTH, push_orders, standing_lines};
 pub use pieces::{class_word, push_name, push_number};
 pub use report::{push_detail, push_entry, push_report};
+pub use unreadable::push_unreadable;

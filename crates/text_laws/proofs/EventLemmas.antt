@@ -1,7 +1,12 @@
 -- The text of an event is quiet: the lines of its entries, and those of the orders that they give.
-use Rattle.std.proofs.Common.{◌≡◌, ℕ, ◌==◌, Bool, true, false, if◌then◌else◌, List, [], ◌∷◌, ◌++◌, codes, decimal, length, map, All, count_by, flat_map, refl, subst}
+use Rattle.std.proofs.Common.{◌≡◌, ℕ, ◌==◌, Bool, true, false, if◌then◌else◌, List, [], ◌∷◌, ◌++◌, codes, decimal, length, All, count_by, flat_map, refl, subst}
 use Rattle.std.specs.List.{zip}
 use Rattle.std.proofs.lemmas.List.Elements.{All-nil, All-cons, All-head, All-tail, All-weaker}
+use Rattle.std.specs.Int.{to_be_bytes, w64}
+use Rattle.hex.specs.Hex.{encode_lower}
+use Rattle.cper_records.specs.declared.refusals.RecordRefused.TheVariants.{Short, Signature, Length, DescriptorOut, SectionOut, Section}
+use Rattle.cper_records.specs.declared.refusals.Unreadable.{Unreadable}
+use Rattle.cper_records.specs.declared.refusals.Unreadable.TheVariants.{NoRecord, OtherId}
 use Rattle.dimm_topology.specs.Labels.{Bytes, same_label}
 use Rattle.page_policy.specs.declared.buckets.Limit.{Limit}
 use Rattle.row_tables.specs.Tables.{updated_rows}
@@ -24,12 +29,15 @@ use Rattle.ras_account.specs.Sightings.{Sighting, sightings_of}
 use Rattle.ras_texts.specs.Orders.{order_lines}
 use Rattle.ras_texts.specs.Reports.{detail_text, told_line, empty_line, report_lines, entry_lines}
 use Rattle.ras_texts.specs.Text.{name_text, repeat_line}
-use Rattle.ras_events.specs.Making.{Piece, Pieces, pieces_in}
+use Rattle.ras_texts.specs.Unreadable.{reason_word, unreadable_line}
+use Rattle.ras_events.specs.declared.made.Piece.{Piece}
+use Rattle.ras_events.specs.declared.made.Piece.TheVariants.{Counted, Unread}
+use Rattle.ras_events.specs.Making.{entries_in}
 use Rattle.ras_events.specs.Sizes.{IsFit}
 use Rattle.ras_events.specs.Texts.{event_text, orders_of_entries, piece_text, pieces_text}
 use Rattle.ras_events.proofs.HistoryLemmas.{account_by_history}
 use Rattle.text_laws.specs.QuietLines.{AreQuietLines}
-use Rattle.text_laws.proofs.ByteLemmas.{is_unbroken, unbroken-append, decimal_unbroken}
+use Rattle.text_laws.proofs.ByteLemmas.{is_unbroken, unbroken-append, decimal_unbroken, hexadecimal_unbroken}
 use Rattle.text_laws.proofs.PieceLemmas.{name_unbroken, bank_unbroken, section_unbroken, processor_unbroken, x64_unbroken, other_unbroken}
 use Rattle.text_laws.proofs.QuietLemmas.{quiet_none, quiet_both, quiet_line}
 use Rattle.text_laws.proofs.LineLemmas.{HasLabel, item_quiet, limit_quiet, module_limit_quiet, retire_quiet, repeat_quiet, orders_quiet}
@@ -74,26 +82,42 @@ entry_quiet details a (PageLimit limit) valid = limit_quiet limit
 entry_quiet details a (Retire boot) valid = retire_quiet boot (count_by (is_retired boot) a.names)
 entry_quiet details a (ModuleLimit limit) valid = module_limit_quiet limit
 
-piece_quiet : (h : History) (piece : Piece) → IsValidEntry piece.0 → AreQuietLines (piece_text h piece)
-piece_quiet h piece valid =
-    quiet_if (is_fresh_behind h piece.0) (entry_lines piece.1 (account_of h) piece.0) (repeat_line (account_of h) piece.0)
-    (entry_quiet piece.1 (account_of h) piece.0 valid) (repeat_quiet (account_of h) piece.0)
+reason_unbroken : (why : Unreadable) → is_unbroken (reason_word why) ≡ true
+reason_unbroken (NoRecord Short) = refl
+reason_unbroken (NoRecord Signature) = refl
+reason_unbroken (NoRecord Length) = refl
+reason_unbroken (NoRecord DescriptorOut) = refl
+reason_unbroken (NoRecord SectionOut) = refl
+reason_unbroken (NoRecord Section) = refl
+reason_unbroken OtherId = refl
 
--- the history with the entries of some pieces behind it
-abbrev told_behind : History → List Piece → History
-told_behind h before = with_entries h (map {B = Entry} (λ piece. piece.0) before)
+unreadable_quiet : (id : ℕ) (why : Unreadable) → AreQuietLines (unreadable_line id why)
+unfolding unreadable_line
+unreadable_quiet id why =
+    quiet_line (codes "unreadable record=" ++ encode_lower (to_be_bytes w64 id) ++ codes " reason=" ++ reason_word why)
+    (simp (unbroken-append, hexadecimal_unbroken, reason_unbroken)) refl
 
+counted_quiet : (h : History) (details : List Detail) (entry : Entry) → IsValidEntry entry → AreQuietLines (piece_text h (Counted entry details))
+counted_quiet h details entry valid =
+    quiet_if (is_fresh_behind h entry) (entry_lines details (account_of h) entry) (repeat_line (account_of h) entry)
+    (entry_quiet details (account_of h) entry valid) (repeat_quiet (account_of h) entry)
+
+-- the lines of pieces, each behind the history with the entries of those before it
 abbrev text_behind : History → List Piece → List Piece → List ℕ
-text_behind h before pieces = flat_map (λ p. piece_text (told_behind h p.0) p.1) (places_behind before pieces)
+text_behind h before pieces = flat_map (λ p. piece_text (with_entries h (entries_in p.0)) p.1) (places_behind before pieces)
 
-pieces_behind : (h : History) (before : List Piece) (entries : List Entry) (details : List (List Detail)) → All IsValidEntry entries → AreQuietLines (text_behind h before (zip entries details))
-pieces_behind h before [] details all = quiet_none
-pieces_behind h before (entry ∷ entries) [] all = quiet_none
-pieces_behind h before (entry ∷ entries) (told ∷ details) all =
-    let piece : Piece = (entry, told) in
-    quiet_both (piece_text (told_behind h before) piece) (text_behind h (before ++ piece ∷ []) (zip entries details))
-    (piece_quiet (told_behind h before) piece (All-head IsValidEntry entry entries all))
-    (pieces_behind h (before ++ piece ∷ []) entries details (All-tail IsValidEntry entry entries all))
+pieces_behind : (h : History) (before pieces : List Piece) → All IsValidEntry (entries_in pieces) → AreQuietLines (text_behind h before pieces)
+pieces_behind h before [] all = quiet_none
+pieces_behind h before (Counted entry details ∷ pieces) all =
+    let piece : Piece = Counted entry details in
+    let here : History = with_entries h (entries_in before) in
+    quiet_both (piece_text here piece) (text_behind h (before ++ piece ∷ []) pieces)
+    (counted_quiet here details entry (All-head IsValidEntry entry (entries_in pieces) all))
+    (pieces_behind h (before ++ piece ∷ []) pieces (All-tail IsValidEntry entry (entries_in pieces) all))
+pieces_behind h before (Unread id why ∷ pieces) all =
+    let piece : Piece = Unread id why in
+    quiet_both (unreadable_line id why) (text_behind h (before ++ piece ∷ []) pieces)
+    (unreadable_quiet id why) (pieces_behind h (before ++ piece ∷ []) pieces all)
 
 -- ---- the labels of modules
 
@@ -137,11 +161,12 @@ labels_with_all a (entry ∷ entries) valid all =
 
 -- ---- an event
 
-pub event_quiet : (h : History) (made : Pieces) → IsAccount (account_of h) → IsFit made → AreQuietLines (event_text h made)
+pub event_quiet : (h : History) (made : List Piece) → IsAccount (account_of h) → IsFit made → AreQuietLines (event_text h made)
 event_quiet h made account fit =
+    let es : List Entry = entries_in made in
     let before : All HasLabel (account_of h).modules = All-weaker IsModuleRow HasLabel (λ row is. is.label) (account_of h).modules account.modules in
-    let after : All HasLabel (account_of (with_entries h made.entries)).modules =
-    subst (λ (a : State). All HasLabel a.modules) (account_by_history h made.entries) (labels_with_all (account_of h) made.entries fit.valid before) in
-    quiet_both (pieces_text h (pieces_in made)) (order_lines (account_of (with_entries h made.entries)).modules (orders_of_entries h made.entries))
-    (pieces_behind h [] made.entries made.details fit.valid)
-    (orders_quiet (account_of (with_entries h made.entries)).modules (orders_of_entries h made.entries) after)
+    let after : All HasLabel (account_of (with_entries h es)).modules =
+    subst (λ (a : State). All HasLabel a.modules) (account_by_history h es) (labels_with_all (account_of h) es fit.valid before) in
+    quiet_both (pieces_text h made) (order_lines (account_of (with_entries h es)).modules (orders_of_entries h es))
+    (pieces_behind h [] made fit.valid)
+    (orders_quiet (account_of (with_entries h es)).modules (orders_of_entries h es) after)

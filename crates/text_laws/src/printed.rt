@@ -5,7 +5,8 @@ ghost use Rattle.ras_account.specs.Accounts.{IsAccount};
 ghost use Rattle.ras_account.specs.History.{History};
 ghost use Rattle.ras_texts.specs.Orders.{standing_lines};
 ghost use Rattle.ras_texts.specs.Text.{end_line};
-ghost use Rattle.ras_events.specs.Making.{Pieces};
+ghost use Rattle.std.specs.Prelude.{List};
+ghost use Rattle.ras_events.specs.declared.made.Piece.{Piece};
 ghost use Rattle.ras_events.specs.Sizes.{IsFit};
 ghost use Rattle.ras_events.specs.Texts.{event_text};
 ghost use Rattle.text_laws.specs.QuietLines.{AreQuietLines};
@@ -13,7 +14,7 @@ ghost use Rattle.text_laws.specs.QuietLines.{AreQuietLines};
 /// The laws of printed texts. The function does nothing: its clauses are what it is for.
 pub fn printed_lines_are_quiet()
     // No line of an event says that an event is done, whatever it makes that can be counted.
-    ensures event { (history : History) (made : Pieces) → IsAccount (account_of history)
+    ensures event { (history : History) (made : List Piece) → IsAccount (account_of history)
         → IsFit made → AreQuietLines (event_text history made) }
 
     // Nor does one of an account's orders, or the line that a whole run ends with.

@@ -8,7 +8,7 @@ use ras_account::Account;
 use ras_facts::{BankReport, Entry};
 use ras_panic::{panic_of, panic_record};
 use ras_reports::{Detail, Report, report_of_stored};
-use ras_texts::push_entry;
+use ras_texts::{push_entry, push_unreadable};
 use std::alloc::Global;
 use std::test::Fail;
 use uuid::Uuid;
@@ -190,6 +190,27 @@ fn record_under_an_identifier(rt: HostRuntime) -> Result<(), Fail> {
     bytes[204] = 9;
     let section = Some(Unreadable::NoRecord(RecordRefused::SectionOut));
     assert!(rt; refusal(alloc, 5, &bytes)? == section);
+    Ok(())
+}
+
+// Whether this line is printed of bytes under an identifier that can't be read.
+fn tells(alloc: Global, id: u64, bytes: &[u8], line: &[u8]) -> Result<bool, Fail> {
+    let mut text = Vec::new(alloc);
+    if let Err(why) = read_stored(id, &filled(alloc, bytes)?) {
+        push_unreadable(&mut text, id, why)?;
+    }
+    Ok(text.as_slice() == line)
+}
+
+#[test]
+fn lines_of_unreadable_records(rt: HostRuntime) -> Result<(), Fail> {
+    let alloc = rt.alloc();
+    let mut bytes = RECORD;
+    bytes[204] = 9;
+    let section = b"unreadable record=0000000000000005 reason=section-out\n";
+    assert!(rt; tells(alloc, 5, &bytes, section)?);
+    let signature = b"unreadable record=0000000000000006 reason=signature\n";
+    assert!(rt; tells(alloc, 6, &[0], signature)?);
     Ok(())
 }
 

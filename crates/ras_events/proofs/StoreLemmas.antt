@@ -1,0 +1,44 @@
+-- What the lines of a script do to the record store, cut in two, and what a poll leaves of it.
+use Rattle.std.proofs.Common.{◌≡◌, ◌∙◌, ℕ, Bool, true, false, not, nat_eq, cond, if◌then◌else◌, List, [], ◌∷◌, ◌++◌, Some, refl, ap, arith}
+use Rattle.std.specs.List.{fold}
+use Rattle.std.specs.Result.{is_ok}
+use Rattle.std.proofs.lemmas.Bool.Decides.{nat_tests}
+use Rattle.std.proofs.lemmas.List.Sums.{fold-append}
+use Rattle.cper_records.specs.Readable.{filled, read_under}
+use Rattle.erst_store.specs.Store.{Stored, bytes_under}
+use Rattle.ras_events.specs.Stores.{NumberedLine, found_after, is_readable, laid, last_laid, store_after, unreadable}
+
+pub laid-cut : (store : List Stored) (first others : List NumberedLine) → laid store (first ++ others) ≡ laid (laid store first) others
+laid-cut store first others = fold-append store_after store first others
+
+pub last_laid-cut : (store : List Stored) (first others : List NumberedLine) (id : ℕ)
+    → last_laid store (first ++ others) id ≡ fold (found_after id) (last_laid store first id) others
+last_laid-cut store first others id = fold-append (found_after id) (bytes_under id store) first others
+
+same_id : (a b : ℕ) → nat_eq a b ≡ true → a ≡ b
+same_id a b is = grind (arith, nat_tests)
+
+same_bytes : (xs ys : List ℕ) → Some xs ≡ Some ys → xs ≡ ys
+same_bytes xs ys is = cc
+
+-- a record that can't be read stays over a poll
+module _ (k : ℕ) (bytes : List ℕ) (not_read : is_ok (read_under k (filled bytes)) ≡ false) where
+  pub unreadable-leaves : (rs : List Stored) → bytes_under k rs ≡ Some bytes → bytes_under k (unreadable rs) ≡ Some bytes
+  unreadable-leaves [] found = found
+  unreadable-leaves (r ∷ rs) found = by (nat_eq r.id k) refl found (unreadable-leaves rs)
+    where
+      kept : List Stored → Bool → List Stored
+      kept qs b = cond (not b) (r ∷ qs) qs
+
+      by : (b : Bool) → nat_eq r.id k ≡ b → (if b then Some r.bytes else bytes_under k rs) ≡ Some bytes → (bytes_under k rs ≡ Some bytes → bytes_under k (unreadable rs) ≡ Some bytes)
+          → bytes_under k (unreadable (r ∷ rs)) ≡ Some bytes
+      by true is here ih =
+          let unread : is_readable r ≡ false =
+          (λ i. is_ok (read_under (same_id r.id k is i) (filled (same_bytes r.bytes bytes here i)))) ∙ not_read in
+          ap (λ b. bytes_under k (kept (unreadable rs) b)) unread
+          ∙ (ap (λ c. if c then Some r.bytes else bytes_under k (unreadable rs)) is ∙ here)
+      by false is there ih = apart (is_readable r)
+        where
+          apart : (b : Bool) → bytes_under k (kept (unreadable rs) b) ≡ Some bytes
+          apart true = ih there
+          apart false = ap (λ c. if c then Some r.bytes else bytes_under k (unreadable rs)) is ∙ ih there

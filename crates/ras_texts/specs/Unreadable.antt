@@ -1,0 +1,24 @@
+-- The line of a record of the store that can't be read.
+use Rattle.std.specs.Prelude.{ℕ, List, ◌++◌, codes}
+use Rattle.std.specs.Int.{to_be_bytes, w64}
+use Rattle.hex.specs.Hex.{encode_lower}
+use Rattle.cper_records.specs.declared.refusals.RecordRefused.TheVariants.{Short, Signature, Length, DescriptorOut, SectionOut, Section}
+use Rattle.cper_records.specs.declared.refusals.Unreadable.{Unreadable}
+use Rattle.cper_records.specs.declared.refusals.Unreadable.TheVariants.{NoRecord, OtherId}
+use Rattle.ras_texts.specs.Text.{line_with}
+
+-- why it can't be read
+abbrev pub reason_word : Unreadable → List ℕ
+reason_word (NoRecord Short) = codes "short"
+reason_word (NoRecord Signature) = codes "signature"
+reason_word (NoRecord Length) = codes "length"
+reason_word (NoRecord DescriptorOut) = codes "descriptor"
+reason_word (NoRecord SectionOut) = codes "section-out"
+reason_word (NoRecord Section) = codes "section"
+reason_word OtherId = codes "identifier"
+
+-- the record's identifier in 16 hexadecimal digits, and the reason
+unfoldable pub unreadable_line : ℕ → Unreadable → List ℕ
+unreadable_line id why = line_with (
+    codes "unreadable record=" ++ encode_lower (to_be_bytes w64 id)
+    ++ codes " reason=" ++ reason_word why)
