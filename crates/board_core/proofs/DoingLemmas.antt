@@ -1,15 +1,17 @@
 -- Acts one after another, and what calls that do them come to.
-use Rattle.std.proofs.Common.{◌≡◌, ◌∙◌, List, [], ◌∷◌, ◌++◌, Option, None, Some, Result, Ok, Err, OnOk, OnErr, refl, sym, ap, subst, inl, inr, ◌⊎◌}
+use Rattle.std.proofs.Common.{ℕ, ◌≤◌, ◌≡◌, ◌∙◌, List, [], ◌∷◌, ◌++◌, Option, None, Some, Result, Ok, Err, OnOk, OnErr, refl, sym, ap, subst, inl, inr, ◌⊎◌}
 use Rattle.std.specs.Option.{option_map}
 use Rattle.erst_store.specs.Device.{Device}
 use Rattle.erst_store.specs.Store.{Stored}
+use Rattle.board_core.specs.declared.board.BoardPut.{BoardPut}
+use Rattle.board_core.specs.declared.board.BoardPut.TheVariants.{Refused, Failed}
 use Rattle.board_core.specs.declared.board.DiskCall.{DiskCall}
-use Rattle.board_core.specs.Cause.{Faults, FailsAs, Kind, disk_call, device_call, print_call, count_of, with_count}
-use Rattle.board_core.specs.Clock.{Clock, Adds, LeftNow, Passes, Rests}
+use Rattle.board_core.specs.Cause.{Faults, FailsAs, Kind, disk_call, device_call, print_call, count_of, put_failure, with_count}
+use Rattle.board_core.specs.Clock.{After, Clock, Adds, LeftNow, Passes, PassesAtRefusal, Rests}
 use Rattle.board_core.specs.ClockLemmas.{adds_at_rest, adds_both, adds_none, adds_weaker, rests_listed, rests_on, rests_stored}
 use Rattle.board_core.specs.Stop.{Becomes, InStore, Left, Same}
-use Rattle.board_core.specs.Told.{Told, MayList, Relates, Steps, StoreBy, device_of, with_call}
-use Rattle.board_core.specs.Doing.{Act, DeviceCall, Does, Ended, FailsAct, FailsActs, FailsDevice, GoesWell, IsBad, IsMade, Moment, Raises, Seen, TornAct, TornDevice, after_act, after_acts, after_device, broke, calls, device, gave_up, kind_of, one_end, went_well}
+use Rattle.board_core.specs.Told.{Told, KeepsAtRefusal, MayAct, MayList, Relates, Steps, StoreBy, after_put, device_of, on_device, with_call}
+use Rattle.board_core.specs.Doing.{Act, DeviceCall, Does, Ended, FailsAct, FailsActs, FailsDevice, GoesWell, IsBad, IsMade, Moment, Raises, Seen, TornAct, TornDevice, after_act, after_acts, after_device, broke, calls, device, gave_up, kind_of, one_end, put, put_acts, went_well}
 
 -- ---- lists of acts
 
@@ -202,3 +204,36 @@ does_store see call step result a b frame torn told failed passes cause left_is 
   where
     told_passes : (t : Told) → Rests t (see a).told (see a).clock → Passes (InStore (Becomes (step (device_of t)).store)) (see a).clock (see b).clock
     told_passes t rests = subst (λ (o : Option Told). Passes (InStore (StoreBy step o)) (see a).clock (see b).clock) rests.is passes
+
+-- a put, which is refused, or fails, or puts the record
+pub does_put : {X : Type 0} (see : X → Seen) (id : ℕ) (bytes : List ℕ) (result : Result (Unit {0}) BoardPut) (a b : X) → OnOk result (Steps (on_device (after_put id bytes)) (see a).told (see b).told)
+    → KeepsAtRefusal result (see a).told (see b).told → OnErr result (Relates (MayAct (after_put id bytes)) (see a).told (see b).told) → Passes (InStore (StoreBy (after_put id bytes) (see a).told)) (see a).clock (see b).clock
+    → PassesAtRefusal result (see a).clock (see b).clock → FailsAs device_call (see a).faults (see b).faults (put_failure result)
+    → ((t : Told) (left : Left) → (see b).told ≡ Some t → LeftNow (see b).clock left → left.store ≡ t.here.store)
+    → ((s t : ℕ) (left : Left) → s ≤ t → (see a).clock.may_leave_since t left → (see a).clock.may_leave_since s left)
+    → Does see (put_acts id bytes result) (one_end device_call (put_failure result)) a b
+does_put see id bytes (Ok done) a b told refused failed stops still cause left_is earlier =
+    let done : Result (Unit {0}) BoardPut = Ok tt in
+    does_store see (put id bytes) (after_put id bytes) done a b (λ t. refl) (λ t left torn. torn) told tt stops cause left_is
+does_put see id bytes (Err Failed) a b told refused failed stops still cause left_is earlier =
+    let broken : Result (Unit {0}) BoardPut = Err Failed in
+    does_store see (put id bytes) (after_put id bytes) broken a b (λ t. refl) (λ t left torn. torn) tt failed stops cause left_is
+does_put see id bytes (Err (Refused why)) a b told refused failed stops still cause left_is earlier = record {
+  told = steps;
+  stops = λ t rests. record {
+    later = still.later;
+    each = λ s left within may. elim (still.each s left within may) [ inl before ↦ inl before | inr after ↦ inl (was s left within after) ];
+  };
+  rests = λ t rests. rests_on (λ u. u) Same t (see a).told (see b).told (see a).clock (see b).clock rests steps still.ends (λ left is. is);
+  faults = well_faults device_call (see a).faults (see b).faults cause;
+}
+  where
+    same : (o : Option Told) → Steps (λ u. u) o o
+    same None = refl
+    same (Some t) = refl
+
+    steps : Steps (λ u. u) (see a).told (see b).told
+    steps = subst (λ (o : Option Told). Steps (λ u. u) (see a).told o) (sym refused) (same (see a).told)
+
+    was : (s : ℕ) (left : Left) → s ≤ (see a).clock.now → After (see a).clock Same left → (see a).clock.may_leave_since s left
+    was s left within after = earlier s (see a).clock.now left within (subst (λ (l : Left). LeftNow (see a).clock l) (sym after.by) after.was)

@@ -20,7 +20,7 @@ use Rattle.board_core.specs.declared.board.FileNo.TheVariants.{Zero, One}
 use Rattle.board_core.specs.declared.board.Reg.{Reg}
 use Rattle.board_core.specs.declared.board.Reg.TheVariants.{Action, Value}
 use Rattle.board_core.specs.Cause.{Faults, Kind, disk_call, device_call, print_call, count_of, with_count, FailsAs, put_failure}
-use Rattle.board_core.specs.Clock.{Clock, LeftNow, Passes, Leads, IsSynced}
+use Rattle.board_core.specs.Clock.{Clock, LeftNow, Passes, PassesAtRefusal, Leads, IsSynced}
 use Rattle.board_core.specs.MemBoard.{Held, device_in, DeviceChange, device_step, wrote_register, wrote_range, put_record, Change, wrote, synced, acted, printed, Past, with_change, past_after, after_change, held_of, clock_of, State, told_of, new_board, Performs, IsListed, ListsCall, ListsAccess, ListsNone}
 use Rattle.board_core.specs.MemBoardCalls.{IsMemBoard, Starves, Ends, EndsPut}
 use Rattle.board_core.specs.ChangeLemmas.{after_changes-more, passes_wrote, passes_synced, synced_now, passes_acted, passes_kept, passes_printed, leads_printed}
@@ -186,6 +186,11 @@ pub refused_put : (r : Result (Unit {0}) BoardPut) (old new : State) (change : C
 refused_put (Ok done) old new change past lists = tt
 refused_put (Err (Refused cause)) old new change past lists = ap Some (same_told old new past lists)
 refused_put (Err Failed) old new change past lists = tt
+
+pub still_put : (r : Result (Unit {0}) BoardPut) (old new : State) (change : Change) → new.past ≡ past_after r change old.past → PassesAtRefusal r (clock_of old.past) (clock_of new.past)
+still_put (Ok done) old new change past = tt
+still_put (Err (Refused cause)) old new change past = stops_same old new past
+still_put (Err Failed) old new change past = tt
 
 pub failed_put : (r : Result (Unit {0}) BoardPut) (old new : State) (change : Change) (step : Device → Device) → new.past ≡ past_after r change old.past → ListsNone old new → OnErr r (MayAct step (told_of old) (told_of new))
 failed_put (Ok done) old new change step past lists = tt

@@ -8,6 +8,8 @@ use Rattle.board_core.specs.declared.board.DiskCall.TheVariants.{WriteAt, Sync}
 use Rattle.board_core.specs.declared.board.Reg.{Reg}
 use Rattle.board_core.specs.declared.board.Access.{Access}
 use Rattle.board_core.specs.declared.board.Access.TheVariants.{Read, Write, RangeRead, RangeWrite}
+use Rattle.board_core.specs.declared.board.BoardPut.{BoardPut}
+use Rattle.board_core.specs.declared.board.BoardPut.TheVariants.{Refused}
 use Rattle.board_core.specs.Cause.{Faults, Kind, Rose, count_of, device_call, disk_call, print_call, with_count}
 use Rattle.board_core.specs.Clock.{Clock, Adds, Rests}
 use Rattle.board_core.specs.Stop.{Left, Same, InFile, InStore, InOut, Becomes, Begins}
@@ -154,6 +156,11 @@ ended_by why (Err e) = why e
 -- of a call that can fail only so
 abbrev pub one_end : {T E : Type 0} → Kind → Result T E → Ended
 one_end kind result = ended_by (λ _. broke kind) result
+
+-- a put that is refused does nothing
+abbrev pub put_acts : ℕ → List ℕ → Result (Unit {0}) BoardPut → List Act
+put_acts id bytes (Err (Refused cause)) = []
+put_acts id bytes result = device (put id bytes) ∷ []
 
 -- of the counts of faults that of one kind rose
 pub record Raises (kind : Kind) (old new : Faults) : Type 0 where

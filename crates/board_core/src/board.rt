@@ -7,7 +7,7 @@ ghost use Rattle.erst_store.specs.Store.{refusal_of};
 ghost use Rattle.board_core.specs.declared.board.Access.TheVariants.{Read, Write, RangeRead, RangeWrite};
 ghost use Rattle.board_core.specs.declared.board.DiskCall.TheVariants.{Size, ReadAt, WriteAt, Sync};
 ghost use Rattle.board_core.specs.Cause.{Faults, disk_call, device_call, print_call, FailsAs, put_failure};
-ghost use Rattle.board_core.specs.Clock.{Clock, LeftNow, Passes, Leads, IsSynced};
+ghost use Rattle.board_core.specs.Clock.{Clock, LeftNow, Passes, PassesAtRefusal, Leads, IsSynced};
 ghost use Rattle.board_core.specs.Stop.{Left, Same, InFile, InStore, InOut, Begins, Appends};
 ghost use Rattle.board_core.specs.Told.{Told, Steps, Relates, file_of, with_call, after_write, after_print, Reads, Torn, MayList, FailsWrite, FailsPrint};
 ghost use Rattle.board_core.specs.Told.{device_of, on_device, with_access, register_in, after_reg_write, after_range_write, after_put, AnswersPut, KeepsAtRefusal, StoreBy, MayListAccess, MayAct, FailsAccess};
@@ -189,8 +189,8 @@ pub trait Board {
     /// device's cursor to 0.
     ///
     /// `Refused` comes with the store's own refusal, `NoMemory` among them, and leaves all as it
-    /// was. After `Failed` the record was put or wasn't, and a stop during the call leaves the
-    /// store as before it or as after it.
+    /// was, also if a stop comes during the call. After `Failed` the record was put or wasn't. A
+    /// stop during a call that isn't refused leaves the store as before it or as after it.
     fn put(&mut self, id: u64, bytes: &[u8]) -> Result<(), BoardPut>
         ensures told { OnOk result
             (Steps (on_device (after_put id bytes.now)) (told self.old) (told self.new)) }
@@ -202,6 +202,7 @@ pub trait Board {
         ensures stops { Passes (InStore (StoreBy (after_put id bytes.now) (told self.old)))
             (clock self.old)
             (clock self.new) }
+        ensures still { PassesAtRefusal result (clock self.old) (clock self.new) }
         ensures cause { FailsAs device_call (faults self.old) (faults self.new)
             (put_failure result) }
         ensures device { IfSome (told self.old) (λ t. IsDevice (device_of t)) };

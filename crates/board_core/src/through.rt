@@ -1,13 +1,15 @@
-//! Calls of a board that do one act each: a write that is on the disk once it has ended well, and
-//! a print.
+//! Calls of a board that do one act each: a write that is on the disk once it has ended well, a
+//! print, and a put.
 ghost use Rattle.std.specs.Prelude.{◌≤◌, ◌∷◌, [], length, IfSome};
-ghost use Rattle.board_core.specs.Cause.{disk_call, print_call};
+ghost use Rattle.erst_store.specs.DeviceLaws.{IsDevice};
+ghost use Rattle.erst_store.specs.Store.{refusal_of};
+ghost use Rattle.board_core.specs.Cause.{device_call, disk_call, print_call, put_failure};
 ghost use Rattle.board_core.specs.Clock.{Adds, After};
-ghost use Rattle.board_core.specs.Doing.{Does, looks, one_end, prints, through};
+ghost use Rattle.board_core.specs.Doing.{Does, looks, one_end, prints, put_acts, through};
 ghost use Rattle.board_core.specs.Stop.{InFile};
-ghost use Rattle.board_core.specs.Told.{Torn, file_of};
+ghost use Rattle.board_core.specs.Told.{AnswersPut, Torn, device_of, file_of};
 
-use crate::{Board, Failed, FileNo};
+use crate::{Board, BoardPut, Failed, FileNo};
 
 /// Writes `bytes` at `place`, which is at most the file's length, and syncs the file.
 ///
@@ -41,4 +43,18 @@ pub fn print<B: Board>(bytes: &[u8], board: &mut B) -> Result<(), Failed>
         (one_end print_call result) board.old board.new }
 {
     board.print(bytes)
+}
+
+/// Puts a record into the store from outside, by one call.
+///
+/// `Refused` comes with the store's own refusal, which is told by what the board tells, or with
+/// `NoMemory`; then nothing was done. After `Failed` the record was put or wasn't.
+pub fn put<B: Board>(id: u64, bytes: &[u8], board: &mut B) -> Result<(), BoardPut>
+    ensures does { Does (looks B.told B.clock B.faults) (put_acts id bytes.now result)
+        (one_end device_call (put_failure result)) board.old board.new }
+    ensures answers { IfSome (B.told board.old)
+        (λ t. AnswersPut result (refusal_of id bytes.now t.here.store)) }
+    ensures device { IfSome (B.told board.old) (λ t. IsDevice (device_of t)) }
+{
+    board.put(id, bytes)
 }

@@ -1,9 +1,9 @@
 //! The journal's files, `rasd.0` and `rasd.1`.
-ghost use Rattle.std.specs.Prelude.{◌≡◌, None, IfOk, OnOk, IsNone, IsSome};
+ghost use Rattle.std.specs.Prelude.{◌≡◌, ◌≤◌, length, None, IfOk, OnOk, IsNone, IsSome};
 ghost use Rattle.std.specs.Io.{ReadsAtMost};
 ghost use Rattle.ras_host.specs.JournalFiles.{Opens, file_in};
 
-use crate::system::{open, read_at};
+use crate::system::{open, read_at, read_journal};
 use board_core::FileNo;
 use std::fs::File;
 use std::io;
@@ -15,9 +15,31 @@ use std::os::unix::fs::FileExt;
 pub enum Use {
     /// Read and write them, as the only program that does. A file that is missing is made.
     Alone,
-    /// Read them. A file that is missing is empty.
+    /// Read them as they stand at the first use, though a run may be at work on them. A file that
+    /// is missing is empty.
     Reading,
 }
+
+const NAMES: [&str; 2] = ["rasd.0", "rasd.1"];
+
+// The bytes of both files at one moment.
+#[derive(Drop)]
+struct Seen {
+    zero: Vec<u8>,
+    one: Vec<u8>,
+}
+
+impl Seen {
+    fn bytes(&self, file: FileNo) -> &[u8] {
+        match file {
+            FileNo::Zero => &self.zero,
+            FileNo::One => &self.one,
+        }
+    }
+}
+
+// A longer journal file isn't read: the daemon says that it is too long.
+const LONGEST_FILE: u64 = 67_108_864;
 
 /// The journal's files, each of which is opened at its first use, file 0 before file 1.
 #[derive(Drop)]
@@ -26,6 +48,8 @@ pub struct Journal {
     how: Use,
     zero: Option<File>,
     one: Option<File>,
+    // What a board that only reads has of both.
+    seen: Option<Seen>,
 }
 
 impl Journal {
@@ -34,8 +58,13 @@ impl Journal {
         ensures how { result.how ≡ how }
         ensures closed { (result.zero ≡ None) × (result.one ≡ None) }
     {
-        let (zero, one) = (None, None);
-        Journal { rt, how, zero, one }
+        Journal {
+            rt,
+            how,
+            zero: None,
+            one: None,
+            seen: None,
+        }
     }
 
     /// The length in bytes.
@@ -44,9 +73,10 @@ impl Journal {
         ensures missing { IfOk result (λ n. IsNone (file_in file self.new) → n ≡ 0) }
     {
         self.open(file)?;
-        match self.opened(file) {
-            Some(file) => Ok(file.metadata()?.len()),
-            None => Ok(0),
+        match (self.opened(file), &self.seen) {
+            (None, _) => Ok(0),
+            (Some(_), Some(seen)) => Ok(seen.bytes(file).len() as u64),
+            (Some(file), None) => Ok(file.metadata()?.len()),
         }
     }
 
@@ -57,9 +87,10 @@ impl Journal {
         ensures missing { IfOk result (λ n. IsNone (file_in file self.new) → n ≡ 0) }
     {
         self.open(file)?;
-        match self.opened(file) {
-            Some(file) => read_at(file, place, buf),
-            None => Ok(0),
+        match (self.opened(file), &self.seen) {
+            (None, _) => Ok(0),
+            (Some(_), Some(seen)) => Ok(copy_from(seen.bytes(file), place, buf)),
+            (Some(file), None) => read_at(file, place, buf),
         }
     }
 
@@ -92,11 +123,15 @@ impl Journal {
         ensures { OnOk result (Opens file self.old self.new) }
     {
         let is_writing = self.how == Use::Alone;
+        if !is_writing && self.seen.is_none() {
+            let (zero, one) = read_journal(&self.rt, NAMES, LONGEST_FILE)?;
+            self.seen = Some(Seen { zero, one });
+        }
         if self.zero.is_none() {
-            self.zero = open(&self.rt, "rasd.0", is_writing)?;
+            self.zero = open(&self.rt, NAMES[0], is_writing)?;
         }
         if file == FileNo::One && self.one.is_none() {
-            self.one = open(&self.rt, "rasd.1", is_writing)?;
+            self.one = open(&self.rt, NAMES[1], is_writing)?;
         }
         Ok(())
     }
@@ -109,4 +144,17 @@ impl Journal {
             FileNo::One => &self.one,
         }
     }
+}
+
+// Copies bytes from a place on into a buffer until that is full or they end, and says how many.
+fn copy_from(bytes: &[u8], place: u64, buf: &mut [u8]) -> usize
+    ensures { result ≤ length buf.old }
+{
+    let left = match bytes.get(place as usize..) {
+        Some(left) => left,
+        None => &[],
+    };
+    let count = left.len().min(buf.len());
+    buf[..count].copy_from_slice(&left[..count]);
+    count
 }

@@ -16,6 +16,13 @@ use std::os::unix::fs::{FileExt, MetadataExt, fchown};
 
 const STORE: &str = "rasd.store";
 
+// A journal file's gate, magic, generation and the length of its checkpoint: what no run changes
+// while the file stands.
+const FRONT: u64 = 25;
+
+// How often files are read again of which a run changed the front meanwhile.
+const MOST_READINGS: u32 = 1000;
+
 // What is to be the store's file, until all of it is on the disk.
 const NEW_STORE: &str = "rasd.new";
 
@@ -51,6 +58,39 @@ pub fn read_at(file: &File, place: u64, buf: &mut [u8]) -> io::Result<usize>
     let count = left.min(buf.len() as u64) as usize;
     file.read_exact_at(&mut buf[..count], place)?;
     Ok(count)
+}
+
+/// The bytes of two journal files at one moment, though a run may be at work on them; of each at most
+/// `longest` and one more, and none if it is missing.
+///
+/// A run writes behind a file's closed gate, and opens that gate only once all behind it is
+/// written. So a file that is read from its first byte to its last holds whole links up to a closed
+/// gate, unless the run switched to it meanwhile. That closes the gate at its front first, and
+/// gives it another generation: then both files are read again.
+pub fn read_journal(
+    rt: &HostRuntime,
+    names: [&str; 2],
+    longest: u64,
+) -> io::Result<(Vec<u8>, Vec<u8>)> {
+    for _ in 0..MOST_READINGS {
+        let zero = read_first(rt, names[0], longest.saturating_add(1))?;
+        let one = read_first(rt, names[1], longest.saturating_add(1))?;
+        if zero.starts_with(&read_first(rt, names[0], FRONT)?)
+            && one.starts_with(&read_first(rt, names[1], FRONT)?)
+        {
+            return Ok((zero, one));
+        }
+    }
+    Err(io::Error::from(ErrorKind::TimedOut))
+}
+
+// The first bytes of a file, from the first on; none if it is missing.
+fn read_first(rt: &HostRuntime, name: &str, most: u64) -> io::Result<Vec<u8>> {
+    let mut bytes = Vec::new(rt.alloc());
+    if if_regular(metadata(rt, name))?.is_some() {
+        File::open(rt, name)?.take(most).read_to_end(&mut bytes)?;
+    }
+    Ok(bytes)
 }
 
 /// The bytes of the record store's file, or none if it is missing. Its length is compared before

@@ -8,7 +8,7 @@ ghost use Rattle.board_core.specs.declared.board.Access.TheVariants.{Read, Write
 ghost use Rattle.board_core.specs.declared.board.DiskCall.TheVariants.{Size, ReadAt, WriteAt, Sync};
 ghost use Rattle.board_core.specs.Cause.{disk_call, device_call, print_call, FailsAs, put_failure};
 ghost use Rattle.board_core.specs.ChangeLemmas.{told_left, text_left, store_left};
-ghost use Rattle.board_core.specs.Clock.{Passes, Leads, IsSynced};
+ghost use Rattle.board_core.specs.Clock.{Passes, PassesAtRefusal, Leads, IsSynced};
 ghost use Rattle.board_core.specs.MomentLemmas.{since_earlier};
 ghost use Rattle.board_core.specs.MemBoard.{told_of, clock_of, settled_disk, calls_of, wrote, synced, acted, printed, wrote_register, wrote_range, put_record, past_after};
 ghost use Rattle.board_core.specs.MemBoard.{Performs, ListsCall, ListsAccess, ListsNone};
@@ -195,6 +195,7 @@ impl Board for MemBoard {
         ensures stops { Passes
             (InStore (StoreBy (after_put id bytes.now) (Some (told_of self.old))))
             (clock_of self.old.past) (clock_of self.new.past) }
+        ensures still { PassesAtRefusal result (clock_of self.old.past) (clock_of self.new.past) }
         ensures cause { FailsAs device_call self.old.faults self.new.faults (put_failure result) }
         ensures device { IsDevice (device_of (told_of self.old)) }
         // Where it failed nothing was put.
