@@ -3,14 +3,16 @@ use Rattle.std.specs.Prelude.{◌≡◌, List, [], ◌∷◌, Result, Ok}
 use Rattle.board_core.specs.declared.board.DiskCall.{DiskCall}
 use Rattle.board_core.specs.Stop.{Left}
 use Rattle.journal_format.specs.Links.{link_bytes}
+use Rattle.ras_account.specs.Numbers.{fresh_entries_in}
 use Rattle.ras_facts.specs.declared.entry.Entry.{Entry}
 use Rattle.ras_recover.specs.OpeningCalls.{IsRecoveryOf}
 use Rattle.ras_ledger.specs.KeepingCalls.{IsKeeping}
 use Rattle.ras_events.specs.declared.event.Event.{Event}
 use Rattle.ras_events.specs.declared.event.Event.TheVariants.{Counted, Reopened}
-use Rattle.ras_exit.specs.declared.reason.Reason.{Reason}
+use Rattle.ras_events.specs.declared.event.Refusal.{Refusal}
+use Rattle.ras_events.specs.Making.{entries_in}
 use Rattle.ras_events.specs.Reports.{Place, event_at}
-use Rattle.ras_run.specs.Places.{Start, history_at, news_after}
+use Rattle.ras_run.specs.Places.{Start, account_at}
 
 -- news are kept as one link, and no news need no call
 abbrev pub AreNewsCalls : List Entry → List DiskCall → Type 0
@@ -19,9 +21,9 @@ AreNewsCalls (entry ∷ entries) calls = IsKeeping (link_bytes (entry ∷ entrie
 
 -- Of an event its news are kept. A journal that is opened again is recovered, and all that counts of
 -- the files here is read. Any other line makes no disk call.
-abbrev pub AreEventCalls : Start → Place → Left → Result Event Reason → List DiskCall → Type 0
+abbrev pub AreEventCalls : Start → Place → Left → Result Event Refusal → List DiskCall → Type 0
 AreEventCalls start place here (Ok (Counted made)) calls =
-    AreNewsCalls (news_after (history_at start place.0) made.entries) calls
+    AreNewsCalls (fresh_entries_in (account_at start place.0) (entries_in made)) calls
 AreEventCalls start place here (Ok Reopened) calls = IsRecoveryOf here calls
 AreEventCalls start place here event calls = calls ≡ []
 
