@@ -1,13 +1,10 @@
--- That calls of the disk and prints leave the device alone.
-use Rattle.std.proofs.Common.{◌≡◌, ℕ, List, Option, None, Some, length, ap, refl, ◌∙◌, inl, inr}
+-- That prints leave the device alone, also if a stop before might have left something else than the
+-- board tells.
+use Rattle.std.proofs.Common.{◌≡◌, ℕ, List, Option, None, Some, ap, refl, ◌∙◌}
 use Rattle.board_core.specs.Clock.{Clock, LeftNow, Passes, Adds}
 use Rattle.board_core.specs.ClockLemmas.{adds_after, adds_both, adds_none, adds_weaker}
-use Rattle.board_core.specs.declared.board.DiskCall.{DiskCall}
-use Rattle.board_core.specs.declared.board.DiskCall.TheVariants.{WriteAt, Sync}
-use Rattle.board_core.specs.declared.board.FileNo.{FileNo}
-use Rattle.board_core.specs.declared.board.FileNo.TheVariants.{Zero, One}
 use Rattle.board_core.specs.Stop.{Left, InOut}
-use Rattle.board_core.specs.Told.{Told, Relates, Steps, MayList, FailsWrite, FailsThrough, FailsPrint, with_call, with_file, after_write, after_write_through, after_print}
+use Rattle.board_core.specs.Told.{Told, Relates, Steps, FailsPrint, after_print}
 use Rattle.board_core.specs.Device.{KeepsDevice, LeavesDevice}
 
 -- ---- what is told
@@ -21,47 +18,6 @@ device_then a b c one two = record {
   volatile = two.volatile ∙ one.volatile;
   accesses = two.accesses ∙ one.accesses;
 }
-
--- the printed text and the device are as they were
-pub record Beside (old new : Told) : Type 0 where
-  pub out : new.here.out ≡ old.here.out
-  pub device : KeepsDevice old new
-
-pub beside_then : (a b c : Told) → Beside a b → Beside b c → Beside a c
-beside_then a b c one two = record { out = two.out ∙ one.out; device = device_then a b c one.device two.device }
-
-pub beside_same : (t : Told) → Beside t t
-beside_same t = record { out = refl; device = same_device t }
-
-beside_is : (u v w : Told) → v ≡ w → Beside u w → Beside u v
-beside_is u v w is beside = rw is beside
-
--- ---- calls of the disk
-
-listed_beside : (call : DiskCall) (u v : Told) → MayList call u v → Beside u v
-listed_beside call u v (inl same) = beside_is u v u same (beside_same u)
-listed_beside call u v (inr listed) = beside_is u v (with_call call u) listed (record { out = refl; device = record { store = refl; volatile = refl; accesses = refl } })
-
-file_beside : (file : FileNo) (bytes : List ℕ) (t : Told) → Beside t (with_file file bytes t)
-file_beside Zero bytes t = record { out = refl; device = record { store = refl; volatile = refl; accesses = refl } }
-file_beside One bytes t = record { out = refl; device = record { store = refl; volatile = refl; accesses = refl } }
-
-write_beside : (file : FileNo) (place : ℕ) (bytes : List ℕ) (t : Told) → Beside t (after_write file place bytes t)
-write_beside Zero place bytes t = record { out = refl; device = record { store = refl; volatile = refl; accesses = refl } }
-write_beside One place bytes t = record { out = refl; device = record { store = refl; volatile = refl; accesses = refl } }
-
-pub through_beside : (file : FileNo) (place : ℕ) (bytes : List ℕ) (t : Told) → Beside t (after_write_through file place bytes t)
-through_beside Zero place bytes t = record { out = refl; device = record { store = refl; volatile = refl; accesses = refl } }
-through_beside One place bytes t = record { out = refl; device = record { store = refl; volatile = refl; accesses = refl } }
-
-write_failed : (file : FileNo) (place n : ℕ) (u v : Told) → FailsWrite file place n u v → Beside u v
-write_failed file place n u v fails =
-    beside_then u (with_file file fails.0 u) v (file_beside file fails.0 u) (listed_beside (WriteAt file place n) (with_file file fails.0 u) v fails.2)
-
-pub through_failed : (file : FileNo) (place : ℕ) (bytes : List ℕ) (u v : Told) → FailsThrough file place bytes u v → Beside u v
-through_failed file place bytes u v (inl torn) = write_failed file place (length bytes) u v torn
-through_failed file place bytes u v (inr unsynced) =
-    beside_then u (after_write file place bytes u) v (write_beside file place bytes u) (listed_beside (Sync file) (after_write file place bytes u) v unsynced)
 
 -- ---- calls one after another
 

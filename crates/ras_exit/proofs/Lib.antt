@@ -1,4 +1,3 @@
-pub mod FaultLemmas
 pub mod DeviceLemmas
 pub mod EndingLemmas
 pub mod PrintLemmas

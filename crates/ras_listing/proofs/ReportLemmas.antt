@@ -5,6 +5,7 @@ use Rattle.board_core.specs.Clock.{Clock, Adds, LeftNow, Rests}
 use Rattle.board_core.specs.ClockLemmas.{adds_both, adds_weaker}
 use Rattle.board_core.specs.Stop.{Left, Begins, InOut}
 use Rattle.board_core.specs.Told.{FailsPrint, Relates, Steps, Told, after_print}
+use Rattle.board_core.proofs.DoingLemmas.{broke_faults, well_faults}
 use Rattle.ras_account.specs.Account.{State}
 use Rattle.ras_journal.specs.Recovered.{Refusal, recovered}
 use Rattle.ras_recover.specs.OpeningCalls.{AfterRecovery}
@@ -20,7 +21,6 @@ use Rattle.ras_exit.specs.Endings.{IsCut}
 use Rattle.ras_exit.specs.StopLine.{stop_line}
 use Rattle.ras_exit.proofs.DeviceLemmas.{StoreIsLeft, device_by}
 use Rattle.ras_exit.proofs.EndingLemmas.{on_answer, on_cut}
-use Rattle.ras_exit.proofs.FaultLemmas.{raised, same_faults}
 use Rattle.ras_listing.specs.Answering.{IsCutBy, IsReportAnswer, IsSaid, unrecovered}
 use Rattle.ras_listing.specs.Reporting.{ReportMoment, Reports, report_exit, report_output}
 
@@ -60,8 +60,8 @@ is_cut failure exit (inl disk) = rw disk.0 refl
 is_cut failure exit (inr memory) = rw memory.0 refl
 
 pub cut_cause : (failure : Result (Unit {0}) OpenRefused) (exit : Exit) (before now : Faults) → IsCutBy failure exit → FailsAs disk_call before now failure → BoardCause exit before now
-cut_cause failure exit before now (inl disk) cause = rw disk.0 (raised disk_call before now (subst (FailsAs disk_call before now) disk.1 cause))
-cut_cause failure exit before now (inr memory) cause = rw memory.0 (same_faults disk_call before now (subst (FailsAs disk_call before now) memory.1 cause))
+cut_cause failure exit before now (inl disk) cause = rw disk.0 (broke_faults disk_call before now (subst (FailsAs disk_call before now) disk.1 cause))
+cut_cause failure exit before now (inr memory) cause = rw memory.0 (well_faults disk_call before now (subst (FailsAs disk_call before now) memory.1 cause))
 
 recovery_device : (old new : Told) → AfterRecovery old new → KeepsDevice old new
 recovery_device old new after = record { store = after.store; volatile = after.volatile; accesses = after.accesses }

@@ -7,7 +7,7 @@ use Rattle.board_core.proofs.DoingLemmas.{does_first, does_then, made_one}
 use Rattle.ras_account.specs.Account.{State, account_of}
 use Rattle.ras_account.specs.Continued.{account_after_all}
 use Rattle.ras_account.specs.History.{History, with_entries}
-use Rattle.ras_account.specs.Numbers.{AreWithin, HasNoRoomFor, HasRoomFor, Numbers, are_past, fresh_entries_in, numbers_with}
+use Rattle.ras_account.specs.Numbers.{AreWithin, HasRoomFor, Numbers, are_past, fresh_entries_in, numbers_with}
 use Rattle.ras_facts.specs.declared.entry.Entry.{Entry}
 use Rattle.ras_journal.specs.declared.standing.Standing.{Standing}
 use Rattle.ras_ledger.specs.declared.ledger.Ledger.{Ledger}
@@ -21,14 +21,14 @@ use Rattle.ras_script.specs.declared.line.Line.{Line}
 use Rattle.ras_events.specs.Texts.{event_text}
 use Rattle.ras_events.proofs.HistoryLemmas.{account_by_history, event_by_history, news_account}
 use Rattle.ras_exit.specs.Acts.{end_of, part_end, print_acts}
-use Rattle.ras_exit.specs.Endings.{CallEnding, EndsBy, OnlyFault, answered, ending_of, faulted, source_failed, starved}
+use Rattle.ras_exit.specs.Endings.{CallEnding, OnlyFault, answered, ending_of, faulted, source_failed, starved}
 use Rattle.ras_exit.specs.declared.exit.Exit.{Exit}
 use Rattle.ras_exit.specs.declared.exit.Exit.TheVariants.{Full, PrintFault}
 use Rattle.ras_exit.proofs.EndingLemmas.{ends_weaker}
 use Rattle.ras_exit.proofs.PrintLemmas.{as_part}
 use Rattle.ras_run.specs.LineActs.{event_prints, made_acts, news_acts}
 use Rattle.ras_run.specs.Places.{has_no_room_for, lacks_room_for, news_after, standing_with_news}
-use Rattle.ras_run.specs.Taking.{CountsMade, CountsNews, EndsByRoom, IsPrintExit, has_no_room, standing_behind}
+use Rattle.ras_run.specs.Taking.{CountsMade, CountsNews, IsPrintExit, has_no_room, standing_behind}
 
 -- ---- room
 
@@ -37,13 +37,6 @@ within_past n within = grind (arith, nat_tests, within.names, within.entries, wi
 
 no_or : (a b : Bool) → a ≡ false → b ≡ false → (a || b) ≡ false
 no_or a b one two = rw (one, two) refl
-
-or_first : (a b : Bool) → a ≡ true → (a || b) ≡ true
-or_first a b one = rw one refl
-
-or_second : (a b : Bool) → b ≡ true → (a || b) ≡ true
-or_second true b two = refl
-or_second false b two = two
 
 lacks_same : (history : History) (s : Standing) (entries : List Entry) → lacks_room_for history s entries ≡ has_no_room s (account_of history) entries
 lacks_same history s [] = refl
@@ -67,12 +60,6 @@ module _ (history : History) (made : Pieces) (s : Standing) (a : State) (news : 
 
   pub is_not_full : HasRoomFor a made.entries → has_no_room s a news ≡ false → has_no_room_for history s made.entries ≡ false
   is_not_full within room = no_or _ _ (sym past_is ∙ within_past (numbers_with a made.entries) within) (sym lacks_is ∙ room)
-
-  pub is_full_past : HasNoRoomFor a made.entries → has_no_room_for history s made.entries ≡ true
-  is_full_past past = or_first _ _ (sym past_is ∙ past)
-
-  pub is_full_journal : has_no_room s a news ≡ true → has_no_room_for history s made.entries ≡ true
-  is_full_journal none = or_second _ _ (sym lacks_is ∙ none)
 
   pub acts_behind : news_acts s a news ≡ news_acts s (account_of history) (news_after history made.entries)
   acts_behind = ap (λ (b : State). news_acts s b news) is ∙ ap (news_acts s (account_of history)) news_behind
@@ -116,25 +103,10 @@ end_is_bad starved = tt
 end_is_bad source_failed = tt
 end_is_bad (faulted kind) = tt
 
-by_room : (lacks lacks' : Bool) (exit : Exit) → (lacks ≡ true → lacks' ≡ true) → (lacks ≡ false → lacks' ≡ false) → EndsByRoom lacks exit → EndsByRoom lacks' exit
-by_room lacks lacks' exit full room ends = by (ending_of exit) ends
-  where
-    by : (ending : CallEnding) → EndsBy ((exit ≡ Full) × (lacks ≡ true)) (Unit {0}) (λ kind. lacks ≡ false) ending → EndsBy ((exit ≡ Full) × (lacks' ≡ true)) (Unit {0}) (λ kind. lacks' ≡ false) ending
-    by answered e = (e.0, full e.1)
-    by starved e = tt
-    by (faulted kind) e = room e
-    by source_failed e = absurd e
-
 module _ (history : History) (made : Pieces) (news : List Entry) (before now after : Ledger) (same : now.account.state ≡ before.account.state) (still : now.journal.standing ≡ before.journal.standing)
     (is : before.account.state ≡ account_of history) (news_are : news ≡ fresh_entries_in before.account.state made.entries) (within : HasRoomFor before.account.state made.entries) where
   room_is : has_no_room now.journal.standing now.account.state news ≡ has_no_room before.journal.standing before.account.state news
   room_is = rw (same, still) refl
-
-  pub news_refused : (exit : Exit) → CountsNews news (Err exit) now after → CountsMade history made (Err exit) before after
-  news_refused exit ends =
-      by_room (has_no_room now.journal.standing now.account.state news) (has_no_room_for history before.journal.standing made.entries) exit
-      (λ full. is_full_journal history made before.journal.standing before.account.state news is news_are (sym room_is ∙ full))
-      (λ room. is_not_full history made before.journal.standing before.account.state news is news_are within (sym room_is ∙ room)) ends
 
   pub made_counted : (printed : Result (Unit {0}) Exit) → CountsNews news (Ok tt) now after → IfErr printed IsPrintExit → CountsMade history made printed before after
   made_counted printed counts ends = by printed ends

@@ -1,7 +1,6 @@
 -- That a line leaves the device alone, over any account.
-use Rattle.std.proofs.Common.{◌≡◌, ℕ, List, [], ◌∷◌, map, Option, None, Some, Result, refl, sym, subst}
+use Rattle.std.proofs.Common.{◌≡◌, ℕ, List, map, Option, None, Some, Result, refl, sym, subst}
 use Rattle.board_core.specs.Device.{LeavesDevice}
-use Rattle.board_core.specs.declared.board.DiskCall.{DiskCall}
 use Rattle.board_core.specs.Doing.{Act, AreOffDevice, Does, Ended, Seen, broke, calls, went_well}
 use Rattle.board_core.specs.Told.{Told}
 use Rattle.board_core.proofs.ActLemmas.{does_leave_device}

@@ -1,5 +1,5 @@
 -- The news of an event, kept in the journal and counted.
-use Rattle.std.proofs.Common.{◌≡◌, ◌≤◌, Bool, true, false, List, [], ◌∷◌, length, All, Option, None, Some, IfSome, IsTrue, refl, sym, ap, ◌∙◌, arith}
+use Rattle.std.proofs.Common.{◌≡◌, ◌≤◌, List, [], ◌∷◌, length, All, Option, None, Some, IfSome, refl, ap, arith}
 use Rattle.std.proofs.lemmas.List.Elements.{All-from_recursion, recursion_from_All}
 use Rattle.std.specs.List.{AllByRecursion}
 use Rattle.ras_account.specs.Account.{State}
@@ -12,30 +12,16 @@ use Rattle.journal_format.specs.declared.link.TheConstants.{MOST_LINK_ENTRIES, M
 use Rattle.journal_format.specs.Links.{CanLink, link_bytes, payload_bytes}
 use Rattle.ras_journal.specs.declared.standing.Standing.{Standing}
 use Rattle.ras_journal.specs.Appending.{Links}
-use Rattle.ras_ledger.specs.Keeping.{keeping_acts, lacks_room, standing_kept}
+use Rattle.ras_ledger.specs.Keeping.{keeping_acts}
 use Rattle.ras_events.specs.declared.preparing.News.{News}
 use Rattle.ras_events.specs.Making.{Pieces}
 use Rattle.ras_events.specs.Preparing.{news_entries}
 use Rattle.ras_events.specs.Sizes.{IsFit}
 use Rattle.ras_events.proofs.NewsLemmas.{few_news, short_news, valid_news}
 use Rattle.ras_run.specs.LineActs.{news_acts}
-use Rattle.ras_run.specs.Taking.{CanBeKept, has_no_room, standing_behind}
+use Rattle.ras_run.specs.Taking.{CanBeKept}
 
 -- ---- of news the link is that of its entries
-
-pub room_of : (s : Standing) (a : State) (news : News) → CanBeKept news → has_no_room s a news.entries.items ≡ lacks_room s a news.link
-room_of s a news can = by news.entries.items can.can.payload.some can.bytes
-  where
-    by : (entries : List Entry) → 1 ≤ length entries → news.link ≡ link_bytes entries → has_no_room s a entries ≡ lacks_room s a news.link
-    by [] some is = absurd (omega arith)
-    by (entry ∷ entries) some is = ap (lacks_room s a) (sym is)
-
-pub standing_of : (s : Standing) (a : State) (news : News) → CanBeKept news → standing_kept s a news.link ≡ standing_behind s a news.entries.items
-standing_of s a news can = by news.entries.items can.can.payload.some can.bytes
-  where
-    by : (entries : List Entry) → 1 ≤ length entries → news.link ≡ link_bytes entries → standing_kept s a news.link ≡ standing_behind s a entries
-    by [] some is = absurd (omega arith)
-    by (entry ∷ entries) some is = ap (standing_kept s a) is
 
 pub acts_of : (s : Standing) (a : State) (news : News) → CanBeKept news → keeping_acts s a news.link ≡ news_acts s a news.entries.items
 acts_of s a news can = by news.entries.items can.can.payload.some can.bytes
@@ -47,20 +33,13 @@ acts_of s a news can = by news.entries.items can.can.payload.some can.bytes
 pub links_of : (a : State) (news : News) → CanBeKept news → StaysWithin a news.entries.items → Links a news.entries.items news.link
 links_of a news can within = record { can = can.can; bytes = can.bytes; within = within }
 
-not_true : (b : Bool) → ¬ IsTrue b → b ≡ false
-not_true true not = absurd (not refl)
-not_true false not = refl
-
-pub room_left : (b c : Bool) → b ≡ c → ¬ IsTrue c → b ≡ false
-room_left b c is not = is ∙ not_true c not
-
 -- ---- the news of an event that is fit can be kept
 
 each_held : (entries : List Entry) → AllByRecursion IsValidEntry entries → AllByRecursion (IsEntryOf Two) entries
 each_held [] all = tt
 each_held (entry ∷ entries) all = (record { valid = all.0; held = tt }, each_held entries all.1)
 
-pub can_link : (entries : List Entry) → 1 ≤ length entries → length entries ≤ MOST_LINK_ENTRIES → All IsValidEntry entries → length (payload_bytes entries) ≤ MOST_PAYLOAD → CanLink Two entries
+can_link : (entries : List Entry) → 1 ≤ length entries → length entries ≤ MOST_LINK_ENTRIES → All IsValidEntry entries → length (payload_bytes entries) ≤ MOST_PAYLOAD → CanLink Two entries
 can_link entries some few valid short = record {
   payload = record {
     some = some;
