@@ -14,7 +14,8 @@ use Rattle.ras_journal.specs.declared.standing.Standing.{Standing}
 use Rattle.ras_journal.specs.Appending.{Links}
 use Rattle.ras_ledger.specs.Keeping.{keeping_acts}
 use Rattle.ras_events.specs.declared.preparing.News.{News}
-use Rattle.ras_events.specs.Making.{Pieces}
+use Rattle.ras_events.specs.declared.made.Piece.{Piece}
+use Rattle.ras_events.specs.Making.{entries_in}
 use Rattle.ras_events.specs.Preparing.{news_entries}
 use Rattle.ras_events.specs.Sizes.{IsFit}
 use Rattle.ras_events.proofs.NewsLemmas.{few_news, short_news, valid_news}
@@ -51,12 +52,12 @@ can_link entries some few valid short = record {
 }
 
 -- so can news that are found in what is made
-pub fit_news : (a : State) (made : Pieces) (news : List Entry) → news ≡ fresh_entries_in a made.entries → 1 ≤ length news → IsFit made → CanLink Two news
+pub fit_news : (a : State) (made : List Piece) (news : List Entry) → news ≡ fresh_entries_in a (entries_in made) → 1 ≤ length news → IsFit made → CanLink Two news
 fit_news a made news is some fit =
-    can_link news some (few_news a made.entries news MOST_LINK_ENTRIES is fit.few) (valid_news a made.entries news is fit.valid)
-    (short_news a made.entries news MOST_PAYLOAD is fit.short)
+    can_link news some (few_news a (entries_in made) news MOST_LINK_ENTRIES is fit.few) (valid_news a (entries_in made) news is fit.valid)
+    (short_news a (entries_in made) news MOST_PAYLOAD is fit.short)
 
-pub can_keep : (a : State) (made : Pieces) (found : Option News) → news_entries found ≡ fresh_entries_in a made.entries → IfSome found (λ news. 1 ≤ length news.entries.items)
+pub can_keep : (a : State) (made : List Piece) (found : Option News) → news_entries found ≡ fresh_entries_in a (entries_in made) → IfSome found (λ news. 1 ≤ length news.entries.items)
     → IfSome found (λ news. news.link ≡ link_bytes news.entries.items) → IsFit made → IfSome found CanBeKept
 can_keep a made None is some link fit = tt
 can_keep a made (Some news) is some link fit = record { bytes = link; can = fit_news a made news.entries.items is some fit }

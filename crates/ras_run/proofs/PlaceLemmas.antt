@@ -1,31 +1,42 @@
 -- What a run has come to after one line more.
-use Rattle.std.proofs.Common.{◌≡◌, ℕ, List, [], ◌∷◌, ◌++◌, Result, Ok, refl, sym, ap, ◌∙◌, append-nil}
+use Rattle.std.proofs.Common.{◌≡◌, ℕ, List, [], ◌∷◌, ◌++◌, Option, None, Some, Result, Ok, Err, refl, sym, ap, ◌∙◌, append-nil}
 use Rattle.std.proofs.lemmas.List.Sums.{fold-append}
+use Rattle.erst_store.specs.Store.{Stored}
 use Rattle.ras_base.specs.Places.{places}
 use Rattle.ras_base.specs.PlacesLemmas.{places-snoc}
-use Rattle.ras_account.specs.Account.{account_of}
-use Rattle.ras_account.specs.History.{with_entries, with_entry}
+use Rattle.apei_sources.specs.Hest.{hest_of}
+use Rattle.dimm_topology.specs.Refusals.{row_refusal}
+use Rattle.erst_interp.specs.Table.{erst_of}
+use Rattle.ras_account.specs.Account.{State}
+use Rattle.ras_account.specs.Continued.{account_after, account_after_all}
+use Rattle.ras_account.specs.Numbers.{fresh_entries_in}
 use Rattle.ras_journal.specs.declared.standing.Standing.{Standing}
 use Rattle.ras_script.specs.declared.line.Line.{Line}
 use Rattle.ras_events.specs.declared.event.Event.{Event}
-use Rattle.ras_exit.specs.declared.reason.Reason.{Reason}
+use Rattle.ras_events.specs.declared.event.Refusal.{Refusal}
 use Rattle.ras_events.specs.Events.{event_of, settings_after}
-use Rattle.ras_events.specs.Reports.{NumberedLine, Place, entries_at, event_at, made_in, reports}
+use Rattle.ras_events.specs.Making.{entries_in}
+use Rattle.ras_events.specs.Reports.{NumberedLine, Place, entries_at, event_at, made_in, reports, settings_told}
+use Rattle.ras_events.specs.Stores.{store_after}
 use Rattle.ras_events.proofs.ReportLemmas.{reports-cut, settings-line}
 use Rattle.ras_run.specs.declared.run.Run.{Run}
-use Rattle.ras_run.specs.Places.{Start, history_at, news_after, standing_along, standing_at, standing_with_news}
+use Rattle.ras_run.specs.Places.{Start, account_at, standing_along, standing_at, standing_with_news, store_at}
 use Rattle.ras_run.specs.Taking.{IsRunAfter}
 
-reports-snoc : (before : List NumberedLine) (read : NumberedLine) → reports (before ++ read ∷ []) ≡ reports before ++ entries_at (before, read)
-reports-snoc before read = reports-cut before (read ∷ []) ∙ ap (λ entries. reports before ++ entries) (append-nil (entries_at (before, read)))
+reports-snoc : (store : List Stored) (before : List NumberedLine) (read : NumberedLine) → reports store (before ++ read ∷ []) ≡ reports store before ++ entries_at store (before, read)
+reports-snoc store before read = reports-cut store before (read ∷ []) ∙ ap (λ entries. reports store before ++ entries) (append-nil (entries_at store (before, read)))
 
-pub history-snoc : (start : Start) (before : List NumberedLine) (read : NumberedLine) → history_at start (before ++ read ∷ []) ≡ with_entries (history_at start before) (entries_at (before, read))
-history-snoc start before read = ap (with_entries start.history) (reports-snoc before read) ∙ fold-append with_entry start.history (reports before) (entries_at (before, read))
+pub account-snoc : (start : Start) (before : List NumberedLine) (read : NumberedLine) → account_at start (before ++ read ∷ []) ≡ account_after_all (account_at start before) (entries_at start.store (before, read))
+account-snoc start before read =
+    ap (account_after_all start.account) (reports-snoc start.store before read) ∙ fold-append account_after start.account (reports start.store before) (entries_at start.store (before, read))
+
+pub store-snoc : (start : Start) (before : List NumberedLine) (read : NumberedLine) → store_at start (before ++ read ∷ []) ≡ store_after (store_at start before) read
+store-snoc start before read = fold-append store_after start.store before (read ∷ [])
 
 -- where the journal stands after a place more
 abbrev pub standing_after : Start → Standing → Place → Standing
 standing_after start standing place =
-    standing_with_news (history_at start place.0) standing (news_after (history_at start place.0) (entries_at place))
+    standing_with_news (account_at start place.0) standing (fresh_entries_in (account_at start place.0) (entries_at start.store place))
 
 along-snoc : (start : Start) (standing : Standing) (first : List Place) (place : Place) → standing_along start standing (first ++ place ∷ []) ≡ standing_after start (standing_along start standing first) place
 along-snoc start standing [] place = refl
@@ -35,26 +46,27 @@ pub standing-snoc : (start : Start) (before : List NumberedLine) (read : Numbere
 standing-snoc start before read =
     ap (standing_along start start.standing) (places-snoc before read) ∙ along-snoc start start.standing (places before) (before, read)
 
-pub event_is : (start : Start) (before : List NumberedLine) (number : ℕ) (line : Line) (run : Run) (asked : Result Event Reason) → IsRunAfter start before run → event_of run.settings line ≡ asked
+pub event_is : (start : Start) (before : List NumberedLine) (number : ℕ) (line : Line) (run : Run) (asked : Result Event Refusal) → IsRunAfter start before run → event_of run.settings line ≡ asked
     → event_at (before, (number, Ok line)) ≡ asked
 event_is start before number line run asked is event = ap (λ settings. event_of settings line) (sym is.settings) ∙ event
 
 pub run_after : (start : Start) (before : List NumberedLine) (number : ℕ) (line : Line) (event : Event) (run after : Run) → IsRunAfter start before run → event_of run.settings line ≡ Ok event
     → after.settings ≡ settings_after run.settings line
-    → after.ledger.account.state ≡ account_of (with_entries (history_at start before) (made_in (Ok event)).entries)
-    → after.ledger.journal.standing ≡ standing_with_news (history_at start before) (standing_at start before) (news_after (history_at start before) (made_in (Ok event)).entries)
+    → after.ledger.account.state ≡ account_after_all (account_at start before) (entries_in (made_in (settings_told before).topology (store_at start before) (Ok event)))
+    → after.ledger.journal.standing
+    ≡ standing_with_news (account_at start before) (standing_at start before) (fresh_entries_in (account_at start before) (entries_in (made_in (settings_told before).topology (store_at start before) (Ok event))))
     → IsRunAfter start (before ++ (number, Ok line) ∷ []) after
 run_after start before number line event run after is asked settings account standing =
-    let made : entries_at (before, (number, Ok line)) ≡ (made_in (Ok event)).entries =
-    ap (λ (e : Result Event Reason). (made_in e).entries) (event_is start before number line run (Ok event) is asked) in
+    let made : entries_at start.store (before, (number, Ok line)) ≡ entries_in (made_in (settings_told before).topology (store_at start before) (Ok event)) =
+    ap (λ (e : Result Event Refusal). entries_in (made_in (settings_told before).topology (store_at start before) e)) (event_is start before number line run (Ok event) is asked) in
     record {
       settings = settings ∙ (ap (λ told. settings_after told line) is.settings ∙ sym (settings-line before number line));
       account =
           account
-          ∙ (ap (λ entries. account_of (with_entries (history_at start before) entries)) (sym made)
-          ∙ ap account_of (sym (history-snoc start before (number, Ok line))));
+          ∙ (ap (λ entries. account_after_all (account_at start before) entries) (sym made)
+          ∙ sym (account-snoc start before (number, Ok line)));
       standing =
           standing
-          ∙ (ap (λ entries. standing_with_news (history_at start before) (standing_at start before) (news_after (history_at start before) entries)) (sym made)
+          ∙ (ap (λ entries. standing_with_news (account_at start before) (standing_at start before) (fresh_entries_in (account_at start before) entries)) (sym made)
           ∙ sym (standing-snoc start before (number, Ok line)));
     }

@@ -39,37 +39,6 @@ after_prints one two t =
     ∙ (after_printed two (after_acts (print_acts one) t)
     ∙ (ap (after_print two) (after_printed one t) ∙ ap (λ text. record t { here = record t.here { out = text } }) (append_assoc t.here.out one two)))
 
--- a beginning of the first text, and the first text with a beginning of the second
-begins_first : (one two : List ℕ) (here left : Left) → InOut (Begins one) here left → InOut (Begins (one ++ two)) here left
-begins_first one two here left by = record {
-  text = by.text;
-  step = record {
-    part = by.step.part;
-    missing = by.step.missing ++ two;
-    splits = sym (append_assoc by.step.part by.step.missing two) ∙ ap (λ text. text ++ two) by.step.splits;
-    is = by.step.is;
-  };
-  rest = by.rest;
-}
-
-begins_second : (one two : List ℕ) (t : Told) (left : Left) → InOut (Begins two) (after_print one t).here left → InOut (Begins (one ++ two)) t.here left
-begins_second one two t left by = record {
-  text = by.text;
-  step = record {
-    part = one ++ by.step.part;
-    missing = by.step.missing;
-    splits = append_assoc one by.step.part by.step.missing ∙ ap (λ text. one ++ text) by.step.splits;
-    is = by.step.is ∙ append_assoc t.here.out one by.step.part;
-  };
-  rest = by.rest;
-}
-
-pub prints_moment : (one two : List ℕ) (t : Told) (left : Left) → Moment (print_acts one ++ print_acts two) t left → InOut (Begins (one ++ two)) t.here left
-prints_moment one two t left moment = elim (moment_parts (print_acts one) (print_acts two) t left moment) [
-  | inl first ↦ begins_first one two t.here left (print_moment one t left first)
-  | inr second ↦ begins_second one two t left (subst (λ (u : Told). InOut (Begins two) u.here left) (after_printed one t) (print_moment two (after_acts (print_acts one) t) left second))
-]
-
 -- ---- the device is left alone
 
 pub off_both : (xs ys : List Act) → AreOffDevice xs → AreOffDevice ys → AreOffDevice (xs ++ ys)
