@@ -1,9 +1,10 @@
 -- How far ahead a run reads its source, to its end.
-use Rattle.std.proofs.Common.{◌≡◌, ℕ, suc, ◌+◌, ◌-◌, ◌≤◌, ◌==◌, ◌&&◌, Bool, true, false, List, [], ◌∷◌, ◌++◌, length, Option, None, Some, IfSome, IsSomeAnd, map, refl, ap, ◌∙◌, subst, append_assoc, append-nil, length-append, arith, inl, inr, cond, sym}
+use Rattle.std.proofs.Common.{◌≡◌, ℕ, suc, ◌+◌, ◌-◌, ◌≤◌, ◌==◌, ◌&&◌, Bool, true, false, List, [], ◌∷◌, ◌++◌, length, Option, None, Some, IfSome, IsSomeAnd, map, refl, ap, ◌∙◌, subst, append_assoc, length-append, arith, inl, inr, cond, sym}
 use Rattle.std.specs.List.{enumerate_from}
 use Rattle.std.specs.Option.{option_map}
 use Rattle.std.proofs.lemmas.Bool.Decides.{nat_tests}
-use Rattle.board_core.specs.Told.{FailsPrint, Relates, Told, after_print}
+use Rattle.board_core.specs.Doing.{Seen}
+use Rattle.board_core.specs.Told.{Relates, Told}
 use Rattle.ras_base.specs.Places.{places, places_behind}
 use Rattle.ras_account.specs.Account.{account_of}
 use Rattle.ras_account.specs.Accounts.{IsAccount}
@@ -19,13 +20,15 @@ use Rattle.ras_run.specs.LaterKinds.{taken_line}
 use Rattle.ras_run.specs.Places.{Start}
 use Rattle.ras_daemon.specs.Ahead.{TakesAhead, end_of_event, events_in, is_event_line}
 use Rattle.ras_exit.specs.Telling.{PrintsPart}
+use Rattle.ras_daemon.specs.Doing.{Ends}
 use Rattle.ras_daemon.specs.Headline.{OverRun}
 use Rattle.ras_daemon.specs.RunOutput.{run_output}
 use Rattle.ras_daemon.specs.RunStatus.{start_of}
 use Rattle.ras_daemon.specs.declared.word.Task.{Task}
 use Rattle.ras_daemon.specs.declared.word.Task.TheVariants.{Run}
-use Rattle.ras_daemon.specs.Running.{Ends, EndsAhead, ReadAhead, RunAhead, first_size, lines_from, outputs}
+use Rattle.ras_daemon.specs.Running.{EndsAhead, ReadAhead, RunAhead, first_size, lines_from, outputs}
 use Rattle.ras_daemon.specs.Script.{reads_in}
+use Rattle.ras_daemon.proofs.SaidLemmas.{Printed}
 use Rattle.ras_daemon.proofs.CountLemmas.{count-first, events_among}
 
 -- ---- the last line
@@ -45,40 +48,30 @@ ahead_more Fault Later back start script from rest u now part is ahead = record 
 }
 
 module _ (Fault Later : Type 0) (back : Later → Fault) (start : Start) (script from rest : List ℕ) where
-  ahead_same : (u : Told) (new : Option Told) → new ≡ Some u → ReadAhead Fault start script from rest u → IsSomeAnd new (ReadAhead Later start script from rest)
-  ahead_same u new is ahead = rw is (ahead_more Fault Later back start script from rest u u [] (sym (append-nil u.here.out)) ahead)
-
   -- a last line, after lines were taken
-  ahead_line : (exit result : Exit) (line : List ℕ) (old new : Option Told) → Ends exit result line old new → IsSomeAnd old (ReadAhead Fault start script from rest)
-      → IsSomeAnd new (ReadAhead Later start script from rest)
-  ahead_line exit result line None new ends ahead = absurd ahead
-  ahead_line exit result line (Some u) new (inr cut) ahead = ahead_same u new cut.2 ahead
-  ahead_line exit result line (Some u) new (inl (answer, inl said)) ahead = rw said.1 (ahead_more Fault Later back start script from rest u (after_print line u) line refl ahead)
-  ahead_line exit result line (Some u) new (inl (answer, inr (inr short))) ahead = ahead_same u new short.1 ahead
-  ahead_line exit result line (Some u) new (inl (answer, inr (inl failed))) ahead = by new failed.1
-    where
-      by : (new : Option Told) → Relates (FailsPrint line) (Some u) new → IsSomeAnd new (ReadAhead Later start script from rest)
-      by None fails = absurd fails
-      by (Some now) (part, missing, splits, is) = rw is (ahead_more Fault Later back start script from rest u (after_print part u) part refl ahead)
+  ahead_line : (exit result : Exit) (line : List ℕ) (old new : Option Told) → Relates (Printed exit result line) old new → IsSomeAnd old (ReadAhead Fault start script from rest) → IsSomeAnd new (ReadAhead Later start script from rest)
+  ahead_line exit result line None new printed ahead = absurd ahead
+  ahead_line exit result line (Some u) None printed ahead = absurd printed
+  ahead_line exit result line (Some u) (Some now) printed ahead = ahead_more Fault Later back start script from rest u now printed.part (ap (λ (t : Told). t.here.out) printed.is) ahead
 
-pub ahead_end : (Fault Later : Type 0) → (Later → Fault) → (start : Start) (script from : List ℕ) (left : Option (List ℕ)) (exit result : Exit) (line : List ℕ) (old new : Option Told) → Ends exit result line old new
+pub ahead_end : (Fault Later : Type 0) → (Later → Fault) → (start : Start) (script from : List ℕ) (left : Option (List ℕ)) (exit result : Exit) (line : List ℕ) (old new : Option Told) → Relates (Printed exit result line) old new
     → EndsAhead Fault start script from left old → EndsAhead Later start script from left new
-ahead_end Fault Later back start script from None exit result line old new ends ahead = absurd ahead
-ahead_end Fault Later back start script from (Some rest) exit result line old new ends ahead = ahead_line Fault Later back start script from rest exit result line old new ends ahead
+ahead_end Fault Later back start script from None exit result line old new printed ahead = absurd ahead
+ahead_end Fault Later back start script from (Some rest) exit result line old new printed ahead = ahead_line Fault Later back start script from rest exit result line old new printed ahead
 
 -- a run ends by a fault of its source only where the lines did
-pub fault_before : (exit result : Exit) (line : List ℕ) (old new : Option Told) → Ends exit result line old new → result ≡ SourceFault → exit ≡ SourceFault
-fault_before exit result line old new (inr cut) fault = sym cut.1 ∙ fault
-fault_before exit result line old new (inl (answer, inl said)) fault = sym said.0 ∙ fault
-fault_before exit result line old new (inl (answer, inr (inl failed))) fault = let e = sym failed.0 ∙ fault in absurd cc
-fault_before exit result line old new (inl (answer, inr (inr short))) fault = let e = sym short.0 ∙ fault in absurd cc
+pub fault_before : {X : Type 0} (see : X → Seen) (exit result : Exit) (line : List ℕ) (a b : X) → Ends see exit result line a b → result ≡ SourceFault → exit ≡ SourceFault
+fault_before see exit result line a b (inr cut) fault = sym cut.1 ∙ fault
+fault_before see exit result line a b (inl (answer, inl said)) fault = sym said.0 ∙ fault
+fault_before see exit result line a b (inl (answer, inr (inl failed))) fault = let e = sym failed.0 ∙ fault in absurd cc
+fault_before see exit result line a b (inl (answer, inr (inr short))) fault = let e = sym short.0 ∙ fault in absurd cc
 
 -- ---- an opening before
 
-pub ahead_opened : (Fault : Type 0) (start : Start) (script : List ℕ) (t u : Told) (left : Option (List ℕ)) (told : Option Told) → u.here.out ≡ t.here.out ++ [] → RunAhead Fault start script u left told → RunAhead Fault start script t left told
+pub ahead_opened : (Fault : Type 0) (start : Start) (script : List ℕ) (t u : Told) (left : Option (List ℕ)) (told : Option Told) → u.here.out ≡ t.here.out → RunAhead Fault start script u left told → RunAhead Fault start script t left told
 ahead_opened Fault start script t u left told same (inl none) = inl none
 ahead_opened Fault start script t u left told same (inr ahead) =
-    inr (ahead.0, subst (λ out. EndsAhead Fault start script (out ++ standing_lines (account_of start.history)) left told) (same ∙ append-nil t.here.out) ahead.1)
+    inr (ahead.0, subst (λ out. EndsAhead Fault start script (out ++ standing_lines (account_of start.history)) left told) same ahead.1)
 
 -- ---- which event isn't done
 
@@ -135,7 +128,7 @@ end_after (line ∷ done) more n few = by (is_event_line line) refl (λ m less. 
 -- ---- the clause
 
 -- what was read ahead where lines were taken
-takes_ahead : (exit : Exit) (start : Start) (script left : List ℕ) (t now : Told) → IsAccount (account_of start.history) → ReadAhead (exit ≡ SourceFault) start script (lines_from start t.here) left now → TakesAhead exit script left t now
+takes_ahead : (exit : Exit) (start : Start) (script left : List ℕ) (t now : Told) → IsAccount (account_of start.history) → ReadAhead (exit ≡ SourceFault) start script (lines_from start t.here.out) left now → TakesAhead exit script left t now
 takes_ahead exit start script left t now account ahead =
     let orders : List ℕ = standing_lines (account_of start.history) in
     let lines : List ℕ = outputs start (reads_in ahead.done) in

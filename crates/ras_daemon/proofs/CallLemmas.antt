@@ -20,6 +20,10 @@ use Rattle.ras_run.specs.Places.{Start, account_at}
 use Rattle.ras_daemon.specs.Headline.{Headline, IsWhole, OverRun, StopsRecover, account_with}
 use Rattle.ras_daemon.specs.RunOutput.{closing_line, run_output}
 use Rattle.ras_daemon.specs.RunStatus.{run_exit, start_of}
+use Rattle.board_core.specs.Doing.{Seen}
+use Rattle.ras_account.specs.History.{History}
+use Rattle.ras_daemon.specs.Doing.{DoesRun}
+use Rattle.ras_daemon.proofs.RunLemmas.{run_ends, run_stops}
 use Rattle.ras_daemon.specs.Running.{AreAll, AreFirst, EndsIn, EndsSo, RunEnds, RunMoment, outputs}
 use Rattle.ras_daemon.specs.Script.{events_of}
 use Rattle.ras_daemon.specs.declared.word.Task.{Task}
@@ -38,7 +42,7 @@ text-so start script exit before all = λ i.
     standing_lines (account_of start.history) ++ (flat_map (output_at start) (sym all.all i) ++ closing-same start script exit before all i)
 
 -- it was printed
-output-so : (start : Start) (script : List ℕ) (exit : Exit) (old now : Told) → EndsSo start script exit old now → now.here.out ≡ old.here.out ++ run_output start script
+output-so : (start : Start) (script : List ℕ) (exit : Exit) (old now : Told) → EndsSo start script exit old.here.out now → now.here.out ≡ old.here.out ++ run_output start script
 output-so start script exit old now ends = ends.text ∙ ap (λ (text : List ℕ). old.here.out ++ text) (text-so start script exit ends.before ends.all)
 
 -- and its done lines number the events
@@ -54,20 +58,20 @@ counted-so start script exit before all account =
 
 module _ (start : Start) (script : List ℕ) (old now : Told) where
   -- what an answer says
-  ends-answer : (exit : Exit) (P : Type 0) → (EndsSo start script exit old now → P) → RunEnds start script exit old now → OnAnswer exit P
+  ends-answer : (exit : Exit) (P : Type 0) → (EndsSo start script exit old.here.out now → P) → RunEnds start script exit old.here.out now → OnAnswer exit P
   ends-answer exit P so ends = by (ending_of exit) ends
     where
-      by : (ending : CallEnding) → EndsIn start script exit ending old now → IfAnswered ending P
+      by : (ending : CallEnding) → EndsIn start script exit ending old.here.out now → IfAnswered ending P
       by answered ends = so ends
       by ending ends = tt
 
-  pub ends-status : (exit : Exit) → RunEnds start script exit old now → OnAnswer exit (exit ≡ run_exit start script)
+  pub ends-status : (exit : Exit) → RunEnds start script exit old.here.out now → OnAnswer exit (exit ≡ run_exit start script)
   ends-status exit = ends-answer exit (exit ≡ run_exit start script) (λ ends. sym ends.all.exit_is)
 
-  pub ends-output : (exit : Exit) → RunEnds start script exit old now → OnAnswer exit (now.here.out ≡ old.here.out ++ run_output start script)
+  pub ends-output : (exit : Exit) → RunEnds start script exit old.here.out now → OnAnswer exit (now.here.out ≡ old.here.out ++ run_output start script)
   ends-output exit = ends-answer exit (now.here.out ≡ old.here.out ++ run_output start script) (output-so start script exit old now)
 
-  pub ends-counted : (exit : Exit) → RunEnds start script exit old now → OnAnswer exit (done_count (run_output start script) ≡ length (events_of start script))
+  pub ends-counted : (exit : Exit) → RunEnds start script exit old.here.out now → OnAnswer exit (done_count (run_output start script) ≡ length (events_of start script))
   ends-counted exit = ends-answer exit (done_count (run_output start script) ≡ length (events_of start script)) (λ ends. counted-so start script exit ends.before ends.all ends.account)
 
   -- whole events, by their number
@@ -87,7 +91,7 @@ module _ (start : Start) (script : List ℕ) (old now : Told) where
       (count-first start script before first account last ∙ omega (arith, none))
       (subst (λ (a : State). Recovers a now.here) (sym (account-first start script before first account)) recovers)
 
-  whole-so : (exit : Exit) → EndsSo start script exit old now → IsWhole start script old now
+  whole-so : (exit : Exit) → EndsSo start script exit old.here.out now → IsWhole start script old now
   whole-so exit ends =
       let last : List ℕ = closing_line (account_at start ends.before) exit in
       whole-lines ends.before last ends.all.first ends.account ends.recovers
@@ -96,18 +100,18 @@ module _ (start : Start) (script : List ℕ) (old now : Told) where
 
   early-lines : (before : List NumberedLine) → AreFirst start script before → Recovers (account_at start before) now.here
       → (IsAccount (account_of start.history) × (now.here.out ≡ old.here.out ++ (standing_lines (account_of start.history) ++ outputs start before)))
-      ⊎ ((now.here.out ≡ old.here.out ++ []) × (before ≡ []))
+      ⊎ ((now.here.out ≡ old.here.out) × (before ≡ []))
       → IsWhole start script old now
   early-lines before first recovers (inl (account, text)) =
       whole-lines before [] first account recovers refl
       (text ∙ ap (λ (more : List ℕ). old.here.out ++ more) (sym (append-nil (standing_lines (account_of start.history) ++ outputs start before))))
   early-lines before first recovers (inr (text, none)) =
-      whole-by [] 0 text refl (subst (λ (reads : List NumberedLine). Recovers (account_at start reads) now.here) none recovers)
+      whole-by [] 0 (text ∙ sym (append-nil old.here.out)) refl (subst (λ (reads : List NumberedLine). Recovers (account_at start reads) now.here) none recovers)
 
-  pub ends-whole : (exit : Exit) → RunEnds start script exit old now → OnWhole exit (IsWhole start script old now)
+  pub ends-whole : (exit : Exit) → RunEnds start script exit old.here.out now → OnWhole exit (IsWhole start script old now)
   ends-whole exit ends = by (ending_of exit) ends
     where
-      by : (ending : CallEnding) → EndsIn start script exit ending old now → UnlessFaulted ending (IsWhole start script old now)
+      by : (ending : CallEnding) → EndsIn start script exit ending old.here.out now → UnlessFaulted ending (IsWhole start script old now)
       by answered ends = whole-so exit ends
       by (faulted kind) ends = tt
       by source_failed ends = early-lines ends.before ends.first ends.recovers ends.text
@@ -123,13 +127,6 @@ over-run P Q (Some Run) (Some text) (Some t) gives has = λ history recovers. gi
 over-run P Q None script told gives has = tt
 over-run P Q (Some Run) None told gives has = tt
 over-run P Q (Some Run) (Some text) None gives has = tt
-
-pub over-both : (P Q : Start → List ℕ → Told → Type 0) (task : Option Task) (script : Option (List ℕ)) (told : Option Told)
-    → OverRun P task script told → OverRun Q task script told → OverRun (λ start text t. P start text t × Q start text t) task script told
-over-both P Q (Some Run) (Some text) (Some t) one other = λ history recovers. (one history recovers, other history recovers)
-over-both P Q None script told one other = tt
-over-both P Q (Some Run) None told one other = tt
-over-both P Q (Some Run) (Some text) None one other = tt
 
 -- what holds of what is told now
 pub some-weaker : (P Q : Told → Type 0) (told : Option Told) → ((t : Told) → P t → Q t) → IsSomeAnd told P → IsSomeAnd told Q
@@ -166,65 +163,47 @@ begun-now old new start script here now text adds may = by (adds.each old.now no
     by (inl before) = moment-prints old start script here now (text now) (inl before)
     by (inr moment) = moment-prints old start script here now (text now) moment
 
--- ---- the clauses of a run, from those of the call below it
+-- ---- the clauses of a run, from what it did
 
-module _ (task : Option Task) (script : Option (List ℕ)) (told : Option Told) where
-  pub run-headline : (old new : Clock) → ((t : Told) (left : Left) → told ≡ Some t → LeftNow old left → left.out ≡ t.here.out)
-      → ((t : Told) (left : Left) → told ≡ Some t → LeftNow old left → left.store ≡ t.here.store)
-      → OverRun (λ start text t. Adds (RunMoment old start text t.here) old new) task script told
-      → OverRun (λ start text t. StopsRecover start old → Always new old.now (Headline start text t.here)) task script told
-  run-headline old new text_is_left store_is_left moments =
-      over-run (λ start text t. Adds (RunMoment old start text t.here) old new) (λ start text t. StopsRecover start old → Always new old.now (Headline start text t.here)) task script told
-      (λ start text t is adds stops. always-headline old new start text t.here stops (λ left now. text_is_left t left is now) (λ left now. store_is_left t left is now) adds)
-      moments
+module _ {X : Type 0} (see : X → Seen) (history : History) (script : List ℕ) (exit : Exit) (t : Told) (old new : X) (recovers : Recovers (account_of history) t.here) (does : DoesRun see (start_of history t.here) script exit t old new) where
+  abbrev start : Start
+  start = start_of history t.here
 
-  pub run-status : (exit : Exit) (now : Option Told) → OverRun (λ start text t. IsSomeAnd now (RunEnds start text exit t)) task script told
-      → OverRun (λ start text t. OnAnswer exit (exit ≡ run_exit start text)) task script told
-  run-status exit None runs = over-run (λ start text t. ⊥) (λ start text t. OnAnswer exit (exit ≡ run_exit start text)) task script told (λ start text t is none. absurd none) runs
-  run-status exit (Some n) runs =
-      over-run (λ start text t. RunEnds start text exit t n) (λ start text t. OnAnswer exit (exit ≡ run_exit start text)) task script told
-      (λ start text t is ends. ends-status start text t n exit ends) runs
+  runs : IsSomeAnd (see new).told (RunEnds start script exit t.here.out)
+  runs = run_ends see history script exit t old new recovers does
 
-  pub run-output : (exit : Exit) (now : Option Told) → OverRun (λ start text t. IsSomeAnd now (RunEnds start text exit t)) task script told
-      → OverRun (λ start text t. OnAnswer exit (IsSomeAnd now (λ n. n.here.out ≡ t.here.out ++ run_output start text))) task script told
-  run-output exit now runs =
-      over-run (λ start text t. IsSomeAnd now (RunEnds start text exit t)) (λ start text t. OnAnswer exit (IsSomeAnd now (λ n. n.here.out ≡ t.here.out ++ run_output start text))) task script told
-      (λ start text t is ends. on-answer exit (λ n. n.here.out ≡ t.here.out ++ run_output start text) now
-      (some-weaker (RunEnds start text exit t) (λ n. OnAnswer exit (n.here.out ≡ t.here.out ++ run_output start text)) now (λ n. ends-output start text t n exit) ends))
-      runs
+  stops : Adds (RunMoment (see old).clock start script t.here) (see old).clock (see new).clock
+  stops = run_stops see history script exit t old new recovers does
 
-  pub run-counted : (exit : Exit) (now : Option Told) → OverRun (λ start text t. IsSomeAnd now (RunEnds start text exit t)) task script told
-      → OverRun (λ start text t. OnAnswer exit (done_count (run_output start text) ≡ length (events_of start text))) task script told
-  run-counted exit None runs =
-      over-run (λ start text t. ⊥) (λ start text t. OnAnswer exit (done_count (run_output start text) ≡ length (events_of start text))) task script told (λ start text t is none. absurd none) runs
-  run-counted exit (Some n) runs =
-      over-run (λ start text t. RunEnds start text exit t n) (λ start text t. OnAnswer exit (done_count (run_output start text) ≡ length (events_of start text))) task script told
-      (λ start text t is ends. ends-counted start text t n exit ends) runs
+  by-ends : (P : Type 0) → ((now : Told) → RunEnds start script exit t.here.out now → P) → P
+  by-ends P gives = by (see new).told runs
+    where
+      by : (told : Option Told) → IsSomeAnd told (RunEnds start script exit t.here.out) → P
+      by None ends = absurd ends
+      by (Some now) ends = gives now ends
 
-  pub run-whole : (exit : Exit) (now : Option Told) → OverRun (λ start text t. IsSomeAnd now (RunEnds start text exit t)) task script told
-      → OverRun (λ start text t. OnWhole exit (IsSomeAnd now (IsWhole start text t))) task script told
-  run-whole exit now runs =
-      over-run (λ start text t. IsSomeAnd now (RunEnds start text exit t)) (λ start text t. OnWhole exit (IsSomeAnd now (IsWhole start text t))) task script told
-      (λ start text t is ends. on-whole exit (IsWhole start text t) now
-      (some-weaker (RunEnds start text exit t) (λ n. OnWhole exit (IsWhole start text t n)) now (λ n. ends-whole start text t n exit) ends))
-      runs
+  pub run-status : OnAnswer exit (exit ≡ run_exit start script)
+  run-status = by-ends (OnAnswer exit (exit ≡ run_exit start script)) (λ now. ends-status start script t now exit)
 
-  module _ (old new : Clock) (text_is_left : (t : Told) (left : Left) → told ≡ Some t → LeftNow old left → left.out ≡ t.here.out)
-      (counts_earlier : (s t : ℕ) (left : Left) → s ≤ t → new.may_leave_since t left → new.may_leave_since s left) where
-    -- what is told now was printed, by the moments
-    told-begun : (now : Option Told) → ((n : Told) → now ≡ Some n → LeftNow new n.here) → (start : Start) (text : List ℕ) (t : Told) → told ≡ Some t
-        → Adds (RunMoment old start text t.here) old new → (exit : Exit) → IsSomeAnd now (RunEnds start text exit t)
-        → IsSomeAnd now (λ n. PrintsPart (run_output start text) t.here.out n.here.out)
-    told-begun None may start text t is adds exit ends = absurd ends
-    told-begun (Some n) may start text t is adds exit ends =
-        begun-now old new start text t.here n.here (λ left now. text_is_left t left is now) adds (counts_earlier old.now new.now n.here adds.later (may n refl))
+  pub run-counted : OnAnswer exit (done_count (run_output start script) ≡ length (events_of start script))
+  run-counted = by-ends (OnAnswer exit (done_count (run_output start script) ≡ length (events_of start script))) (λ now. ends-counted start script t now exit)
 
-    pub run-begun : (exit : Exit) (now : Option Told) → ((n : Told) → now ≡ Some n → LeftNow new n.here)
-        → OverRun (λ start text t. IsSomeAnd now (RunEnds start text exit t)) task script told
-        → OverRun (λ start text t. Adds (RunMoment old start text t.here) old new) task script told
-        → OverRun (λ start text t. IsSomeAnd now (λ n. PrintsPart (run_output start text) t.here.out n.here.out)) task script told
-    run-begun exit now may runs moments =
-        over-run (λ start text t. IsSomeAnd now (RunEnds start text exit t) × Adds (RunMoment old start text t.here) old new)
-        (λ start text t. IsSomeAnd now (λ n. PrintsPart (run_output start text) t.here.out n.here.out)) task script told
-        (λ start text t is both. told-begun now may start text t is both.1 exit both.0)
-        (over-both (λ start text t. IsSomeAnd now (RunEnds start text exit t)) (λ start text t. Adds (RunMoment old start text t.here) old new) task script told runs moments)
+  pub run-printed : OnAnswer exit (IsSomeAnd (see new).told (λ now. now.here.out ≡ t.here.out ++ run_output start script))
+  run-printed = on-answer exit (λ now. now.here.out ≡ t.here.out ++ run_output start script) (see new).told
+      (some-weaker (RunEnds start script exit t.here.out) (λ now. OnAnswer exit (now.here.out ≡ t.here.out ++ run_output start script)) (see new).told (λ now. ends-output start script t now exit) runs)
+
+  pub run-whole : OnWhole exit (IsSomeAnd (see new).told (IsWhole start script t))
+  run-whole = on-whole exit (IsWhole start script t) (see new).told
+      (some-weaker (RunEnds start script exit t.here.out) (λ now. OnWhole exit (IsWhole start script t now)) (see new).told (λ now. ends-whole start script t now exit) runs)
+
+  module _ (text : (left : Left) → LeftNow (see old).clock left → left.out ≡ t.here.out) where
+    pub run-headline : ((left : Left) → LeftNow (see old).clock left → left.store ≡ t.here.store) → StopsRecover start (see old).clock → Always (see new).clock (see old).clock.now (Headline start script t.here)
+    run-headline store recover = always-headline (see old).clock (see new).clock start script t.here recover text store stops
+
+    pub run-begun : ((now : Told) → (see new).told ≡ Some now → LeftNow (see new).clock now.here) → ((m n : ℕ) (left : Left) → m ≤ n → (see new).clock.may_leave_since n left → (see new).clock.may_leave_since m left)
+        → IsSomeAnd (see new).told (λ now. PrintsPart (run_output start script) t.here.out now.here.out)
+    run-begun may earlier = by (see new).told refl runs
+      where
+        by : (told : Option Told) → (see new).told ≡ told → IsSomeAnd told (RunEnds start script exit t.here.out) → IsSomeAnd told (λ now. PrintsPart (run_output start script) t.here.out now.here.out)
+        by None is ends = absurd ends
+        by (Some now) is ends = begun-now (see old).clock (see new).clock start script t.here now.here text stops (earlier (see old).clock.now (see new).clock.now now.here stops.later (may now is))

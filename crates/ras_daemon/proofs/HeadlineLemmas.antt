@@ -147,7 +147,7 @@ module _ (start : Start) (script : List ℕ) (here left : Left) where
 
   module _ (account : IsAccount (account_of start.history)) where
     -- orders that stand at the start
-    pub headline-start : AtStart start here left → left.store ≡ here.store → Headline start script here left
+    pub headline-start : AtStart start here.out left → left.store ≡ here.store → Headline start script here left
     headline-start at store =
         headline-by at.text.part 0 at.text.is (begins-start start script at.text.part at.text.missing at.text.splits)
         (none_done (at_start start) at.text.part at.text.missing (standing_quiet (account_of start.history) account) at.text.splits)
@@ -156,7 +156,7 @@ module _ (start : Start) (script : List ℕ) (here left : Left) where
         store
 
     -- whole lines
-    pub headline-between : BetweenLines start script (lines_from start here) left → left.store ≡ here.store → Headline start script here left
+    pub headline-between : BetweenLines start script (lines_from start here.out) left → left.store ≡ here.store → Headline start script here left
     headline-between between store =
         let n : ℕ = events_among (places between.before) in
         let printed : List ℕ = at_start start ++ outputs start between.before in
@@ -169,15 +169,15 @@ module _ (start : Start) (script : List ℕ) (here left : Left) where
 
     -- all that the next line prints: these are whole lines
     headline-whole : (before : List NumberedLine) (read : NumberedLine) (part : List ℕ) → AreFirst start script (before ++ read ∷ []) → Recovers (account_at start (before ++ read ∷ [])) left
-        → left.out ≡ (lines_from start here ++ outputs start before) ++ part → part ≡ output_at start (before, read) → left.store ≡ here.store → Headline start script here left
+        → left.out ≡ (lines_from start here.out ++ outputs start before) ++ part → part ≡ output_at start (before, read) → left.store ≡ here.store → Headline start script here left
     headline-whole before read part first recovers text is store =
         headline-between (record {
           before = before ++ read ∷ [];
           first = first;
           recovers = recovers;
           text = text
-              ∙ append_assoc (lines_from start here) (outputs start before) part
-              ∙ ap (λ (more : List ℕ). lines_from start here ++ more) (ap (λ (more : List ℕ). outputs start before ++ more) is ∙ sym (outputs-snoc start before read));
+              ∙ append_assoc (lines_from start here.out) (outputs start before) part
+              ∙ ap (λ (more : List ℕ). lines_from start here.out ++ more) (ap (λ (more : List ℕ). outputs start before ++ more) is ∙ sym (outputs-snoc start before read));
         }) store
 
     -- one event more is done once the next line is
@@ -189,7 +189,7 @@ module _ (start : Start) (script : List ℕ) (here left : Left) where
 
     -- a beginning of what the next line prints
     headline-part : (before : List NumberedLine) (read : NumberedLine) (part missing : List ℕ) → AreFirst start script (before ++ read ∷ []) → Recovers (account_at start (before ++ read ∷ [])) left
-        → left.out ≡ (lines_from start here ++ outputs start before) ++ part → part ++ missing ≡ output_at start (before, read) → 1 ≤ length missing
+        → left.out ≡ (lines_from start here.out ++ outputs start before) ++ part → part ++ missing ≡ output_at start (before, read) → 1 ≤ length missing
         → PrintsEvent start (before, read) → left.store ≡ here.store → Headline start script here left
     headline-part before read part missing first recovers text splits some event store =
         let n : ℕ = events_among (places before) in
@@ -205,7 +205,7 @@ module _ (start : Start) (script : List ℕ) (here left : Left) where
 
     -- a line that is no event prints nothing
     headline-next : (before : List NumberedLine) (read : NumberedLine) (part missing : List ℕ) → AreFirst start script (before ++ read ∷ []) → Recovers (account_at start (before ++ read ∷ [])) left
-        → left.out ≡ (lines_from start here ++ outputs start before) ++ part → part ++ missing ≡ output_at start (before, read) → left.store ≡ here.store
+        → left.out ≡ (lines_from start here.out ++ outputs start before) ++ part → part ++ missing ≡ output_at start (before, read) → left.store ≡ here.store
         → Tells start (before, read) → Headline start script here left
     headline-next before read part [] first recovers text splits store tells =
         headline-whole before read part first recovers text (sym (append-nil part) ∙ splits) store
@@ -214,7 +214,7 @@ module _ (start : Start) (script : List ℕ) (here left : Left) where
     headline-next before read part (b ∷ missing) first recovers text splits store (inr none) =
         absurd (omega (arith, length-append part (b ∷ missing), ap (λ (more : List ℕ). length more) (splits ∙ none.silent)))
 
-    pub headline-in : InLine start script (lines_from start here) left → left.store ≡ here.store → Headline start script here left
+    pub headline-in : InLine start script (lines_from start here.out) left → left.store ≡ here.store → Headline start script here left
     headline-in at store =
         headline-next at.before at.read at.text.part at.text.missing at.first at.recovers at.text.is at.text.splits store
         (tells-last start script at.before at.read at.first account)
@@ -236,7 +236,7 @@ module _ (start : Start) (script : List ℕ) (here left : Left) where
         ∙ account-first start script before all.first account
 
     -- the last line
-    pub headline-end : AtEnd start script (lines_from start here) left → left.store ≡ here.store → Headline start script here left
+    pub headline-end : AtEnd start script (lines_from start here.out) left → left.store ≡ here.store → Headline start script here left
     headline-end at store =
         let n : ℕ = events_among (places at.before) in
         let none : done_count at.text.part ≡ 0 = none_done (closing_line (account_at start at.before) at.exit) at.text.part at.text.missing (closing-quiet (account_at start at.before) at.exit) at.text.splits in

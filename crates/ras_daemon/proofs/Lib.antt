@@ -1,9 +1,8 @@
 pub mod PlaceLemmas
-pub mod MomentLemmas
 pub mod LinesLemmas
 pub mod LineEndLemmas
-pub mod EndLemmas
 pub mod RunLemmas
+pub mod DidLemmas
 pub mod ListLemmas
 pub mod StopLemmas
 pub mod FirstLinesLemmas
@@ -14,7 +13,11 @@ pub mod CallLemmas
 pub mod HistoryLemmas
 pub mod RunLawLemmas
 pub mod AheadLemmas
-pub mod AlongLemmas
+pub mod AlongActLemmas
+pub mod ScriptLemmas
+pub mod TakenLemmas
+pub mod SaidLemmas
+pub mod GrowLemmas
 pub mod SameLemmas
 pub mod AgainLemmas
 pub mod CompleteLemmas

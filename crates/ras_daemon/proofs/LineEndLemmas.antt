@@ -1,39 +1,30 @@
--- Where a run ends among its lines: how far its source was read, and which disk calls were made.
-use Rattle.std.proofs.Common.{◌≡◌, ℕ, ◌+◌, true, List, [], ◌∷◌, ◌++◌, length, Option, None, Some, IsSomeAnd, Ok, refl, ap, sym, ◌∙◌, subst, append_assoc, append-nil, length-append, arith, inl, inr, ◌<◌, ◌≤◌, Bool, false, Result, Err, ◌==◌}
-use Rattle.std.specs.Prelude.{⊤, ◌⊎◌}
-use Rattle.board_core.specs.Clock.{Clock, Adds, LeftNow}
-use Rattle.board_core.specs.Stop.{Left}
-use Rattle.board_core.specs.Told.{Told, Relates}
-use Rattle.ras_events.specs.Reports.{NumberedLine, Place}
+-- Where a run ends among its lines: how far its source was read.
+use Rattle.std.proofs.Common.{◌≡◌, ℕ, ◌+◌, true, List, [], ◌∷◌, ◌++◌, length, Option, Some, IsSomeAnd, Ok, refl, ap, sym, ◌∙◌, subst, append_assoc, append-nil, length-append, arith, inl, inr, ◌<◌, ◌≤◌, Bool, false, Result, Err, ◌==◌}
+use Rattle.std.specs.Prelude.{◌⊎◌}
+use Rattle.board_core.specs.Doing.{after_acts}
+use Rattle.board_core.specs.Told.{Told}
+use Rattle.ras_events.specs.Reports.{NumberedLine}
 use Rattle.std.specs.List.{AllByRecursion, slice_split}
-use Rattle.ras_script.specs.Lines.{Lines, without_last}
+use Rattle.ras_base.specs.Places.{places}
+use Rattle.ras_script.specs.Lines.{without_last}
 use Rattle.ras_script.proofs.LineAndWordLemmas.{lines_unbroken, some_part, split_between, split_lacking}
 use Rattle.text_laws.specs.DoneLines.{ended_lines}
 use Rattle.ras_daemon.specs.Ahead.{events_in, is_event_line}
-use Rattle.ras_script.specs.Reader.{IsLine, Moves, MovesLine, Reader, given_count, lines_to_come}
+use Rattle.ras_script.specs.Reader.{IsLine, Moves, MovesLine, Reader, given_count}
 use Rattle.ras_script.specs.declared.reader.TheConstants.{LONGEST_LINE}
 use Rattle.ras_script.specs.Splitting.{lines_of, without_empty_last}
 use Rattle.ras_script.specs.SplittingLaws.{Lacks, script_of}
-use Rattle.board_core.specs.declared.board.DiskCall.{DiskCall}
-use Rattle.ras_base.specs.Places.{places}
-use Rattle.ras_base.specs.PrefixLemmas.{IsPrefixOf-refl}
-use Rattle.ras_recover.specs.DiskCalls.{IsBeginning, Makes}
-use Rattle.ras_run.specs.LineCalls.{AreCallsAt}
-use Rattle.ras_run.specs.TakingCalls.{ArePart, BeginsLine}
-use Rattle.ras_daemon.specs.RunCalls.{AreCallsAlong}
-use Rattle.ras_daemon.proofs.AlongLemmas.{along-snoc, along_begun}
 use Rattle.ras_exit.specs.declared.exit.Exit.{Exit}
 use Rattle.ras_exit.specs.declared.exit.Exit.TheVariants.{SourceFault}
 use Rattle.ras_run.specs.declared.run.Run.{Run}
 use Rattle.ras_run.specs.LaterKinds.{taken_line}
 use Rattle.ras_run.specs.Places.{Start}
-use Rattle.ras_run.specs.Status.{places_before_refusal}
 use Rattle.ras_exit.specs.Endings.{IsStop}
-use Rattle.ras_run.specs.Taking.{IsAccepted, LineMoment}
-use Rattle.ras_daemon.specs.Running.{AreFirst, EndsAhead, MakesAlong, ReadAhead, first_size, outputs}
+use Rattle.ras_daemon.specs.Running.{EndsAhead, ReadAhead, first_size, outputs}
 use Rattle.ras_daemon.specs.Script.{reads_in, reads_of}
-use Rattle.ras_daemon.proofs.PlaceLemmas.{first_more, reads-append, reads_behind}
-use Rattle.ras_daemon.proofs.LinesLemmas.{Given, Taking, given_here, some_more, taken_tells}
+use Rattle.ras_daemon.proofs.AlongActLemmas.{along_prints}
+use Rattle.ras_daemon.proofs.GrowLemmas.{Grows}
+use Rattle.ras_daemon.proofs.LinesLemmas.{Taking, given_here, lines_first, some_more, taken_tells}
 
 -- ---- lines that were taken with their line feeds
 
@@ -73,9 +64,9 @@ both_nil (x ∷ xs) ys is = absurd cc
 abbrev pub Taken : Type 0 → List ℕ → List ℕ → List (List ℕ) → Type 0
 Taken Fault script left done = (taken : List ℕ) × (taken ++ left ≡ script) × (Fault → events_in (ended_lines taken) ≤ events_in done)
 
-taken_none : (Fault : Type 0) (start : Start) (script : List ℕ) (t : Told) (number : ℕ) (reader new : Reader) (left : Option (List ℕ)) (run : Run) (told : Option Told)
-    (taking : Taking start script t number reader left run told) (rest : List ℕ) → Moves [] reader new (Some taking.now) (Some rest) → (Fault → Lacks 10 new.held) → Taken Fault script rest taking.done
-taken_none Fault start script t number reader new left run told taking rest went lacks = by taking.kept
+taken_none : (Fault : Type 0) (start : Start) (script : List ℕ) (t : Told) (number : ℕ) (reader new : Reader) (left : Option (List ℕ)) (run : Run)
+    (taking : Taking start script t number reader left run) (rest : List ℕ) → Moves [] reader new (Some taking.now) (Some rest) → (Fault → Lacks 10 new.held) → Taken Fault script rest taking.done
+taken_none Fault start script t number reader new left run taking rest went lacks = by taking.kept
   where
     by : (script ≡ script_of taking.done ++ (reader.held ++ taking.now)) ⊎ ((reader.held ≡ []) × (taking.now ≡ [])) → Taken Fault script rest taking.done
     by (inl is) =
@@ -96,9 +87,9 @@ taken_none Fault start script t number reader new left run told taking rest went
 -- ---- how far the source was read
 
 -- what was taken, where this is left
-script_taken : (start : Start) (script : List ℕ) (t : Told) (number : ℕ) (reader : Reader) (left : Option (List ℕ)) (run : Run) (told : Option Told)
-    (taking : Taking start script t number reader left run told) (bytes rest : List ℕ) → taking.now ≡ bytes ++ rest → (taken : List ℕ) × (taken ++ rest ≡ script)
-script_taken start script t number reader left run told taking bytes rest is = by taking.kept
+script_taken : (start : Start) (script : List ℕ) (t : Told) (number : ℕ) (reader : Reader) (left : Option (List ℕ)) (run : Run)
+    (taking : Taking start script t number reader left run) (bytes rest : List ℕ) → taking.now ≡ bytes ++ rest → (taken : List ℕ) × (taken ++ rest ≡ script)
+script_taken start script t number reader left run taking bytes rest is = by taking.kept
   where
     by : (script ≡ script_of taking.done ++ (reader.held ++ taking.now)) ⊎ ((reader.held ≡ []) × (taking.now ≡ [])) → (taken : List ℕ) × (taken ++ rest ≡ script)
     by (inl whole) = (
@@ -107,34 +98,34 @@ script_taken start script t number reader left run told taking bytes rest is = b
     )
     by (inr none) = (script, ap (λ more. script ++ more) (both_nil bytes rest (sym none.1 ∙ is)) ∙ append-nil script)
 
-line_taken : (start : Start) (script : List ℕ) (t : Told) (number : ℕ) (reader new : Reader) (left now : Option (List ℕ)) (run : Run) (told : Option Told)
-    (taking : Taking start script t number reader left run told) (rest : List ℕ) → now ≡ Some rest → MovesLine (Ok true) reader new left now → (taken : List ℕ) × (taken ++ rest ≡ script)
-line_taken start script t number reader new left now run told taking rest is moves = by (subst (λ n. MovesLine (Ok true) reader new (Some taking.now) n) is (subst (λ b. MovesLine (Ok true) reader new b now) taking.tells moves))
+line_taken : (start : Start) (script : List ℕ) (t : Told) (number : ℕ) (reader new : Reader) (left now : Option (List ℕ)) (run : Run)
+    (taking : Taking start script t number reader left run) (rest : List ℕ) → now ≡ Some rest → MovesLine (Ok true) reader new left now → (taken : List ℕ) × (taken ++ rest ≡ script)
+line_taken start script t number reader new left now run taking rest is moves = by (subst (λ n. MovesLine (Ok true) reader new (Some taking.now) n) is (subst (λ b. MovesLine (Ok true) reader new b now) taking.tells moves))
   where
     by : MovesLine (Ok true) reader new (Some taking.now) (Some rest) → (taken : List ℕ) × (taken ++ rest ≡ script)
-    by (inl moved) = script_taken start script t number reader left run told taking moved.bytes rest moved.taken
-    by (inr (moved, end)) = script_taken start script t number reader left run told taking moved.bytes rest moved.taken
+    by (inl moved) = script_taken start script t number reader left run taking moved.bytes rest moved.taken
+    by (inr (moved, end)) = script_taken start script t number reader left run taking moved.bytes rest moved.taken
 
 -- where a line is given, and the text goes on from there
-pub ahead_given : (Fault : Type 0) → (Fault → ⊥) → (start : Start) (script : List ℕ) (t : Told) (number : ℕ) (reader new : Reader) (left now : Option (List ℕ)) (run : Run) (told later : Option Told) (line : List ℕ) → line ≡ new.line
-    → (taking : Taking start script t number reader left run told) → IsLine new.line → given_count reader < given_count new → length new.held ≤ LONGEST_LINE + 1 → MovesLine (Ok true) reader new left now
-    → Given start script t (reads_in taking.done) (number + 1, taken_line line) told
-    → IsSomeAnd later (λ u. (part : List ℕ) × (u.here.out ≡ taking.here.here.out ++ part)) → EndsAhead Fault start script t.here.out now later
-ahead_given Fault never start script t number reader new left now run told later line same taking is_line grew few moves given goes =
-    let here = given_here start script t number reader new left now run told line same taking is_line grew moves in
+pub ahead_given : (Fault : Type 0) → (Fault → ⊥) → (start : Start) (script : List ℕ) (t : Told) (number : ℕ) (reader new : Reader) (left now : Option (List ℕ)) (run : Run) (later : Option Told) (line : List ℕ) → (same : line ≡ new.line)
+    → (taking : Taking start script t number reader left run) → IsLine new.line → given_count reader < given_count new → length new.held ≤ LONGEST_LINE + 1 → MovesLine (Ok true) reader new left now
+    → (rest : List NumberedLine) × (reads_in taking.done ++ (number + 1, taken_line line) ∷ rest ≡ reads_of script)
+    → IsSomeAnd later (Grows (after_acts taking.acts t)) → EndsAhead Fault start script t.here.out now later
+ahead_given Fault never start script t number reader new left now run later line same taking is_line grew few moves given goes =
+    let here = given_here start script t number reader new left now run line same taking is_line grew moves in
     let first = taking.size in
     let then = here.3 in
     let long : length (new.held ++ here.0) ≡ length new.held + length here.0 = length-append new.held here.0 in
     let bound : length script ≤ length (script_of taking.done) + first_size (line ∷ lines_of (new.held ++ here.0)) + (LONGEST_LINE + 1) + length here.0 = omega arith in
-    let all = line_taken start script t number reader new left now run told taking here.0 here.1 moves in
+    let all = line_taken start script t number reader new left now run taking here.0 here.1 moves in
     subst (λ o. EndsAhead Fault start script t.here.out o later) (sym here.1)
-    (some_more later (λ u. (part : List ℕ) × (u.here.out ≡ taking.here.here.out ++ part)) (ReadAhead Fault start script t.here.out here.0) goes
+    (some_more later (Grows (after_acts taking.acts t)) (ReadAhead Fault start script t.here.out here.0) goes
     (λ u went. record {
       done = taking.done;
       more = line ∷ lines_of (new.held ++ here.0);
       lines = taking.cut ∙ ap (λ lines. taking.done ++ lines) here.2;
-      first = record { rest = (number + 1, taken_line line) ∷ given.rest; splits = given.splits; accepted = given.accepted };
-      text = (went.0, went.1 ∙ ap (λ out. out ++ went.0) taking.text);
+      first = record { rest = (number + 1, taken_line line) ∷ given.0; splits = given.1; accepted = taking.accepted };
+      text = (went.part, went.is ∙ ap (λ out. out ++ went.part) (along_prints start (places (reads_in taking.done)) t taking.acts taking.accepted taking.along));
       bound = bound;
       taken = all.0;
       splits = all.1;
@@ -143,93 +134,33 @@ ahead_given Fault never start script t number reader new left now run told later
 
 -- where none is given
 pub ahead_none : (Fault : Type 0) (start : Start) (script : List ℕ) (t : Told) (number : ℕ) (reader new : Reader) (left now : Option (List ℕ)) (run : Run) (told : Option Told)
-    → Taking start script t number reader left run told → length new.held ≤ LONGEST_LINE + 1 → (Fault → Lacks 10 new.held) → Moves [] reader new left now
+    → (taking : Taking start script t number reader left run) → told ≡ Some (after_acts taking.acts t) → length new.held ≤ LONGEST_LINE + 1 → (Fault → Lacks 10 new.held) → Moves [] reader new left now
     → EndsAhead Fault start script t.here.out now told
-ahead_none Fault start script t number reader new left now run told taking few lacks moves =
+ahead_none Fault start script t number reader new left now run told taking is few lacks moves =
     let moved : Moves [] reader new (Some taking.now) now = subst (λ b. Moves [] reader new b now) taking.tells moves in
     let tells = taken_tells moved.bytes taking.now now moved.taken in
     let went : Moves [] reader new (Some taking.now) (Some tells.0) = subst (λ n. Moves [] reader new (Some taking.now) n) tells.1 moved in
-    let come : List (List ℕ) = (lines_to_come reader taking.now).whole in
-    let whole : reads_of script ≡ reads_in taking.done ++ reads_behind taking.done come = ap (λ (l : Lines). reads_in l.whole) taking.lines ∙ reads-append taking.done come in
     let first = taking.size in
     let one : length (reader.held ++ taking.now) ≡ length reader.held + length taking.now = length-append reader.held taking.now in
     let two : length taking.now ≡ length went.bytes + length tells.0 = ap length went.taken ∙ length-append went.bytes tells.0 in
     let three : length reader.held + length went.bytes ≡ length new.held = sym (length-append reader.held went.bytes) ∙ ap length went.kept in
     let some : ℕ = first_size (lines_of (reader.held ++ taking.now)) in
     let bound : length script ≤ length (script_of taking.done) + some + (LONGEST_LINE + 1) + length tells.0 = omega arith in
-    let all = taken_none Fault start script t number reader new left run told taking tells.0 went lacks in
-    let ahead : ReadAhead Fault start script t.here.out tells.0 taking.here = record {
+    let all = taken_none Fault start script t number reader new left run taking tells.0 went lacks in
+    let ahead : ReadAhead Fault start script t.here.out tells.0 (after_acts taking.acts t) = record {
       done = taking.done;
       more = lines_of (reader.held ++ taking.now);
       lines = taking.cut;
-      first = record { rest = reads_behind taking.done come; splits = sym whole; accepted = taking.accepted };
-      text = ([], taking.text ∙ sym (append-nil (t.here.out ++ outputs start (reads_in taking.done))));
+      first = lines_first start script t number reader left run taking;
+      text = ([], along_prints start (places (reads_in taking.done)) t taking.acts taking.accepted taking.along ∙ sym (append-nil (t.here.out ++ outputs start (reads_in taking.done))));
       bound = bound;
       taken = all.0;
       splits = all.1;
       whole = all.2;
     } in
     subst (λ o. EndsAhead Fault start script t.here.out o told) (sym tells.1)
-    (subst (λ o. IsSomeAnd o (ReadAhead Fault start script t.here.out tells.0)) (sym taking.is) ahead)
+    (subst (λ o. IsSomeAnd o (ReadAhead Fault start script t.here.out tells.0)) (sym is) ahead)
 
 -- a line isn't refused for a fault of the source
 pub not_fault : (exit : Exit) → IsStop exit → ◌≡◌ {A = Result (Unit {0}) Exit} (Err exit) (Err SourceFault) → ⊥
 not_fault exit stop is = let same : exit ≡ SourceFault = cc in subst IsStop same stop
-
--- ---- the text only grows
-
-pub line_text : (start : Start) (place : Place) (here left : Left) → LineMoment start place here left → (part : List ℕ) × (left.out ≡ here.out ++ part)
-line_text start place here left (inl before) = ([], before.0 ∙ sym (append-nil here.out))
-line_text start place here left (inr after) = (after.2.part, after.2.is)
-
--- what is told is one of what stops leave, and between calls these have the text that was told
-pub text_grows : (P : Left → Type 0) (mid : Told) (told : Option Told) (a b : Clock) → Adds P a b → ((left : Left) → P left → (part : List ℕ) × (left.out ≡ mid.here.out ++ part))
-    → ((left : Left) → LeftNow a left → left.out ≡ mid.here.out) → ((u : Told) → told ≡ Some u → LeftNow b u.here)
-    → ((left : Left) → b.may_leave_since b.now left → b.may_leave_since a.now left) → IsSomeAnd told (λ _. ⊤) → IsSomeAnd told (λ u. (part : List ℕ) × (u.here.out ≡ mid.here.out ++ part))
-text_grows P mid None a b adds grows old law earlier tells = absurd tells
-text_grows P mid (Some u) a b adds grows old law earlier tells = elim (adds.each a.now u.here (omega arith) (earlier u.here (law u refl))) [
-  | inl before ↦ ([], old u.here before ∙ sym (append-nil mid.here.out))
-  | inr has ↦ grows u.here has
-]
-
--- ---- disk calls
-
--- where no line is given
-pub calls_none : (start : Start) (script : List ℕ) (t : Told) (number : ℕ) (reader : Reader) (left : Option (List ℕ)) (run : Run) (told : Option Told)
-    → Taking start script t number reader left run told → IsSomeAnd told (MakesAlong start script t)
-calls_none start script t number reader left run told taking =
-    let come : List (List ℕ) = (lines_to_come reader taking.now).whole in
-    let whole : reads_of script ≡ reads_in taking.done ++ reads_behind taking.done come = ap (λ (l : Lines). reads_in l.whole) taking.lines ∙ reads-append taking.done come in
-    let first : AreFirst start script (reads_in taking.done) = record { rest = reads_behind taking.done come; splits = sym whole; accepted = taking.accepted } in
-    let makes : MakesAlong start script t taking.here = record {
-      made = taking.calls.made;
-      listed = taking.calls.listed;
-      are = along_begun start script (reads_in taking.done) taking.calls.made taking.calls.made first taking.calls.are (IsPrefixOf-refl taking.calls.made);
-    } in
-    subst (λ o. IsSomeAnd o (MakesAlong start script t)) (sym taking.is) makes
-
--- and where a line ends the run
-module _ (start : Start) (script : List ℕ) (t : Told) (before : List NumberedLine) (read : NumberedLine) (told : Option Told) (given : Given start script t before read told) (here : Told) (is : told ≡ Some here) (so_far : Makes (AreCallsAlong start (places before)) t here) where
-  calls_part : (u : Told) → BeginsLine start (before, read) here u → MakesAlong start script t u
-  calls_part u begins = record {
-    made = so_far.made ++ begins.made;
-    listed = begins.listed ∙ ap (λ calls. calls ++ begins.made) so_far.listed ∙ append_assoc t.disk_calls so_far.made begins.made;
-    are = by begins.made begins.are;
-  }
-    where
-      first : AreFirst start script before
-      first = record { rest = read ∷ given.rest; splits = given.splits; accepted = given.accepted }
-
-      by : (part : List DiskCall) → ArePart (IsAccepted start (before, read)) (AreCallsAt start (before, read)) part → IsBeginning (AreCallsAlong start (places_before_refusal start (places (reads_of script)))) (so_far.made ++ part)
-      by part (inl none) = rw none (along_begun start script before so_far.made (so_far.made ++ []) first so_far.are ([], append-nil (so_far.made ++ []) ∙ append-nil so_far.made))
-      by part (inr (accepted, begun)) =
-          along_begun start script (before ++ read ∷ []) (so_far.made ++ begun.whole) (so_far.made ++ part) (first_more start script before given.rest read given.splits given.accepted accepted)
-          (along-snoc start before read so_far.made begun.whole so_far.are begun.are)
-          (begun.begins.0, append_assoc so_far.made part begun.begins.0 ∙ ap (λ calls. so_far.made ++ calls) begun.begins.1)
-
-  pub calls_given : (later : Option Told) → Relates (BeginsLine start (before, read)) told later → IsSomeAnd later (MakesAlong start script t)
-  calls_given later relates = by later (subst (λ o. Relates (BeginsLine start (before, read)) o later) is relates)
-    where
-      by : (later : Option Told) → Relates (BeginsLine start (before, read)) (Some here) later → IsSomeAnd later (MakesAlong start script t)
-      by None relates = absurd relates
-      by (Some u) relates = calls_part u relates

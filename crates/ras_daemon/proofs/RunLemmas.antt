@@ -1,36 +1,50 @@
 -- A run from its start: the journal is opened, or it is refused.
-use Rattle.std.proofs.Common.{◌≡◌, ℕ, false, List, [], ◌++◌, Option, None, Some, IfSome, IsSomeAnd, Result, Ok, Err, refl, ap, sym, ◌∙◌, subst, append-nil, inl, inr, unwrap_or}
+use Rattle.std.proofs.Common.{◌≡◌, ℕ, false, List, [], ◌∷◌, ◌++◌, Option, None, Some, IfSome, IsSomeAnd, Result, Ok, Err, refl, ap, sym, ◌∙◌, subst, append-nil, inl, inr, unwrap_or}
 use Rattle.std.specs.Prelude.{◌⊎◌, ⊤}
+use Rattle.std.proofs.lemmas.List.Elements.{All-nil}
+use Rattle.board_core.specs.declared.board.DiskCall.{DiskCall}
+use Rattle.board_core.specs.declared.board.DiskCall.TheVariants.{Sync}
+use Rattle.board_core.specs.declared.board.FileNo.TheVariants.{Zero, One}
 use Rattle.std.specs.Result.{result_unwrap_or}
 use Rattle.board_core.specs.Cause.{disk_call}
 use Rattle.board_core.specs.Clock.{Clock, Adds}
-use Rattle.board_core.specs.ClockLemmas.{adds_weaker}
-use Rattle.board_core.specs.Stop.{Left, Begins}
-use Rattle.board_core.specs.Told.{FailsPrint, Relates, Told, after_print}
+use Rattle.board_core.specs.ClockLemmas.{adds_both, adds_none, adds_weaker}
+use Rattle.board_core.specs.Device.{LeavesDevice}
+use Rattle.board_core.specs.Doing.{Seen}
+use Rattle.board_core.specs.Stop.{Left}
+use Rattle.board_core.specs.Told.{Relates, Told}
+use Rattle.ras_base.specs.Prefix.{IsPrefixOf}
 use Rattle.ras_account.specs.Account.{State, account_of}
 use Rattle.ras_account.specs.Accounts.{IsAccount}
 use Rattle.ras_account.specs.History.{History, empty}
 use Rattle.ras_journal.specs.Recovered.{JournalFile, Recovers, Refusal, damaged, journal_of, position_of, recovered, too_long}
+use Rattle.ras_journal.specs.Appending.{Before}
 use Rattle.ras_ledger.specs.declared.ledger.Ledger.{Ledger}
+use Rattle.ras_recover.specs.DiskCalls.{IsReading}
 use Rattle.ras_recover.specs.Opening.{Opening, standing_opened}
+use Rattle.ras_recover.specs.OpeningCalls.{AfterOpening, AfterRecovery, MakesOpening}
 use Rattle.ras_recover.specs.Recovering.{file_number}
-use Rattle.ras_texts.specs.Orders.{standing_lines}
+use Rattle.ras_recover.proofs.OpeningCallsLemmas.{refused_keeps, told_opened}
 use Rattle.ras_exit.specs.declared.exit.Exit.{Exit}
 use Rattle.ras_exit.specs.declared.exit.Exit.TheVariants.{Damaged, NoMemory, TooLong}
-use Rattle.ras_exit.specs.Endings.{CallEnding, EndsBy, IsCut, OnlyFault, answered, ending_of, faulted, is_answered, source_failed, starved}
-use Rattle.ras_exit.proofs.EndingLemmas.{ends_weaker, memory_ran_out, not_both, on_answer, on_cut}
-use Rattle.board_core.specs.Device.{LeavesDevice}
-use Rattle.ras_run.specs.Places.{Start, account_at}
+use Rattle.ras_exit.specs.Endings.{CallEnding, EndsBy, IfAnswered, IsCut, OnAnswer, OnlyFault, answered, ending_of, faulted, is_answered, source_failed, starved}
+use Rattle.ras_exit.proofs.DeviceLemmas.{StoreIsLeft, device_by}
+use Rattle.ras_exit.proofs.EndingLemmas.{ends_weaker, memory_ran_out, not_both, on_cut}
+use Rattle.ras_run.specs.LineActs.{HoldsAfter}
+use Rattle.ras_run.specs.Places.{Start}
 use Rattle.ras_exit.specs.StopLine.{stop_line}
-use Rattle.ras_run.specs.Files.{KeepsFiles, KeepsRefused, files_refusal, refusal_exit}
-use Rattle.ras_run.specs.Taking.{Opens, Prints}
+use Rattle.ras_run.specs.Files.{KeepsFiles, files_refusal, refusal_exit}
+use Rattle.ras_run.specs.Taking.{IsReady, Opens, Prints}
+use Rattle.ras_daemon.specs.Doing.{DoesRun, Ends, TakesScript}
 use Rattle.ras_daemon.specs.Ended.{OverFiles, Refuses, RefusesFiles}
 use Rattle.ras_daemon.specs.Headline.{OverRun}
 use Rattle.ras_daemon.specs.RunOutput.{closing_line}
 use Rattle.ras_daemon.specs.RunStatus.{start_of}
-use Rattle.ras_daemon.specs.Running.{EndsEarly, EndsIn, EndsSo, Ends, IsStart, LinesMoment, OpenMoment, RunEnds, RunMoment, outputs}
+use Rattle.ras_daemon.specs.Running.{EndsIn, IsStart, OpenMoment, RunEnds, RunMoment}
+use Rattle.ras_daemon.specs.declared.word.Task.{Task}
 use Rattle.ras_daemon.specs.declared.word.Task.TheVariants.{Run}
-use Rattle.ras_daemon.proofs.EndLemmas.{OpenStop, early_none}
+use Rattle.ras_daemon.proofs.SaidLemmas.{Printed, before_at, says_printed}
+use Rattle.ras_daemon.proofs.ScriptLemmas.{OpenStop, early_none, takes_runs, takes_stops}
 
 -- ---- where source and board tell, and the files hold a history
 
@@ -51,7 +65,7 @@ ok_same : {A E : Type 0} (x y : A) → ◌≡◌ {A = Result A E} (Ok x) (Ok y) 
 ok_same {A} {E} x y is = ap (λ (r : Result A E). result_unwrap_or r x) is
 
 -- where no file stands the files recover the empty account
-none_empty : (account : State) (file0 file1 : List ℕ) → recovered file0 file1 ≡ Ok account → position_of file0 file1 ≡ None → account ≡ account_of empty
+pub none_empty : (account : State) (file0 file1 : List ℕ) → recovered file0 file1 ≡ Ok account → position_of file0 file1 ≡ None → account ≡ account_of empty
 unfolding recovered position_of
 none_empty account file0 file1 recovers none = by (journal_of file0 file1) refl
   where
@@ -79,43 +93,8 @@ told_on P told new t is relates = by new (subst (λ o. Relates P o new) is relat
     by (Some u) relates = (u, refl, relates)
 
 -- the same of what is told at both ends
-pub told_both : (P : Told → Told → Type 0) (told new : Option Told) (t u : Told) → told ≡ Some t → new ≡ Some u → Relates P told new → P t u
+told_both : (P : Told → Told → Type 0) (told new : Option Told) (t u : Told) → told ≡ Some t → new ≡ Some u → Relates P told new → P t u
 told_both P told new t u one two relates = subst (λ n. Relates P (Some t) n) two (subst (λ o. Relates P o new) one relates)
-
--- ---- a run that is told of from an earlier moment with the same text
-
-runs_from : (start : Start) (script : List ℕ) (exit : Exit) (t u now : Told) → u.here.out ≡ t.here.out → RunEnds start script exit u now → RunEnds start script exit t now
-runs_from start script exit t u now same ends = by (ending_of exit) ends
-  where
-    early : EndsEarly start script u now → EndsEarly start script t now
-    early ends = record {
-      before = ends.before;
-      first = ends.first;
-      recovers = ends.recovers;
-      text = elim ends.text [
-        | inl began ↦ inl (began.0, began.1 ∙ ap (λ out. out ++ (standing_lines (account_of start.history) ++ outputs start ends.before)) same)
-        | inr none ↦ inr (none.0 ∙ ap (λ out. out ++ []) same, none.1)
-      ];
-    }
-
-    so : (exit : Exit) → EndsSo start script exit u now → EndsSo start script exit t now
-    so exit ends = record {
-      before = ends.before;
-      all = ends.all;
-      account = ends.account;
-      recovers = ends.recovers;
-      text = ends.text ∙ ap (λ out. out ++ (standing_lines (account_of start.history) ++ (outputs start ends.before ++ closing_line (account_at start ends.before) exit))) same;
-    }
-
-    by : (ending : CallEnding) → EndsIn start script exit ending u now → EndsIn start script exit ending t now
-    by answered ends = so exit ends
-    by (faulted kind) ends = tt
-    by source_failed ends = early ends
-    by starved ends = early ends
-
-pub opened_runs : (start : Start) (script : List ℕ) (exit : Exit) (t u : Told) (new : Option Told) → Prints [] t u → IsSomeAnd new (RunEnds start script exit u) → IsSomeAnd new (RunEnds start script exit t)
-opened_runs start script exit t u None same ends = absurd ends
-opened_runs start script exit t u (Some now) same ends = runs_from start script exit t u now (same ∙ append-nil t.here.out) ends
 
 -- ---- what stops leave
 
@@ -130,22 +109,11 @@ opening_moments history script t a b recovers adds = adds_weaker (Opening a t.he
         let same : account_of history ≡ account_of empty = none_empty (account_of history) t.here.file0 t.here.file1 recovers.is formats.none in
         inr (ap (λ (l : Left). l.store) formats.rest, inl (record { recovers = rw same formats.recovers; text = ap (λ (l : Left). l.out) formats.rest }))
 
-open_from : (start : Start) (script : List ℕ) (here from left : Left) → from.out ≡ here.out → OpenMoment start script from left → OpenMoment start script here left
-open_from start script here from left same (inl began) = inl (record { recovers = began.recovers; text = subst (λ out. Begins (standing_lines (account_of start.history)) out left.out) same began.text })
-open_from start script here from left same (inr (inl lines)) = inr (inl (subst (λ out. LinesMoment start script (out ++ standing_lines (account_of start.history)) left) same lines))
-open_from start script here from left same (inr (inr ended)) = inr (inr (record {
-  before = ended.before;
-  exit = ended.exit;
-  all = ended.all;
-  recovers = ended.recovers;
-  text = subst (λ out. Begins (closing_line (account_at start ended.before) ended.exit) ((out ++ standing_lines (account_of start.history)) ++ outputs start ended.before) left.out) same ended.text;
-}))
-
 -- and once it is open
-pub opened_moments : (clock : Clock) (start : Start) (script : List ℕ) (t u : Told) (b c : Clock) → IsAccount (account_of start.history) → Prints [] t u → u.here.store ≡ t.here.store
+pub opened_moments : (clock : Clock) (start : Start) (script : List ℕ) (t u : Told) (b c : Clock) → IsAccount (account_of start.history) → u.here.out ≡ t.here.out → u.here.store ≡ t.here.store
     → Adds (OpenStop start script u) b c → Adds (RunMoment clock start script t.here) b c
 opened_moments clock start script t u b c account same store adds = adds_weaker (OpenStop start script u) (RunMoment clock start script t.here) b c adds
-    (λ left both. inr (both.0 ∙ store, inr (account, open_from start script t.here u.here left (same ∙ append-nil t.here.out) both.1)))
+    (λ left both. inr (both.0 ∙ store, inr (account, subst (λ out. OpenMoment start script out left) same both.1)))
 
 -- ---- a journal that isn't opened
 
@@ -166,27 +134,6 @@ cut_is exit cut = by (ending_of exit) cut
     by answered cut = absurd cut
     by ending cut = refl
 
--- A run whose opening was cut short so.
-pub cut_runs : (history : History) (script : List ℕ) (exit : Exit) (t : Told) (mid : Option Told) → IsCutOpening exit → Recovers (account_of history) t.here
-    → (u : Told) × (mid ≡ Some u) × Prints [] t u → (exit ≡ NoMemory → Relates KeepsFiles (Some t) mid) → IsSomeAnd mid (RunEnds (start_of history t.here) script exit t)
-cut_runs history script exit t mid cut recovers told kept = subst (λ o. IsSomeAnd o (RunEnds (start_of history t.here) script exit t)) (sym told.1) (by (ending_of exit) refl cut)
-  where
-    by : (ending : CallEnding) → ending_of exit ≡ ending → EndsBy ⊥ ⊤ (OnlyFault disk_call) ending → EndsIn (start_of history t.here) script exit ending t told.0
-    by answered is cut = absurd cut
-    by source_failed is cut = absurd cut
-    by (faulted kind) is cut = tt
-    by starved is cut =
-        let keeps : KeepsFiles t told.0 = subst (λ o. Relates KeepsFiles (Some t) o) told.1 (kept (memory_ran_out exit is)) in
-        let held : Recovers (account_of history) told.0.here = record { is = rw (keeps.file0, keeps.file1) recovers.is } in
-        early_none (start_of history t.here) script t told.0 held told.2
-
--- ---- how a last line ends a run
-
--- where a run is cut short its exit is that
-pub ends_cut : (exit result : Exit) (line : List ℕ) (old new : Option Told) → IsCut exit → Ends exit result line old new → result ≡ exit
-ends_cut exit result line old new cut (inr is) = is.1
-ends_cut exit result line old new cut (inl said) = absurd (not_both exit cut said.0)
-
 -- ---- files that are refused
 
 -- nothing was printed, and the run was cut short
@@ -199,10 +146,6 @@ refuses_cut why result before now cut text keeps = record {
   };
   files = keeps;
 }
-
-pub files_cut : (why : Option Exit) (result : Exit) (before now : Told) → IsCut result → Prints [] before now → KeepsFiles before now → RefusesFiles why result before now
-files_cut None result before now cut text keeps = tt
-files_cut (Some why) result before now cut text keeps = refuses_cut why result before now cut text keeps
 
 some_same : {A : Type 0} (x y : A) → Some x ≡ Some y → x ≡ y
 some_same x y is = ap (λ o. unwrap_or o x) is
@@ -227,60 +170,170 @@ refused_as held why exit is opens = by (ending_of exit) refl opens
     by (faulted kind) so found = inr (ap is_answered so)
     by starved so found = inr (ap is_answered so)
 
-module _ (why exit result : Exit) (line : List ℕ) (before mid : Told) (text : Prints [] before mid) (keeps : KeepsFiles before mid) where
-  refuses_short : IsCut result → Refuses why result before mid
-  refuses_short cut = refuses_cut why result before mid cut text keeps
+answer_weaker : (result : Exit) (P Q : Type 0) → OnAnswer result P → (P → Q) → OnAnswer result Q
+answer_weaker result P Q holds gives = by (ending_of result) holds
+  where
+    by : (ending : CallEnding) → IfAnswered ending P → IfAnswered ending Q
+    by answered holds = gives holds
+    by ending holds = tt
 
-  refuses_printed : line ≡ stop_line why → result ≡ why → Refuses why result before (after_print line mid)
-  refuses_printed same is =
-      let all : mid.here.out ++ line ≡ before.here.out ++ stop_line why = ap (λ out. out ++ line) (text ∙ append-nil before.here.out) ∙ ap (λ last. before.here.out ++ last) same in
+module _ (why result : Exit) (line : List ℕ) (before mid : Told) (text : Prints [] before mid) (keeps : KeepsFiles before mid) where
+  -- a last line, or a beginning of it
+  refuses_printed : (new : Option Told) → line ≡ stop_line why → Relates (Printed why result line) (Some mid) new → IsSomeAnd new (Refuses why result before)
+  refuses_printed None same printed = absurd printed
+  refuses_printed (Some now) same printed =
+      let out : (part : List ℕ) → now.here.out ≡ mid.here.out ++ part → now.here.out ≡ before.here.out ++ part = (λ part is. is ∙ ap (λ out. out ++ part) (text ∙ append-nil before.here.out)) in
+      let told : now.here.out ≡ before.here.out ++ printed.part = out printed.part (ap (λ (t : Told). t.here.out) printed.is) in
       record {
         tells = record {
-          answers = on_answer result (result ≡ why) is;
-          begun = (stop_line why, ([], append-nil (stop_line why)), all);
-          whole = on_answer result (mid.here.out ++ line ≡ before.here.out ++ stop_line why) all;
+          answers = answer_weaker result ((result ≡ why) × (printed.part ≡ line)) (result ≡ why) printed.answers (λ both. both.0);
+          begun = (printed.part, subst (IsPrefixOf printed.part) same printed.begins, told);
+          whole = answer_weaker result ((result ≡ why) × (printed.part ≡ line)) (now.here.out ≡ before.here.out ++ stop_line why) printed.answers (λ both. told ∙ ap (λ last. before.here.out ++ last) (both.1 ∙ same));
         };
-        files = record { file0 = keeps.file0; file1 = keeps.file1 };
+        files = rw printed.is (record { file0 = keeps.file0; file1 = keeps.file1 });
       }
 
-  refuses_failed : (new : Option Told) → line ≡ stop_line why → IsCut result → Relates (FailsPrint line) (Some mid) new → IsSomeAnd new (Refuses why result before)
-  refuses_failed None same cut fails = absurd fails
-  refuses_failed (Some now) same cut (part, rest, splits, is) = rw is (record {
-    tells = record {
-      answers = on_cut result (result ≡ why) cut;
-      begun = (part, (rest, splits ∙ same), ap (λ out. out ++ part) (text ∙ append-nil before.here.out));
-      whole = on_cut result (mid.here.out ++ part ≡ before.here.out ++ stop_line why) cut;
-    };
-    files = record { file0 = keeps.file0; file1 = keeps.file1 };
-  })
-
-  -- the last line of a run whose files are refused
-  refuses_end : (new : Option Told) → (exit ≡ why) ⊎ IsCut exit → (exit ≡ why → line ≡ stop_line why) → Ends exit result line (Some mid) new → IsSomeAnd new (Refuses why result before)
-  refuses_end new found same (inr cut) = rw cut.2 (refuses_short (rw cut.1 cut.0))
-  refuses_end new (inl is) same (inl (answer, inl said)) = rw said.1 (refuses_printed (same is) (said.0 ∙ is))
-  refuses_end new (inl is) same (inl (answer, inr (inl failed))) = refuses_failed new (same is) (rw failed.0 refl) failed.1
-  refuses_end new (inl is) same (inl (answer, inr (inr short))) = rw short.1 (refuses_short (rw short.0 refl))
-  refuses_end new (inr cut) same (inl said) =
-      absurd (not_both exit cut said.0)
-
-pub files_opened : (held : Result State Refusal) (account : State) (result : Exit) (before now : Told) → held ≡ Ok account → RefusesFiles (refusal_exit held) result before now
-files_opened held account result before now is = rw is tt
-
-pub files_refused : (exit result : Exit) (state : State) (before now : Told) (old mid new : Option Told) → old ≡ Some before → new ≡ Some now → Relates (Prints []) old mid → Relates KeepsRefused old mid
-    → IfSome old (λ t. Opens (Err exit) (recovered t.here.file0 t.here.file1)) → Ends exit result (closing_line state exit) mid new → RefusesFiles (files_refusal before.here) result before now
-files_refused exit result state before now old mid new one two text keeps opens ends = by (files_refusal before.here) refl
+pub files_refused : {X : Type 0} (see : X → Seen) (exit result : Exit) (state : State) (before now : Told) (old mid new : X) → (see old).told ≡ Some before → (see new).told ≡ Some now → Relates AfterOpening (see old).told (see mid).told
+    → IfSome (see old).told (λ t. Opens (Err exit) (recovered t.here.file0 t.here.file1)) → Ends see exit result (closing_line state exit) mid new → RefusesFiles (files_refusal before.here) result before now
+files_refused see exit result state before now old mid new one two after opens ends = by (files_refusal before.here) refl
   where
-    found : (u : Told) × (mid ≡ Some u) × Prints [] before u
-    found = told_on (Prints []) old mid before one text
+    found : (u : Told) × ((see mid).told ≡ Some u) × AfterOpening before u
+    found = told_on AfterOpening (see old).told (see mid).told before one after
+
+    held : Result State Refusal
+    held = recovered before.here.file0 before.here.file1
+
+    text : Prints [] before found.0
+    text = found.2.text ∙ sym (append-nil before.here.out)
+
+    last : (why : Exit) → refusal_exit held ≡ Some why → KeepsFiles before found.0 → (exit ≡ why) ⊎ IsCut exit → Ends see exit result (closing_line state exit) mid new → IsSomeAnd (see new).told (Refuses why result before)
+    last why is keeps as_found (inr cut) = rw (cut.2, found.1) (refuses_cut why result before found.0 (rw cut.1 cut.0) text keeps)
+    last why is keeps (inr cut) (inl said) = absurd (not_both exit cut said.0)
+    last why is keeps (inl same) (inl said) =
+        refuses_printed why result (closing_line state exit) before found.0 text keeps (see new).told (ap (closing_line state) same ∙ refusal_line held why state is)
+        (subst (λ (o : Option Told). Relates (Printed why result (closing_line state exit)) o (see new).told) found.1
+        (subst (λ (e : Exit). Relates (Printed e result (closing_line state exit)) (see mid).told (see new).told) same (says_printed see exit result (closing_line state exit) mid new said.1)))
 
     by : (refusal : Option Exit) → files_refusal before.here ≡ refusal → RefusesFiles refusal result before now
     by None is = tt
     by (Some why) is =
-        let held : Result State Refusal = recovered before.here.file0 before.here.file1 in
         let err = refusal_err held why is in
-        let kept : KeepsFiles before found.0 = told_both KeepsRefused old mid before found.0 one found.1 keeps err.0 err.1 in
-        let as_found = refused_as held why exit is (if_told (λ t. Opens (Err exit) (recovered t.here.file0 t.here.file1)) old before one opens) in
-        let line : exit ≡ why → closing_line state exit ≡ stop_line why = (λ same. ap (closing_line state) same ∙ refusal_line held why state is) in
-        let all : IsSomeAnd new (Refuses why result before) = refuses_end why exit result (closing_line state exit) before found.0 found.2 kept new as_found line (subst (λ o. Ends exit result (closing_line state exit) o new) found.1 ends) in
-        let here : IsSomeAnd (Some now) (Refuses why result before) = subst (λ o. IsSomeAnd o (Refuses why result before)) two all in
+        let kept : KeepsFiles before found.0 = record { file0 = refused_keeps err.0 before found.0 err.1 found.2; file1 = found.2.file1 } in
+        let as_found = refused_as held why exit is (if_told (λ t. Opens (Err exit) (recovered t.here.file0 t.here.file1)) (see old).told before one opens) in
+        let here : IsSomeAnd (Some now) (Refuses why result before) = subst (λ o. IsSomeAnd o (Refuses why result before)) two (last why is kept as_found ends) in
         here
+
+-- ---- a run, from what its parts did
+
+-- nothing was called
+recovery_none : (t : Told) → AfterRecovery t t
+recovery_none t = record {
+  file0 = refl;
+  file1 = refl;
+  store = refl;
+  text = refl;
+  volatile = refl;
+  accesses = refl;
+  calls = record {
+    made = [];
+    listed = sym (append-nil t.disk_calls);
+    are = record { whole = syncs; are = record { reading = []; is = refl; alone = All-nil IsReading }; begins = (syncs, refl) };
+  };
+}
+  where
+    syncs : List DiskCall
+    syncs = Sync Zero ∷ Sync One ∷ []
+
+pub none_called : {X : Type 0} (see : X → Seen) (start : Start) (script : List ℕ) (t : Told) (x : X) → (see x).told ≡ Some t → DoesRun see start script NoMemory t x x
+none_called see start script t x is =
+    let opened : AfterOpening t t = told_opened (Some t) (Some t) (recovery_none t) in
+    inl (record { cut = tt; told = rw is opened; kept = λ memory. rw is (recovery_none t); stops = adds_none (Opening (see x).clock t.here) (see x).clock })
+
+-- the journal wasn't opened
+pub not_opened : {X : Type 0} (see : X → Seen) (history : History) (script : List ℕ) (exit result : Exit) (line : List ℕ) (t : Told) (a b new : X) → (see a).told ≡ Some t → Recovers (account_of history) t.here
+    → IfSome (see a).told (λ u. Opens (Err exit) (recovered u.here.file0 u.here.file1)) → Relates AfterOpening (see a).told (see b).told → (exit ≡ NoMemory → Relates AfterRecovery (see a).told (see b).told)
+    → Adds (Opening (see a).clock t.here) (see a).clock (see b).clock → Ends see exit result line b new → DoesRun see (start_of history t.here) script result t a new
+not_opened see history script exit result line t a b new is recovers opens after kept stops ends = by ends
+  where
+    cut : IsCutOpening exit
+    cut = cut_opening exit (account_of history) (recovered t.here.file0 t.here.file1) recovers.is (if_told (λ u. Opens (Err exit) (recovered u.here.file0 u.here.file1)) (see a).told t is opens)
+
+    some : (P : Told → Told → Type 0) → Relates P (see a).told (see b).told → IsSomeAnd (see b).told (P t)
+    some P relates = let found = told_on P (see a).told (see b).told t is relates in rw found.1 found.2
+
+    by : Ends see exit result line b new → DoesRun see (start_of history t.here) script result t a new
+    by (inl said) = absurd (not_both exit (cut_is exit cut) said.0)
+    by (inr ended) = rw (ended.1, ended.2) (inl (record { cut = cut; told = some AfterOpening after; kept = λ memory. some AfterRecovery (kept memory); stops = stops }))
+
+-- it was opened
+pub ledger_holds : (start : Start) (ledger : Ledger) (u : Told) (told : Option Told) (clock : Clock) → IsStart start ledger → IsAccount ledger.account.state → Before ledger.journal.standing ledger.account.state u told clock → HoldsAfter start [] u
+ledger_holds start ledger u told clock begins account before = record {
+  account = subst IsAccount begins.account account;
+  at = record { recovers = before.at.recovers ∙ ap Ok begins.account; position = before.at.position ∙ ap Some begins.standing };
+}
+
+pub was_opened : {X : Type 0} (see : X → Seen) (start : Start) (script : List ℕ) (exit : Exit) (ledger : Ledger) (t : Told) (a b new : X) → (is : (see a).told ≡ Some t) → IsStart start ledger → IsAccount ledger.account.state
+    → (after : Relates AfterOpening (see a).told (see b).told) → Relates MakesOpening (see a).told (see b).told → Adds (Opening (see a).clock t.here) (see a).clock (see b).clock → IsReady ledger (see b).told (see b).clock
+    → TakesScript see start script (told_on AfterOpening (see a).told (see b).told t is after).0 exit b new → DoesRun see start script exit t a new
+was_opened see start script exit ledger t a b new is begins account after makes stops ready takes =
+    let found = told_on AfterOpening (see a).told (see b).told t is after in
+    let before = before_at ledger.journal.standing ledger.account.state (see b).told (see b).clock found.0 ready.stands found.1 in
+    inr (record {
+      mid = b;
+      there = found.0;
+      makes = told_both MakesOpening (see a).told (see b).told t found.0 is found.1 makes;
+      text = found.2.text;
+      store = found.2.store;
+      stops = stops;
+      rests = before.rests;
+      holds = ledger_holds start ledger found.0 (see b).told (see b).clock begins account before;
+      takes = takes;
+    })
+
+-- the device is left alone while it is opened
+pub opening_device : (told new : Option Told) (a b : Clock) → StoreIsLeft told a → Relates AfterOpening told new → ((t : Told) → told ≡ Some t → Adds (Opening a t.here) a b) → LeavesDevice told new a b
+opening_device told new a b law after stops =
+    device_by AfterOpening told new a b (λ u v opened. record { store = opened.store; volatile = opened.volatile; accesses = opened.accesses }) after
+    (λ t is. adds_weaker (Opening a t.here) (λ left. left.store ≡ t.here.store) a b (stops t is) (left_store t is))
+  where
+    left_store : (t : Told) → told ≡ Some t → (left : Left) → Opening a t.here left → left.store ≡ t.here.store
+    left_store t is left (inl before) = law t left is before
+    left_store t is left (inr formats) = ap (λ (l : Left). l.store) formats.rest
+
+-- ---- how it ends, and what stops leave of it
+
+module _ {X : Type 0} (see : X → Seen) (history : History) (script : List ℕ) (exit : Exit) (t : Told) (old new : X) (recovers : Recovers (account_of history) t.here) where
+  abbrev start : Start
+  start = start_of history t.here
+
+  early_by : (ending : CallEnding) → ending_of exit ≡ ending → EndsBy ⊥ ⊤ (OnlyFault disk_call) ending → (u : Told) → AfterOpening t u → (exit ≡ NoMemory → AfterRecovery t u) → EndsIn start script exit ending t.here.out u
+  early_by answered so never u after kept = absurd never
+  early_by source_failed so never u after kept = absurd never
+  early_by (faulted kind) so only u after kept = tt
+  early_by starved so any u after kept =
+      let keeps = kept (memory_ran_out exit so) in
+      early_none start script t u (record { is = rw (keeps.file0, keeps.file1) recovers.is }) keeps.text
+
+  pub run_ends : DoesRun see start script exit t old new → IsSomeAnd (see new).told (RunEnds start script exit t.here.out)
+  run_ends (inr d) = subst (λ out. IsSomeAnd (see new).told (RunEnds start script exit out)) d.text (takes_runs see start script d.there exit d.mid new d.rests d.holds d.takes)
+  run_ends (inl d) = by (see new).told d.told d.kept
+    where
+      by : (told : Option Told) → IsSomeAnd told (AfterOpening t) → (exit ≡ NoMemory → IsSomeAnd told (AfterRecovery t)) → IsSomeAnd told (RunEnds start script exit t.here.out)
+      by None after kept = absurd after
+      by (Some u) after kept = early_by (ending_of exit) refl d.cut u after kept
+
+  pub run_stops : DoesRun see start script exit t old new → Adds (RunMoment (see old).clock start script t.here) (see old).clock (see new).clock
+  run_stops (inl d) = opening_moments history script t (see old).clock (see new).clock recovers d.stops
+  run_stops (inr d) =
+      adds_both (RunMoment (see old).clock start script t.here) (see old).clock (see d.mid).clock (see new).clock
+      (opening_moments history script t (see old).clock (see d.mid).clock recovers d.stops)
+      (opened_moments (see old).clock start script t d.there (see d.mid).clock (see new).clock d.holds.account d.text d.store (takes_stops see start script d.there exit d.mid new d.rests d.holds d.takes))
+
+-- what follows of it where source and board tell, and the files hold a history
+pub over_does : {X : Type 0} (see : X → Seen) (P : Start → List ℕ → Told → Type 0) (task : Option Task) (script : Option (List ℕ)) (told : Option Told) (exit : Exit) (old new : X)
+    → ((history : History) (text : List ℕ) (t : Told) → told ≡ Some t → Recovers (account_of history) t.here → DoesRun see (start_of history t.here) text exit t old new → P (start_of history t.here) text t)
+    → OverRun (λ start text t. DoesRun see start text exit t old new) task script told → OverRun P task script told
+over_does see P (Some Run) (Some text) (Some t) exit old new gives does = λ history recovers. gives history text t refl recovers (does history recovers)
+over_does see P None script told exit old new gives does = tt
+over_does see P (Some Run) None told exit old new gives does = tt
+over_does see P (Some Run) (Some text) None exit old new gives does = tt

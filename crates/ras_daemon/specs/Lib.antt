@@ -5,6 +5,7 @@ pub mod RunOutput
 pub mod Headline
 pub mod Ended
 pub mod Ahead
-pub mod RunCalls
+pub mod RunActs
 pub mod Runs
 pub mod Running
+pub mod Doing

@@ -1,14 +1,13 @@
 -- Only for proofs: how far a run has come among its lines, and what stops leave of it.
-use Rattle.std.specs.Prelude.{◌≡◌, ℕ, ◌⊎◌, List, [], ◌∷◌, ◌++◌, Option, IfSome, Result, Ok, Err, ⊤, ◌+◌, ◌≤◌, length, IsSomeAnd, Some}
+use Rattle.std.specs.Prelude.{◌≡◌, ℕ, ◌⊎◌, List, [], ◌∷◌, ◌++◌, Option, ⊤, ◌+◌, ◌≤◌, length, IsSomeAnd, Some}
 use Rattle.std.specs.List.{AllByRecursion, flat_map}
-use Rattle.board_core.specs.Clock.{Clock, LeftNow, Rests}
+use Rattle.board_core.specs.Clock.{Clock, LeftNow}
 use Rattle.board_core.specs.Stop.{Left, Begins}
-use Rattle.board_core.specs.Told.{FailsPrint, Relates, Steps, Told, after_print}
+use Rattle.board_core.specs.Told.{Told}
 use Rattle.ras_base.specs.Places.{places}
 use Rattle.ras_account.specs.Account.{account_of}
 use Rattle.ras_account.specs.Accounts.{IsAccount}
 use Rattle.ras_journal.specs.Recovered.{Recovers}
-use Rattle.ras_recover.specs.DiskCalls.{IsBeginning, Makes}
 use Rattle.ras_ledger.specs.declared.ledger.Ledger.{Ledger}
 use Rattle.ras_events.specs.Reports.{NumberedLine}
 use Rattle.ras_script.specs.declared.reader.TheConstants.{LONGEST_LINE}
@@ -16,16 +15,14 @@ use Rattle.ras_script.specs.Splitting.{lines_of}
 use Rattle.ras_script.specs.SplittingLaws.{script_of}
 use Rattle.ras_texts.specs.Orders.{standing_lines}
 use Rattle.ras_exit.specs.declared.exit.Exit.{Exit}
-use Rattle.ras_exit.specs.declared.exit.Exit.TheVariants.{Done, PrintFault, NoMemory}
-use Rattle.ras_exit.specs.Endings.{CallEnding, IsAnswer, IsCut, OnWhole, answered, ending_of, faulted}
+use Rattle.ras_exit.specs.Endings.{CallEnding, answered, ending_of, faulted}
 use Rattle.ras_run.specs.Output.{output_at}
 use Rattle.ras_run.specs.Places.{Start, account_at}
 use Rattle.ras_run.specs.Status.{places_before_refusal}
-use Rattle.ras_run.specs.Taking.{IsAccepted, Prints}
+use Rattle.ras_run.specs.Taking.{IsAccepted}
 use Rattle.ras_daemon.specs.RunOutput.{closing_line}
 use Rattle.text_laws.specs.DoneLines.{ended_lines}
 use Rattle.ras_daemon.specs.Ahead.{events_in}
-use Rattle.ras_daemon.specs.RunCalls.{AreCallsAlong}
 use Rattle.ras_daemon.specs.RunStatus.{run_exit}
 use Rattle.ras_daemon.specs.Script.{reads_in, reads_of}
 
@@ -70,13 +67,13 @@ LinesMoment start script out left = BetweenLines start script out left ⊎ InLin
 
 -- while the journal is opened, while the orders that stand at the start are printed, and while the
 -- last line is
-pub record AtOpening (start : Start) (here left : Left) : Type 0 where
+pub record AtOpening (start : Start) (out : List ℕ) (left : Left) : Type 0 where
   pub recovers : Recovers (account_of start.history) left
-  pub text : left.out ≡ here.out
+  pub text : left.out ≡ out
 
-pub record AtStart (start : Start) (here left : Left) : Type 0 where
+pub record AtStart (start : Start) (out : List ℕ) (left : Left) : Type 0 where
   pub recovers : Recovers (account_of start.history) left
-  pub text : Begins (standing_lines (account_of start.history)) here.out left.out
+  pub text : Begins (standing_lines (account_of start.history)) out left.out
 
 pub record AtEnd (start : Start) (script : List ℕ) (out : List ℕ) (left : Left) : Type 0 where
   pub before : List NumberedLine
@@ -86,8 +83,14 @@ pub record AtEnd (start : Start) (script : List ℕ) (out : List ℕ) (left : Le
   pub text : Begins (closing_line (account_at start before) exit) (out ++ outputs start before) left.out
 
 -- the text that stands before the lines
-abbrev pub lines_from : Start → Left → List ℕ
-lines_from start here = here.out ++ standing_lines (account_of start.history)
+abbrev pub lines_from : Start → List ℕ → List ℕ
+lines_from start out = out ++ standing_lines (account_of start.history)
+
+-- once the journal is open
+abbrev pub OpenMoment : Start → List ℕ → List ℕ → Left → Type 0
+OpenMoment start script out left =
+    AtStart start out left
+    ⊎ (LinesMoment start script (lines_from start out) left ⊎ AtEnd start script (lines_from start out) left)
 
 -- What a stop leaves of a run: what one at its start may have left, or what stands at a moment of
 -- it with the record store as it was. Once the journal is open, what it holds is an account.
@@ -95,96 +98,41 @@ abbrev pub RunMoment : Clock → Start → List ℕ → Left → Left → Type 0
 RunMoment clock start script here left =
     LeftNow clock left
     ⊎ ((left.store ≡ here.store)
-    × (AtOpening start here left
-    ⊎ (IsAccount (account_of start.history)
-    × (AtStart start here left
-    ⊎ (LinesMoment start script (lines_from start here) left ⊎ AtEnd start script (lines_from start here) left)))))
-
--- ---- where a part of a run ends
-
--- P holds unless a call of the board failed.
-abbrev pub UnlessFault : {T : Type 0} → Result T Exit → Type 0 → Type 0
-UnlessFault (Ok done) P = P
-UnlessFault (Err exit) P = OnWhole exit P
-
--- if a board tells, a stop now leaves just what is told
-abbrev pub IsAtRest : Option Told → Clock → Type 0
-IsAtRest told clock = IfSome told (λ t. Rests t told clock)
+    × (AtOpening start here.out left ⊎ (IsAccount (account_of start.history) × OpenMoment start script here.out left)))
 
 -- a ledger with which a run begins so
 pub record IsStart (start : Start) (ledger : Ledger) : Type 0 where
   pub account : ledger.account.state ≡ account_of start.history
   pub standing : ledger.journal.standing ≡ start.standing
 
--- ---- how far the lines were taken
-
--- The lines were all taken, or a run ends among them.
-pub record TookLines (start : Start) (script : List ℕ) (before : List NumberedLine) (old now : Told) : Type 0 where
-  pub first : AreFirst start script before
-  pub text : Prints (outputs start before) old now
-  pub recovers : Recovers (account_at start before) now.here
-
--- A run that ends among them took some: those before the refused line, or before it was cut short.
-abbrev pub EndsAmong : Start → List ℕ → Exit → CallEnding → Told → Told → Type 0
-EndsAmong start script exit answered old now =
-    (before : List NumberedLine) × TookLines start script before old now × AreAll start script exit before
-EndsAmong start script exit (faulted kind) old now = ⊤
-EndsAmong start script exit ending old now = (before : List NumberedLine) × TookLines start script before old now
-
-abbrev pub TakesLines : Start → List ℕ → Result (Unit {0}) Exit → Told → Told → Type 0
-TakesLines start script (Ok done) old now =
-    TookLines start script (reads_of script) old now × AreAll start script Done (reads_of script)
-TakesLines start script (Err exit) old now = EndsAmong start script exit (ending_of exit) old now
-
--- ---- how a run ends
+-- ---- how a run ends; the text is that before it
 
 -- If memory ran out or the source failed, some first lines were taken, or not even the orders at
 -- the start were printed.
-pub record EndsEarly (start : Start) (script : List ℕ) (old now : Told) : Type 0 where
+pub record EndsEarly (start : Start) (script out : List ℕ) (now : Told) : Type 0 where
   pub before : List NumberedLine
   pub first : AreFirst start script before
   pub recovers : Recovers (account_at start before) now.here
   pub text :
       (IsAccount (account_of start.history)
-      × Prints (standing_lines (account_of start.history) ++ outputs start before) old now)
-      ⊎ (Prints [] old now × (before ≡ []))
+      × (now.here.out ≡ out ++ (standing_lines (account_of start.history) ++ outputs start before)))
+      ⊎ ((now.here.out ≡ out) × (before ≡ []))
 
 -- And if a run comes to an answer, its last line was printed.
-pub record EndsSo (start : Start) (script : List ℕ) (exit : Exit) (old now : Told) : Type 0 where
+pub record EndsSo (start : Start) (script : List ℕ) (exit : Exit) (out : List ℕ) (now : Told) : Type 0 where
   pub before : List NumberedLine
   pub all : AreAll start script exit before
   pub account : IsAccount (account_of start.history)
   pub recovers : Recovers (account_at start before) now.here
-  pub text : Prints (standing_lines (account_of start.history) ++ (outputs start before ++ closing_line (account_at start before) exit)) old now
+  pub text : now.here.out ≡ out ++ (standing_lines (account_of start.history) ++ (outputs start before ++ closing_line (account_at start before) exit))
 
-abbrev pub EndsIn : Start → List ℕ → Exit → CallEnding → Told → Told → Type 0
-EndsIn start script exit answered old now = EndsSo start script exit old now
-EndsIn start script exit (faulted kind) old now = ⊤
-EndsIn start script exit ending old now = EndsEarly start script old now
+abbrev pub EndsIn : Start → List ℕ → Exit → CallEnding → List ℕ → Told → Type 0
+EndsIn start script exit answered out now = EndsSo start script exit out now
+EndsIn start script exit (faulted kind) out now = ⊤
+EndsIn start script exit ending out now = EndsEarly start script out now
 
-abbrev pub RunEnds : Start → List ℕ → Exit → Told → Told → Type 0
-RunEnds start script exit old now = EndsIn start script exit (ending_of exit) old now
-
--- ---- the last line
-
--- A last line was printed, or that failed, or memory ran out before it.
-abbrev pub Says : Exit → Exit → List ℕ → Option Told → Option Told → Type 0
-Says exit result line old new =
-    ((result ≡ exit) × Steps (after_print line) old new)
-    ⊎ (((result ≡ PrintFault) × Relates (FailsPrint line) old new)
-    ⊎ ((result ≡ NoMemory) × (new ≡ old)))
-
--- A run that would end so ends with its last line, or as it was cut short.
-abbrev pub Ends : Exit → Exit → List ℕ → Option Told → Option Told → Type 0
-Ends exit result line old new =
-    (IsAnswer exit × Says exit result line old new) ⊎ (IsCut exit × (result ≡ exit) × (new ≡ old))
-
--- ---- what stops leave once the journal is open
-
-abbrev pub OpenMoment : Start → List ℕ → Left → Left → Type 0
-OpenMoment start script here left =
-    AtStart start here left
-    ⊎ (LinesMoment start script (lines_from start here) left ⊎ AtEnd start script (lines_from start here) left)
+abbrev pub RunEnds : Start → List ℕ → Exit → List ℕ → Told → Type 0
+RunEnds start script exit out now = EndsIn start script exit (ending_of exit) out now
 
 -- ---- how far the source was read
 
@@ -216,11 +164,4 @@ EndsAhead Fault start script from left told =
 abbrev pub RunAhead : Type 0 → Start → List ℕ → Told → Option (List ℕ) → Option Told → Type 0
 RunAhead Fault start script t left told =
     (left ≡ Some script)
-    ⊎ (IsAccount (account_of start.history) × EndsAhead Fault start script (lines_from start t.here) left told)
-
--- ---- disk calls
-
--- a beginning of the disk calls of a script's lines was made
-abbrev pub MakesAlong : Start → List ℕ → Told → Told → Type 0
-MakesAlong start script =
-    Makes (IsBeginning (AreCallsAlong start (places_before_refusal start (places (reads_of script)))))
+    ⊎ (IsAccount (account_of start.history) × EndsAhead Fault start script (lines_from start t.here.out) left told)

@@ -1,41 +1,33 @@
 //! The top call.
 
-ghost use Rattle.std.specs.Prelude.{◌≡◌, ◌⊎◌, ◌++◌, ℕ, List, [], length, false, Some, None};
-ghost use Rattle.std.specs.Prelude.{IfSome, IfNone, IsSomeAnd};
-ghost use Rattle.board_core.specs.Clock.{Adds, Always};
-ghost use Rattle.board_core.specs.Told.{Relates, Steps, Told, after_print};
-ghost use Rattle.ras_account.specs.Accounts.{IsAccount};
+ghost use Rattle.std.specs.Prelude.{◌≡◌, ◌⊎◌, ◌++◌, [], length, Some, IfSome, IfNone, IsSomeAnd};
+ghost use Rattle.board_core.specs.Clock.{Always};
+ghost use Rattle.board_core.specs.Device.{LeavesDevice};
+ghost use Rattle.board_core.specs.Doing.{looks};
+ghost use Rattle.board_core.specs.Told.{Relates, Steps, after_print};
 ghost use Rattle.ras_recover.specs.DiskCalls.{IsBeginning, Makes};
 ghost use Rattle.ras_exit.specs.Causes.{BoardCause, SourceCause};
-ghost use Rattle.board_core.specs.Device.{LeavesDevice};
-ghost use Rattle.ras_exit.specs.Endings.{OnAnswer, OnWhole};
-ghost use Rattle.ras_run.specs.Places.{Start};
+ghost use Rattle.ras_exit.specs.Endings.{OnAnswer, OnWhole, ending_of};
 ghost use Rattle.ras_exit.specs.StopLine.{stop_line};
 ghost use Rattle.ras_exit.specs.Telling.{OnlyPrints, PrintsPart};
 ghost use Rattle.ras_run.specs.Files.{files_refusal};
-ghost use Rattle.ras_run.specs.Taking.{LedgerStands};
 ghost use Rattle.text_laws.specs.DoneLines.{done_count};
 ghost use Rattle.ras_daemon.specs.Ahead.{TakesAhead};
+ghost use Rattle.ras_daemon.specs.Doing.{DoesRun};
 ghost use Rattle.ras_daemon.specs.Ended.{IsQuiet, IsQuietBoard, OverFiles, RefusesFiles};
 ghost use Rattle.ras_daemon.specs.Headline.{Headline, IsWhole, OverRun, StopsRecover};
-ghost use Rattle.ras_daemon.specs.RunCalls.{AreRunCalls};
+ghost use Rattle.ras_daemon.specs.RunActs.{AreRunCalls, DidRun};
 ghost use Rattle.ras_daemon.specs.RunOutput.{run_output};
 ghost use Rattle.ras_daemon.specs.RunStatus.{run_exit};
-ghost use Rattle.ras_daemon.specs.Running.{IsStart, MakesAlong, OpenMoment, RunAhead, RunEnds, RunMoment};
+ghost use Rattle.ras_daemon.specs.Running.{RunAhead};
 ghost use Rattle.ras_daemon.specs.Script.{events_of};
 ghost use Rattle.ras_daemon.specs.Task.{task_of};
 
-use crate::ending::{end_run, last_line};
-use crate::lines::take_lines;
+use crate::ending::last_line;
+use crate::running::run;
 use crate::{RasWord, Task, task_of};
 use board_core::{Board, Source};
-use ras_account::Account;
-use ras_base::NoMemory;
-use ras_events::Settings;
 use ras_exit::Exit;
-use ras_ledger::Ledger;
-use ras_run::{Run, open, print_standing};
-use ras_script::LineReader;
 use std::alloc::Global;
 
 /// Does what the words ask for, over a source that gives the script and a board that keeps the
@@ -76,10 +68,15 @@ pub fn rasd<S: Source, B: Board>(
         IsSomeAnd (B.told board.new) (TakesAhead result script left told)))
         (task_of words.now) (S.left source.old) (B.told board.old) }
 
-    // Its disk calls are those of an opening and of the lines, in order, or at any exit a beginning
-    // of them: of each event that has news at most one switch, and the append of one link.
+    // A run does its acts in order: the opening's, the print of the orders that stand, those of each
+    // line before the first refused one, and the print of the last line. At an answer all are done;
+    // if a call of the board failed it is the last that was made of them; else some first ones are
+    // done. Its disk calls are theirs, or at any exit a beginning of them.
+    ensures acts { OverRun (λ start script told. IsSomeAnd (B.told board.new)
+        (DidRun start script (ending_of result) told))
+        (task_of words.now) (S.left source.old) (B.told board.old) }
     ensures calls { OverRun (λ start script told. IsSomeAnd (B.told board.new)
-        (Makes (IsBeginning (AreRunCalls start script told.here)) told))
+        (Makes (IsBeginning (AreRunCalls start script told)) told))
         (task_of words.now) (S.left source.old) (B.told board.old) }
 
     // If the files at the start are damaged or too long, the run says so and leaves them.
@@ -126,19 +123,12 @@ fn call<S: Source, B: Board>(
     source: &mut S,
     board: &mut B,
 ) -> Exit
-    ensures runs { OverRun (λ start script told. IsSomeAnd (B.told board.new)
-        (RunEnds start script result told))
-        (task_of words.now) (S.left source.old) (B.told board.old) }
-    ensures moments { OverRun (λ start script told.
-        Adds (RunMoment (B.clock board.old) start script told.here)
-        (B.clock board.old) (B.clock board.new))
+    ensures does { OverRun (λ start script told. DoesRun (looks B.told B.clock B.faults)
+        start script result told board.old board.new)
         (task_of words.now) (S.left source.old) (B.told board.old) }
     ensures ahead { OverRun (λ start script told.
         RunAhead (result ≡ Exit.SourceFault) start script told (S.left source.new)
         (B.told board.new))
-        (task_of words.now) (S.left source.old) (B.told board.old) }
-    ensures calls { OverRun (λ start script told. IsSomeAnd (B.told board.new)
-        (Makes (IsBeginning (AreRunCalls start script told.here)) told))
         (task_of words.now) (S.left source.old) (B.told board.old) }
     ensures refused { OverFiles
         (λ before now. RefusesFiles (files_refusal before.here) result before now)
@@ -162,92 +152,4 @@ fn call<S: Source, B: Board>(
         Some(Task::Run) => run(alloc, source, board),
         None => last_line(b"stop 1 usage\n", Exit::Usage, board),
     }
-}
-
-// Opens the journal, and takes a script over it.
-fn run<S: Source, B: Board>(alloc: Global, source: &mut S, board: &mut B) -> Exit
-    ensures runs { OverRun (λ start script told. IsSomeAnd (B.told board.new)
-        (RunEnds start script result told)) (Some Task.Run) (S.left source.old) (B.told board.old) }
-    ensures moments { OverRun (λ start script told.
-        Adds (RunMoment (B.clock board.old) start script told.here)
-        (B.clock board.old) (B.clock board.new))
-        (Some Task.Run) (S.left source.old) (B.told board.old) }
-    ensures ahead { OverRun (λ start script told.
-        RunAhead (result ≡ Exit.SourceFault) start script told (S.left source.new)
-        (B.told board.new))
-        (Some Task.Run) (S.left source.old) (B.told board.old) }
-    ensures calls { OverRun (λ start script told. IsSomeAnd (B.told board.new)
-        (Makes (IsBeginning (AreRunCalls start script told.here)) told))
-        (Some Task.Run) (S.left source.old) (B.told board.old) }
-    ensures refused { OverFiles
-        (λ before now. RefusesFiles (files_refusal before.here) result before now)
-        (Some Task.Run) (B.told board.old) (B.told board.new) }
-    ensures ended { result ≡ Exit.Done
-        → IfSome (S.left source.old) (λ script. S.left source.new ≡ Some []) }
-    ensures source { SourceCause result (S.faults source.old) (S.faults source.new) }
-    ensures board { BoardCause result (B.faults board.old) (B.faults board.new) }
-    ensures device { LeavesDevice (B.told board.old) (B.told board.new)
-        (B.clock board.old) (B.clock board.new) }
-    ensures listed { result ≡ Exit.Usage → ⊥ }
-{
-    let mut reader = match LineReader::new(alloc) {
-        Ok(reader) => reader,
-        Err(NoMemory) => return Exit::NoMemory,
-    };
-    match open(alloc, board) {
-        Ok(ledger) => take_script(alloc, &mut reader, ledger, source, board),
-        // No account was made: the last line of a refusal tells nothing of it.
-        Err(exit) => end_run(alloc, exit, &Account::new(alloc), board),
-    }
-}
-
-// Takes a script over a journal that was opened: the orders that stand are printed, then its lines
-// are taken, and then the run ends.
-fn take_script<S: Source, B: Board>(
-    alloc: Global,
-    reader: &mut LineReader,
-    ledger: Ledger,
-    source: &mut S,
-    board: &mut B,
-) -> Exit
-    requires fresh { reader.old ≡ record { line = []; held = []; taken = 0 } }
-    requires usable { ledger.journal.failed ≡ false }
-    requires stands { LedgerStands ledger (B.told board.old) (B.clock board.old) }
-    requires account { IsAccount ledger.account.state }
-
-    ensures runs { (start : Start) (script : List ℕ) (t : Told) → IsStart start ledger
-        → S.left source.old ≡ Some script → B.told board.old ≡ Some t
-        → IsSomeAnd (B.told board.new) (RunEnds start script result t) }
-    ensures moments { (start : Start) (script : List ℕ) (t : Told) → IsStart start ledger
-        → S.left source.old ≡ Some script → B.told board.old ≡ Some t
-        → Adds (λ left. (left.store ≡ t.here.store) × OpenMoment start script t.here left)
-        (B.clock board.old) (B.clock board.new) }
-    ensures ahead { (start : Start) (script : List ℕ) (t : Told) → IsStart start ledger
-        → S.left source.old ≡ Some script → B.told board.old ≡ Some t
-        → RunAhead (result ≡ Exit.SourceFault) start script t (S.left source.new)
-        (B.told board.new) }
-    ensures calls { (start : Start) (script : List ℕ) (t : Told) → IsStart start ledger
-        → S.left source.old ≡ Some script → B.told board.old ≡ Some t
-        → IsSomeAnd (B.told board.new) (MakesAlong start script t) }
-    ensures ended { result ≡ Exit.Done
-        → IfSome (S.left source.old) (λ script. S.left source.new ≡ Some []) }
-    ensures source { SourceCause result (S.faults source.old) (S.faults source.new) }
-    ensures board { BoardCause result (B.faults board.old) (B.faults board.new) }
-    ensures device { LeavesDevice (B.told board.old) (B.told board.new)
-        (B.clock board.old) (B.clock board.new) }
-    ensures listed { result ≡ Exit.Usage → ⊥ }
-{
-    if let Err(exit) = print_standing(alloc, &ledger.account, board) {
-        return exit;
-    }
-    let mut run = Run {
-        settings: Settings::new(alloc),
-        ledger,
-        text: Vec::new(alloc),
-    };
-    let exit = match take_lines(alloc, reader, &mut run, source, board) {
-        Ok(()) => Exit::Done,
-        Err(exit) => exit,
-    };
-    end_run(alloc, exit, &run.ledger.account, board)
 }

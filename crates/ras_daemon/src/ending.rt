@@ -1,14 +1,11 @@
 //! The end of a run, and its last line.
 
 ghost use Rattle.std.specs.Prelude.{◌≡◌, ◌⊎◌, IfOk};
-ghost use Rattle.board_core.specs.Clock.{Adds, Rests};
-ghost use Rattle.board_core.specs.Stop.{Begins, InOut};
-ghost use Rattle.board_core.specs.Told.{Told};
-ghost use Rattle.ras_exit.specs.Causes.{BoardCause};
 ghost use Rattle.board_core.specs.Device.{LeavesDevice};
-ghost use Rattle.ras_exit.specs.Endings.{IsAnswer, IsCut};
+ghost use Rattle.board_core.specs.Doing.{looks};
+ghost use Rattle.ras_exit.specs.Endings.{IsAnswer};
+ghost use Rattle.ras_daemon.specs.Doing.{Ends, Says};
 ghost use Rattle.ras_daemon.specs.RunOutput.{closing_line};
-ghost use Rattle.ras_daemon.specs.Running.{Ends, Says};
 
 use board_core::Board;
 use ras_account::Account;
@@ -35,13 +32,8 @@ pub fn closing_line(alloc: Global, exit: Exit, account: &Account) -> Result<Vec<
 /// Prints the last line of a run that ends by this exit, and tells how it ended. If a fault or lack
 /// of memory cut the run short, it has no last line.
 pub fn end_run<B: Board>(alloc: Global, exit: Exit, account: &Account, board: &mut B) -> Exit
-    ensures ends { Ends exit result (closing_line account.now.state exit)
-        (B.told board.old) (B.told board.new) }
-    ensures stops { (t : Told) → Rests t (B.told board.old) (B.clock board.old)
-        → Adds (InOut (Begins (closing_line account.now.state exit)) t.here)
-        (B.clock board.old) (B.clock board.new) }
-    ensures cut { IsCut exit → board.new ≡ board.old }
-    ensures faults { IsAnswer exit → BoardCause result (B.faults board.old) (B.faults board.new) }
+    ensures ends { Ends (looks B.told B.clock B.faults) exit result
+        (closing_line account.now.state exit) board.old board.new }
     ensures device { LeavesDevice (B.told board.old) (B.told board.new)
         (B.clock board.old) (B.clock board.new) }
 {
@@ -57,11 +49,9 @@ pub fn end_run<B: Board>(alloc: Global, exit: Exit, account: &Account, board: &m
 /// Prints the last line of a call that ends by this exit, and tells how it ended.
 pub fn last_line<B: Board>(line: &[u8], exit: Exit, board: &mut B) -> Exit
     requires { IsAnswer exit }
-    ensures says { Says exit result line.now (B.told board.old) (B.told board.new) }
+    ensures says { Says (looks B.told B.clock B.faults) exit result line.now
+        board.old board.new }
     ensures exits { (result ≡ exit) ⊎ (result ≡ Exit.PrintFault) }
-    ensures stops { (t : Told) → Rests t (B.told board.old) (B.clock board.old)
-        → Adds (InOut (Begins line.now) t.here) (B.clock board.old) (B.clock board.new) }
-    ensures faults { BoardCause result (B.faults board.old) (B.faults board.new) }
     ensures device { LeavesDevice (B.told board.old) (B.told board.new)
         (B.clock board.old) (B.clock board.new) }
 {

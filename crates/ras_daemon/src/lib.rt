@@ -6,6 +6,7 @@ mod daemon;
 mod ending;
 mod laws;
 mod lines;
+mod running;
 mod word;
 
 pub use daemon::rasd;

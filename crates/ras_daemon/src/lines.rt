@@ -1,15 +1,15 @@
 //! The lines of a script, taken in order.
 
-ghost use Rattle.std.specs.Prelude.{◌≡◌, Err, ℕ, List, [], false, Ok, Some, IfErr, IfSome, IsSomeAnd};
-ghost use Rattle.board_core.specs.Clock.{Adds};
+ghost use Rattle.std.specs.Prelude.{◌≡◌, Err, ℕ, List, [], Ok, Some, IfErr, IfSome};
+ghost use Rattle.board_core.specs.Device.{LeavesDevice};
+ghost use Rattle.board_core.specs.Doing.{looks};
 ghost use Rattle.board_core.specs.Told.{Told};
 ghost use Rattle.ras_exit.specs.Causes.{BoardCause, Causes, SourceCause};
-ghost use Rattle.board_core.specs.Device.{LeavesDevice};
 ghost use Rattle.ras_exit.specs.Endings.{IsLineExit};
 ghost use Rattle.ras_run.specs.Places.{Start};
-ghost use Rattle.ras_run.specs.Taking.{IsRunAfter, LedgerStands};
-ghost use Rattle.ras_daemon.specs.Running.{EndsAhead, IsAtRest, LinesMoment, MakesAlong, TakesLines, UnlessFault};
-ghost use Rattle.ras_daemon.specs.Script.{reads_of};
+ghost use Rattle.ras_run.specs.Taking.{IsReady, IsRunAfter};
+ghost use Rattle.ras_daemon.specs.Doing.{DoesLines};
+ghost use Rattle.ras_daemon.specs.Running.{EndsAhead};
 
 use board_core::{Board, Source};
 use ras_exit::{Exit, Reason};
@@ -32,32 +32,21 @@ pub fn take_lines<S: Source, B: Board>(
     board: &mut B,
 ) -> Result<(), Exit>
     requires fresh { reader.old ≡ record { line = []; held = []; taken = 0 } }
-    requires usable { run.old.ledger.journal.failed ≡ false }
-    requires stands { LedgerStands run.old.ledger (B.told board.old) (B.clock board.old) }
+    requires ready { IsReady run.old.ledger (B.told board.old) (B.clock board.old) }
 
-    ensures takes { (start : Start) (script : List ℕ) (t : Told) → IsRunAfter start [] run.old
+    ensures does { (start : Start) (script : List ℕ) (t : Told) → IsRunAfter start [] run.old
         → S.left source.old ≡ Some script → B.told board.old ≡ Some t
-        → IsSomeAnd (B.told board.new) (TakesLines start script result t) }
-    ensures run { (start : Start) (script : List ℕ) (t : Told) → IsRunAfter start [] run.old
-        → S.left source.old ≡ Some script → B.told board.old ≡ Some t
-        → result ≡ Ok tt → IsRunAfter start (reads_of script) run.new }
-    ensures moments { (start : Start) (script : List ℕ) (t : Told) → IsRunAfter start [] run.old
-        → S.left source.old ≡ Some script → B.told board.old ≡ Some t
-        → Adds (λ left. (left.store ≡ t.here.store) × LinesMoment start script t.here.out left)
-        (B.clock board.old) (B.clock board.new) }
+        → DoesLines (looks B.told B.clock B.faults) start script t result run.new
+        board.old board.new }
     ensures ahead { (start : Start) (script : List ℕ) (t : Told) → IsRunAfter start [] run.old
         → S.left source.old ≡ Some script → B.told board.old ≡ Some t
         → EndsAhead (result ≡ Err Exit.SourceFault) start script t.here.out (S.left source.new)
         (B.told board.new) }
-    ensures calls { (start : Start) (script : List ℕ) (t : Told) → IsRunAfter start [] run.old
-        → S.left source.old ≡ Some script → B.told board.old ≡ Some t
-        → IsSomeAnd (B.told board.new) (MakesAlong start script t) }
-    ensures rests { UnlessFault result (IsAtRest (B.told board.new) (B.clock board.new)) }
     ensures ended { result ≡ Ok tt
         → IfSome (S.left source.old) (λ script. S.left source.new ≡ Some []) }
     ensures stop { IfErr result IsLineExit }
-    ensures source { Causes SourceCause result (S.faults source.old) (S.faults source.new) }
-    ensures faults { Causes BoardCause result (B.faults board.old) (B.faults board.new) }
+    ensures causes { Causes SourceCause result (S.faults source.old) (S.faults source.new)
+        × Causes BoardCause result (B.faults board.old) (B.faults board.new) }
     ensures device { LeavesDevice (B.told board.old) (B.told board.new)
         (B.clock board.old) (B.clock board.new) }
 {

@@ -1,16 +1,29 @@
 -- Words of no listed form: what the last line says of them.
+use Rattle.std.proofs.Common.{refl}
+use Rattle.board_core.specs.Doing.{looks}
 use Rattle.ras_exit.specs.StopLine.{stop_line}
 use Rattle.ras_exit.specs.declared.exit.Exit.TheVariants.{Usage}
 use Rattle.ras_daemon.specs.Task.{task_of}
+use Rattle.ras_daemon.proofs.SaidLemmas.{says_cause, says_source, says_printed}
 use Rattle.ras_daemon.proofs.UsageLemmas.{if-none, only-prints, usage-said}
 use Rattle.ras_daemon.proofs.daemon.call.Goals as goal
 
 pub returns-in-None-clause-alone : goal.returns-in-None-clause-alone
 returns-in-None-clause-alone g c =
     if-none (task_of c.args.words.now) _
-    (only-prints Usage c.last_line.result (stop_line Usage) (g.B.Board.told c.args.board.now) (g.B.Board.told c.last_line.new.board) c.last_line.ensures.says)
+    (only-prints Usage c.last_line.result (stop_line Usage) (g.B.Board.told c.args.board.now) (g.B.Board.told c.last_line.new.board)
+    (says_printed (looks g.B.Board.told g.B.Board.clock g.B.Board.faults) Usage c.last_line.result (stop_line Usage) c.args.board.now c.last_line.new.board c.last_line.ensures.says))
 
 pub returns-in-None-clause-said : goal.returns-in-None-clause-said
 returns-in-None-clause-said g c =
     if-none (task_of c.args.words.now) _
-    (usage-said c.last_line.result (stop_line Usage) (g.B.Board.told c.args.board.now) (g.B.Board.told c.last_line.new.board) c.last_line.ensures.says)
+    (usage-said c.last_line.result (stop_line Usage) (g.B.Board.told c.args.board.now) (g.B.Board.told c.last_line.new.board)
+    (says_printed (looks g.B.Board.told g.B.Board.clock g.B.Board.faults) Usage c.last_line.result (stop_line Usage) c.args.board.now c.last_line.new.board c.last_line.ensures.says))
+
+pub returns-in-None-clause-source : goal.returns-in-None-clause-source
+returns-in-None-clause-source g c =
+    says_source (looks g.B.Board.told g.B.Board.clock g.B.Board.faults) Usage c.last_line.result (stop_line Usage) c.args.board.now c.last_line.new.board _ _ refl refl c.last_line.ensures.says
+
+pub returns-in-None-clause-board : goal.returns-in-None-clause-board
+returns-in-None-clause-board g c =
+    says_cause (looks g.B.Board.told g.B.Board.clock g.B.Board.faults) Usage c.last_line.result (stop_line Usage) c.args.board.now c.last_line.new.board refl c.last_line.ensures.says

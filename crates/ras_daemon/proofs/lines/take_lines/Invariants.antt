@@ -1,25 +1,22 @@
-use Rattle.std.proofs.Common.{◌≡◌, ℕ, ◌+◌, ◌-◌, ◌≤◌, List, [], false, Some, IfSome}
-use Rattle.board_core.specs.Clock.{Adds}
+use Rattle.std.proofs.Common.{◌≡◌, ℕ, ◌+◌, ◌-◌, ◌≤◌, List, [], Some, IfSome}
+use Rattle.board_core.specs.Device.{LeavesDevice}
+use Rattle.board_core.specs.Doing.{looks}
 use Rattle.board_core.specs.Told.{Told}
 use Rattle.ras_script.specs.declared.reader.TheConstants.{LONGEST_SCRIPT}
 use Rattle.ras_script.specs.Reader.{given_count}
-use Rattle.board_core.specs.Device.{LeavesDevice}
 use Rattle.ras_run.specs.Places.{Start}
-use Rattle.ras_run.specs.Taking.{IsRunAfter, LedgerStands}
-use Rattle.ras_daemon.specs.Running.{LinesMoment}
-use Rattle.ras_daemon.proofs.LinesLemmas.{Taking}
+use Rattle.ras_run.specs.Taking.{IsReady, IsRunAfter}
+use Rattle.ras_daemon.proofs.LinesLemmas.{Took}
 use Rattle.ras_daemon.proofs.lines.take_lines.Given as goal
 
--- The first lines were taken, and the others are to come. Each has at least one byte of the script.
+-- The first lines were taken and did their acts, and the others are to come. Each has at least one
+-- byte of the script.
 abbrev pub invariant-loop-number : goal.invariant-loop-number
 invariant-loop-number g l = record {
   took : (start : Start) (script : List ℕ) (t : Told) → IsRunAfter start [] l.fn.run → g.S.Source.left l.fn.source ≡ Some script → g.B.Board.told l.fn.board ≡ Some t
-      → Taking start script t l.number l.reader (g.S.Source.left l.source) l.run (g.B.Board.told l.board);
-  moments : (start : Start) (script : List ℕ) (t : Told) → IsRunAfter start [] l.fn.run → g.S.Source.left l.fn.source ≡ Some script → g.B.Board.told l.fn.board ≡ Some t
-      → Adds (λ left. (left.store ≡ t.here.store) × LinesMoment start script t.here.out left) (g.B.Board.clock l.fn.board) (g.B.Board.clock l.board);
+      → Took (looks g.B.Board.told g.B.Board.clock g.B.Board.faults) start script t l.number l.reader (g.S.Source.left l.source) l.run l.fn.board l.board;
   tells : IfSome (g.S.Source.left l.fn.source) (λ script. (now : List ℕ) × (g.S.Source.left l.source ≡ Some now));
-  usable : l.run.ledger.journal.failed ≡ false;
-  stands : LedgerStands l.run.ledger (g.B.Board.told l.board) (g.B.Board.clock l.board);
+  ready : IsReady l.run.ledger (g.B.Board.told l.board) (g.B.Board.clock l.board);
   counted : l.number ≤ given_count l.reader;
   source : g.S.Source.faults l.source ≡ g.S.Source.faults l.fn.source;
   faults : g.B.Board.faults l.board ≡ g.B.Board.faults l.fn.board;

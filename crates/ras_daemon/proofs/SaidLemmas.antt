@@ -1,0 +1,135 @@
+-- What is told once a last line was printed or not, and why it ends so.
+use Rattle.std.proofs.Common.{◌≡◌, ℕ, List, Option, Result, Ok, Err, refl, ap, sym, ◌∙◌, subst, inl, inr, [], None, Some, append-nil}
+use Rattle.std.specs.Prelude.{⊤, IfSome, IsSomeAnd}
+use Rattle.board_core.specs.Cause.{Faults, print_call}
+use Rattle.board_core.specs.Clock.{Clock}
+use Rattle.board_core.specs.Device.{LeavesDevice}
+use Rattle.board_core.specs.Doing.{Act, Does, Ended, Seen}
+use Rattle.board_core.specs.Told.{FailsPrint, Relates, Steps, Told, after_print}
+use Rattle.board_core.proofs.ActLemmas.{does_leave_device}
+use Rattle.ras_account.specs.Account.{State}
+use Rattle.ras_journal.specs.declared.standing.Standing.{Standing}
+use Rattle.ras_journal.specs.Appending.{Before}
+use Rattle.ras_ledger.specs.Keeping.{Stands}
+use Rattle.ras_exit.specs.Acts.{end_of, print_acts}
+use Rattle.ras_exit.specs.Causes.{BoardCause, BoardCauseBy, Causes, SourceCause, SourceCauseBy}
+use Rattle.ras_exit.specs.Endings.{OnAnswer, CallEnding, EndsBy, IsAnswer, IsCut, IsLineExit, OnlyFault, answered, ending_of, faulted, source_failed, starved}
+use Rattle.ras_exit.specs.declared.exit.Exit.{Exit}
+use Rattle.ras_exit.specs.declared.exit.Exit.TheVariants.{PrintFault, Usage}
+use Rattle.ras_exit.proofs.EndingLemmas.{not_both, on_answer, on_cut}
+use Rattle.ras_exit.proofs.PrintLemmas.{not_printed, part_causes, printed}
+use Rattle.ras_run.specs.Taking.{IsPrintExit}
+use Rattle.ras_base.specs.Prefix.{IsPrefixOf}
+use Rattle.ras_daemon.specs.Doing.{Ends, Says}
+use Rattle.ras_daemon.proofs.ScriptLemmas.{prints_off}
+use Rattle.ras_daemon.proofs.TakenLemmas.{EndsAs, answers}
+
+-- ---- what is told
+
+-- Of a last line a beginning was printed, and all of it if that is the answer.
+pub record Printed (exit result : Exit) (line : List ℕ) (old now : Told) : Type 0 where
+  pub part : List ℕ
+  pub begins : IsPrefixOf part line
+  pub is : now ≡ after_print part old
+  pub answers : OnAnswer result ((result ≡ exit) × (part ≡ line))
+
+none_printed : (exit result : Exit) (line : List ℕ) (a b : Option Told) → OnAnswer result ((result ≡ exit) × ([] ≡ line)) → b ≡ a → Relates (Printed exit result line) a b
+none_printed exit result line None b answers same = same
+none_printed exit result line (Some t) b answers same =
+    rw same (record { part = []; begins = (line, refl); is = ap (λ out. record t { here = record t.here { out = out } }) (sym (append-nil t.here.out)); answers = answers })
+
+pub says_printed : {X : Type 0} (see : X → Seen) (exit result : Exit) (line : List ℕ) (a b : X) → Says see exit result line a b → Relates (Printed exit result line) (see a).told (see b).told
+says_printed see exit result line a b (inl said) = by (see a).told (printed {T = Unit {0}} see line (Ok tt) a b said.1)
+  where
+    by : (told : Option Told) → Steps (after_print line) told (see b).told → Relates (Printed exit result line) told (see b).told
+    by None steps = steps
+    by (Some t) steps = rw steps (record { part = line; begins = ([], append-nil line); is = refl; answers = on_answer result ((result ≡ exit) × (line ≡ line)) (said.0, refl) })
+says_printed see exit result line a b (inr (inl failed)) = by (see a).told (see b).told (not_printed {T = Unit {0}} see line (Err PrintFault) a b failed.1)
+  where
+    by : (old new : Option Told) → Relates (FailsPrint line) old new → Relates (Printed exit result line) old new
+    by None new fails = fails
+    by (Some t) None fails = fails
+    by (Some t) (Some now) (part, rest, splits, is) = record { part = part; begins = (rest, splits); is = is; answers = rw failed.0 tt }
+says_printed see exit result line a b (inr (inr short)) = none_printed exit result line (see a).told (see b).told (rw short.0 tt) (ap (λ x. (see x).told) short.1)
+
+pub ends_printed : {X : Type 0} (see : X → Seen) (exit result : Exit) (line : List ℕ) (a b : X) → Ends see exit result line a b → Relates (Printed exit result line) (see a).told (see b).told
+ends_printed see exit result line a b (inl said) = says_printed see exit result line a b said.1
+ends_printed see exit result line a b (inr cut) =
+    none_printed exit result line (see a).told (see b).told (on_cut result ((result ≡ exit) × ([] ≡ line)) (subst IsCut (sym cut.1) cut.0)) (ap (λ x. (see x).told) cut.2)
+
+-- ---- why it ends so
+
+pub says_cause : {X : Type 0} (see : X → Seen) (exit result : Exit) (line : List ℕ) (a b : X) → IsAnswer exit → Says see exit result line a b → BoardCause result (see a).faults (see b).faults
+says_cause see exit result line a b answer (inl said) =
+    subst (λ (e : Exit). BoardCause e (see a).faults (see b).faults) (sym said.0)
+    (subst (λ (e : CallEnding). BoardCauseBy e (see a).faults (see b).faults) (sym (answers exit answer)) said.1.faults)
+says_cause see exit result line a b answer (inr (inl failed)) = rw failed.0 failed.1.faults
+says_cause see exit result line a b answer (inr (inr short)) = rw short.0 (ap (λ x. (see x).faults) short.1)
+
+pub says_source : {X : Type 0} (see : X → Seen) (exit result : Exit) (line : List ℕ) (a b : X) (s s' : ℕ) → IsAnswer exit → s' ≡ s → Says see exit result line a b → SourceCause result s s'
+says_source see exit result line a b s s' answer same (inl said) =
+    subst (λ (e : Exit). SourceCause e s s') (sym said.0) (subst (λ (e : CallEnding). SourceCauseBy e s s') (sym (answers exit answer)) same)
+says_source see exit result line a b s s' answer same (inr (inl failed)) = rw failed.0 same
+says_source see exit result line a b s s' answer same (inr (inr short)) = rw short.0 same
+
+-- after lines were taken
+pub ends_causes : {X : Type 0} (see : X → Seen) (lines : Result (Unit {0}) Exit) (exit result : Exit) (line : List ℕ) (a b : X) (s s' : ℕ) (f : Faults) → EndsAs lines exit → Causes {C = ℕ} SourceCause lines s s'
+    → Causes {C = Faults} BoardCause lines f (see a).faults → Ends see exit result line a b → SourceCause result s s' × BoardCause result f (see b).faults
+ends_causes see (Ok done) exit result line a b s s' f is source board (inl said) = (
+  says_source see exit result line a b s s' said.0 source said.1,
+  subst (λ (g : Faults). BoardCause result g (see b).faults) board (says_cause see exit result line a b said.0 said.1),
+)
+ends_causes see (Ok done) exit result line a b s s' f is source board (inr cut) = absurd (not_both exit cut.0 (rw is refl))
+ends_causes see (Err found) exit result line a b s s' f is source board (inl said) =
+    let answer : IsAnswer found = subst IsAnswer is.0 said.0 in
+    let ending : ending_of found ≡ answered = answers found answer in
+    let quiet : s' ≡ s = subst (λ (e : CallEnding). SourceCauseBy e s s') ending source in
+    let still : (see a).faults ≡ f = subst (λ (e : CallEnding). BoardCauseBy e f (see a).faults) ending board in (
+      says_source see exit result line a b s s' said.0 quiet said.1,
+      subst (λ (g : Faults). BoardCause result g (see b).faults) still (says_cause see exit result line a b said.0 said.1),
+    )
+ends_causes see (Err found) exit result line a b s s' f is source board (inr cut) =
+    let same : result ≡ found = cut.1 ∙ is.0 in
+    (rw same source, rw (same, cut.2) board)
+
+-- the same of the print before them, if it failed
+pub orders_causes : {X : Type 0} (see : X → Seen) (acts : List Act) (exit : Exit) (a b : X) (s : ℕ) → IsPrintExit exit → Does see acts (end_of (ending_of exit)) a b → SourceCause exit s s × BoardCause exit (see a).faults (see b).faults
+orders_causes see acts exit a b s ends does = (by (ending_of exit) ends, part_causes {T = Unit {0}} see acts (Err exit) a b does)
+  where
+    by : (ending : CallEnding) → EndsBy ⊥ ⊤ (OnlyFault print_call) ending → SourceCauseBy ending s s
+    by answered never = absurd never
+    by source_failed never = absurd never
+    by starved any = refl
+    by (faulted kind) only = refl
+
+no_usage : (exit : Exit) → IsLineExit exit → exit ≡ Usage → ⊥
+no_usage exit line is = subst IsLineExit is line
+
+-- never with the exit of words of no form
+pub ends_listed : {X : Type 0} (see : X → Seen) (lines : Result (Unit {0}) Exit) (exit result : Exit) (line : List ℕ) (a b : X) → EndsAs lines exit → Ends see exit result line a b → result ≡ Usage → ⊥
+ends_listed see (Ok done) exit result line a b is ends usage = by ends
+  where
+    by : Ends see exit result line a b → ⊥
+    by (inl (answer, inl said)) = let e = sym (said.0 ∙ is) ∙ usage in cc
+    by (inl (answer, inr (inl failed))) = let e = sym failed.0 ∙ usage in cc
+    by (inl (answer, inr (inr short))) = let e = sym short.0 ∙ usage in cc
+    by (inr cut) = let e = sym (cut.1 ∙ is) ∙ usage in cc
+ends_listed see (Err found) exit result line a b is ends usage = by ends
+  where
+    by : Ends see exit result line a b → ⊥
+    by (inl (answer, inl said)) = no_usage found is.1 (sym (said.0 ∙ is.0) ∙ usage)
+    by (inl (answer, inr (inl failed))) = let e = sym failed.0 ∙ usage in cc
+    by (inl (answer, inr (inr short))) = let e = sym short.0 ∙ usage in cc
+    by (inr cut) = no_usage found is.1 (sym (cut.1 ∙ is.0) ∙ usage)
+
+-- ---- over a ledger that stands
+
+pub before_at : (standing : Standing) (account : State) (told : Option Told) (clock : Clock) (t : Told) → Stands standing account told clock → told ≡ Some t → Before standing account t told clock
+before_at standing account told clock t stands is =
+    let here : IsSomeAnd (Some t) (λ u. Before standing account u told clock) = subst (λ o. IfSome o (λ u. Before standing account u told clock)) is stands in here
+
+-- a print there leaves the device alone
+pub print_device : {X : Type 0} (see : X → Seen) (text : List ℕ) (ended : Ended) (standing : Standing) (account : State) (a b : X) → Stands standing account (see a).told (see a).clock → Does see (print_acts text) ended a b
+    → LeavesDevice (see a).told (see b).told (see a).clock (see b).clock
+print_device see text ended standing account a b stands does =
+    does_leave_device see (print_acts text) ended a b (prints_off text) (λ t is. (before_at standing account (see a).told (see a).clock t stands is).rests) does

@@ -1,0 +1,136 @@
+-- A script is taken: the orders are printed, then lines are taken, and then the run ends.
+use Rattle.std.proofs.Common.{◌≡◌, ℕ, true, List, [], ◌++◌, map, Result, Ok, Err, refl, ap, sym, ◌∙◌, subst, append_assoc, append-nil, inl, inr}
+use Rattle.std.specs.Prelude.{⊤}
+use Rattle.board_core.specs.Cause.{print_call}
+use Rattle.board_core.specs.Doing.{Act, Breaks, Does, GoesWell, Seen, after_acts, broke, calls, went_well}
+use Rattle.board_core.specs.Told.{Told}
+use Rattle.board_core.proofs.DoingLemmas.{does_first, does_then}
+use Rattle.ras_base.specs.Places.{places}
+use Rattle.ras_account.specs.Account.{State}
+use Rattle.ras_events.specs.Reports.{NumberedLine}
+use Rattle.ras_exit.specs.Acts.{end_of, print_acts}
+use Rattle.ras_exit.specs.Endings.{CallEnding, EndsBy, IfAnswered, IsAnswer, IsLineExit, OnlyFault, answered, ending_of, faulted, is_answered, source_failed, starved}
+use Rattle.ras_exit.specs.declared.exit.Exit.{Exit}
+use Rattle.ras_exit.specs.declared.exit.Exit.TheVariants.{Done}
+use Rattle.ras_exit.proofs.EndingLemmas.{memory_ran_out, not_both}
+use Rattle.ras_run.specs.declared.run.Run.{Run}
+use Rattle.ras_run.specs.Places.{Start, account_at}
+use Rattle.ras_run.specs.Taking.{IsPrintExit}
+use Rattle.ras_daemon.specs.Doing.{AreLinesActs, DoesFirst, DoesLines, DoesPart, DoesScript, Ends, IsLastBy, Says, TakesScript}
+use Rattle.ras_daemon.specs.RunActs.{AreActsAlong, AreScriptActs, last_acts, orders_acts}
+use Rattle.ras_daemon.specs.RunOutput.{closing_line}
+use Rattle.ras_daemon.specs.RunStatus.{run_exit}
+use Rattle.ras_daemon.specs.Running.{AreAll, AreFirst}
+use Rattle.ras_daemon.specs.Script.{reads_of}
+use Rattle.ras_daemon.proofs.ScriptLemmas.{script_begun}
+
+-- with which exit a run ends behind its lines, if that isn't a fault
+abbrev pub EndsAs : Result (Unit {0}) Exit → Exit → Type 0
+EndsAs (Ok done) exit = exit ≡ Done
+EndsAs (Err found) exit = (exit ≡ found) × IsLineExit found
+
+pub answers : (exit : Exit) → IsAnswer exit → ending_of exit ≡ answered
+answers exit is = by (ending_of exit) is
+  where
+    by : (ending : CallEnding) → is_answered ending ≡ true → ending ≡ answered
+    by answered is = refl
+    by ending is = absurd cc
+
+-- only the last line of a whole run tells of the account
+last_same : (exit : Exit) (one other : State) → IsLineExit exit → closing_line one exit ≡ closing_line other exit
+last_same Done one other stop = absurd stop
+last_same exit one other stop = refl
+
+module _ {X : Type 0} (see : X → Seen) (start : Start) (script : List ℕ) (t : Told) where
+  abbrev behind_orders : Told
+  behind_orders = after_acts (orders_acts start) t
+
+  -- as a run ends with this exit
+  taken : (result : Exit) (ending : CallEnding) (before : List NumberedLine) (along last : List Act) (old new : X) → ending_of result ≡ ending → AreFirst start script before → AreActsAlong start (places before) behind_orders along
+      → IsLastBy start script before result ending last → DoesFirst see (AreScriptActs start script t) (orders_acts start ++ (along ++ last)) ending old new → DoesScript see start script t result old new
+  taken result ending before along last old new is first lines ends does = record {
+    before = before;
+    first = first;
+    along = along;
+    lines = lines;
+    last = last;
+    ends = subst (λ (e : CallEnding). IsLastBy start script before result e last) (sym is) ends;
+    does = subst (λ (e : CallEnding). DoesFirst see (AreScriptActs start script t) (orders_acts start ++ (along ++ last)) e old new) (sym is) does;
+  }
+
+  -- the orders weren't printed
+  pub no_orders : (exit : Exit) (old new : X) → IsPrintExit exit → Does see (orders_acts start) (end_of (ending_of exit)) old new → TakesScript see start script t exit old new
+  no_orders exit old new ends does = by (ending_of exit) refl ends does
+    where
+      by : (ending : CallEnding) → ending_of exit ≡ ending → EndsBy ⊥ ⊤ (OnlyFault print_call) ending → Does see (orders_acts start) (end_of ending) old new → TakesScript see start script t exit old new
+      by answered is never does = absurd never
+      by source_failed is never does = absurd never
+      by starved is any same = inl (memory_ran_out exit is, same)
+      by (faulted kind) is only does =
+          inr (taken exit (faulted kind) [] [] [] old new is (record { rest = reads_of script; splits = refl; accepted = tt }) refl (inl refl) (does_first see (orders_acts start) ([] ++ []) (broke kind) old new tt does))
+
+  module _ (old a b new : X) (orders : GoesWell (orders_acts start) (see old) (see a)) (before : List NumberedLine) (first : AreFirst start script before) (along : List Act) (lines : AreActsAlong start (places before) behind_orders along) where
+    -- an answer with its last line
+    answer : (exit result : Exit) (line : List ℕ) → GoesWell along (see a) (see b) → AreAll start script exit before → IsAnswer exit → line ≡ closing_line (account_at start before) exit → Says see exit result line b new
+        → DoesScript see start script t result old new
+    answer exit result line well all is same (inl (result_is, does)) =
+        let ending : ending_of result ≡ answered = ap ending_of result_is ∙ answers exit is in
+        let all' : AreAll start script result before = subst (λ (e : Exit). AreAll start script e before) (sym result_is) all in
+        taken result answered before along (print_acts line) old new ending first lines
+        (all', ap print_acts same ∙ ap (last_acts start before) (sym result_is))
+        (does_then see (orders_acts start) (along ++ print_acts line) went_well old a new orders tt (does_then see along (print_acts line) went_well a b new well tt does))
+    answer exit result line well all is same (inr (inl (result_is, does))) =
+        taken result (faulted print_call) before along (print_acts line) old new (ap ending_of result_is) first lines
+        (inr (exit, all, ap print_acts same))
+        (does_then see (orders_acts start) (along ++ print_acts line) (broke print_call) old a new orders tt (does_then see along (print_acts line) (broke print_call) a b new well tt does))
+    answer exit result line well all is same (inr (inr (result_is, none))) =
+        let begun = script_begun start script t before first along lines [] (inl refl) in
+        taken result starved before along [] old new (ap ending_of result_is) first lines refl (record {
+          made = [];
+          later = begun.0;
+          are = rw append-nil begun.1;
+          does = rw (none, append-nil) (subst (λ (l : List Act). GoesWell l (see old) (see b)) (ap (λ l. orders_acts start ++ l) (sym (append-nil along))) (does_then see (orders_acts start) along went_well old a b orders tt well));
+        })
+
+  -- the lines were taken so, and then the run ends
+  pub lines_taken : (old a b new : X) (lines_result : Result (Unit {0}) Exit) (run : Run) (exit result : Exit) → GoesWell (orders_acts start) (see old) (see a) → DoesLines see start script behind_orders lines_result run a b
+      → EndsAs lines_result exit → Ends see exit result (closing_line run.ledger.account.state exit) b new → TakesScript see start script t result old new
+  lines_taken old a b new (Ok done) run exit result orders d is (inl said) =
+      inr (answer old a b new orders d.before d.first d.acts d.along exit result (closing_line run.ledger.account.state exit) d.does (subst (λ (e : Exit). AreAll start script e d.before) (sym is) d.ends.0) said.0
+      (ap (λ (s : State). closing_line s exit) d.ends.1.account) said.1)
+  lines_taken old a b new (Ok done) run exit result orders d is (inr cut) = absurd (not_both exit cut.0 (rw is refl))
+  lines_taken old a b new (Err found) run exit result orders d is ends =
+      by (ending_of found) refl d.does d.ends (subst (λ (e : Exit). Ends see e result (closing_line run.ledger.account.state e) b new) is.0 ends)
+    where
+      parts : DoesPart see (AreLinesActs start script behind_orders) d.acts a b → DoesPart see (AreScriptActs start script t) (orders_acts start ++ (d.acts ++ [])) old b
+      parts part =
+          let first : List Act = orders_acts start in
+          let made : List Act = map calls part.made in
+          let all : List Act = last_acts start (reads_of script) (run_exit start script) in
+          record {
+            made = part.made;
+            later = part.later ++ all;
+            are = record {
+              along = (d.acts ++ made) ++ part.later;
+              lines = part.are;
+              is = append_assoc (first ++ (d.acts ++ [])) made (part.later ++ all)
+                  ∙ append_assoc first (d.acts ++ []) (made ++ (part.later ++ all))
+                  ∙ ap (λ l. first ++ (l ++ (made ++ (part.later ++ all)))) (append-nil d.acts)
+                  ∙ ap (λ l. first ++ l) (sym (append_assoc d.acts made (part.later ++ all)) ∙ sym (append_assoc (d.acts ++ made) part.later all));
+            };
+            does = subst (λ (l : List Act). GoesWell l (see old) (see b))
+                (ap (λ l. first ++ (l ++ made)) (sym (append-nil d.acts)) ∙ sym (append_assoc first (d.acts ++ []) made))
+                (does_then see first (d.acts ++ made) went_well old a b orders tt part.does);
+          }
+
+      by : (ending : CallEnding) → ending_of found ≡ ending → DoesFirst see (AreLinesActs start script behind_orders) d.acts ending a b → IfAnswered ending (AreAll start script found d.before)
+          → Ends see found result (closing_line run.ledger.account.state found) b new → TakesScript see start script t result old new
+      by answered so well all (inl said) =
+          inr (answer old a b new orders d.before d.first d.acts d.along found result (closing_line run.ledger.account.state found) well all said.0 (last_same found run.ledger.account.state (account_at start d.before) is.1) said.1)
+      by answered so well all (inr cut) = absurd (not_both found cut.0 (ap is_answered so))
+      by (faulted kind) so failed all (inl said) = absurd (not_both found (ap is_answered so) said.0)
+      by (faulted kind) so failed all (inr cut) =
+          inr (rw (cut.1, cut.2) (taken found (faulted kind) d.before d.acts [] old b so d.first d.along (inl refl)
+          (subst (λ (l : List Act). Breaks kind l (see old) (see b)) (ap (λ l. orders_acts start ++ l) (sym (append-nil d.acts))) (does_then see (orders_acts start) d.acts (broke kind) old a b orders tt failed))))
+      by ending so part all (inl said) = absurd (not_both found (ap is_answered so) said.0)
+      by ending so part all (inr cut) = inr (rw (cut.1, cut.2) (taken found ending d.before d.acts [] old b so d.first d.along refl (parts part)))

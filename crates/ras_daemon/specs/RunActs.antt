@@ -1,0 +1,84 @@
+-- What a run does to the board, as a list of acts, and how much of it was done.
+use Rattle.std.specs.Prelude.{◌≡◌, ℕ, ◌⊎◌, List, [], ◌∷◌, ◌++◌, map}
+use Rattle.board_core.specs.Cause.{disk_call}
+use Rattle.board_core.specs.declared.board.DiskCall.{DiskCall}
+use Rattle.board_core.specs.Doing.{Act, FailsActs, after_acts, calls, calls_of}
+use Rattle.board_core.specs.Stop.{Left}
+use Rattle.board_core.specs.Told.{Told}
+use Rattle.ras_account.specs.Account.{account_of}
+use Rattle.ras_account.specs.History.{empty}
+use Rattle.ras_base.specs.Places.{places}
+use Rattle.ras_base.specs.Prefix.{IsPrefixOf}
+use Rattle.ras_recover.specs.Opening.{HoldsNone, opening_acts}
+use Rattle.ras_recover.specs.OpeningCalls.{AfterOpening, IsRecoveryOf}
+use Rattle.ras_events.specs.Reports.{NumberedLine, Place}
+use Rattle.ras_exit.specs.Acts.{print_acts}
+use Rattle.ras_exit.specs.Endings.{CallEnding, answered, faulted}
+use Rattle.ras_exit.specs.declared.exit.Exit.{Exit}
+use Rattle.ras_run.specs.LineActs.{AreLineActs}
+use Rattle.ras_run.specs.Places.{Start, account_at}
+use Rattle.ras_run.specs.Status.{places_before_refusal}
+use Rattle.ras_texts.specs.Orders.{standing_lines}
+use Rattle.ras_daemon.specs.RunOutput.{closing_line}
+use Rattle.ras_daemon.specs.RunStatus.{run_exit}
+use Rattle.ras_daemon.specs.Script.{reads_of}
+
+-- the acts of lines at their places, one line after another, each over what is told once those
+-- before it are done
+abbrev pub AreActsAlong : Start → List Place → Told → List Act → Type 0
+AreActsAlong start [] t acts = acts ≡ []
+AreActsAlong start (place ∷ places) t acts =
+    (here : List Act) × (rest : List Act) × (acts ≡ here ++ rest)
+    × AreLineActs start place t here × AreActsAlong start places (after_acts here t) rest
+
+-- The journal is opened over the files that are here: all that counts of them is read, and if no
+-- file stands file 0 is formatted.
+pub record AreOpeningActs (here : Left) (acts : List Act) : Type 0 where
+  pub recovery : List DiskCall
+  pub recovers : IsRecoveryOf here recovery
+  pub is : acts ≡ map calls recovery ++ opening_acts here
+
+-- the print of the orders that stand at the start, and of the last line behind these lines
+abbrev pub orders_acts : Start → List Act
+orders_acts start = print_acts (standing_lines (account_of start.history))
+
+abbrev pub last_acts : Start → List NumberedLine → Exit → List Act
+last_acts start before exit = print_acts (closing_line (account_at start before) exit)
+
+-- Once the journal is open: the orders are printed, then the lines before the first refused one are
+-- taken, and then the last line is printed.
+pub record AreScriptActs (start : Start) (script : List ℕ) (t : Told) (acts : List Act) : Type 0 where
+  pub along : List Act
+  pub lines : AreActsAlong start (places_before_refusal start (places (reads_of script))) (after_acts (orders_acts start) t) along
+  pub is : acts ≡ orders_acts start ++ (along ++ last_acts start (reads_of script) (run_exit start script))
+
+-- the acts of a run over a board that tells this
+pub record AreRunActs (start : Start) (script : List ℕ) (t : Told) (acts : List Act) : Type 0 where
+  pub first : List Act
+  pub rest : List Act
+  pub opens : AreOpeningActs t.here first
+  pub takes : AreScriptActs start script (after_acts first t) rest
+  pub is : acts ≡ first ++ rest
+
+-- the disk calls of a run, once all of them are made
+abbrev pub AreRunCalls : Start → List ℕ → Told → List DiskCall → Type 0
+AreRunCalls start script t made = (acts : List Act) × AreRunActs start script t acts × (made ≡ calls_of acts)
+
+-- Of these acts all were done if a run came to an answer. If a call of the board failed it is one of
+-- them, those before it were done, and none after it. Else some first ones were done.
+abbrev pub DidOf : List Act → CallEnding → Told → Told → Type 0
+DidOf acts answered old now = now ≡ after_acts acts old
+DidOf acts (faulted kind) old now = FailsActs kind acts old now
+DidOf acts ending old now = (done : List Act) × IsPrefixOf done acts × (now ≡ after_acts done old)
+
+-- A disk call failed while file 0 was formatted, since no file stood.
+pub record FailsFormatting (ending : CallEnding) (old now : Told) : Type 0 where
+  pub on_disk : ending ≡ faulted disk_call
+  pub none : HoldsNone (account_of empty) old.here
+  pub after : AfterOpening old now
+
+-- A run did its acts, by how it ended.
+abbrev pub DidRun : Start → List ℕ → CallEnding → Told → Told → Type 0
+DidRun start script ending old now =
+    ((acts : List Act) × AreRunActs start script old acts × DidOf acts ending old now)
+    ⊎ FailsFormatting ending old now
