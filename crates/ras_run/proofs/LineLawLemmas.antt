@@ -233,6 +233,73 @@ module _ (start : Start) (before : List NumberedLine) (number : ℕ) (line : Res
   abbrev made_by : Result Event Refusal → List Entry
   made_by event = entries_in (made_in (settings_told before).topology store event)
 
+  -- the record store
+  record HoldsBoard (records : List Stored) (u : Told) : Type 0 where
+    pub store : u.here.store ≡ records
+    pub slow : u.volatile.slow ≡ start.slow
+
+  board_kept : (u v : Told) (records : List Stored) → KeepsDevice u v → HoldsBoard records u → HoldsBoard records v
+  board_kept u v records keeps held = record { store = keeps.store ∙ held.store; slow = ap (λ volatile. volatile.slow) keeps.volatile ∙ held.slow }
+
+  board_here : HoldsBoard store t
+  board_here = record { store = holds.board.store; slow = holds.board.slow }
+
+  board_put : (id : ℕ) (bytes : List ℕ) → HoldsBoard (store_with id bytes store) (after_device (put id bytes) t)
+  board_put id bytes = record { store = put_store id bytes t ∙ ap (store_with id bytes) holds.board.store; slow = put_slow id bytes t ∙ holds.board.slow }
+
+  board_off : (acts : List Act) → AreOffDevice acts → HoldsBoard store (after_acts acts t)
+  board_off acts off = board_kept t (after_acts acts t) store (acts_device acts off t) board_here
+
+  event_board : (event : Result Event Refusal) (acts : List Act) → event_refusal start place event ≡ None → AreOffDeviceButPut event acts → HoldsBoard (stored_by event store) (after_acts acts t)
+  event_board (Ok Nothing) acts none off = board_off acts off
+  event_board (Ok Settled) acts none off = board_off acts off
+  event_board (Ok (Counted made)) acts none off = board_off acts off
+  event_board (Ok (Put id bytes)) acts none off =
+      subst (λ (l : List Act). HoldsBoard (store_with id bytes store) (after_acts l t)) (sym off.1)
+      (board_kept (after_device (put id bytes) t) (after_acts off.0 (after_device (put id bytes) t)) (store_with id bytes store) (acts_device off.0 off.2 (after_device (put id bytes) t)) (board_put id bytes))
+  event_board (Ok (Saved id bytes)) acts none off = absurd cc
+  event_board (Ok (Polled seconds)) acts none off = absurd cc
+  event_board (Ok Reopened) acts none off = board_off acts off
+  event_board (Err why) acts none off = absurd cc
+
+  -- a line that is accepted leaves the store so
+  store_then : (read : Result Line LineRefused) → event_refusal start place (event_at (before, (number, read))) ≡ None → stored_by (event_at (before, (number, read))) store ≡ store_after store (number, read)
+  store_then (Err why) none = absurd cc
+  store_then (Ok asked) none = by (event_of (settings_told before) asked) refl none
+    where
+      by : (event : Result Event Refusal) → event_of (settings_told before) asked ≡ event → event_refusal start place event ≡ None → stored_by event store ≡ store_by store asked
+      by (Ok Nothing) is none = sym (line_store store (settings_told before) asked Nothing is)
+      by (Ok Settled) is none = sym (line_store store (settings_told before) asked Settled is)
+      by (Ok (Counted made)) is none = sym (line_store store (settings_told before) asked (Counted made) is)
+      by (Ok (Put id bytes)) is none = sym (line_store store (settings_told before) asked (Put id bytes) is)
+      by (Ok (Saved id bytes)) is none = absurd cc
+      by (Ok (Polled seconds)) is none = absurd cc
+      by (Ok Reopened) is none = sym (line_store store (settings_told before) asked Reopened is)
+      by (Err why) is none = absurd cc
+
+  -- ---- how it goes, by the event
+
+  abbrev course_by : Result Event Refusal → State → Course
+  course_by event after = record {
+    before = a;
+    after = after;
+    store = store;
+    stored = stored_by event store;
+    clears = clears_store event;
+    text = event_text_at start before event;
+    done = event_done number event;
+  }
+
+  put_begun : (id : ℕ) (bytes : List ℕ) (after : State) (left : Left) → TornAct (device (put id bytes)) t left → IsBegun (course_by (Ok (Put id bytes)) after) t.here.out left
+  put_begun id bytes after left torn = record {
+    recovers = record { is = ap (λ (l : Left). recovered l.file0 l.file1) torn.rest ∙ holds.at.recovers };
+    store = elim torn.step [
+      | inl same ↦ inl (ap (λ (l : Left). l.store) torn.rest ∙ (same ∙ holds.board.store))
+      | inr became ↦ inr (ap (λ (l : Left). l.store) torn.rest ∙ (became ∙ (put_store id bytes t ∙ ap (store_with id bytes) holds.board.store)))
+    ];
+    text = ap (λ (l : Left). l.out) torn.rest;
+  }
+
   -- what the files hold after an event
   record HoldsEvent (entries : List Entry) (u : Told) : Type 0 where
     pub account : IsAccount (account_after_all a entries)
@@ -282,6 +349,25 @@ module _ (start : Start) (before : List NumberedLine) (number : ℕ) (line : Res
         let keeping = keeping_leaves s a (entry ∷ entries) link t left (can_make s a link holds.account (is_not (lacks_room s a link) lacks)) (is_not (lacks_room s a link) lacks) (links entry entries is) holds.at moment in
         (keeping.beside.out, keeping.recovers)
 
+    counted_moment : (Accepted : Type 0) → Accepted → (left : Left) → Moment (made_acts a number s made) t left
+        → CourseMoment Accepted (course_by (Ok (Counted made)) (account_after_all a (entries_in made))) t.here.out left
+    counted_moment Accepted accepted left moment = elim (moment_parts (news_acts s a news) (event_prints (event_text_in a made) number) t left moment) [
+      | inl keeping ↦ (
+          let kept = kept_moment left news refl parts.1 keeping in
+          let same : left.store ≡ store = moment_store (news_acts s a news) (news_off s a news) t left keeping ∙ holds.board.store in
+          elim kept.1 [
+            | inl without ↦ inl (record { recovers = without; store = inl same; text = kept.0 })
+            | inr has ↦ inr (accepted, inl (record {
+                recovers = subst (λ (b : State). Recovers b left) account_is has;
+                store = same;
+                text = begins_nothing (event_text_in a made) t.here left kept.0;
+              }))
+          ])
+      | inr printing ↦
+        course_prints Accepted accepted (course_by (Ok (Counted made)) (account_after_all a (entries_in made))) t.here.out (after_acts (news_acts s a news) t) (standing_with_news a s news) news_at
+        (board_off (news_acts s a news) (news_off s a news)).store refl (news_out s a news t) left printing
+    ]
+
   -- ---- by the event
 
   event_holds : (event : Result Event Refusal) (acts : List Act) → event_refusal start place event ≡ None → IfOk event IsFitEvent → AreEventActs start place t event acts → HoldsEvent (made_by event) (after_acts acts t)
@@ -305,103 +391,16 @@ module _ (start : Start) (before : List NumberedLine) (number : ℕ) (line : Res
       })
   event_holds (Err why) acts none fit are = absurd cc
 
-  -- the record store
-  record HoldsBoard (records : List Stored) (u : Told) : Type 0 where
-    pub store : u.here.store ≡ records
-    pub slow : u.volatile.slow ≡ start.slow
-
-  board_kept : (u v : Told) (records : List Stored) → KeepsDevice u v → HoldsBoard records u → HoldsBoard records v
-  board_kept u v records keeps held = record { store = keeps.store ∙ held.store; slow = ap (λ volatile. volatile.slow) keeps.volatile ∙ held.slow }
-
-  board_here : HoldsBoard store t
-  board_here = record { store = holds.board.store; slow = holds.board.slow }
-
-  board_put : (id : ℕ) (bytes : List ℕ) → HoldsBoard (store_with id bytes store) (after_device (put id bytes) t)
-  board_put id bytes = record { store = put_store id bytes t ∙ ap (store_with id bytes) holds.board.store; slow = put_slow id bytes t ∙ holds.board.slow }
-
-  board_off : (event : Result Event Refusal) (acts : List Act) → AreOffDevice acts → HoldsBoard store (after_acts acts t)
-  board_off event acts off = board_kept t (after_acts acts t) store (acts_device acts off t) board_here
-
-  event_board : (event : Result Event Refusal) (acts : List Act) → event_refusal start place event ≡ None → AreOffDeviceButPut event acts → HoldsBoard (stored_by event store) (after_acts acts t)
-  event_board (Ok Nothing) acts none off = board_off (Ok Nothing) acts off
-  event_board (Ok Settled) acts none off = board_off (Ok Settled) acts off
-  event_board (Ok (Counted made)) acts none off = board_off (Ok (Counted made)) acts off
-  event_board (Ok (Put id bytes)) acts none off =
-      subst (λ (l : List Act). HoldsBoard (store_with id bytes store) (after_acts l t)) (sym off.1)
-      (board_kept (after_device (put id bytes) t) (after_acts off.0 (after_device (put id bytes) t)) (store_with id bytes store) (acts_device off.0 off.2 (after_device (put id bytes) t)) (board_put id bytes))
-  event_board (Ok (Saved id bytes)) acts none off = absurd cc
-  event_board (Ok (Polled seconds)) acts none off = absurd cc
-  event_board (Ok Reopened) acts none off = board_off (Ok Reopened) acts off
-  event_board (Err why) acts none off = absurd cc
-
-  -- a line that is accepted leaves the store so
-  store_then : (read : Result Line LineRefused) → event_refusal start place (event_at (before, (number, read))) ≡ None → stored_by (event_at (before, (number, read))) store ≡ store_after store (number, read)
-  store_then (Err why) none = absurd cc
-  store_then (Ok asked) none = by (event_of (settings_told before) asked) refl none
-    where
-      by : (event : Result Event Refusal) → event_of (settings_told before) asked ≡ event → event_refusal start place event ≡ None → stored_by event store ≡ store_by store asked
-      by (Ok Nothing) is none = sym (line_store store (settings_told before) asked Nothing is)
-      by (Ok Settled) is none = sym (line_store store (settings_told before) asked Settled is)
-      by (Ok (Counted made)) is none = sym (line_store store (settings_told before) asked (Counted made) is)
-      by (Ok (Put id bytes)) is none = sym (line_store store (settings_told before) asked (Put id bytes) is)
-      by (Ok (Saved id bytes)) is none = absurd cc
-      by (Ok (Polled seconds)) is none = absurd cc
-      by (Ok Reopened) is none = sym (line_store store (settings_told before) asked Reopened is)
-      by (Err why) is none = absurd cc
-
   -- ---- what stops leave, by the event
 
-  abbrev course_by : Result Event Refusal → State → Course
-  course_by event after = record {
-    before = a;
-    after = after;
-    store = store;
-    stored = stored_by event store;
-    clears = clears_store event;
-    text = event_text_at start before event;
-    done = event_done number event;
-  }
-
-  put_begun : (id : ℕ) (bytes : List ℕ) (after : State) (left : Left) → TornAct (device (put id bytes)) t left → IsBegun (course_by (Ok (Put id bytes)) after) t.here.out left
-  put_begun id bytes after left torn = record {
-    recovers = record { is = ap (λ (l : Left). recovered l.file0 l.file1) torn.rest ∙ holds.at.recovers };
-    store = elim torn.step [
-      | inl same ↦ inl (ap (λ (l : Left). l.store) torn.rest ∙ (same ∙ holds.board.store))
-      | inr became ↦ inr (ap (λ (l : Left). l.store) torn.rest ∙ (became ∙ (put_store id bytes t ∙ ap (store_with id bytes) holds.board.store)))
-    ];
-    text = ap (λ (l : Left). l.out) torn.rest;
-  }
-
   module _ (Accepted : Type 0) (accepted : Accepted) where
-    counted_moment : (made : List Piece) → has_no_room_for a s (entries_in made) ≡ false → IsFit made → (left : Left) → Moment (made_acts a number s made) t left
-        → CourseMoment Accepted (course_by (Ok (Counted made)) (account_after_all a (entries_in made))) t.here.out left
-    counted_moment made room fit left moment = elim (moment_parts xs (event_prints (event_text_in a made) number) t left moment) [
-      | inl keeping ↦ (
-          let kept = kept_moment made room fit left (news made room fit) refl (parts made room fit).1 keeping in
-          let same : left.store ≡ store = moment_store xs (news_off s a (news made room fit)) t left keeping ∙ holds.board.store in
-          elim kept.1 [
-            | inl without ↦ inl (record { recovers = without; store = inl same; text = kept.0 })
-            | inr has ↦ inr (accepted, inl (record {
-                recovers = subst (λ (b : State). Recovers b left) (account_is made room fit) has;
-                store = same;
-                text = begins_nothing (event_text_in a made) t.here left kept.0;
-              }))
-          ])
-      | inr printing ↦
-        course_prints Accepted accepted (course_by (Ok (Counted made)) (account_after_all a (entries_in made))) t.here.out (after_acts xs t) (standing_with_news a s (news made room fit)) (news_at made room fit)
-        (board_off (Ok (Counted made)) xs (news_off s a (news made room fit))).store refl (news_out s a (news made room fit) t) left printing
-    ]
-      where
-        xs : List Act
-        xs = news_acts s a (fresh_entries_in a (entries_in made))
-
     event_moment : (event : Result Event Refusal) (acts : List Act) (left : Left) → event_refusal start place event ≡ None → IfOk event IsFitEvent → AreEventActs start place t event acts → Moment acts t left
         → CourseMoment Accepted (course_by event (account_after_all a (made_by event))) t.here.out left
     event_moment (Ok Nothing) acts left none fit are moment = absurd (subst (λ (l : List Act). Moment l t left) are moment)
     event_moment (Ok Settled) acts left none fit are moment =
         course_prints Accepted accepted (course_by (Ok Settled) a) t.here.out t s holds.at holds.board.store refl refl left (subst (λ (l : List Act). Moment l t left) are moment)
     event_moment (Ok (Counted made)) acts left none fit are moment =
-        counted_moment made (none_if (has_no_room_for a s (entries_in made)) none) fit left (subst (λ (l : List Act). Moment l t left) are moment)
+        counted_moment made (none_if (has_no_room_for a s (entries_in made)) none) fit Accepted accepted left (subst (λ (l : List Act). Moment l t left) are moment)
     event_moment (Ok (Put id bytes)) acts left none fit are moment = by (subst (λ (l : List Act). Moment l t left) are moment)
       where
         by : Moment (putting_acts number id bytes) t left → CourseMoment Accepted (course_by (Ok (Put id bytes)) a) t.here.out left
