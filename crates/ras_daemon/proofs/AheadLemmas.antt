@@ -71,7 +71,7 @@ fault_before see exit result line a b (inl (answer, inr (inr short))) fault = le
 pub ahead_opened : (Fault : Type 0) (start : Start) (script : List ℕ) (t u : Told) (left : Option (List ℕ)) (told : Option Told) → u.here.out ≡ t.here.out → RunAhead Fault start script u left told → RunAhead Fault start script t left told
 ahead_opened Fault start script t u left told same (inl none) = inl none
 ahead_opened Fault start script t u left told same (inr ahead) =
-    inr (ahead.0, subst (λ out. EndsAhead Fault start script (out ++ standing_lines (account_of start.history)) left told) same ahead.1)
+    inr (ahead.0, subst (λ out. EndsAhead Fault start script (out ++ standing_lines start.account) left told) same ahead.1)
 
 -- ---- which event isn't done
 
@@ -128,9 +128,9 @@ end_after (line ∷ done) more n few = by (is_event_line line) refl (λ m less. 
 -- ---- the clause
 
 -- what was read ahead where lines were taken
-takes_ahead : (exit : Exit) (start : Start) (script left : List ℕ) (t now : Told) → IsAccount (account_of start.history) → ReadAhead (exit ≡ SourceFault) start script (lines_from start t.here.out) left now → TakesAhead exit script left t now
+takes_ahead : (exit : Exit) (start : Start) (script left : List ℕ) (t now : Told) → IsAccount start.account → ReadAhead (exit ≡ SourceFault) start script (lines_from start t.here.out) left now → TakesAhead exit script left t now
 takes_ahead exit start script left t now account ahead =
-    let orders : List ℕ = standing_lines (account_of start.history) in
+    let orders : List ℕ = standing_lines start.account in
     let lines : List ℕ = outputs start (reads_in ahead.done) in
     let part : List ℕ = ahead.text.0 in
     let counts : done_count ((orders ++ lines) ++ part) ≡ events_among (places (reads_in ahead.done)) + done_count part = count-first start script (reads_in ahead.done) ahead.first account part in

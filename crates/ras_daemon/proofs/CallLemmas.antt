@@ -37,19 +37,19 @@ use Rattle.text_laws.proofs.DoneLemmas.{none_done}
 
 -- all that it prints
 text-so : (start : Start) (script : List ℕ) (exit : Exit) (before : List NumberedLine) → AreAll start script exit before
-    → standing_lines (account_of start.history) ++ (outputs start before ++ closing_line (account_at start before) exit) ≡ run_output start script
+    → standing_lines start.account ++ (outputs start before ++ closing_line (account_at start before) exit) ≡ run_output start script
 text-so start script exit before all = λ i.
-    standing_lines (account_of start.history) ++ (flat_map (output_at start) (sym all.all i) ++ closing-same start script exit before all i)
+    standing_lines start.account ++ (flat_map (output_at start) (sym all.all i) ++ closing-same start script exit before all i)
 
 -- it was printed
 output-so : (start : Start) (script : List ℕ) (exit : Exit) (old now : Told) → EndsSo start script exit old.here.out now → now.here.out ≡ old.here.out ++ run_output start script
 output-so start script exit old now ends = ends.text ∙ ap (λ (text : List ℕ). old.here.out ++ text) (text-so start script exit ends.before ends.all)
 
 -- and its done lines number the events
-counted-so : (start : Start) (script : List ℕ) (exit : Exit) (before : List NumberedLine) → AreAll start script exit before → IsAccount (account_of start.history)
+counted-so : (start : Start) (script : List ℕ) (exit : Exit) (before : List NumberedLine) → AreAll start script exit before → IsAccount start.account
     → done_count (run_output start script) ≡ length (events_of start script)
 counted-so start script exit before all account =
-    let standing : List ℕ = standing_lines (account_of start.history) in
+    let standing : List ℕ = standing_lines start.account in
     let last : List ℕ = closing_line (account_at start before) exit in
     let none : done_count last ≡ 0 = none_done last last [] (closing-quiet (account_at start before) exit) (append-nil last) in
     ap done_count (sym (text-so start script exit before all) ∙ sym (append_assoc standing (outputs start before) last))
@@ -83,11 +83,11 @@ module _ (start : Start) (script : List ℕ) (old now : Told) where
     recovers = subst (λ (k : ℕ). Recovers (account_with start script k) now.here) (sym count) recovers;
   }
 
-  whole-lines : (before : List NumberedLine) (last : List ℕ) → AreFirst start script before → IsAccount (account_of start.history)
+  whole-lines : (before : List NumberedLine) (last : List ℕ) → AreFirst start script before → IsAccount start.account
       → Recovers (account_at start before) now.here → done_count last ≡ 0
-      → now.here.out ≡ old.here.out ++ ((standing_lines (account_of start.history) ++ outputs start before) ++ last) → IsWhole start script old now
+      → now.here.out ≡ old.here.out ++ ((standing_lines start.account ++ outputs start before) ++ last) → IsWhole start script old now
   whole-lines before last first account recovers none text =
-      whole-by ((standing_lines (account_of start.history) ++ outputs start before) ++ last) (events_among (places before)) text
+      whole-by ((standing_lines start.account ++ outputs start before) ++ last) (events_among (places before)) text
       (count-first start script before first account last ∙ omega (arith, none))
       (subst (λ (a : State). Recovers a now.here) (sym (account-first start script before first account)) recovers)
 
@@ -96,15 +96,15 @@ module _ (start : Start) (script : List ℕ) (old now : Told) where
       let last : List ℕ = closing_line (account_at start ends.before) exit in
       whole-lines ends.before last ends.all.first ends.account ends.recovers
       (none_done last last [] (closing-quiet (account_at start ends.before) exit) (append-nil last))
-      (ends.text ∙ ap (λ (text : List ℕ). old.here.out ++ text) (sym (append_assoc (standing_lines (account_of start.history)) (outputs start ends.before) last)))
+      (ends.text ∙ ap (λ (text : List ℕ). old.here.out ++ text) (sym (append_assoc (standing_lines start.account) (outputs start ends.before) last)))
 
   early-lines : (before : List NumberedLine) → AreFirst start script before → Recovers (account_at start before) now.here
-      → (IsAccount (account_of start.history) × (now.here.out ≡ old.here.out ++ (standing_lines (account_of start.history) ++ outputs start before)))
+      → (IsAccount start.account × (now.here.out ≡ old.here.out ++ (standing_lines start.account ++ outputs start before)))
       ⊎ ((now.here.out ≡ old.here.out) × (before ≡ []))
       → IsWhole start script old now
   early-lines before first recovers (inl (account, text)) =
       whole-lines before [] first account recovers refl
-      (text ∙ ap (λ (more : List ℕ). old.here.out ++ more) (sym (append-nil (standing_lines (account_of start.history) ++ outputs start before))))
+      (text ∙ ap (λ (more : List ℕ). old.here.out ++ more) (sym (append-nil (standing_lines start.account ++ outputs start before))))
   early-lines before first recovers (inr (text, none)) =
       whole-by [] 0 (text ∙ sym (append-nil old.here.out)) refl (subst (λ (reads : List NumberedLine). Recovers (account_at start reads) now.here) none recovers)
 

@@ -42,7 +42,7 @@ use Rattle.ras_daemon.proofs.StopLemmas.{stop_quiet}
 
 -- the orders that stand at its start
 abbrev at_start : Start → List ℕ
-at_start start = standing_lines (account_of start.history)
+at_start start = standing_lines start.account
 
 joined-twice : (one two three four : List ℕ) → ((one ++ two) ++ three) ++ four ≡ one ++ (two ++ (three ++ four))
 joined-twice one two three four = append_assoc (one ++ two) three four ∙ append_assoc one two (three ++ four)
@@ -141,16 +141,16 @@ module _ (start : Start) (script : List ℕ) (here left : Left) where
   }
 
   -- nothing was printed
-  pub headline-nothing : left.out ≡ here.out → Recovers (account_of start.history) left → left.store ≡ here.store → Headline start script here left
+  pub headline-nothing : left.out ≡ here.out → Recovers start.account left → left.store ≡ here.store → Headline start script here left
   headline-nothing text recovers store =
       headline-by [] 0 (text ∙ sym (append-nil here.out)) (begins-start start script [] (at_start start) refl) refl (inl recovers) (λ longer. absurd (omega arith)) store
 
-  module _ (account : IsAccount (account_of start.history)) where
+  module _ (account : IsAccount start.account) where
     -- orders that stand at the start
     pub headline-start : AtStart start here.out left → left.store ≡ here.store → Headline start script here left
     headline-start at store =
         headline-by at.text.part 0 at.text.is (begins-start start script at.text.part at.text.missing at.text.splits)
-        (none_done (at_start start) at.text.part at.text.missing (standing_quiet (account_of start.history) account) at.text.splits)
+        (none_done (at_start start) at.text.part at.text.missing (standing_quiet start.account account) at.text.splits)
         (inl at.recovers)
         (λ longer. absurd (omega (arith, longer, length-append (at_start start) [], length-append at.text.part at.text.missing, ap (λ (text : List ℕ). length text) at.text.splits)))
         store

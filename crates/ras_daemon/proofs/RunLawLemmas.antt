@@ -104,7 +104,7 @@ before-front start (p ∷ ps) = by (is_some (refusal_at start p)) (before-front 
 
 pub output-begins : (start : Start) (script : List ℕ) (n : ℕ) → IsPrefixOf (output_upto start script n) (run_output start script)
 output-begins start script n =
-    let standing : List ℕ = standing_lines (account_of start.history) in
+    let standing : List ℕ = standing_lines start.account in
     let closing : List ℕ = closing_line (account_at start (reads_of script)) (run_exit start script) in
     let events : List Place = events_of start script in
     let one : List ℕ = flat_map (output_at start) (take n events) in

@@ -110,7 +110,7 @@ opening_moments history script t a b recovers adds = adds_weaker (Opening a t.he
         inr (ap (λ (l : Left). l.store) formats.rest, inl (record { recovers = rw same formats.recovers; text = ap (λ (l : Left). l.out) formats.rest }))
 
 -- and once it is open
-pub opened_moments : (clock : Clock) (start : Start) (script : List ℕ) (t u : Told) (b c : Clock) → IsAccount (account_of start.history) → u.here.out ≡ t.here.out → u.here.store ≡ t.here.store
+pub opened_moments : (clock : Clock) (start : Start) (script : List ℕ) (t u : Told) (b c : Clock) → IsAccount start.account → u.here.out ≡ t.here.out → u.here.store ≡ t.here.store
     → Adds (OpenStop start script u) b c → Adds (RunMoment clock start script t.here) b c
 opened_moments clock start script t u b c account same store adds = adds_weaker (OpenStop start script u) (RunMoment clock start script t.here) b c adds
     (λ left both. inr (both.0 ∙ store, inr (account, subst (λ out. OpenMoment start script out left) same both.1)))

@@ -89,10 +89,10 @@ module _ (start : Start) (script : List ℕ) (t : Told) (before : List NumberedL
   lines_out : behind_lines.here.out ≡ lines_from start t.here.out ++ outputs start before
   lines_out =
       along_prints start (places before) behind_orders along first.accepted lines
-      ∙ ap (λ out. out ++ outputs start before) (printed_out (standing_lines (account_of start.history)) t)
+      ∙ ap (λ out. out ++ outputs start before) (printed_out (standing_lines start.account) t)
 
   script_off : IsLast start script before last → AreOffDevice script_acts
-  script_off is = off-append (orders_acts start) (along ++ last) (prints_off (standing_lines (account_of start.history)))
+  script_off is = off-append (orders_acts start) (along ++ last) (prints_off (standing_lines start.account))
       (off-append along last (along_off start (places before) behind_orders along lines) (last_off start script before last is))
 
   -- with the last line they are all acts of the script
@@ -120,7 +120,7 @@ module _ (start : Start) (script : List ℕ) (t : Told) (before : List NumberedL
 
   module _ (holds : HoldsAfter start [] t) where
     lines_hold : HoldsAfter start before behind_lines
-    lines_hold = along_done start [] before behind_orders along first.accepted (printed_holds start [] (standing_lines (account_of start.history)) t holds) lines
+    lines_hold = along_done start [] before behind_orders along first.accepted (printed_holds start [] (standing_lines start.account) t holds) lines
 
     -- what a stop at a moment of them leaves
     at_last : (left : Left) → IsLast start script before last → Moment last behind_lines left → OpenMoment start script t.here.out left
@@ -139,7 +139,7 @@ module _ (start : Start) (script : List ℕ) (t : Told) (before : List NumberedL
     script_moment : (left : Left) → IsLast start script before last → Moment script_acts t left → OpenMoment start script t.here.out left
     script_moment left is moment = elim (moment_parts (orders_acts start) (along ++ last) t left moment) [
       | inl at ↦
-          (let orders : List ℕ = standing_lines (account_of start.history) in
+          (let orders : List ℕ = standing_lines start.account in
           let by : InOut (Begins orders) t.here left = print_moment orders t left at in
           inl (record {
             recovers = rw by.rest (record { is = holds.at.recovers });
@@ -147,8 +147,8 @@ module _ (start : Start) (script : List ℕ) (t : Told) (before : List NumberedL
           }))
       | inr later ↦ elim (moment_parts along last behind_orders left later) [
         | inl among ↦
-            inr (inl (along_moment start script (lines_from start t.here.out) before behind_orders along left first (printed_out (standing_lines (account_of start.history)) t)
-            (printed_holds start [] (standing_lines (account_of start.history)) t holds) lines among))
+            inr (inl (along_moment start script (lines_from start t.here.out) before behind_orders along left first (printed_out (standing_lines start.account) t)
+            (printed_holds start [] (standing_lines start.account) t holds) lines among))
         | inr end ↦ at_last left is end
       ]
     ]
@@ -164,7 +164,7 @@ module _ (start : Start) (script : List ℕ) (t : Told) (before : List NumberedL
     script_so exit all is =
         let text : List ℕ = closing_line (account_at start before) exit in
         let there : after_acts script_acts t ≡ after_acts (print_acts text) behind_lines = after_script ∙ ap (λ (l : List Act). after_acts l behind_lines) is in
-        let orders : List ℕ = standing_lines (account_of start.history) in
+        let orders : List ℕ = standing_lines start.account in
         rw there (record {
           before = before;
           all = all;
@@ -184,7 +184,7 @@ module _ (start : Start) (script : List ℕ) (t : Told) (before : List NumberedL
           before = before;
           first = first;
           recovers = subst (λ (l : Left). Recovers (account_at start before) l) (sym here) (record { is = lines_hold.at.recovers });
-          text = inl (holds.account, ap (λ (l : Left). l.out) here ∙ lines_out ∙ append_assoc t.here.out (standing_lines (account_of start.history)) (outputs start before));
+          text = inl (holds.account, ap (λ (l : Left). l.out) here ∙ lines_out ∙ append_assoc t.here.out (standing_lines start.account) (outputs start before));
         }
 
 -- ---- of a script that was taken
@@ -201,7 +201,7 @@ told_failed kind acts t old new is fails = by new (subst (λ (o : Option Told). 
     by (Some now) fails = (now, refl, fails)
 
 -- Not even the orders at the start were printed.
-pub early_none : (start : Start) (script : List ℕ) (t now : Told) → Recovers (account_of start.history) now.here → now.here.out ≡ t.here.out → EndsEarly start script t.here.out now
+pub early_none : (start : Start) (script : List ℕ) (t now : Told) → Recovers start.account now.here → now.here.out ≡ t.here.out → EndsEarly start script t.here.out now
 early_none start script t now recovers text = record {
   before = [];
   first = record { rest = reads_of script; splits = refl; accepted = tt };

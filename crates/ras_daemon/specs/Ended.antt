@@ -1,11 +1,11 @@
 -- What an exit says of how far a call came.
-use Rattle.std.specs.Prelude.{ℕ, Option, None, Some, ⊤}
+use Rattle.std.specs.Prelude.{◌≡◌, ℕ, Option, None, Some, IsSomeAnd, ⊤}
 use Rattle.board_core.specs.Cause.{Rose, Faults, Kind, count_of}
 use Rattle.board_core.specs.Told.{Told}
 use Rattle.ras_exit.specs.declared.exit.Exit.{Exit}
 use Rattle.ras_exit.specs.StopLine.{stop_line}
 use Rattle.ras_exit.specs.Telling.{Tells}
-use Rattle.ras_run.specs.Files.{KeepsFiles}
+use Rattle.ras_run.specs.Files.{KeepsFiles, files_refusal}
 use Rattle.ras_daemon.specs.declared.word.Task.{Task}
 use Rattle.ras_daemon.specs.declared.word.Task.TheVariants.{Run}
 
@@ -22,12 +22,17 @@ pub record Refuses (exit result : Exit) (before now : Told) : Type 0 where
   pub tells : Tells exit (stop_line exit) result before now
   pub files : KeepsFiles before now
 
-abbrev pub RefusesFiles : Option Exit → Exit → Told → Told → Type 0
+abbrev pub RefusesFiles : Option Exit → Exit → Told → Option Told → Type 0
 RefusesFiles None result before now = ⊤
-RefusesFiles (Some exit) result before now = Refuses exit result before now
+RefusesFiles (Some exit) result before now = IsSomeAnd now (Refuses exit result before)
 
 -- if the words ask for a run and the board tells
-abbrev pub OverFiles : (Told → Told → Type 0) → Option Task → Option Told → Option Told → Type 0
-OverFiles P (Some Run) (Some before) (Some now) = P before now
-OverFiles P (Some Run) (Some before) None = ⊥
+abbrev pub OverFiles : (Told → Option Told → Type 0) → Option Task → Option Told → Option Told → Type 0
+OverFiles P (Some Run) (Some before) now = P before now
 OverFiles P task old new = ⊤
+
+-- The words don't ask for a run, or the files refuse it: no line is taken.
+abbrev pub TakesNoLine : Option Task → Option Told → Type 0
+TakesNoLine (Some Run) (Some before) = (exit : Exit) × (files_refusal before.here ≡ Some exit)
+TakesNoLine (Some Run) None = ⊥
+TakesNoLine task told = ⊤

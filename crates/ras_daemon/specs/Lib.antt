@@ -2,6 +2,7 @@ pub mod Task
 pub mod Script
 pub mod RunStatus
 pub mod RunOutput
+pub mod StoreDuring
 pub mod Headline
 pub mod Ended
 pub mod Ahead

@@ -67,7 +67,7 @@ returns-clause-ahead g c = λ start script t is_start left is.
       ahead_end (c.take_lines.result ≡ Err SourceFault) (c.end_run.result ≡ SourceFault)
           (λ fault. lines_fault (fault_before see _ _ _ c.take_lines.new.board c.end_run.new.board c.end_run.ensures.ends fault))
           start script (lines_from start t.here.out) _ _ c.end_run.result _ _ _ (ends_printed see _ _ _ c.take_lines.new.board c.end_run.new.board c.end_run.ensures.ends)
-          (subst (λ out. EndsAhead (c.take_lines.result ≡ Err SourceFault) start script out (g.S.Source.left c.take_lines.new.source) (g.B.Board.told c.take_lines.new.board)) (printed_out (standing_lines (account_of start.history)) t)
+          (subst (λ out. EndsAhead (c.take_lines.result ≡ Err SourceFault) start script out (g.S.Source.left c.take_lines.new.source) (g.B.Board.told c.take_lines.new.board)) (printed_out (standing_lines start.account) t)
           (c.take_lines.ensures.ahead start script u after left told)),
     )
 
