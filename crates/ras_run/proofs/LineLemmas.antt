@@ -1,5 +1,6 @@
 -- A line taken at its place.
 use Rattle.std.proofs.Common.{◌≡◌, ℕ, Bool, true, false, if◌then◌else◌, List, [], ◌∷◌, ◌++◌, map, Option, None, Some, Result, Ok, Err, IfOk, IfErr, refl, sym, ap, subst, ◌∙◌, inl, inr, ◌⊎◌}
+use Rattle.std.specs.Option.{option_map}
 use Rattle.board_core.specs.Cause.{Kind, device_call, disk_call, print_call}
 use Rattle.board_core.specs.Clock.{Adds, Clock, Rests}
 use Rattle.board_core.specs.ClockLemmas.{adds_weaker}
@@ -67,10 +68,10 @@ some_acts start (before, (number, line)) t = by (refusal_at start (before, (numb
 pub refused_line : {X : Type 0} (see : X → Seen) (start : Start) (place : Place) (t : Told) (exit : Exit) (x : X) (event : Result Event Refusal) → event_at place ≡ event → event_refusal start place event ≡ Some exit → refused_acts event ≡ []
     → ending_of exit ≡ answered → DoesLine see start place t (Err exit) x x
 refused_line see start place t exit x event here is none ends = (
-    [],
-    subst (λ (e : Result Event Refusal). AreActsUnless (event_refusal start place e) (refused_acts e) (AreEventActs start place t e) []) (sym here)
-        (subst (λ r. AreActsUnless r (refused_acts event) (AreEventActs start place t event) []) (sym is) (sym none)),
-    subst (λ ending. DoesBy see [] ending x x) (sym ends) (does_nothing see x),
+  [],
+  subst (λ (e : Result Event Refusal). AreActsUnless (event_refusal start place e) (refused_acts e) (AreEventActs start place t e) []) (sym here)
+      (subst (λ r. AreActsUnless r (refused_acts event) (AreEventActs start place t event) []) (sym is) (sym none)),
+  subst (λ ending. DoesBy see [] ending x x) (sym ends) (does_nothing see x),
 )
 
 pub starved_line : {X : Type 0} (see : X → Seen) (start : Start) (place : Place) (t : Told) (x : X) → DoesLine see start place t (Err NoMemory) x x
@@ -215,6 +216,9 @@ module _ {X : Type 0} (see : X → Seen) (start : Start) (before : List Numbered
 
   -- one that puts a record
   module _ (id : ℕ) (bytes : List ℕ) (asked : event_of run.settings line ≡ Ok (Put id bytes)) (result : Result (Unit {0}) Exit) (t : Told) (board : IsBoardAfter start before t) (ends : EndsPut number result (refusal_of id bytes t.here.store)) where
+    abbrev no_refusal : Option PutRefused
+    no_refusal = None
+
     abbrev refusal : Option PutRefused
     refusal = refusal_of id bytes (store_at start before)
 
@@ -226,11 +230,11 @@ module _ {X : Type 0} (see : X → Seen) (start : Start) (before : List Numbered
 
     may_fail : (kind : Kind) → (kind ≡ device_call) ⊎ (refusal ≡ None) → MayFail start at kind
     may_fail kind (inr none) = inl (taken_put none)
-    may_fail kind (inl device) = by refusal refl
+    may_fail kind (inl own) = by refusal refl
       where
         by : (r : Option PutRefused) → refusal ≡ r → MayFail start at kind
         by None none = inl (taken_put none)
-        by (Some why) refused = inr (device, record { id = id; bytes = bytes; why = why; event = event_is start before number line run (Ok (Put id bytes)) is asked; refused = refused })
+        by (Some why) refused = inr (own, record { id = id; bytes = bytes; why = why; event = event_is start before number line run (Ok (Put id bytes)) is asked; refused = refused })
 
     pub takes_put : after.ledger ≡ run.ledger → TakesLine start at result after
     takes_put same = by result ends_here
@@ -251,7 +255,7 @@ module _ {X : Type 0} (see : X → Seen) (start : Start) (before : List Numbered
           event_does start before number line (Put id bytes) run is asked see t x y result (putting_acts number id bytes) (ap (put_refusal number) none) refl
           (by result (subst (EndsPut number result) none ends_here) does)
         where
-          of : (exit : Exit) (ending : CallEnding) → EndsBy (put_refusal number None ≡ Some exit) (Unit {0}) (λ kind. (kind ≡ device_call) ⊎ (None {A = PutRefused} ≡ None)) ending → PutEnds see number id bytes ending x y
+          of : (exit : Exit) (ending : CallEnding) → EndsBy (put_refusal number None ≡ Some exit) (Unit {0}) (λ kind. (kind ≡ device_call) ⊎ (no_refusal ≡ None)) ending → PutEnds see number id bytes ending x y
               → DoesBy see (putting_acts number id bytes) ending x y
           of exit answered e d = absurd cc
           of exit starved e d = record { made = []; later = putting_acts number id bytes; splits = refl; does = d }
@@ -274,7 +278,7 @@ module _ {X : Type 0} (see : X → Seen) (start : Start) (before : List Numbered
 
         goes_well : GoesWell [] (see x) (see y) → GoesWell (device (put id bytes) ∷ []) (see x) (see y)
         goes_well well = record {
-          told = rw told (step ∙ ap Some (sym still_here));
+          told = subst (λ (o : Option Told). (see y).told ≡ option_map (after_acts (device (put id bytes) ∷ [])) o) (sym told) (step ∙ ap Some (sym still_here));
           stops = λ u rests. adds_weaker (Moment [] u) (Moment (device (put id bytes) ∷ []) u) (see x).clock (see y).clock (well.stops u rests) (λ left never. absurd never);
           rests = λ u rests. subst (λ (v : Told). Rests v (see y).told (see y).clock) (sym (still u rests)) (well.rests u rests);
           faults = well.faults;
@@ -284,14 +288,14 @@ module _ {X : Type 0} (see : X → Seen) (start : Start) (before : List Numbered
             still_here = put_still id bytes t why (ap (refusal_of id bytes) board.store ∙ refused)
 
             step : (see y).told ≡ Some t
-            step = rw (← told) well.told
+            step = well.told ∙ ap (option_map (after_acts [])) told
 
         put_refused : DoesLine see start at t result x y
         put_refused = (
-            device (put id bytes) ∷ [],
-            subst (λ (e : Result Event Refusal). AreActsUnless (event_refusal start at e) (refused_acts e) (AreEventActs start at t e) (device (put id bytes) ∷ [])) (sym (event_is start before number line run (Ok (Put id bytes)) is asked))
-                (subst (λ r. AreActsUnless (put_refusal number r) (device (put id bytes) ∷ []) (AreEventActs start at t (Ok (Put id bytes))) (device (put id bytes) ∷ [])) (sym refused) refl),
-            by result (subst (EndsPut number result) refused ends_here) does,
+          device (put id bytes) ∷ [],
+          subst (λ (e : Result Event Refusal). AreActsUnless (event_refusal start at e) (refused_acts e) (AreEventActs start at t e) (device (put id bytes) ∷ [])) (sym (event_is start before number line run (Ok (Put id bytes)) is asked))
+              (subst (λ r. AreActsUnless (put_refusal number r) (device (put id bytes) ∷ []) (AreEventActs start at t (Ok (Put id bytes))) (device (put id bytes) ∷ [])) (sym refused) refl),
+          by result (subst (EndsPut number result) refused ends_here) does,
         )
           where
             of : (exit : Exit) (ending : CallEnding) → EndsBy (put_refusal number (Some why) ≡ Some exit) (Unit {0}) (λ kind. (kind ≡ device_call) ⊎ (Some why ≡ None)) ending → PutEnds see number id bytes ending x y
@@ -300,8 +304,8 @@ module _ {X : Type 0} (see : X → Seen) (start : Start) (before : List Numbered
             of exit starved e d = record { made = []; later = device (put id bytes) ∷ []; splits = refl; does = d }
             of exit source_failed e d = absurd e
             of exit (faulted device_call) e d = d
-            of exit (faulted disk_call) e d = elim e [ inl device ↦ absurd cc | inr none ↦ absurd cc ]
-            of exit (faulted print_call) e d = elim e [ inl device ↦ absurd cc | inr none ↦ absurd cc ]
+            of exit (faulted disk_call) e d = elim e [ inl own ↦ absurd cc | inr none ↦ absurd cc ]
+            of exit (faulted print_call) e d = elim e [ inl own ↦ absurd cc | inr none ↦ absurd cc ]
 
             by : (r : Result (Unit {0}) Exit) → EndsPut number r (Some why) → DoesPut see number id bytes r x y → DoesBy see (device (put id bytes) ∷ []) (ended_with r) x y
             by (Ok over) e d = absurd cc

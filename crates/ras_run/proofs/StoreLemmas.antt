@@ -43,16 +43,18 @@ module _ (id : ℕ) (bytes : List ℕ) (t : Told) where
   pub put_still : (why : PutRefused) → refusal_of id bytes t.here.store ≡ Some why → after_device (put id bytes) t ≡ t
   put_still why is = ap by_refusal is
 
-  unfolding with_put
+
   pub put_store : (after_put id bytes (device_of t)).store ≡ store_with id bytes t.here.store
+  unfolding with_put
   put_store = by (refusal_of id bytes t.here.store)
     where
       by : (r : Option PutRefused) → (unless_refused r (with_put id bytes (device_of t)) (device_of t)).store ≡ option_map_or (λ why. t.here.store) r (with_record id bytes t.here.store)
       by None = refl
       by (Some why) = refl
 
-  unfolding with_put
+
   pub put_slow : (after_device (put id bytes) t).volatile.slow ≡ t.volatile.slow
+  unfolding with_put
   put_slow = by (refusal_of id bytes t.here.store)
     where
       by : (r : Option PutRefused) → (by_refusal r).volatile.slow ≡ t.volatile.slow
