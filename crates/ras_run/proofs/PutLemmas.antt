@@ -29,12 +29,6 @@ pub printed_ends : (number : ℕ) (refusal : Option PutRefused) (result : Result
 printed_ends number refusal (Ok over) fault none = none
 printed_ends number refusal (Err exit) fault none = subst (λ (r : Result (Unit {0}) Exit). EndsPut number r refusal) (sym fault) (inr none)
 
-pub refused_ends : (number : ℕ) (why : PutRefused) (refusal : Option PutRefused) → ¬ (why ≡ NoMemory) → Answers {X = Unit {0}} (Err why) refusal → EndsPut number (Err (BadLine number (reason.Put why))) refusal
-refused_ends number NoMemory refusal not is = absurd (not refl)
-refused_ends number ReservedId refusal not is = rw is refl
-refused_ends number TooLong refusal not is = rw is refl
-refused_ends number StoreFull refusal not is = rw is refl
-
 -- ---- what it does
 
 module _ {X : Type 0} (see : X → Seen) (number id : ℕ) (bytes : List ℕ) where
