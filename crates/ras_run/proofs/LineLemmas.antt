@@ -92,14 +92,6 @@ module _ {X : Type 0} (see : X → Seen) (start : Start) (before : List Numbered
       answers (Bad reason) = refl
       answers NoTable = refl
 
-pub takes_refused : (start : Start) (before : List NumberedLine) (number : ℕ) (line : Line) (why : Refusal) (run after : Run) → IsRunAfter start before run → event_of run.settings line ≡ Err why
-    → TakesLine start (before, (number, Ok line)) (Err (refused_exit number why)) after
-takes_refused start before number line why run after is asked = by why (ap (event_refusal start (before, (number, Ok line))) (event_is start before number line run (Err why) is asked))
-  where
-    by : (refusal : Refusal) → refusal_at start (before, (number, Ok line)) ≡ Some (refused_exit number refusal) → TakesLine start (before, (number, Ok line)) (Err (refused_exit number refusal)) after
-    by (Bad reason) refused = refused
-    by NoTable refused = refused
-
 -- ---- a line that asks for an event
 
 module _ (start : Start) (before : List NumberedLine) (number : ℕ) (line : Line) (event : Event) (run : Run) (is : IsRunAfter start before run) (asked : event_of run.settings line ≡ Ok event) where
@@ -208,9 +200,6 @@ module _ {X : Type 0} (see : X → Seen) (start : Start) (before : List Numbered
 
   -- one that a run doesn't take yet
   module _ (event : Event) (asked : event_of run.settings line ≡ Ok event) (later : event_refusal start at (Ok event) ≡ Some (unread_exit number refused.Kind)) (none : refused_acts (Ok event) ≡ []) where
-    pub takes_later : TakesLine start at (Err (unread_exit number refused.Kind)) after
-    takes_later = refusal_is start before number line event run is asked ∙ later
-
     pub later_does : (t : Told) (x : X) → DoesLine see start at t (Err (unread_exit number refused.Kind)) x x
     later_does t x = refused_line see start at t (unread_exit number refused.Kind) x (Ok event) (event_is start before number line run (Ok event) is asked) later none refl
 

@@ -39,31 +39,3 @@ module _ {X : Type 0} (see : X → Seen) (number id : ℕ) (bytes : List ℕ) wh
   printed_does done (Err exit) x y z fault is first second =
       subst (λ (r : Result (Unit {0}) Exit). DoesPut see number id bytes r x z) (sym fault)
       (does_then see (device (put id bytes) ∷ []) (print_acts (done_line number)) (broke print_call) x y z first tt (subst (λ text. Does see (print_acts text) (broke print_call) y z) is second))
-
-  module _ (result : Result (Unit {0}) Exit) (x y : X) (does : DoesPut see number id bytes result x y) where
-    pub put_causes : Causes {C = Faults} BoardCause result (see x).faults (see y).faults
-    put_causes = by result does
-      where
-        of : (ending : CallEnding) → PutEnds see number id bytes ending x y → BoardCauseBy ending (see x).faults (see y).faults
-        of answered d = d.faults
-        of starved d = d.faults
-        of source_failed d = d.faults
-        of (faulted device_call) d = d.faults
-        of (faulted disk_call) d = d.faults
-        of (faulted print_call) d = d.faults
-
-        by : (r : Result (Unit {0}) Exit) → DoesPut see number id bytes r x y → Causes {C = Faults} BoardCause r (see x).faults (see y).faults
-        by (Ok over) d = d.faults
-        by (Err exit) d = of (ending_of exit) d
-
-    -- the next line can be taken
-    pub put_ready : (ledger : Ledger) → IsReady ledger (see x).told (see x).clock → OnOk result (IsReady ledger (see y).told (see y).clock)
-    put_ready ledger ready = by result does
-      where
-        by : (r : Result (Unit {0}) Exit) → DoesPut see number id bytes r x y → OnOk r (IsReady ledger (see y).told (see y).clock)
-        by (Ok over) d = record {
-          usable = ready.usable;
-          stands = stands_on (putting_acts number id bytes) ledger.journal.standing ledger.journal.standing ledger.account.state ledger.account.state (see x) (see y)
-              (λ t at. prints_at [] (done_line number) ledger.journal.standing ledger.account.state (after_device (put id bytes) t) (record { recovers = at.recovers; position = at.position })) ready.stands d;
-        }
-        by (Err exit) d = tt
