@@ -4,10 +4,9 @@ use Rattle.std.proofs.lemmas.Bool.Decides.{nat_tests}
 use Rattle.board_core.specs.declared.board.DiskCall.{DiskCall}
 use Rattle.board_core.specs.Stop.{Begins, InOut, Left}
 use Rattle.board_core.specs.Told.{Told}
-use Rattle.board_core.specs.Doing.{Act, AreOffDevice, Moment, TornAct, after_act, after_acts, after_device, calls, calls_of, device, put}
+use Rattle.board_core.specs.Doing.{Act, AreOffDevice, Moment, TornAct, after_acts, after_device, calls, calls_of, device, put}
 use Rattle.board_core.specs.Device.{KeepsDevice}
-use Rattle.board_core.specs.Told.{after_print, after_put, device_of}
-use Rattle.board_core.specs.Stop.{Becomes, InStore}
+use Rattle.board_core.specs.Told.{after_print}
 use Rattle.board_core.proofs.ActLemmas.{acts_device, moment_store}
 use Rattle.board_core.proofs.DoingLemmas.{after-append, moment_parts}
 use Rattle.erst_store.specs.Store.{Stored, refusal_of}
@@ -36,7 +35,7 @@ use Rattle.ras_events.specs.Making.{entries_in}
 use Rattle.ras_events.specs.Preparing.{event_text_in}
 use Rattle.ras_events.specs.Events.{event_of}
 use Rattle.ras_events.specs.Stores.{store_after, store_by, store_with, unreadable}
-use Rattle.ras_events.specs.Reports.{NumberedLine, Place, entries_at, event_at, made_in, settings_told}
+use Rattle.ras_events.specs.Reports.{NumberedLine, Place, event_at, made_in, settings_told}
 use Rattle.ras_events.specs.Sizes.{IsFit, IsFitEvent}
 use Rattle.ras_events.proofs.HistoryLemmas.{news_account}
 use Rattle.ras_events.proofs.NewsLemmas.{numbers_news, valid_news}
@@ -48,7 +47,7 @@ use Rattle.ras_exit.specs.Acts.{print_acts}
 use Rattle.ras_exit.proofs.PrintLemmas.{after_printed, print_moment}
 use Rattle.ras_run.specs.LineActs.{AreActsUnless, AreEventActs, AreLineActs, AreOffDeviceButPut, HoldsAfter, event_prints, made_acts, news_acts, putting_acts, refused_acts}
 use Rattle.ras_run.specs.LineCalls.{AreCallsAt, AreEventCalls}
-use Rattle.ras_run.specs.Moments.{Course, CourseMoment, IsBegun, clears_store, course_at, stored_by}
+use Rattle.ras_run.specs.Moments.{Course, CourseMoment, IsBegun, clears_store, stored_by}
 use Rattle.ras_run.specs.Output.{event_done, event_text_at, output_at}
 use Rattle.ras_run.specs.Places.{IsBoardAfter, Start, account_at, has_no_room_for, lacks_room_for, standing_at, standing_with_news, store_at}
 use Rattle.ras_run.specs.Status.{event_refusal, put_refusal, refusal_at}
@@ -56,7 +55,7 @@ use Rattle.ras_run.specs.Taking.{IsAccepted, LineMoment}
 use Rattle.ras_run.proofs.NewsLemmas.{fit_news}
 use Rattle.ras_run.proofs.PlaceLemmas.{account-snoc, standing-snoc, store-snoc}
 use Rattle.ras_run.proofs.StoreLemmas.{line_store, put_slow, put_still, put_store}
-use Rattle.ras_run.proofs.PrintActLemmas.{calls_before, can_make, news_calls, news_off, news_out, news_prints_off, out_before, print_off, prints_calls, prints_off, reading_calls, reading_here, reading_off, reading_prints_off}
+use Rattle.ras_run.proofs.PrintActLemmas.{calls_before, can_make, news_calls, news_off, news_out, news_prints_off, out_before, print_off, prints_calls, prints_off, reading_calls, reading_here, reading_prints_off}
 use Rattle.ras_run.proofs.ReopenLemmas.{reading_moment}
 use Rattle.ras_run.proofs.StandsLemmas.{prints_at}
 

@@ -2,7 +2,7 @@
 use Rattle.std.proofs.Common.{◌≡◌, ℕ, Bool, true, false, if◌then◌else◌, List, [], ◌∷◌, ◌++◌, map, Option, None, Some, Result, Ok, Err, IfOk, IfErr, refl, sym, ap, subst, ◌∙◌, inl, inr, ◌⊎◌}
 use Rattle.std.specs.Option.{option_map}
 use Rattle.board_core.specs.Cause.{Kind, device_call, disk_call, print_call}
-use Rattle.board_core.specs.Clock.{Adds, Clock, Rests}
+use Rattle.board_core.specs.Clock.{Rests}
 use Rattle.board_core.specs.ClockLemmas.{adds_weaker}
 use Rattle.board_core.specs.Told.{Told}
 use Rattle.board_core.specs.Doing.{Act, Does, GoesWell, Moment, Seen, after_acts, broke, calls, device, put}
@@ -12,7 +12,6 @@ use Rattle.erst_store.specs.declared.store.PutRefused.{PutRefused}
 use Rattle.ras_account.specs.Account.{State}
 use Rattle.ras_account.specs.Continued.{account_after_all}
 use Rattle.ras_recover.proofs.OpeningCallsLemmas.{an_opening}
-use Rattle.ras_journal.specs.declared.standing.Standing.{Standing}
 use Rattle.ras_ledger.specs.declared.ledger.Ledger.{Ledger}
 use Rattle.ras_script.specs.declared.line.Line.{Line}
 use Rattle.ras_script.specs.declared.line.LineRefused.{LineRefused}
@@ -30,9 +29,9 @@ use Rattle.ras_events.specs.Making.{entries_in}
 use Rattle.ras_events.specs.Reports.{NumberedLine, Place, event_at}
 use Rattle.ras_events.specs.Sizes.{IsFit, IsFitEvent}
 use Rattle.ras_exit.specs.declared.exit.Exit.{Exit}
-use Rattle.ras_exit.specs.declared.exit.Exit.TheVariants.{BadLine, Full, NoMemory}
+use Rattle.ras_exit.specs.declared.exit.Exit.TheVariants.{Full, NoMemory}
 use Rattle.ras_exit.specs.declared.reason.Reason.TheVariants as reason
-use Rattle.ras_exit.specs.Acts.{DoesBy, DoesSome, end_of, ended_with, part_end, print_acts}
+use Rattle.ras_exit.specs.Acts.{DoesBy, end_of, ended_with, part_end, print_acts}
 use Rattle.ras_exit.specs.Endings.{AnyFault, CallEnding, EndsBy, OnlyFault, answered, ending_of, faulted, source_failed, starved, unread_exit}
 use Rattle.ras_exit.proofs.EndingLemmas.{ends_weaker}
 use Rattle.ras_exit.proofs.PrintLemmas.{part_does}
@@ -41,7 +40,7 @@ use Rattle.ras_account.specs.Numbers.{fresh_entries_in}
 use Rattle.ras_run.specs.LineActs.{AreActsUnless, AreEventActs, AreLineActs, AreReopening, DoesLine, DoesPut, DoesReopening, PutEnds, event_prints, made_acts, putting_acts, refused_acts}
 use Rattle.ras_run.specs.Places.{IsBoardAfter, Start, account_at, has_no_room_for, standing_at, standing_with_news, store_at}
 use Rattle.ras_run.specs.Status.{event_refusal, put_refusal, refusal_at, refused_exit}
-use Rattle.ras_run.specs.Taking.{CountsMade, EndsPut, IsAccepted, IsPrintExit, IsRefusedPut, IsRunAfter, MayFail, Reopens, TakesLine}
+use Rattle.ras_run.specs.Taking.{CountsMade, EndsPut, IsAccepted, IsPrintExit, IsRunAfter, MayFail, Reopens, TakesLine}
 use Rattle.ras_run.proofs.PlaceLemmas.{event_is, run_after}
 use Rattle.ras_run.proofs.StoreLemmas.{put_still}
 

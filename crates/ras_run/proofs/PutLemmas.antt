@@ -1,23 +1,16 @@
 -- A put with its done line: what it does, and how it ends.
-use Rattle.std.proofs.Common.{◌≡◌, ℕ, List, [], ◌∷◌, Option, None, Some, Result, Ok, Err, IfSome, OnErr, OnOk, refl, sym, ap, subst, inl, inr}
-use Rattle.erst_store.specs.Store.{Answers}
+use Rattle.std.proofs.Common.{◌≡◌, ℕ, List, [], ◌∷◌, Option, None, Some, Result, Ok, Err, IfSome, OnErr, sym, subst, inr}
 use Rattle.erst_store.specs.declared.store.PutRefused.{PutRefused}
-use Rattle.erst_store.specs.declared.store.PutRefused.TheVariants.{ReservedId, TooLong, StoreFull, NoMemory}
-use Rattle.board_core.specs.Cause.{Faults, device_call, disk_call, print_call}
-use Rattle.board_core.specs.Doing.{Does, Seen, after_device, broke, device, one_end, put, went_well}
+use Rattle.board_core.specs.Cause.{print_call}
+use Rattle.board_core.specs.Doing.{Does, Seen, broke, device, one_end, put, went_well}
 use Rattle.board_core.specs.Told.{Told}
 use Rattle.board_core.proofs.DoingLemmas.{does_then}
-use Rattle.ras_ledger.specs.declared.ledger.Ledger.{Ledger}
 use Rattle.ras_texts.specs.Text.{done_line}
 use Rattle.ras_exit.specs.Acts.{print_acts}
-use Rattle.ras_exit.specs.Causes.{BoardCause, BoardCauseBy, Causes}
-use Rattle.ras_exit.specs.Endings.{CallEnding, answered, ending_of, faulted, source_failed, starved}
 use Rattle.ras_exit.specs.declared.exit.Exit.{Exit}
-use Rattle.ras_exit.specs.declared.exit.Exit.TheVariants.{BadLine, PrintFault}
-use Rattle.ras_exit.specs.declared.reason.Reason.TheVariants as reason
-use Rattle.ras_run.specs.LineActs.{DoesPut, PutEnds, putting_acts}
-use Rattle.ras_run.specs.Taking.{EndsPut, IsReady}
-use Rattle.ras_run.proofs.StandsLemmas.{prints_at, stands_on}
+use Rattle.ras_exit.specs.declared.exit.Exit.TheVariants.{PrintFault}
+use Rattle.ras_run.specs.LineActs.{DoesPut}
+use Rattle.ras_run.specs.Taking.{EndsPut}
 
 pub if_some : (told : Option Told) (P Q : Told → Type 0) → ((t : Told) → P t → Q t) → IfSome told P → IfSome told Q
 if_some None P Q leads holds = tt

@@ -1,4 +1,4 @@
-use Rattle.std.proofs.Common.{Ok, [], ap, sym, refl, subst, List, ◌∙◌, inl, inr}
+use Rattle.std.proofs.Common.{Ok, ap, sym, refl, subst, List, ◌∙◌, inl, inr}
 use Rattle.board_core.specs.Doing.{Act, Does, looks}
 use Rattle.ras_events.specs.declared.event.Event.{Event}
 use Rattle.ras_events.specs.declared.event.Event.TheVariants.{Saved, Polled}
@@ -130,9 +130,9 @@ returns-in-Saved-clause-does g c = λ start before is t at board.
     rw (c.in-Ok.ensures.read, c.of_unread-in-Saved.ensures)
     (elim c.in-Saved.is [
       | inl saved ↦
-        later_does see start before c.args.number c.in-Ok.line c.args.run.now after is c.in-Ok-take.ensures.settings (Saved saved.0 saved.1)
-        (c.in-Ok-take.ensures.event ∙ ap (λ (e : Event). Ok e) saved.2) refl refl t c.args.board.now
+          later_does see start before c.args.number c.in-Ok.line c.args.run.now after is c.in-Ok-take.ensures.settings (Saved saved.0 saved.1)
+          (c.in-Ok-take.ensures.event ∙ ap (λ (e : Event). Ok e) saved.2) refl refl t c.args.board.now
       | inr polled ↦
-        later_does see start before c.args.number c.in-Ok.line c.args.run.now after is c.in-Ok-take.ensures.settings (Polled polled.0)
-        (c.in-Ok-take.ensures.event ∙ ap (λ (e : Event). Ok e) polled.1) refl refl t c.args.board.now
+          later_does see start before c.args.number c.in-Ok.line c.args.run.now after is c.in-Ok-take.ensures.settings (Polled polled.0)
+          (c.in-Ok-take.ensures.event ∙ ap (λ (e : Event). Ok e) polled.1) refl refl t c.args.board.now
     ])
