@@ -4,10 +4,9 @@ use Rattle.std.proofs.lemmas.Bool.Decides.{nat_tests}
 use Rattle.board_core.specs.declared.board.DiskCall.{DiskCall}
 use Rattle.board_core.specs.Stop.{Begins, InOut, Left}
 use Rattle.board_core.specs.Told.{Told}
-use Rattle.board_core.specs.Doing.{Act, AreOffDevice, Moment, TornAct, after_act, after_acts, after_device, calls, calls_of, device, put}
+use Rattle.board_core.specs.Doing.{Act, AreOffDevice, Moment, TornAct, after_acts, after_device, calls, calls_of, device, put}
 use Rattle.board_core.specs.Device.{KeepsDevice}
-use Rattle.board_core.specs.Told.{after_print, after_put, device_of}
-use Rattle.board_core.specs.Stop.{Becomes, InStore}
+use Rattle.board_core.specs.Told.{after_print}
 use Rattle.board_core.proofs.ActLemmas.{acts_device, moment_store}
 use Rattle.board_core.proofs.DoingLemmas.{after-append, moment_parts}
 use Rattle.erst_store.specs.Store.{Stored, refusal_of}
@@ -17,6 +16,7 @@ use Rattle.ras_account.specs.Accounts.{IsAccount}
 use Rattle.ras_account.specs.Continued.{account_after_all}
 use Rattle.ras_account.specs.Numbers.{AreWithin, Numbers, StaysWithin, are_past, fresh_entries_in, numbers_with}
 use Rattle.ras_account.proofs.LawLemmas.{entries-sound}
+use Rattle.ras_account.proofs.NumberLemmas.{stays-within}
 use Rattle.ras_facts.specs.declared.entry.Entry.{Entry}
 use Rattle.journal_format.specs.Links.{link_bytes}
 use Rattle.ras_journal.specs.declared.standing.Standing.{Standing}
@@ -35,10 +35,10 @@ use Rattle.ras_events.specs.Making.{entries_in}
 use Rattle.ras_events.specs.Preparing.{event_text_in}
 use Rattle.ras_events.specs.Events.{event_of}
 use Rattle.ras_events.specs.Stores.{store_after, store_by, store_with, unreadable}
-use Rattle.ras_events.specs.Reports.{NumberedLine, Place, entries_at, event_at, made_in, settings_told}
+use Rattle.ras_events.specs.Reports.{NumberedLine, Place, event_at, made_in, settings_told}
 use Rattle.ras_events.specs.Sizes.{IsFit, IsFitEvent}
 use Rattle.ras_events.proofs.HistoryLemmas.{news_account}
-use Rattle.ras_events.proofs.NewsLemmas.{stays_news, valid_news}
+use Rattle.ras_events.proofs.NewsLemmas.{numbers_news, valid_news}
 use Rattle.ras_script.specs.declared.line.Line.{Line}
 use Rattle.ras_script.specs.declared.line.LineRefused.{LineRefused}
 use Rattle.ras_exit.specs.declared.exit.Exit.{Exit}
@@ -47,7 +47,7 @@ use Rattle.ras_exit.specs.Acts.{print_acts}
 use Rattle.ras_exit.proofs.PrintLemmas.{after_printed, print_moment}
 use Rattle.ras_run.specs.LineActs.{AreActsUnless, AreEventActs, AreLineActs, AreOffDeviceButPut, HoldsAfter, event_prints, made_acts, news_acts, putting_acts, refused_acts}
 use Rattle.ras_run.specs.LineCalls.{AreCallsAt, AreEventCalls}
-use Rattle.ras_run.specs.Moments.{Course, CourseMoment, IsBegun, clears_store, course_at, stored_by}
+use Rattle.ras_run.specs.Moments.{Course, CourseMoment, IsBegun, clears_store, stored_by}
 use Rattle.ras_run.specs.Output.{event_done, event_text_at, output_at}
 use Rattle.ras_run.specs.Places.{IsBoardAfter, Start, account_at, has_no_room_for, lacks_room_for, standing_at, standing_with_news, store_at}
 use Rattle.ras_run.specs.Status.{event_refusal, put_refusal, refusal_at}
@@ -55,7 +55,7 @@ use Rattle.ras_run.specs.Taking.{IsAccepted, LineMoment}
 use Rattle.ras_run.proofs.NewsLemmas.{fit_news}
 use Rattle.ras_run.proofs.PlaceLemmas.{account-snoc, standing-snoc, store-snoc}
 use Rattle.ras_run.proofs.StoreLemmas.{line_store, put_slow, put_still, put_store}
-use Rattle.ras_run.proofs.PrintActLemmas.{calls_before, can_make, news_calls, news_off, news_out, news_prints_off, out_before, print_off, prints_calls, prints_off, reading_calls, reading_here, reading_off, reading_prints_off}
+use Rattle.ras_run.proofs.PrintActLemmas.{calls_before, can_make, news_calls, news_off, news_out, news_prints_off, out_before, print_off, prints_calls, prints_off, reading_calls, reading_here, reading_prints_off}
 use Rattle.ras_run.proofs.ReopenLemmas.{reading_moment}
 use Rattle.ras_run.proofs.StandsLemmas.{prints_at}
 
@@ -203,18 +203,24 @@ module _ (Accepted : Type 0) (accepted : Accepted) (c : Course) (out : List ℕ)
   course_prints left moment = elim (moment_parts (print_acts c.text) (print_acts c.done) u left moment) [
     | inl first ↦ (
         let by : InOut (Begins c.text) u.here left = print_moment c.text u left first in
-        inr (accepted, inl (record {
-          recovers = recovers_printed s c.after (Begins c.text) u.here left at by;
-          store = ap (λ (l : Left). l.store) by.rest ∙ store;
-          text = subst (λ before. Begins c.text before left.out) text (begun c.text u.here left by);
-        })))
+        inr (
+          accepted,
+          inl (record {
+            recovers = recovers_printed s c.after (Begins c.text) u.here left at by;
+            store = ap (λ (l : Left). l.store) by.rest ∙ store;
+            text = subst (λ before. Begins c.text before left.out) text (begun c.text u.here left by);
+          }),
+        ))
     | inr second ↦ (
         let by : InOut (Begins c.done) (after_print c.text u).here left = subst (λ (v : Told). InOut (Begins c.done) v.here left) (after_printed c.text u) (print_moment c.done (after_acts (print_acts c.text) u) left second) in
-        inr (accepted, inr (inr (record {
-          recovers = recovers_printed s c.after (Begins c.done) (after_print c.text u).here left (record { recovers = at.recovers; position = at.position }) by;
-          store = store_same left (ap (λ (l : Left). l.store) by.rest);
-          text = subst (λ before. Begins c.done (before ++ c.text) left.out) text (begun c.done (after_print c.text u).here left by);
-        }))))
+        inr (
+          accepted,
+          inr (inr (record {
+            recovers = recovers_printed s c.after (Begins c.done) (after_print c.text u).here left (record { recovers = at.recovers; position = at.position }) by;
+            store = store_same left (ap (λ (l : Left). l.store) by.rest);
+            text = subst (λ before. Begins c.done (before ++ c.text) left.out) text (begun c.done (after_print c.text u).here left by);
+          })),
+        ))
   ]
 
 module _ (start : Start) (before : List NumberedLine) (number : ℕ) (line : Result Line LineRefused) (t : Told) (holds : HoldsAfter start before t) where
@@ -313,7 +319,7 @@ module _ (start : Start) (before : List NumberedLine) (number : ℕ) (line : Res
     parts = neither (are_past (numbers_with a (entries_in made))) (lacks_room_for a s news) room
 
     stays : StaysWithin a news
-    stays = stays_news a (entries_in made) (within_room (numbers_with a (entries_in made)) parts.0)
+    stays = stays-within a news (subst AreWithin (sym (numbers_news a (entries_in made))) (within_room (numbers_with a (entries_in made)) parts.0))
 
     account_is : account_after_all a news ≡ account_after_all a (entries_in made)
     account_is = news_account a (entries_in made)
@@ -357,15 +363,18 @@ module _ (start : Start) (before : List NumberedLine) (number : ℕ) (line : Res
           let same : left.store ≡ store = moment_store (news_acts s a news) (news_off s a news) t left keeping ∙ holds.board.store in
           elim kept.1 [
             | inl without ↦ inl (record { recovers = without; store = inl same; text = kept.0 })
-            | inr has ↦ inr (accepted, inl (record {
+            | inr has ↦ inr (
+              accepted,
+              inl (record {
                 recovers = subst (λ (b : State). Recovers b left) account_is has;
                 store = same;
                 text = begins_nothing (event_text_in a made) t.here left kept.0;
-              }))
+              }),
+            )
           ])
       | inr printing ↦
-        course_prints Accepted accepted (course_by (Ok (Counted made)) (account_after_all a (entries_in made))) t.here.out (after_acts (news_acts s a news) t) (standing_with_news a s news) news_at
-        (board_off (news_acts s a news) (news_off s a news)).store refl (news_out s a news t) left printing
+          course_prints Accepted accepted (course_by (Ok (Counted made)) (account_after_all a (entries_in made))) t.here.out (after_acts (news_acts s a news) t) (standing_with_news a s news) news_at
+          (board_off (news_acts s a news) (news_off s a news)).store refl (news_out s a news t) left printing
     ]
 
   -- ---- by the event
@@ -418,8 +427,8 @@ module _ (start : Start) (before : List NumberedLine) (number : ℕ) (line : Res
             text = ap (λ (l : Left). l.out) same;
           }))
       | inr printing ↦
-        course_prints Accepted accepted (course_by (Ok Reopened) a) t.here.out (after_acts (map calls are.0) t) s (subst (IsAt s a) (sym (reading_here are.0 t)) holds.at)
-        (ap (λ (l : Left). l.store) (reading_here are.0 t) ∙ holds.board.store) refl (ap (λ (l : Left). l.out) (reading_here are.0 t)) left printing
+          course_prints Accepted accepted (course_by (Ok Reopened) a) t.here.out (after_acts (map calls are.0) t) s (subst (IsAt s a) (sym (reading_here are.0 t)) holds.at)
+          (ap (λ (l : Left). l.store) (reading_here are.0 t) ∙ holds.board.store) refl (ap (λ (l : Left). l.out) (reading_here are.0 t)) left printing
     ]
     event_moment (Err why) acts left none fit are moment = absurd cc
 

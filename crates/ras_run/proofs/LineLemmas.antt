@@ -1,7 +1,8 @@
 -- A line taken at its place.
 use Rattle.std.proofs.Common.{◌≡◌, ℕ, Bool, true, false, if◌then◌else◌, List, [], ◌∷◌, ◌++◌, map, Option, None, Some, Result, Ok, Err, IfOk, IfErr, refl, sym, ap, subst, ◌∙◌, inl, inr, ◌⊎◌}
+use Rattle.std.specs.Option.{option_map}
 use Rattle.board_core.specs.Cause.{Kind, device_call, disk_call, print_call}
-use Rattle.board_core.specs.Clock.{Adds, Clock, Rests}
+use Rattle.board_core.specs.Clock.{Rests}
 use Rattle.board_core.specs.ClockLemmas.{adds_weaker}
 use Rattle.board_core.specs.Told.{Told}
 use Rattle.board_core.specs.Doing.{Act, Does, GoesWell, Moment, Seen, after_acts, broke, calls, device, put}
@@ -11,7 +12,6 @@ use Rattle.erst_store.specs.declared.store.PutRefused.{PutRefused}
 use Rattle.ras_account.specs.Account.{State}
 use Rattle.ras_account.specs.Continued.{account_after_all}
 use Rattle.ras_recover.proofs.OpeningCallsLemmas.{an_opening}
-use Rattle.ras_journal.specs.declared.standing.Standing.{Standing}
 use Rattle.ras_ledger.specs.declared.ledger.Ledger.{Ledger}
 use Rattle.ras_script.specs.declared.line.Line.{Line}
 use Rattle.ras_script.specs.declared.line.LineRefused.{LineRefused}
@@ -29,9 +29,9 @@ use Rattle.ras_events.specs.Making.{entries_in}
 use Rattle.ras_events.specs.Reports.{NumberedLine, Place, event_at}
 use Rattle.ras_events.specs.Sizes.{IsFit, IsFitEvent}
 use Rattle.ras_exit.specs.declared.exit.Exit.{Exit}
-use Rattle.ras_exit.specs.declared.exit.Exit.TheVariants.{BadLine, Full, NoMemory}
+use Rattle.ras_exit.specs.declared.exit.Exit.TheVariants.{Full, NoMemory}
 use Rattle.ras_exit.specs.declared.reason.Reason.TheVariants as reason
-use Rattle.ras_exit.specs.Acts.{DoesBy, DoesSome, end_of, ended_with, part_end, print_acts}
+use Rattle.ras_exit.specs.Acts.{DoesBy, end_of, ended_with, part_end, print_acts}
 use Rattle.ras_exit.specs.Endings.{AnyFault, CallEnding, EndsBy, OnlyFault, answered, ending_of, faulted, source_failed, starved, unread_exit}
 use Rattle.ras_exit.proofs.EndingLemmas.{ends_weaker}
 use Rattle.ras_exit.proofs.PrintLemmas.{part_does}
@@ -40,7 +40,7 @@ use Rattle.ras_account.specs.Numbers.{fresh_entries_in}
 use Rattle.ras_run.specs.LineActs.{AreActsUnless, AreEventActs, AreLineActs, AreReopening, DoesLine, DoesPut, DoesReopening, PutEnds, event_prints, made_acts, putting_acts, refused_acts}
 use Rattle.ras_run.specs.Places.{IsBoardAfter, Start, account_at, has_no_room_for, standing_at, standing_with_news, store_at}
 use Rattle.ras_run.specs.Status.{event_refusal, put_refusal, refusal_at, refused_exit}
-use Rattle.ras_run.specs.Taking.{CountsMade, EndsPut, IsAccepted, IsPrintExit, IsRefusedPut, IsRunAfter, MayFail, Reopens, TakesLine}
+use Rattle.ras_run.specs.Taking.{CountsMade, EndsPut, IsAccepted, IsPrintExit, IsRunAfter, MayFail, Reopens, TakesLine}
 use Rattle.ras_run.proofs.PlaceLemmas.{event_is, run_after}
 use Rattle.ras_run.proofs.StoreLemmas.{put_still}
 
@@ -67,10 +67,10 @@ some_acts start (before, (number, line)) t = by (refusal_at start (before, (numb
 pub refused_line : {X : Type 0} (see : X → Seen) (start : Start) (place : Place) (t : Told) (exit : Exit) (x : X) (event : Result Event Refusal) → event_at place ≡ event → event_refusal start place event ≡ Some exit → refused_acts event ≡ []
     → ending_of exit ≡ answered → DoesLine see start place t (Err exit) x x
 refused_line see start place t exit x event here is none ends = (
-    [],
-    subst (λ (e : Result Event Refusal). AreActsUnless (event_refusal start place e) (refused_acts e) (AreEventActs start place t e) []) (sym here)
-        (subst (λ r. AreActsUnless r (refused_acts event) (AreEventActs start place t event) []) (sym is) (sym none)),
-    subst (λ ending. DoesBy see [] ending x x) (sym ends) (does_nothing see x),
+  [],
+  subst (λ (e : Result Event Refusal). AreActsUnless (event_refusal start place e) (refused_acts e) (AreEventActs start place t e) []) (sym here)
+      (subst (λ r. AreActsUnless r (refused_acts event) (AreEventActs start place t event) []) (sym is) (sym none)),
+  subst (λ ending. DoesBy see [] ending x x) (sym ends) (does_nothing see x),
 )
 
 pub starved_line : {X : Type 0} (see : X → Seen) (start : Start) (place : Place) (t : Told) (x : X) → DoesLine see start place t (Err NoMemory) x x
@@ -90,14 +90,6 @@ module _ {X : Type 0} (see : X → Seen) (start : Start) (before : List Numbered
       answers : (refusal : Refusal) → ending_of (refused_exit number refusal) ≡ answered
       answers (Bad reason) = refl
       answers NoTable = refl
-
-pub takes_refused : (start : Start) (before : List NumberedLine) (number : ℕ) (line : Line) (why : Refusal) (run after : Run) → IsRunAfter start before run → event_of run.settings line ≡ Err why
-    → TakesLine start (before, (number, Ok line)) (Err (refused_exit number why)) after
-takes_refused start before number line why run after is asked = by why (ap (event_refusal start (before, (number, Ok line))) (event_is start before number line run (Err why) is asked))
-  where
-    by : (refusal : Refusal) → refusal_at start (before, (number, Ok line)) ≡ Some (refused_exit number refusal) → TakesLine start (before, (number, Ok line)) (Err (refused_exit number refusal)) after
-    by (Bad reason) refused = refused
-    by NoTable refused = refused
 
 -- ---- a line that asks for an event
 
@@ -207,14 +199,14 @@ module _ {X : Type 0} (see : X → Seen) (start : Start) (before : List Numbered
 
   -- one that a run doesn't take yet
   module _ (event : Event) (asked : event_of run.settings line ≡ Ok event) (later : event_refusal start at (Ok event) ≡ Some (unread_exit number refused.Kind)) (none : refused_acts (Ok event) ≡ []) where
-    pub takes_later : TakesLine start at (Err (unread_exit number refused.Kind)) after
-    takes_later = refusal_is start before number line event run is asked ∙ later
-
     pub later_does : (t : Told) (x : X) → DoesLine see start at t (Err (unread_exit number refused.Kind)) x x
     later_does t x = refused_line see start at t (unread_exit number refused.Kind) x (Ok event) (event_is start before number line run (Ok event) is asked) later none refl
 
   -- one that puts a record
   module _ (id : ℕ) (bytes : List ℕ) (asked : event_of run.settings line ≡ Ok (Put id bytes)) (result : Result (Unit {0}) Exit) (t : Told) (board : IsBoardAfter start before t) (ends : EndsPut number result (refusal_of id bytes t.here.store)) where
+    abbrev no_refusal : Option PutRefused
+    no_refusal = None
+
     abbrev refusal : Option PutRefused
     refusal = refusal_of id bytes (store_at start before)
 
@@ -226,11 +218,11 @@ module _ {X : Type 0} (see : X → Seen) (start : Start) (before : List Numbered
 
     may_fail : (kind : Kind) → (kind ≡ device_call) ⊎ (refusal ≡ None) → MayFail start at kind
     may_fail kind (inr none) = inl (taken_put none)
-    may_fail kind (inl device) = by refusal refl
+    may_fail kind (inl own) = by refusal refl
       where
         by : (r : Option PutRefused) → refusal ≡ r → MayFail start at kind
         by None none = inl (taken_put none)
-        by (Some why) refused = inr (device, record { id = id; bytes = bytes; why = why; event = event_is start before number line run (Ok (Put id bytes)) is asked; refused = refused })
+        by (Some why) refused = inr (own, record { id = id; bytes = bytes; why = why; event = event_is start before number line run (Ok (Put id bytes)) is asked; refused = refused })
 
     pub takes_put : after.ledger ≡ run.ledger → TakesLine start at result after
     takes_put same = by result ends_here
@@ -251,7 +243,7 @@ module _ {X : Type 0} (see : X → Seen) (start : Start) (before : List Numbered
           event_does start before number line (Put id bytes) run is asked see t x y result (putting_acts number id bytes) (ap (put_refusal number) none) refl
           (by result (subst (EndsPut number result) none ends_here) does)
         where
-          of : (exit : Exit) (ending : CallEnding) → EndsBy (put_refusal number None ≡ Some exit) (Unit {0}) (λ kind. (kind ≡ device_call) ⊎ (None {A = PutRefused} ≡ None)) ending → PutEnds see number id bytes ending x y
+          of : (exit : Exit) (ending : CallEnding) → EndsBy (put_refusal number None ≡ Some exit) (Unit {0}) (λ kind. (kind ≡ device_call) ⊎ (no_refusal ≡ None)) ending → PutEnds see number id bytes ending x y
               → DoesBy see (putting_acts number id bytes) ending x y
           of exit answered e d = absurd cc
           of exit starved e d = record { made = []; later = putting_acts number id bytes; splits = refl; does = d }
@@ -274,7 +266,7 @@ module _ {X : Type 0} (see : X → Seen) (start : Start) (before : List Numbered
 
         goes_well : GoesWell [] (see x) (see y) → GoesWell (device (put id bytes) ∷ []) (see x) (see y)
         goes_well well = record {
-          told = rw told (step ∙ ap Some (sym still_here));
+          told = subst (λ (o : Option Told). (see y).told ≡ option_map (after_acts (device (put id bytes) ∷ [])) o) (sym told) (step ∙ ap Some (sym still_here));
           stops = λ u rests. adds_weaker (Moment [] u) (Moment (device (put id bytes) ∷ []) u) (see x).clock (see y).clock (well.stops u rests) (λ left never. absurd never);
           rests = λ u rests. subst (λ (v : Told). Rests v (see y).told (see y).clock) (sym (still u rests)) (well.rests u rests);
           faults = well.faults;
@@ -284,14 +276,14 @@ module _ {X : Type 0} (see : X → Seen) (start : Start) (before : List Numbered
             still_here = put_still id bytes t why (ap (refusal_of id bytes) board.store ∙ refused)
 
             step : (see y).told ≡ Some t
-            step = rw (← told) well.told
+            step = well.told ∙ ap (option_map (after_acts [])) told
 
         put_refused : DoesLine see start at t result x y
         put_refused = (
-            device (put id bytes) ∷ [],
-            subst (λ (e : Result Event Refusal). AreActsUnless (event_refusal start at e) (refused_acts e) (AreEventActs start at t e) (device (put id bytes) ∷ [])) (sym (event_is start before number line run (Ok (Put id bytes)) is asked))
-                (subst (λ r. AreActsUnless (put_refusal number r) (device (put id bytes) ∷ []) (AreEventActs start at t (Ok (Put id bytes))) (device (put id bytes) ∷ [])) (sym refused) refl),
-            by result (subst (EndsPut number result) refused ends_here) does,
+          device (put id bytes) ∷ [],
+          subst (λ (e : Result Event Refusal). AreActsUnless (event_refusal start at e) (refused_acts e) (AreEventActs start at t e) (device (put id bytes) ∷ [])) (sym (event_is start before number line run (Ok (Put id bytes)) is asked))
+              (subst (λ r. AreActsUnless (put_refusal number r) (device (put id bytes) ∷ []) (AreEventActs start at t (Ok (Put id bytes))) (device (put id bytes) ∷ [])) (sym refused) refl),
+          by result (subst (EndsPut number result) refused ends_here) does,
         )
           where
             of : (exit : Exit) (ending : CallEnding) → EndsBy (put_refusal number (Some why) ≡ Some exit) (Unit {0}) (λ kind. (kind ≡ device_call) ⊎ (Some why ≡ None)) ending → PutEnds see number id bytes ending x y
@@ -300,8 +292,8 @@ module _ {X : Type 0} (see : X → Seen) (start : Start) (before : List Numbered
             of exit starved e d = record { made = []; later = device (put id bytes) ∷ []; splits = refl; does = d }
             of exit source_failed e d = absurd e
             of exit (faulted device_call) e d = d
-            of exit (faulted disk_call) e d = elim e [ inl device ↦ absurd cc | inr none ↦ absurd cc ]
-            of exit (faulted print_call) e d = elim e [ inl device ↦ absurd cc | inr none ↦ absurd cc ]
+            of exit (faulted disk_call) e d = elim e [ inl own ↦ absurd cc | inr none ↦ absurd cc ]
+            of exit (faulted print_call) e d = elim e [ inl own ↦ absurd cc | inr none ↦ absurd cc ]
 
             by : (r : Result (Unit {0}) Exit) → EndsPut number r (Some why) → DoesPut see number id bytes r x y → DoesBy see (device (put id bytes) ∷ []) (ended_with r) x y
             by (Ok over) e d = absurd cc

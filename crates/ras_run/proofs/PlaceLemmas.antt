@@ -1,13 +1,9 @@
 -- What a run has come to after one line more.
-use Rattle.std.proofs.Common.{◌≡◌, ℕ, List, [], ◌∷◌, ◌++◌, Option, None, Some, Result, Ok, Err, refl, sym, ap, ◌∙◌, append-nil}
+use Rattle.std.proofs.Common.{◌≡◌, ℕ, List, [], ◌∷◌, ◌++◌, Result, Ok, refl, sym, ap, ◌∙◌, append-nil}
 use Rattle.std.proofs.lemmas.List.Sums.{fold-append}
 use Rattle.erst_store.specs.Store.{Stored}
 use Rattle.ras_base.specs.Places.{places}
 use Rattle.ras_base.specs.PlacesLemmas.{places-snoc}
-use Rattle.apei_sources.specs.Hest.{hest_of}
-use Rattle.dimm_topology.specs.Refusals.{row_refusal}
-use Rattle.erst_interp.specs.Table.{erst_of}
-use Rattle.ras_account.specs.Account.{State}
 use Rattle.ras_account.specs.Continued.{account_after, account_after_all}
 use Rattle.ras_account.specs.Numbers.{fresh_entries_in}
 use Rattle.ras_journal.specs.declared.standing.Standing.{Standing}

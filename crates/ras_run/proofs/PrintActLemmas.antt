@@ -1,13 +1,12 @@
 -- The acts of a line, one sort after another: what they leave, and which calls they are.
-use Rattle.std.proofs.Common.{◌≡◌, ℕ, ◌+◌, ◌≤◌, Bool, true, false, ◌&&◌, List, [], ◌∷◌, ◌++◌, length, map, IsTrue, refl, sym, ap, subst, ◌∙◌, inl, inr, append_assoc, append-nil, length-append, arith}
+use Rattle.std.proofs.Common.{◌≡◌, ℕ, ◌+◌, ◌≤◌, Bool, true, false, ◌&&◌, List, [], ◌∷◌, ◌++◌, length, map, IsTrue, refl, sym, ap, ◌∙◌, append_assoc, append-nil, length-append, arith}
 use Rattle.std.proofs.lemmas.Bool.Decides.{nat_tests}
 use Rattle.std.specs.List.{flat_map}
 use Rattle.board_core.specs.declared.board.DiskCall.{DiskCall}
-use Rattle.board_core.specs.Stop.{Begins, InOut, Left}
 use Rattle.board_core.specs.Told.{Told, after_print}
-use Rattle.board_core.specs.Doing.{Act, AreOffDevice, Moment, after_acts, calls, calls_of, disk_calls_by}
+use Rattle.board_core.specs.Doing.{Act, AreOffDevice, after_acts, calls, calls_of, disk_calls_by}
 use Rattle.board_core.proofs.ActLemmas.{acts_out, on_disk_off}
-use Rattle.board_core.proofs.DoingLemmas.{after-append, moment_parts}
+use Rattle.board_core.proofs.DoingLemmas.{after-append}
 use Rattle.dimm_topology.specs.Labels.{Bytes}
 use Rattle.journal_format.specs.Checkpoints.{checkpoint_bytes, module_bytes}
 use Rattle.journal_format.proofs.SizeLemmas.{checkpoint_size}
@@ -26,7 +25,7 @@ use Rattle.ras_ledger.specs.Keeping.{CanMake, lacks_room}
 use Rattle.ras_ledger.proofs.KeepingLemmas.{is_keeping, keeping_on_disk}
 use Rattle.ras_texts.specs.Text.{done_line}
 use Rattle.ras_exit.specs.Acts.{print_acts}
-use Rattle.ras_exit.proofs.PrintLemmas.{after_printed, print_moment}
+use Rattle.ras_exit.proofs.PrintLemmas.{after_printed}
 use Rattle.ras_run.specs.LineActs.{event_prints, news_acts}
 use Rattle.ras_run.specs.LineCalls.{AreNewsCalls}
 use Rattle.ras_run.proofs.ReopenLemmas.{after_reading}

@@ -1,23 +1,16 @@
 -- A put with its done line: what it does, and how it ends.
-use Rattle.std.proofs.Common.{◌≡◌, ℕ, List, [], ◌∷◌, Option, None, Some, Result, Ok, Err, IfSome, OnErr, OnOk, refl, sym, ap, subst, inl, inr}
-use Rattle.erst_store.specs.Store.{Answers}
+use Rattle.std.proofs.Common.{◌≡◌, ℕ, List, [], ◌∷◌, Option, None, Some, Result, Ok, Err, IfSome, OnErr, sym, subst, inr}
 use Rattle.erst_store.specs.declared.store.PutRefused.{PutRefused}
-use Rattle.erst_store.specs.declared.store.PutRefused.TheVariants.{ReservedId, TooLong, StoreFull, NoMemory}
-use Rattle.board_core.specs.Cause.{Faults, device_call, disk_call, print_call}
-use Rattle.board_core.specs.Doing.{Does, Seen, after_device, broke, device, one_end, put, went_well}
+use Rattle.board_core.specs.Cause.{print_call}
+use Rattle.board_core.specs.Doing.{Does, Seen, broke, device, one_end, put, went_well}
 use Rattle.board_core.specs.Told.{Told}
 use Rattle.board_core.proofs.DoingLemmas.{does_then}
-use Rattle.ras_ledger.specs.declared.ledger.Ledger.{Ledger}
 use Rattle.ras_texts.specs.Text.{done_line}
 use Rattle.ras_exit.specs.Acts.{print_acts}
-use Rattle.ras_exit.specs.Causes.{BoardCause, BoardCauseBy, Causes}
-use Rattle.ras_exit.specs.Endings.{CallEnding, answered, ending_of, faulted, source_failed, starved}
 use Rattle.ras_exit.specs.declared.exit.Exit.{Exit}
-use Rattle.ras_exit.specs.declared.exit.Exit.TheVariants.{BadLine, PrintFault}
-use Rattle.ras_exit.specs.declared.reason.Reason.TheVariants as reason
-use Rattle.ras_run.specs.LineActs.{DoesPut, PutEnds, putting_acts}
-use Rattle.ras_run.specs.Taking.{EndsPut, IsReady}
-use Rattle.ras_run.proofs.StandsLemmas.{prints_at, stands_on}
+use Rattle.ras_exit.specs.declared.exit.Exit.TheVariants.{PrintFault}
+use Rattle.ras_run.specs.LineActs.{DoesPut}
+use Rattle.ras_run.specs.Taking.{EndsPut}
 
 pub if_some : (told : Option Told) (P Q : Told → Type 0) → ((t : Told) → P t → Q t) → IfSome told P → IfSome told Q
 if_some None P Q leads holds = tt
@@ -29,12 +22,6 @@ pub printed_ends : (number : ℕ) (refusal : Option PutRefused) (result : Result
 printed_ends number refusal (Ok over) fault none = none
 printed_ends number refusal (Err exit) fault none = subst (λ (r : Result (Unit {0}) Exit). EndsPut number r refusal) (sym fault) (inr none)
 
-pub refused_ends : (number : ℕ) (why : PutRefused) (refusal : Option PutRefused) → ¬ (why ≡ NoMemory) → Answers {X = Unit {0}} (Err why) refusal → EndsPut number (Err (BadLine number (reason.Put why))) refusal
-refused_ends number NoMemory refusal not is = absurd (not refl)
-refused_ends number ReservedId refusal not is = rw is refl
-refused_ends number TooLong refusal not is = rw is refl
-refused_ends number StoreFull refusal not is = rw is refl
-
 -- ---- what it does
 
 module _ {X : Type 0} (see : X → Seen) (number id : ℕ) (bytes : List ℕ) where
@@ -45,31 +32,3 @@ module _ {X : Type 0} (see : X → Seen) (number id : ℕ) (bytes : List ℕ) wh
   printed_does done (Err exit) x y z fault is first second =
       subst (λ (r : Result (Unit {0}) Exit). DoesPut see number id bytes r x z) (sym fault)
       (does_then see (device (put id bytes) ∷ []) (print_acts (done_line number)) (broke print_call) x y z first tt (subst (λ text. Does see (print_acts text) (broke print_call) y z) is second))
-
-  module _ (result : Result (Unit {0}) Exit) (x y : X) (does : DoesPut see number id bytes result x y) where
-    pub put_causes : Causes {C = Faults} BoardCause result (see x).faults (see y).faults
-    put_causes = by result does
-      where
-        of : (ending : CallEnding) → PutEnds see number id bytes ending x y → BoardCauseBy ending (see x).faults (see y).faults
-        of answered d = d.faults
-        of starved d = d.faults
-        of source_failed d = d.faults
-        of (faulted device_call) d = d.faults
-        of (faulted disk_call) d = d.faults
-        of (faulted print_call) d = d.faults
-
-        by : (r : Result (Unit {0}) Exit) → DoesPut see number id bytes r x y → Causes {C = Faults} BoardCause r (see x).faults (see y).faults
-        by (Ok over) d = d.faults
-        by (Err exit) d = of (ending_of exit) d
-
-    -- the next line can be taken
-    pub put_ready : (ledger : Ledger) → IsReady ledger (see x).told (see x).clock → OnOk result (IsReady ledger (see y).told (see y).clock)
-    put_ready ledger ready = by result does
-      where
-        by : (r : Result (Unit {0}) Exit) → DoesPut see number id bytes r x y → OnOk r (IsReady ledger (see y).told (see y).clock)
-        by (Ok over) d = record {
-          usable = ready.usable;
-          stands = stands_on (putting_acts number id bytes) ledger.journal.standing ledger.journal.standing ledger.account.state ledger.account.state (see x) (see y)
-              (λ t at. prints_at [] (done_line number) ledger.journal.standing ledger.account.state (after_device (put id bytes) t) (record { recovers = at.recovers; position = at.position })) ready.stands d;
-        }
-        by (Err exit) d = tt

@@ -1,8 +1,8 @@
 -- What a put does to the record store, and what a line does.
-use Rattle.std.proofs.Common.{◌≡◌, ℕ, Bool, true, false, if◌then◌else◌, List, [], ◌∷◌, Option, None, Some, Result, Ok, Err, IfOk, refl, sym, ap, subst, ◌∙◌}
+use Rattle.std.proofs.Common.{◌≡◌, ℕ, Bool, true, false, if◌then◌else◌, List, Option, None, Some, Result, Ok, Err, IfOk, refl, ap, subst}
 use Rattle.std.specs.Option.{option_map_or}
 use Rattle.ras_base.specs.Chaining.{◌>>=◌}
-use Rattle.erst_store.specs.Device.{Device, with_put}
+use Rattle.erst_store.specs.Device.{with_put}
 use Rattle.erst_store.specs.Store.{Stored, refusal_of, with_record}
 use Rattle.erst_store.specs.declared.store.PutRefused.{PutRefused}
 use Rattle.board_core.specs.Told.{Told, after_put, device_of, unless_refused, with_device}
@@ -21,16 +21,14 @@ use Rattle.ras_script.specs.declared.line.Line.TheVariants as asks
 use Rattle.ras_script.specs.declared.line.Table.TheVariants.{Hest, Erst}
 use Rattle.ras_exit.specs.declared.reason.Reason.{Reason}
 use Rattle.ras_exit.specs.declared.reason.Reason.TheVariants as reason
-use Rattle.ras_facts.specs.declared.bank.BankReport.{BankReport}
 use Rattle.ras_facts.specs.declared.name.Name.{Name}
 use Rattle.ras_panic.specs.Panics.{panic_bytes}
-use Rattle.ras_panic.specs.declared.making.PanicRefused.{PanicRefused}
 use Rattle.ras_events.specs.declared.event.Event.{Event}
-use Rattle.ras_events.specs.declared.event.Event.TheVariants.{Nothing, Settled, Counted, Put, Saved, Polled, Reopened}
+use Rattle.ras_events.specs.declared.event.Event.TheVariants.{Settled, Saved, Polled}
 use Rattle.ras_events.specs.declared.event.Refusal.{Refusal}
 use Rattle.ras_events.specs.declared.event.Refusal.TheVariants.{Bad, NoTable}
 use Rattle.ras_events.specs.declared.settings.Settings.{Settings}
-use Rattle.ras_events.specs.Events.{Lists, block_event, erst_event, event_of, has_source, or_reason, panic_event, panic_refusal, report_event, row_event, with_table}
+use Rattle.ras_events.specs.Events.{Lists, block_event, event_of, has_source, or_reason, panic_refusal, report_event, with_table}
 use Rattle.ras_events.specs.Stores.{store_by, store_with, unreadable}
 use Rattle.ras_run.specs.Moments.{stored_by}
 
@@ -43,16 +41,16 @@ module _ (id : ℕ) (bytes : List ℕ) (t : Told) where
   pub put_still : (why : PutRefused) → refusal_of id bytes t.here.store ≡ Some why → after_device (put id bytes) t ≡ t
   put_still why is = ap by_refusal is
 
-  unfolding with_put
   pub put_store : (after_put id bytes (device_of t)).store ≡ store_with id bytes t.here.store
+  unfolding with_put
   put_store = by (refusal_of id bytes t.here.store)
     where
       by : (r : Option PutRefused) → (unless_refused r (with_put id bytes (device_of t)) (device_of t)).store ≡ option_map_or (λ why. t.here.store) r (with_record id bytes t.here.store)
       by None = refl
       by (Some why) = refl
 
-  unfolding with_put
   pub put_slow : (after_device (put id bytes) t).volatile.slow ≡ t.volatile.slow
+  unfolding with_put
   put_slow = by (refusal_of id bytes t.here.store)
     where
       by : (r : Option PutRefused) → (by_refusal r).volatile.slow ≡ t.volatile.slow

@@ -15,7 +15,7 @@ use Rattle.ras_journal.specs.Recovered.{IsAt}
 use Rattle.ras_recover.specs.OpeningCalls.{IsRecoveryOf}
 use Rattle.ras_ledger.specs.Keeping.{keeping_acts}
 use Rattle.ras_events.specs.declared.event.Event.{Event}
-use Rattle.ras_events.specs.declared.event.Event.TheVariants.{Nothing, Settled, Counted, Put, Reopened}
+use Rattle.ras_events.specs.declared.event.Event.TheVariants.{Settled, Counted, Put, Reopened}
 use Rattle.ras_events.specs.declared.event.Refusal.{Refusal}
 use Rattle.ras_events.specs.declared.made.Piece.{Piece}
 use Rattle.ras_events.specs.Making.{entries_in}

@@ -1,7 +1,7 @@
 -- What an event has printed: its text, and its done line.
 use Rattle.std.specs.Prelude.{ℕ, List, [], ◌++◌, Result, Ok, Err}
 use Rattle.ras_events.specs.declared.event.Event.{Event}
-use Rattle.ras_events.specs.declared.event.Event.TheVariants.{Nothing, Settled, Counted, Reopened}
+use Rattle.ras_events.specs.declared.event.Event.TheVariants.{Nothing, Counted, Reopened}
 use Rattle.ras_events.specs.declared.event.Refusal.{Refusal}
 use Rattle.ras_events.specs.Preparing.{event_text_in}
 use Rattle.ras_events.specs.Reports.{NumberedLine, Place, event_at}

@@ -1,13 +1,17 @@
-use Rattle.std.proofs.Common.{Ok, [], ap, sym, refl, subst, List, ◌∙◌}
+use Rattle.std.proofs.Common.{Ok, ap, sym, refl, subst, List, ◌∙◌, inl, inr}
 use Rattle.board_core.specs.Doing.{Act, Does, looks}
 use Rattle.ras_events.specs.declared.event.Event.{Event}
+use Rattle.ras_events.specs.declared.event.Event.TheVariants.{Saved, Polled}
 use Rattle.ras_events.specs.Repeats.{IsRepeat}
 use Rattle.ras_events.specs.Sizes.{IsFit}
 use Rattle.ras_exit.specs.Acts.{part_end}
 use Rattle.ras_texts.specs.Text.{done_line, known_line}
+use Rattle.erst_store.specs.Store.{refusal_of}
 use Rattle.ras_run.specs.LaterKinds.{taken_line}
+use Rattle.ras_run.specs.LineActs.{DoesPut}
+use Rattle.ras_run.specs.Taking.{EndsPut}
 use Rattle.ras_run.proofs.CountLemmas.{repeat_acts, repeat_counted}
-use Rattle.ras_run.proofs.LineLemmas.{counted_does, nothing_does, reopened_does, settled_does, starved_line, takes_counted, takes_nothing, takes_reopened, takes_settled, unread}
+use Rattle.ras_run.proofs.LineLemmas.{counted_does, event_refused, later_does, nothing_does, put_does, reopened_does, settled_does, starved_line, takes_counted, takes_nothing, takes_put, takes_reopened, takes_settled, unread}
 use Rattle.ras_run.proofs.StandsLemmas.{ready_printed}
 use Rattle.ras_run.proofs.line.take_line.Goals as goal
 
@@ -94,12 +98,41 @@ returns-in-Reopened-clause-does g c = λ start before is t at board.
     (reopened_does (looks g.B.Board.told g.B.Board.clock g.B.Board.faults) start before c.args.number c.in-Ok.line c.args.run.now (record c.args.run.now { settings = c.take.new.self; ledger = c.reopen.new.ledger }) is c.in-Ok-take.ensures.settings
     (c.in-Ok-take.ensures.event ∙ ap (λ (e : Event). Ok e) c.in-Reopened.is) c.reopen.new.ledger c.reopen.result t _ _ (c.reopen.ensures.does t at))
 
-pub returns-in-Err-take-Refused-clause-takes : goal.returns-in-Err-take-Refused-clause-takes
-returns-in-Err-take-Refused-clause-takes g c = λ start before is t at board.
-    rw (c.in-Ok.ensures.read, c.refused_exit.ensures) (takes_refused start before c.args.number c.in-Ok.line c.in-Err-take-Refused.refusal c.args.run.now _ is c.in-Err-take.ensures.event)
+pub returns-in-Err-Refused-clause-does : goal.returns-in-Err-Refused-clause-does
+returns-in-Err-Refused-clause-does g c = λ start before is t at board.
+    rw (c.in-Ok.ensures.read, c.refused_exit.ensures, c.in-Err-Refused.field-0-is)
+    (event_refused (looks g.B.Board.told g.B.Board.clock g.B.Board.faults) start before c.args.number t c.args.board.now c.in-Ok.line c.in-Err-Refused.refusal c.args.run.now is
+    (rw c.in-Err-Refused.field-0-is at c.in-Err-Refused.ensures.event))
 
 pub returns-in-Put-clause-takes : goal.returns-in-Put-clause-takes
 returns-in-Put-clause-takes g c = λ start before is t at board.
+    let ends : EndsPut c.args.number c.put_record.result (refusal_of c.in-Put.id c.bytes-in-Put.result.now t.here.store) = rw at at c.put_record.ensures.ends in
     rw c.in-Ok.ensures.read
     (takes_put (looks g.B.Board.told g.B.Board.clock g.B.Board.faults) start before c.args.number c.in-Ok.line c.args.run.now (record c.args.run.now { settings = c.take.new.self }) is c.in-Ok-take.ensures.settings
-    c.in-Put.id c.in-Put.bytes (c.in-Ok-take.ensures.event ∙ ap (λ (e : Event). Ok e) c.in-Put.is) c.put_record.result t board (rw at at c.put_record.ensures.ends) refl)
+    c.in-Put.id c.in-Put.bytes (c.in-Ok-take.ensures.event ∙ ap (λ (e : Event). Ok e) c.in-Put.is) c.put_record.result t board
+    (subst (λ bytes. EndsPut c.args.number c.put_record.result (refusal_of c.in-Put.id bytes t.here.store)) c.bytes-in-Put.ensures ends) refl)
+
+pub returns-in-Put-clause-does : goal.returns-in-Put-clause-does
+returns-in-Put-clause-does g c = λ start before is t at board.
+    let see = looks g.B.Board.told g.B.Board.clock g.B.Board.faults in
+    let ends : EndsPut c.args.number c.put_record.result (refusal_of c.in-Put.id c.bytes-in-Put.result.now t.here.store) = rw at at c.put_record.ensures.ends in
+    rw c.in-Ok.ensures.read
+    (put_does see start before c.args.number c.in-Ok.line c.args.run.now (record c.args.run.now { settings = c.take.new.self }) is c.in-Ok-take.ensures.settings
+    c.in-Put.id c.in-Put.bytes (c.in-Ok-take.ensures.event ∙ ap (λ (e : Event). Ok e) c.in-Put.is) c.put_record.result t board
+    (subst (λ bytes. EndsPut c.args.number c.put_record.result (refusal_of c.in-Put.id bytes t.here.store)) c.bytes-in-Put.ensures ends)
+    c.args.board.now c.put_record.new.board at
+    (subst (λ bytes. DoesPut see c.args.number c.in-Put.id bytes c.put_record.result c.args.board.now c.put_record.new.board) c.bytes-in-Put.ensures c.put_record.ensures.does))
+
+pub returns-in-Saved-clause-does : goal.returns-in-Saved-clause-does
+returns-in-Saved-clause-does g c = λ start before is t at board.
+    let see = looks g.B.Board.told g.B.Board.clock g.B.Board.faults in
+    let after = record c.args.run.now { settings = c.take.new.self } in
+    rw (c.in-Ok.ensures.read, c.of_unread-in-Saved.ensures)
+    (elim c.in-Saved.is [
+      | inl saved ↦
+          later_does see start before c.args.number c.in-Ok.line c.args.run.now after is c.in-Ok-take.ensures.settings (Saved saved.0 saved.1)
+          (c.in-Ok-take.ensures.event ∙ ap (λ (e : Event). Ok e) saved.2) refl refl t c.args.board.now
+      | inr polled ↦
+          later_does see start before c.args.number c.in-Ok.line c.args.run.now after is c.in-Ok-take.ensures.settings (Polled polled.0)
+          (c.in-Ok-take.ensures.event ∙ ap (λ (e : Event). Ok e) polled.1) refl refl t c.args.board.now
+    ])

@@ -1,9 +1,8 @@
-use Rattle.std.proofs.Common.{inl, refl, ◌∙◌}
+use Rattle.std.proofs.Common.{◌∙◌}
 use Rattle.board_core.specs.Doing.{looks}
 use Rattle.erst_store.specs.Store.{refusal_of}
-use Rattle.board_core.specs.Told.{AnswersPut}
 use Rattle.ras_run.specs.Taking.{EndsPut}
-use Rattle.ras_run.proofs.PutLemmas.{if_some, printed_does, printed_ends, refused_ends}
+use Rattle.ras_run.proofs.PutLemmas.{if_some, printed_does, printed_ends}
 use Rattle.ras_run.proofs.putting.put_record.Goals as goal
 
 pub returns-in-Ok-clause-ends : goal.returns-in-Ok-clause-ends
