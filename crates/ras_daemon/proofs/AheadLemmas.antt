@@ -6,7 +6,6 @@ use Rattle.std.proofs.lemmas.Bool.Decides.{nat_tests}
 use Rattle.board_core.specs.Doing.{Seen}
 use Rattle.board_core.specs.Told.{Relates, Told}
 use Rattle.ras_base.specs.Places.{places, places_behind}
-use Rattle.ras_account.specs.Account.{account_of}
 use Rattle.ras_account.specs.Accounts.{IsAccount}
 use Rattle.ras_events.specs.Reports.{NumberedLine}
 use Rattle.ras_script.specs.declared.reader.TheConstants.{LONGEST_LINE}
@@ -182,7 +181,7 @@ pub run-ahead : (exit : Exit) (task : Option Task) (script : Option (List ℕ)) 
     → OverRun (λ start text t. RunAhead (exit ≡ SourceFault) start text t left now) task script told
     → OverRun (λ start text t. IsSomeAnd now (λ n. PrintsPart (run_output start text) t.here.out n.here.out)) task script told
     → OverRun (λ start text t. IsSomeAnd left (λ rest. IsSomeAnd now (TakesAhead exit text rest t))) task script told
-run-ahead exit (Some Run) (Some text) (Some t) left now ahead printed = λ history recovers. ahead_told exit (start_of history t.here) text t left now (ahead history recovers) (printed history recovers)
+run-ahead exit (Some Run) (Some text) (Some t) left now ahead printed = λ account recovers. ahead_told exit (start_of account t) text t left now (ahead account recovers) (printed account recovers)
 run-ahead exit None script told left now ahead printed = tt
 run-ahead exit (Some Run) None told left now ahead printed = tt
 run-ahead exit (Some Run) (Some text) None left now ahead printed = tt

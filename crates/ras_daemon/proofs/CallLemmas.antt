@@ -6,7 +6,7 @@ use Rattle.board_core.specs.Clock.{Adds, Always, Clock, LeftNow}
 use Rattle.board_core.specs.Stop.{Left}
 use Rattle.board_core.specs.Told.{Told}
 use Rattle.ras_base.specs.Places.{places}
-use Rattle.ras_account.specs.Account.{State, account_of}
+use Rattle.ras_account.specs.Account.{State}
 use Rattle.ras_account.specs.Accounts.{IsAccount}
 use Rattle.ras_journal.specs.Recovered.{Recovers}
 use Rattle.ras_texts.specs.Orders.{standing_lines}
@@ -16,12 +16,12 @@ use Rattle.ras_exit.specs.declared.exit.Exit.{Exit}
 use Rattle.ras_exit.specs.Endings.{CallEnding, IfAnswered, OnAnswer, OnWhole, UnlessFaulted, answered, ending_of, faulted, source_failed, starved}
 use Rattle.ras_exit.specs.Telling.{PrintsPart}
 use Rattle.ras_run.specs.Output.{output_at}
-use Rattle.ras_run.specs.Places.{Start, account_at}
-use Rattle.ras_daemon.specs.Headline.{Headline, IsWhole, OverRun, StopsRecover, account_with}
+use Rattle.ras_run.specs.Places.{Start, account_at, store_at}
+use Rattle.ras_daemon.specs.Headline.{Headline, IsWhole, OverRun, StopsRecover, account_with, laid_with}
 use Rattle.ras_daemon.specs.RunOutput.{closing_line, run_output}
 use Rattle.ras_daemon.specs.RunStatus.{run_exit, start_of}
 use Rattle.board_core.specs.Doing.{Seen}
-use Rattle.ras_account.specs.History.{History}
+use Rattle.erst_store.specs.Store.{Stored}
 use Rattle.ras_daemon.specs.Doing.{DoesRun}
 use Rattle.ras_daemon.proofs.RunLemmas.{run_ends, run_stops}
 use Rattle.ras_daemon.specs.Running.{AreAll, AreFirst, EndsIn, EndsSo, RunEnds, RunMoment, outputs}
@@ -31,6 +31,9 @@ use Rattle.ras_daemon.specs.declared.word.Task.TheVariants.{Run}
 use Rattle.ras_daemon.proofs.HeadlineLemmas.{closing-quiet, headline, moment-prints}
 use Rattle.ras_daemon.proofs.CountLemmas.{account-first, count-first, events_among}
 use Rattle.ras_daemon.proofs.FirstLinesLemmas.{closing-same}
+use Rattle.ras_daemon.proofs.StoreLemmas.{store-first}
+use Rattle.ras_daemon.specs.Runs.{event_count}
+use Rattle.ras_exit.specs.declared.exit.Exit.TheVariants.{Done}
 use Rattle.text_laws.proofs.DoneLemmas.{none_done}
 
 -- ---- where a run comes to an answer
@@ -76,37 +79,50 @@ module _ (start : Start) (script : List ℕ) (old now : Told) where
 
   -- whole events, by their number
   whole-by : (printed : List ℕ) (n : ℕ) → now.here.out ≡ old.here.out ++ printed → done_count printed ≡ n → Recovers (account_with start script n) now.here
-      → IsWhole start script old now
-  whole-by printed n text count recovers = record {
+      → now.here.store ≡ laid_with start script n → IsWhole start script old now
+  whole-by printed n text count recovers store = record {
     printed = printed;
     text = text;
     recovers = subst (λ (k : ℕ). Recovers (account_with start script k) now.here) (sym count) recovers;
+    store = subst (λ (k : ℕ). now.here.store ≡ laid_with start script k) (sym count) store;
   }
 
   whole-lines : (before : List NumberedLine) (last : List ℕ) → AreFirst start script before → IsAccount start.account
-      → Recovers (account_at start before) now.here → done_count last ≡ 0
+      → Recovers (account_at start before) now.here → now.here.store ≡ store_at start before → done_count last ≡ 0
       → now.here.out ≡ old.here.out ++ ((standing_lines start.account ++ outputs start before) ++ last) → IsWhole start script old now
-  whole-lines before last first account recovers none text =
+  whole-lines before last first account recovers store none text =
       whole-by ((standing_lines start.account ++ outputs start before) ++ last) (events_among (places before)) text
       (count-first start script before first account last ∙ omega (arith, none))
       (subst (λ (a : State). Recovers a now.here) (sym (account-first start script before first account)) recovers)
+      (store ∙ sym (store-first start script before first account))
 
   whole-so : (exit : Exit) → EndsSo start script exit old.here.out now → IsWhole start script old now
   whole-so exit ends =
       let last : List ℕ = closing_line (account_at start ends.before) exit in
-      whole-lines ends.before last ends.all.first ends.account ends.recovers
+      whole-lines ends.before last ends.all.first ends.account ends.recovers ends.store
       (none_done last last [] (closing-quiet (account_at start ends.before) exit) (append-nil last))
       (ends.text ∙ ap (λ (text : List ℕ). old.here.out ++ text) (sym (append_assoc (standing_lines start.account) (outputs start ends.before) last)))
 
-  early-lines : (before : List NumberedLine) → AreFirst start script before → Recovers (account_at start before) now.here
+  early-lines : (before : List NumberedLine) → AreFirst start script before → Recovers (account_at start before) now.here → now.here.store ≡ store_at start before
       → (IsAccount start.account × (now.here.out ≡ old.here.out ++ (standing_lines start.account ++ outputs start before)))
       ⊎ ((now.here.out ≡ old.here.out) × (before ≡ []))
       → IsWhole start script old now
-  early-lines before first recovers (inl (account, text)) =
-      whole-lines before [] first account recovers refl
+  early-lines before first recovers store (inl (account, text)) =
+      whole-lines before [] first account recovers store refl
       (text ∙ ap (λ (more : List ℕ). old.here.out ++ more) (sym (append-nil (standing_lines start.account ++ outputs start before))))
-  early-lines before first recovers (inr (text, none)) =
+  early-lines before first recovers store (inr (text, none)) =
       whole-by [] 0 (text ∙ sym (append-nil old.here.out)) refl (subst (λ (reads : List NumberedLine). Recovers (account_at start reads) now.here) none recovers)
+      (store ∙ ap (store_at start) none)
+
+  -- the store at the end of a script
+  pub ends-stored : (exit : Exit) → RunEnds start script exit old.here.out now → exit ≡ Done → now.here.store ≡ laid_with start script (event_count start script)
+  ends-stored exit ends done = by (subst (λ (e : Exit). RunEnds start script e old.here.out now) done ends)
+    where
+      by : EndsSo start script Done old.here.out now → now.here.store ≡ laid_with start script (event_count start script)
+      by ends =
+          ends.store
+          ∙ sym (store-first start script ends.before ends.all.first ends.account)
+          ∙ ap (λ (ps : List Place). laid_with start script (events_among ps)) (sym ends.all.all)
 
   pub ends-whole : (exit : Exit) → RunEnds start script exit old.here.out now → OnWhole exit (IsWhole start script old now)
   ends-whole exit ends = by (ending_of exit) ends
@@ -114,8 +130,8 @@ module _ (start : Start) (script : List ℕ) (old now : Told) where
       by : (ending : CallEnding) → EndsIn start script exit ending old.here.out now → UnlessFaulted ending (IsWhole start script old now)
       by answered ends = whole-so exit ends
       by (faulted kind) ends = tt
-      by source_failed ends = early-lines ends.before ends.first ends.recovers ends.text
-      by starved ends = early-lines ends.before ends.first ends.recovers ends.text
+      by source_failed ends = early-lines ends.before ends.first ends.recovers ends.store ends.text
+      by starved ends = early-lines ends.before ends.first ends.recovers ends.store ends.text
 
 -- ---- where words ask for a run
 
@@ -123,7 +139,7 @@ module _ (start : Start) (script : List ℕ) (old now : Told) where
 pub over-run : (P Q : Start → List ℕ → Told → Type 0) (task : Option Task) (script : Option (List ℕ)) (told : Option Told)
     → ((start : Start) (text : List ℕ) (t : Told) → told ≡ Some t → P start text t → Q start text t)
     → OverRun P task script told → OverRun Q task script told
-over-run P Q (Some Run) (Some text) (Some t) gives has = λ history recovers. gives (start_of history t.here) text t refl (has history recovers)
+over-run P Q (Some Run) (Some text) (Some t) gives has = λ account recovers. gives (start_of account t) text t refl (has account recovers)
 over-run P Q None script told gives has = tt
 over-run P Q (Some Run) None told gives has = tt
 over-run P Q (Some Run) (Some text) None gives has = tt
@@ -146,7 +162,7 @@ on-whole exit P (Some t) has = has
 
 -- what a stop since the start of a run leaves
 pub always-headline : (old new : Clock) (start : Start) (script : List ℕ) (here : Left) → StopsRecover start old
-    → ((left : Left) → LeftNow old left → left.out ≡ here.out) → ((left : Left) → LeftNow old left → left.store ≡ here.store)
+    → ((left : Left) → LeftNow old left → left.out ≡ here.out) → ((left : Left) → LeftNow old left → left.store ≡ start.store)
     → Adds (RunMoment old start script here) old new → Always new old.now (Headline start script here)
 always-headline old new start script here stops text store adds left may = by (adds.each old.now left (omega arith) may)
   where
@@ -165,15 +181,15 @@ begun-now old new start script here now text adds may = by (adds.each old.now no
 
 -- ---- the clauses of a run, from what it did
 
-module _ {X : Type 0} (see : X → Seen) (history : History) (script : List ℕ) (exit : Exit) (t : Told) (old new : X) (recovers : Recovers (account_of history) t.here) (does : DoesRun see (start_of history t.here) script exit t old new) where
+module _ {X : Type 0} (see : X → Seen) (account : State) (script : List ℕ) (exit : Exit) (t : Told) (old new : X) (recovers : Recovers account t.here) (does : DoesRun see (start_of account t) script exit t old new) where
   abbrev start : Start
-  start = start_of history t.here
+  start = start_of account t
 
   runs : IsSomeAnd (see new).told (RunEnds start script exit t.here.out)
-  runs = run_ends see history script exit t old new recovers does
+  runs = run_ends see account script exit t old new recovers does
 
   stops : Adds (RunMoment (see old).clock start script t.here) (see old).clock (see new).clock
-  stops = run_stops see history script exit t old new recovers does
+  stops = run_stops see account script exit t old new recovers does
 
   by-ends : (P : Type 0) → ((now : Told) → RunEnds start script exit t.here.out now → P) → P
   by-ends P gives = by (see new).told runs
@@ -195,6 +211,9 @@ module _ {X : Type 0} (see : X → Seen) (history : History) (script : List ℕ)
   pub run-whole : OnWhole exit (IsSomeAnd (see new).told (IsWhole start script t))
   run-whole = on-whole exit (IsWhole start script t) (see new).told
       (some-weaker (RunEnds start script exit t.here.out) (λ now. OnWhole exit (IsWhole start script t now)) (see new).told (λ now. ends-whole start script t now exit) runs)
+
+  pub run-stored : exit ≡ Done → IsSomeAnd (see new).told (λ now. now.here.store ≡ laid_with start script (event_count start script))
+  run-stored done = some-weaker (RunEnds start script exit t.here.out) (λ now. now.here.store ≡ laid_with start script (event_count start script)) (see new).told (λ now ends. ends-stored start script t now exit ends done) runs
 
   module _ (text : (left : Left) → LeftNow (see old).clock left → left.out ≡ t.here.out) where
     pub run-headline : ((left : Left) → LeftNow (see old).clock left → left.store ≡ t.here.store) → StopsRecover start (see old).clock → Always (see new).clock (see old).clock.now (Headline start script t.here)

@@ -11,11 +11,10 @@ use Rattle.board_core.specs.declared.board.FileNo.TheVariants.{Zero, One}
 use Rattle.board_core.specs.Doing.{Act, FailsActs, Seen, after_acts, calls, calls_of, disk_calls_by}
 use Rattle.board_core.specs.Stop.{Left}
 use Rattle.board_core.specs.Told.{Told, with_call}
-use Rattle.board_core.proofs.ActLemmas.{calls_by_acts, calls_by_fails}
+use Rattle.board_core.proofs.ActLemmas.{accesses_by_acts, calls_by_acts, calls_by_fails}
 use Rattle.board_core.proofs.DoingLemmas.{after-append, fails_then}
 use Rattle.ras_base.specs.Prefix.{IsPrefixOf}
-use Rattle.ras_account.specs.Account.{account_of}
-use Rattle.ras_account.specs.History.{History}
+use Rattle.ras_account.specs.Account.{State}
 use Rattle.ras_journal.specs.declared.standing.Standing.{Standing}
 use Rattle.ras_journal.specs.Recovered.{Recovers, position_of}
 use Rattle.ras_recover.specs.DiskCalls.{IsBeginning, Makes, ReadsPlace, with_calls}
@@ -23,14 +22,14 @@ use Rattle.ras_recover.specs.Opening.{opening_acts}
 use Rattle.ras_recover.specs.OpeningCalls.{AfterOpening, AfterRecovery, IsRecovery, IsRecoveryOf, MakesOpening, ReadsBoth}
 use Rattle.ras_recover.proofs.CallsLemmas.{any_right, both_read_alone}
 use Rattle.ras_recover.proofs.OpeningCallsLemmas.{an_opening, standing_recovers}
-use Rattle.ras_exit.specs.Endings.{CallEnding, EndsBy, OnlyFault, answered, ending_of, faulted, source_failed, starved}
+use Rattle.ras_exit.specs.Endings.{CallEnding, EndsBy, IfAnswered, OnlyFault, answered, ending_of, faulted, source_failed, starved}
 use Rattle.ras_exit.specs.declared.exit.Exit.{Exit}
 use Rattle.ras_exit.specs.declared.exit.Exit.TheVariants.{NoMemory}
 use Rattle.ras_exit.proofs.EndingLemmas.{memory_ran_out}
 use Rattle.ras_run.specs.Places.{Start}
 use Rattle.ras_run.proofs.ReopenLemmas.{after_reading}
 use Rattle.ras_daemon.specs.Doing.{DoesRun}
-use Rattle.ras_daemon.specs.RunActs.{AreOpeningActs, AreRunActs, AreRunCalls, AreScriptActs, DidOf, DidRun}
+use Rattle.ras_daemon.specs.RunActs.{AreOpeningActs, AreRunActs, AreRunCalls, AreScriptActs, DidOf, DidRun, ListsAccesses}
 use Rattle.ras_daemon.specs.RunStatus.{start_of}
 use Rattle.ras_daemon.proofs.RunLemmas.{none_empty}
 use Rattle.ras_daemon.proofs.ScriptLemmas.{script_some, takes_did}
@@ -116,9 +115,9 @@ opening_some start script t recovery recovers =
       subst (AreRunActs start script t) (append_assoc (map calls recovery) (opening_acts t.here) rest.0) (run_acts start script t first rest.0 (record { recovery = recovery; recovers = recovers; is = refl }) rest.1),
     )
 
-module _ (history : History) (script : List ℕ) (t u : Told) (recovers : Recovers (account_of history) t.here) where
+module _ (account : State) (script : List ℕ) (t u : Told) (recovers : Recovers account t.here) where
   abbrev start : Start
-  start = start_of history t.here
+  start = start_of account t
 
   -- memory ran out
   read_some : (ending : CallEnding) → ending ≡ starved → AfterRecovery t u → DidRun start script ending t u
@@ -141,7 +140,7 @@ module _ (history : History) (script : List ℕ) (t u : Told) (recovers : Recove
       by : (position : Option Standing) → position_of t.here.file0 t.here.file1 ≡ position → DidRun start script ending t u
       by None none = inr (record {
         on_disk = so;
-        none = record { recovers = recovers.is ∙ ap Ok (none_empty (account_of history) t.here.file0 t.here.file1 recovers.is none); none = none };
+        none = record { recovers = recovers.is ∙ ap Ok (none_empty account t.here.file0 t.here.file1 recovers.is none); none = none };
         after = after;
       })
       by (Some standing) stands =
@@ -165,24 +164,33 @@ some_weaker : (P Q : Told → Type 0) (told : Option Told) → ((t : Told) → P
 some_weaker P Q None weaker has = absurd has
 some_weaker P Q (Some t) weaker has = weaker t has
 
-pub run_did : {X : Type 0} (see : X → Seen) (history : History) (script : List ℕ) (exit : Exit) (t : Told) (old new : X) → Recovers (account_of history) t.here → DoesRun see (start_of history t.here) script exit t old new
-    → IsSomeAnd (see new).told (DidRun (start_of history t.here) script (ending_of exit) t)
-run_did see history script exit t old new recovers (inr d) =
-    let start : Start = start_of history t.here in
+pub run_did : {X : Type 0} (see : X → Seen) (account : State) (script : List ℕ) (exit : Exit) (t : Told) (old new : X) → Recovers account t.here → DoesRun see (start_of account t) script exit t old new
+    → IsSomeAnd (see new).told (DidRun (start_of account t) script (ending_of exit) t)
+run_did see account script exit t old new recovers (inr d) =
+    let start : Start = start_of account t in
     some_weaker (λ now. (acts : List Act) × AreScriptActs start script d.there acts × DidOf acts (ending_of exit) d.there now) (DidRun start script (ending_of exit) t) (see new).told
     (λ now did. opened_did start script (ending_of exit) t d.there now d.makes did)
     (takes_did see start script d.there exit d.mid new d.rests d.takes)
-run_did see history script exit t old new recovers (inl d) = by (see new).told d.told d.kept
+run_did see account script exit t old new recovers (inl d) = by (see new).told d.told d.kept
   where
-    ended : (ending : CallEnding) → ending_of exit ≡ ending → EndsBy ⊥ ⊤ (OnlyFault disk_call) ending → (u : Told) → AfterOpening t u → (exit ≡ NoMemory → AfterRecovery t u) → DidRun (start_of history t.here) script (ending_of exit) t u
+    ended : (ending : CallEnding) → ending_of exit ≡ ending → EndsBy ⊥ ⊤ (OnlyFault disk_call) ending → (u : Told) → AfterOpening t u → (exit ≡ NoMemory → AfterRecovery t u) → DidRun (start_of account t) script (ending_of exit) t u
     ended answered so never u after kept = absurd never
     ended source_failed so never u after kept = absurd never
-    ended (faulted kind) so only u after kept = not_read history script t u recovers (ending_of exit) (so ∙ ap faulted only) after
-    ended starved so any u after kept = read_some history script t u recovers (ending_of exit) so (kept (memory_ran_out exit so))
+    ended (faulted kind) so only u after kept = not_read account script t u recovers (ending_of exit) (so ∙ ap faulted only) after
+    ended starved so any u after kept = read_some account script t u recovers (ending_of exit) so (kept (memory_ran_out exit so))
 
-    by : (told : Option Told) → IsSomeAnd told (AfterOpening t) → (exit ≡ NoMemory → IsSomeAnd told (AfterRecovery t)) → IsSomeAnd told (DidRun (start_of history t.here) script (ending_of exit) t)
+    by : (told : Option Told) → IsSomeAnd told (AfterOpening t) → (exit ≡ NoMemory → IsSomeAnd told (AfterRecovery t)) → IsSomeAnd told (DidRun (start_of account t) script (ending_of exit) t)
     by None after kept = absurd after
     by (Some u) after kept = ended (ending_of exit) refl d.cut u after kept
+
+-- ---- accesses
+
+-- at an answer they are those of all acts
+pub did_access : (start : Start) (script : List ℕ) (ending : CallEnding) (t : Told) (told : Option Told) → IsSomeAnd told (DidRun start script ending t) → IfAnswered ending (IsSomeAnd told (ListsAccesses start script t))
+did_access start script answered t None did = absurd did
+did_access start script answered t (Some now) (inl (acts, are, is)) = record { acts = acts; are = are; listed = ap (λ (u : Told). u.accesses) is ∙ accesses_by_acts acts t }
+did_access start script answered t (Some now) (inr fails) = let on_disk = fails.on_disk in absurd cc
+did_access start script ending t told did = tt
 
 -- ---- disk calls
 

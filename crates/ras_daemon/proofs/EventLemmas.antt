@@ -157,7 +157,7 @@ pub place-plain : (before : List NumberedLine) (read : NumberedLine) → IsTaken
 place-plain before (number, Ok line) taken = line-plain (settings_told before) line taken
 place-plain before (number, Err why) taken = tt
 
-made-plain : (rows : List Row) (one other : List Stored) (event : Result Event Refusal) → IfOk event IsPlain → made_in rows one event ≡ made_in rows other event
+pub made-plain : (rows : List Row) (one other : List Stored) (event : Result Event Refusal) → IfOk event IsPlain → made_in rows one event ≡ made_in rows other event
 made-plain rows one other (Err why) plain = refl
 made-plain rows one other (Ok Nothing) plain = refl
 made-plain rows one other (Ok Settled) plain = refl

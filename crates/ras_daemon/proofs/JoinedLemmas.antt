@@ -1,26 +1,30 @@
 -- Two scripts one after the other, and the script that joins them.
 use Rattle.std.proofs.Common.{◌≡◌, ℕ, ◌+◌, List, [], ◌∷◌, ◌++◌, None, Result, Ok, Err, refl, sym, ap, ◌∙◌, append-nil, append_assoc, map}
 use Rattle.std.specs.List.{enumerate_from, filter_map, flat_map}
+use Rattle.std.specs.Prelude.{IfOk}
 use Rattle.std.proofs.lemmas.List.{map-append}
+use Rattle.std.proofs.lemmas.List.Sums.{fold-append}
 use Rattle.std.proofs.lemmas.List.Elements.{filter_map-append}
 use Rattle.ras_base.specs.Places.{places, places_behind}
 use Rattle.apei_sources.specs.Hest.{Sources}
 use Rattle.ras_facts.specs.declared.entry.Entry.{Entry}
-use Rattle.ras_account.specs.Account.{account_of}
-use Rattle.ras_account.specs.History.{with_entries}
+use Rattle.ras_account.specs.Continued.{account_after, account_after_all}
 use Rattle.ras_script.specs.declared.line.Line.{Line}
 use Rattle.ras_script.specs.declared.line.LineRefused.{LineRefused}
 use Rattle.ras_events.specs.declared.settings.Settings.{Settings}
-use Rattle.ras_events.specs.Events.{event_of, settings_after}
-use Rattle.ras_events.specs.Reports.{NumberedLine, entries_at, last_of, made_in, reports, row_by, rows_told, settings_told, sources_by}
+use Rattle.ras_events.specs.Events.{Lists, event_of, settings_after}
+use Rattle.ras_events.specs.Making.{entries_in}
+use Rattle.ras_events.specs.Reports.{NumberedLine, driver_by, entries_at, event_at, last_of, made_in, reports, row_by, rows_told, settings_told, sources_by}
+use Rattle.ras_events.specs.Stores.{laid}
 use Rattle.ras_events.proofs.ReportLemmas.{reports-cut, settings-line}
-use Rattle.ras_run.specs.LaterKinds.{taken_line}
+use Rattle.ras_run.specs.LaterKinds.{IsTaken, taken_line}
+use Rattle.ras_run.proofs.LaterKindLemmas.{lines-taken}
 use Rattle.ras_run.specs.Places.{Start}
 use Rattle.ras_daemon.specs.Headline.{account_with, reported}
 use Rattle.ras_daemon.specs.Runs.{AreJoined, Follows, IsTakenWhole, event_count}
 use Rattle.ras_events.specs.Events.{no_settings}
 use Rattle.ras_daemon.specs.Script.{reads_in, reads_of}
-use Rattle.ras_daemon.proofs.HistoryLemmas.{with_entries-append}
+use Rattle.ras_daemon.proofs.EventLemmas.{made-plain, place-plain}
 use Rattle.ras_daemon.proofs.RunLawLemmas.{by-events, reported-all, reports-none, taken-events}
 
 -- what a line asks for, or why it can't be read
@@ -31,13 +35,16 @@ ReadLine = Result Line LineRefused
 
 -- a line that can't be read tells nothing
 settings-unread : (before : List NumberedLine) (number : ℕ) (why : LineRefused) → settings_told (before ++ (number, Err why) ∷ []) ≡ settings_told before
-settings-unread before number why = λ i. record { topology = rows i; sources = last_of (tables i) }
+settings-unread before number why = λ i. record { topology = rows i; sources = last_of (tables i); driver = last_of (drivers i) }
   where
     rows : rows_told (before ++ (number, Err why) ∷ []) ≡ rows_told before
     rows = filter_map-append row_by before ((number, Err why) ∷ []) ∙ append-nil (rows_told before)
 
     tables : filter_map sources_by (before ++ (number, Err why) ∷ []) ≡ filter_map sources_by before
     tables = filter_map-append sources_by before ((number, Err why) ∷ []) ∙ append-nil (filter_map sources_by before)
+
+    drivers : filter_map driver_by (before ++ (number, Err why) ∷ []) ≡ filter_map driver_by before
+    drivers = filter_map-append driver_by before ((number, Err why) ∷ []) ∙ append-nil (filter_map driver_by before)
 
 -- a line tells the same whatever its number and whatever stands before it, where that tells the
 -- same
@@ -65,7 +72,7 @@ none-last {X} (x ∷ y ∷ xs) is = absurd (some (none-last (y ∷ xs) is))
 
 -- lines that tell nothing tell nothing after others
 settings-untold : (before others : List NumberedLine) → settings_told others ≡ no_settings → settings_told (before ++ others) ≡ settings_told before
-settings-untold before others none = λ i. record { topology = rows i; sources = last_of (tables i) }
+settings-untold before others none = λ i. record { topology = rows i; sources = last_of (tables i); driver = last_of (drivers i) }
   where
     rows : rows_told (before ++ others) ≡ rows_told before
     rows = filter_map-append row_by before others ∙ ap (λ xs. rows_told before ++ xs) (ap (λ (s : Settings). s.topology) none) ∙ append-nil (rows_told before)
@@ -76,17 +83,26 @@ settings-untold before others none = λ i. record { topology = rows i; sources =
         ∙ ap (λ (xs : List Sources). filter_map sources_by before ++ xs) (none-last (filter_map sources_by others) (ap (λ (s : Settings). s.sources) none))
         ∙ append-nil (filter_map sources_by before)
 
+    drivers : filter_map driver_by (before ++ others) ≡ filter_map driver_by before
+    drivers =
+        filter_map-append driver_by before others
+        ∙ ap (λ (xs : List Lists). filter_map driver_by before ++ xs) (none-last (filter_map driver_by others) (ap (λ (s : Settings). s.driver) none))
+        ∙ append-nil (filter_map driver_by before)
+
 -- ---- what lines report
 
-entries-line : (one other : List NumberedLine) (k m : ℕ) (read : ReadLine) → settings_told one ≡ settings_told other → entries_at (one, (k, read)) ≡ entries_at (other, (m, read))
-entries-line one other k m (Ok line) same = ap (λ (s : Settings). (made_in (event_of s line)).entries) same
-entries-line one other k m (Err why) same = refl
+entries-line : (one other : List NumberedLine) (k m : ℕ) (read : ReadLine) → IfOk read IsTaken → settings_told one ≡ settings_told other → entries_at [] (one, (k, read)) ≡ entries_at [] (other, (m, read))
+entries-line one other k m (Ok line) taken same =
+    ap (λ (s : Settings). entries_in (made_in s.topology (laid [] one) (event_of s line))) same
+    ∙ ap entries_in (made-plain (settings_told other).topology (laid [] one) (laid [] other) (event_at (other, (m, Ok line))) (place-plain other (m, Ok line) taken))
+entries-line one other k m (Err why) taken same = refl
 
-entries-same : (one other : List NumberedLine) (k m : ℕ) (xs : List ReadLine) → settings_told one ≡ settings_told other
-    → flat_map entries_at (places_behind one (enumerate_from k xs)) ≡ flat_map entries_at (places_behind other (enumerate_from m xs))
+entries-same : (one other : List NumberedLine) (k m : ℕ) (lines : List (List ℕ)) → settings_told one ≡ settings_told other
+    → flat_map (entries_at []) (places_behind one (enumerate_from k (map taken_line lines))) ≡ flat_map (entries_at []) (places_behind other (enumerate_from m (map taken_line lines)))
 entries-same one other k m [] same = refl
-entries-same one other k m (x ∷ xs) same = λ i.
-    entries-line one other k m x same i ++ entries-same (one ++ (k, x) ∷ []) (other ++ (m, x) ∷ []) (k + 1) (m + 1) xs (settings-line-same one other k m x same) i
+entries-same one other k m (line ∷ lines) same = λ i.
+    entries-line one other k m (taken_line line) (lines-taken line) same i
+    ++ entries-same (one ++ (k, taken_line line) ∷ []) (other ++ (m, taken_line line) ∷ []) (k + 1) (m + 1) lines (settings-line-same one other k m (taken_line line) same) i
 
 -- lines behind others are numbered on
 enumerate-append : {X : Type 0} (n : ℕ) (xs ys : List X) → (m : ℕ) × (enumerate_from n (xs ++ ys) ≡ enumerate_from n xs ++ enumerate_from m ys)
@@ -101,11 +117,11 @@ reads-append xs ys =
     (more.0, ap (λ (reads : List ReadLine). enumerate_from 1 reads) (map-append taken_line xs ys) ∙ more.1)
 
 -- what lines report behind some that report nothing
-behind-silent : (rows others : List NumberedLine) → reports rows ≡ [] → reports (rows ++ others) ≡ flat_map entries_at (places_behind rows others)
-behind-silent rows others silent = reports-cut rows others ∙ ap (λ (es : List Entry). es ++ flat_map entries_at (places_behind rows others)) silent
+behind-silent : (rows others : List NumberedLine) → reports [] rows ≡ [] → reports [] (rows ++ others) ≡ flat_map (entries_at []) (places_behind rows others)
+behind-silent rows others silent = reports-cut [] rows others ∙ ap (λ (es : List Entry). es ++ flat_map (entries_at []) (places_behind rows others)) silent
 
 module _ (one other both : List ℕ) (joined : AreJoined one other both) where
-  reports-joined : reports (reads_of both) ≡ reports (reads_of one) ++ reports (reads_of other)
+  reports-joined : reports [] (reads_of both) ≡ reports [] (reads_of one) ++ reports [] (reads_of other)
   reports-joined =
       let rows : List NumberedLine = reads_in joined.rows in
       let (k, one_is) = reads-append joined.rows joined.first in
@@ -119,26 +135,25 @@ module _ (one other both : List ℕ) (joined : AreJoined one other both) where
       let reads : reads_of both ≡ (rows ++ first) ++ last =
       ap (λ (lines : List (List ℕ)). reads_in lines) (joined.both_is ∙ sym (append_assoc joined.rows joined.first joined.second))
       ∙ both_is ∙ ap (λ (xs : List NumberedLine). xs ++ last) one_is in
-      let of_one : reports (reads_of one) ≡ reports (rows ++ first) =
-      ap (λ (lines : List (List ℕ)). reports (reads_in lines)) joined.one_is ∙ ap (λ (xs : List NumberedLine). reports xs) one_is in
-      let of_other : reports (reads_of other) ≡ flat_map entries_at (places_behind rows second) =
-      ap (λ (lines : List (List ℕ)). reports (reads_in lines)) joined.other_is ∙ ap (λ (xs : List NumberedLine). reports xs) other_is ∙ behind-silent rows second joined.silent in
-      let of_last : flat_map entries_at (places_behind (rows ++ first) last) ≡ reports (reads_of other) =
-      entries-same (rows ++ first) rows m l (map taken_line joined.second) untold ∙ sym of_other in
-      ap (λ (xs : List NumberedLine). reports xs) reads
-      ∙ reports-cut (rows ++ first) last
+      let of_one : reports [] (reads_of one) ≡ reports [] (rows ++ first) =
+      ap (λ (lines : List (List ℕ)). reports [] (reads_in lines)) joined.one_is ∙ ap (λ (xs : List NumberedLine). reports [] xs) one_is in
+      let of_other : reports [] (reads_of other) ≡ flat_map (entries_at []) (places_behind rows second) =
+      ap (λ (lines : List (List ℕ)). reports [] (reads_in lines)) joined.other_is ∙ ap (λ (xs : List NumberedLine). reports [] xs) other_is ∙ behind-silent rows second joined.silent in
+      let of_last : flat_map (entries_at []) (places_behind (rows ++ first) last) ≡ reports [] (reads_of other) =
+      entries-same (rows ++ first) rows m l joined.second untold ∙ sym of_other in
+      ap (λ (xs : List NumberedLine). reports [] xs) reads
+      ∙ reports-cut [] (rows ++ first) last
       ∙ (λ i. sym of_one i ++ of_last i)
 
 -- what a script that is taken whole reports
-reported-whole : (start : Start) (script : List ℕ) → IsTakenWhole start script → reported start script (event_count start script) ≡ reports (reads_of script)
+reported-whole : (start : Start) (script : List ℕ) → IsTakenWhole start script → reported start script (event_count start script) ≡ reports [] (reads_of script)
 reported-whole start script taken =
-    reported-all start script ∙ ap (flat_map entries_at) (taken-events start script taken) ∙ by-events entries_at reports-none (places (reads_of script))
+    reported-all start script ∙ ap (flat_map (entries_at [])) (taken-events start script taken) ∙ by-events (entries_at []) (reports-none []) (places (reads_of script))
 
 pub account-joined : (start next : Start) (one other both : List ℕ) → AreJoined one other both
     → IsTakenWhole start one → Follows start one (event_count start one) next → IsTakenWhole next other → IsTakenWhole start both
     → account_with next other (event_count next other) ≡ account_with start both (event_count start both)
 account-joined start next one other both joined taken follows then whole =
-    (λ i. account_of (with_entries (follows i) (reported-whole next other then i)))
-    ∙ ap (λ (es : List Entry). account_of (with_entries (with_entries start.history es) (reports (reads_of other)))) (reported-whole start one taken)
-    ∙ ap account_of (sym (with_entries-append start.history (reports (reads_of one)) (reports (reads_of other))))
-    ∙ ap (λ (es : List Entry). account_of (with_entries start.history es)) (sym (reports-joined one other both joined) ∙ sym (reported-whole start both whole))
+    (λ i. account_after_all ((follows ∙ ap (account_after_all start.account) (reported-whole start one taken)) i) (reported-whole next other then i))
+    ∙ sym (fold-append account_after start.account (reports [] (reads_of one)) (reports [] (reads_of other)))
+    ∙ ap (account_after_all start.account) (sym (reports-joined one other both joined) ∙ sym (reported-whole start both whole))

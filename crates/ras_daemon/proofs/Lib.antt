@@ -8,6 +8,7 @@ pub mod StopLemmas
 pub mod FirstLinesLemmas
 pub mod EventLemmas
 pub mod CountLemmas
+pub mod StoreLemmas
 pub mod HeadlineLemmas
 pub mod CallLemmas
 pub mod HistoryLemmas
@@ -18,7 +19,6 @@ pub mod ScriptLemmas
 pub mod TakenLemmas
 pub mod SaidLemmas
 pub mod GrowLemmas
-pub mod SameLemmas
 pub mod AgainLemmas
 pub mod CompleteLemmas
 pub mod UsageLemmas

@@ -3,10 +3,8 @@ use Rattle.std.proofs.Common.{◌≡◌, ℕ, List, Option, Result, Ok, Err, ref
 use Rattle.std.specs.Prelude.{⊤, IfSome, IsSomeAnd}
 use Rattle.board_core.specs.Cause.{Faults, print_call}
 use Rattle.board_core.specs.Clock.{Clock}
-use Rattle.board_core.specs.Device.{LeavesDevice}
 use Rattle.board_core.specs.Doing.{Act, Does, Ended, Seen}
 use Rattle.board_core.specs.Told.{FailsPrint, Relates, Steps, Told, after_print}
-use Rattle.board_core.proofs.ActLemmas.{does_leave_device}
 use Rattle.ras_account.specs.Account.{State}
 use Rattle.ras_journal.specs.declared.standing.Standing.{Standing}
 use Rattle.ras_journal.specs.Appending.{Before}
@@ -21,7 +19,6 @@ use Rattle.ras_exit.proofs.PrintLemmas.{not_printed, part_causes, printed}
 use Rattle.ras_run.specs.Taking.{IsPrintExit}
 use Rattle.ras_base.specs.Prefix.{IsPrefixOf}
 use Rattle.ras_daemon.specs.Doing.{Ends, Says}
-use Rattle.ras_daemon.proofs.ScriptLemmas.{prints_off}
 use Rattle.ras_daemon.proofs.TakenLemmas.{EndsAs, answers}
 
 -- ---- what is told
@@ -127,9 +124,3 @@ ends_listed see (Err found) exit result line a b is ends usage = by ends
 pub before_at : (standing : Standing) (account : State) (told : Option Told) (clock : Clock) (t : Told) → Stands standing account told clock → told ≡ Some t → Before standing account t told clock
 before_at standing account told clock t stands is =
     let here : IsSomeAnd (Some t) (λ u. Before standing account u told clock) = subst (λ o. IfSome o (λ u. Before standing account u told clock)) is stands in here
-
--- a print there leaves the device alone
-pub print_device : {X : Type 0} (see : X → Seen) (text : List ℕ) (ended : Ended) (standing : Standing) (account : State) (a b : X) → Stands standing account (see a).told (see a).clock → Does see (print_acts text) ended a b
-    → LeavesDevice (see a).told (see b).told (see a).clock (see b).clock
-print_device see text ended standing account a b stands does =
-    does_leave_device see (print_acts text) ended a b (prints_off text) (λ t is. (before_at standing account (see a).told (see a).clock t stands is).rests) does

@@ -53,21 +53,14 @@ no-line before (number, Err why) is = absurd cc
 module _ {A : Type 0} (f : A → NumberedLine → A) (none : (a : A) (number : ℕ) → f a (number, Ok asks.Nothing) ≡ a) where
   events-fold : (a : A) (before reads : List NumberedLine) → fold f a (map (λ (p : Place). p.1) (filter is_event (places_behind before reads))) ≡ fold f a reads
   events-fold a before [] = refl
-  events-fold a before (read ∷ reads) = by (is_event (before, read)) refl
+  events-fold a before (read ∷ reads) = by (is_event (before, read)) refl (λ b. events-fold b (before ++ read ∷ []) reads)
     where
-      rest : List Place
-      rest = filter is_event (places_behind (before ++ read ∷ []) reads)
-
-      events : Bool → List Place
-      events b = cond b ((before, read) ∷ rest) rest
-
-      by : (b : Bool) → is_event (before, read) ≡ b → fold f a (map (λ (p : Place). p.1) (events (is_event (before, read)))) ≡ fold f (f a read) reads
-      by true is =
-          ap (λ b. fold f a (map (λ (p : Place). p.1) (events b))) is
-          ∙ events-fold (f a read) (before ++ read ∷ []) reads
-      by false is =
-          ap (λ b. fold f a (map (λ (p : Place). p.1) (events b))) is
-          ∙ events-fold a (before ++ read ∷ []) reads
+      by : (b : Bool) → is_event (before, read) ≡ b → ((b : A) → fold f b (map (λ (p : Place). p.1) (filter is_event (places_behind (before ++ read ∷ []) reads))) ≡ fold f b reads)
+          → fold f a (map (λ (p : Place). p.1) (cond (is_event (before, read)) ((before, read) ∷ filter is_event (places_behind (before ++ read ∷ []) reads)) (filter is_event (places_behind (before ++ read ∷ []) reads)))) ≡ fold f (f a read) reads
+      by true is more = ap (λ b. fold f a (map (λ (p : Place). p.1) (cond b ((before, read) ∷ filter is_event (places_behind (before ++ read ∷ []) reads)) (filter is_event (places_behind (before ++ read ∷ []) reads))))) is ∙ more (f a read)
+      by false is more =
+          ap (λ b. fold f a (map (λ (p : Place). p.1) (cond b ((before, read) ∷ filter is_event (places_behind (before ++ read ∷ []) reads)) (filter is_event (places_behind (before ++ read ∷ []) reads))))) is
+          ∙ more a
           ∙ ap (λ b. fold f b reads) (sym (ap (f a) (no-line before read is) ∙ none a read.0))
 
 module _ (start : Start) (script : List ℕ) (before : List NumberedLine) (first : AreFirst start script before) (account : IsAccount start.account) where
@@ -249,7 +242,7 @@ module _ (start : Start) (script : List ℕ) (before rest : List NumberedLine) (
   abbrev here : Place
   here = (before, (number, Ok line))
 
-  behind : List Place
+  abbrev behind : List Place
   behind = places_begun start (places_behind (before ++ (number, Ok line) ∷ []) rest)
 
   begun-split : begun_of start script ≡ filter is_event (places before) ++ filter is_event (begun_with (refusal_at start here) here behind)
@@ -347,6 +340,19 @@ module _ (start : Start) (script : List ℕ) (before rest : List NumberedLine) (
                 ∙ stored-line start before number line (event_of (settings_told before) line) kind refl (place-plain before (number, Ok line) kind) none
                 ∙ ap (with_put_by line) (sym laid-here),
           )
+
+  -- the store that the line leaves
+  pub stored-next : IsAccepted start (before, read) → store_at start (before ++ read ∷ []) ≡ stored_by (event_at (before, read)) (store_at start before)
+  stored-next taken = store-snoc start before read ∙ by read refl taken-here
+    where
+      by : (r : NumberedLine) → read ≡ r → IsTakenRead r → store_after (store_at start before) read ≡ stored_by (event_at (before, read)) (store_at start before)
+      by (number, Err why) same kind = (let refused = subst (λ (r : NumberedLine). refusal_at start (before, r) ≡ None) same taken.taken in absurd cc)
+      by (number, Ok line) same kind =
+          let none : refusal_at start (before, (number, Ok line)) ≡ None = subst (λ (r : NumberedLine). refusal_at start (before, r) ≡ None) same taken.taken in
+          ap (store_after (store_at start before)) same
+          ∙ store-put (store_at start before) line kind
+          ∙ sym (stored-line start before number line (event_of (settings_told before) line) kind refl (place-plain before (number, Ok line) kind) none)
+          ∙ ap (λ (r : NumberedLine). stored_by (event_at (before, r)) (store_at start before)) (sym same)
 
   not-event : (left : List Stored) → is_event (before, read) ≡ false → left ≡ stored_by (event_at (before, read)) (store_at start before) → left ≡ store_at start before
   not-event left event is = is ∙ ap (λ (r : NumberedLine). stored_by (event_at (before, r)) (store_at start before)) (no-line before read event)

@@ -15,11 +15,13 @@ ghost use Rattle.text_laws.specs.DoneLines.{done_count};
 ghost use Rattle.ras_daemon.specs.Ahead.{TakesAhead};
 ghost use Rattle.ras_daemon.specs.Doing.{DoesRun};
 ghost use Rattle.ras_daemon.specs.Ended.{IsQuiet, IsQuietBoard, OverFiles, RefusesFiles};
-ghost use Rattle.ras_daemon.specs.Headline.{Headline, IsWhole, OverRun, StopsRecover};
-ghost use Rattle.ras_daemon.specs.RunActs.{AreRunCalls, DidRun};
+ghost use Rattle.ras_daemon.specs.Ended.{TakesNoLine};
+ghost use Rattle.ras_daemon.specs.Headline.{Headline, IsWhole, OverRun, StopsRecover, laid_with};
+ghost use Rattle.ras_daemon.specs.RunActs.{AreRunCalls, DidRun, ListsAccesses};
 ghost use Rattle.ras_daemon.specs.RunOutput.{run_output};
 ghost use Rattle.ras_daemon.specs.RunStatus.{run_exit};
 ghost use Rattle.ras_daemon.specs.Running.{RunAhead};
+ghost use Rattle.ras_daemon.specs.Runs.{event_count};
 ghost use Rattle.ras_daemon.specs.Script.{events_of};
 ghost use Rattle.ras_daemon.specs.Task.{task_of};
 
@@ -38,14 +40,15 @@ pub fn rasd<S: Source, B: Board>(
     source: &mut S,
     board: &mut B,
 ) -> Exit
-    // A stop at any moment of a run leaves the account of the earlier history and a beginning of
-    // what this run reports, with each event that is done by what was printed.
+    // A stop at any moment of a run leaves the account at its start and a beginning of what this run
+    // reports, with each event that is done by what was printed; and of the record store what these
+    // events left, or what is on the way of the next.
     ensures headline { OverRun (λ start script told. StopsRecover start (B.clock board.old)
         → Always (B.clock board.new) (B.clock board.old).now (Headline start script told.here))
         (task_of words.now) (S.left source.old) (B.told board.old) }
 
-    // The exit and what was printed are the stated functions of the script, the earlier history and
-    // where the journal stands, and its done lines number its events. What is printed is cut short
+    // The exit and what was printed are the stated functions of the script, the account and the record
+    // store at the start and where the journal stands, and its done lines number its events. What is printed is cut short
     // by a fault, or if memory runs out; but for a fault of the board whole events were done.
     ensures status { OverRun (λ start script told. OnAnswer result (result ≡ run_exit start script))
         (task_of words.now) (S.left source.old) (B.told board.old) }
@@ -79,6 +82,16 @@ pub fn rasd<S: Source, B: Board>(
         (Makes (IsBeginning (AreRunCalls start script told)) told))
         (task_of words.now) (S.left source.old) (B.told board.old) }
 
+    // Its accesses to the device are theirs, and once it is done the record store is what its events
+    // left.
+    ensures accesses { OverRun (λ start script told. OnAnswer result (IsSomeAnd (B.told board.new)
+        (ListsAccesses start script told)))
+        (task_of words.now) (S.left source.old) (B.told board.old) }
+    ensures stored { OverRun (λ start script told. result ≡ Exit.Done
+        → IsSomeAnd (B.told board.new)
+        (λ now. now.here.store ≡ laid_with start script (event_count start script)))
+        (task_of words.now) (S.left source.old) (B.told board.old) }
+
     // If the files at the start are damaged or too long, the run says so and leaves them.
     ensures refused { OverFiles
         (λ before now. RefusesFiles (files_refusal before.here) result before now)
@@ -98,7 +111,10 @@ pub fn rasd<S: Source, B: Board>(
     // If a count of faults rose that fault is the exit, and every other count is as it was.
     ensures source { SourceCause result (S.faults source.old) (S.faults source.new) }
     ensures board { BoardCause result (B.faults board.old) (B.faults board.new) }
-    ensures device { LeavesDevice (B.told board.old) (B.told board.new)
+
+    // If no line is taken the device is left alone.
+    ensures apart { TakesNoLine (task_of words.now) (B.told board.old)
+        → LeavesDevice (B.told board.old) (B.told board.new)
         (B.clock board.old) (B.clock board.new) }
 
     // Words of no listed form take no memory and leave the source alone, and no other words are
@@ -137,7 +153,8 @@ fn call<S: Source, B: Board>(
         → IfSome (S.left source.old) (λ script. S.left source.new ≡ Some []) }
     ensures source { SourceCause result (S.faults source.old) (S.faults source.new) }
     ensures board { BoardCause result (B.faults board.old) (B.faults board.new) }
-    ensures device { LeavesDevice (B.told board.old) (B.told board.new)
+    ensures apart { TakesNoLine (task_of words.now) (B.told board.old)
+        → LeavesDevice (B.told board.old) (B.told board.new)
         (B.clock board.old) (B.clock board.new) }
     ensures usage { IfNone (task_of words.now)
         ((result ≡ Exit.Usage) ⊎ (result ≡ Exit.PrintFault)) }

@@ -10,7 +10,7 @@ ghost use Rattle.ras_run.specs.Files.{files_refusal};
 ghost use Rattle.ras_run.specs.Places.{Start};
 ghost use Rattle.ras_run.specs.Taking.{IsReady};
 ghost use Rattle.ras_daemon.specs.Doing.{DoesRun, TakesScript};
-ghost use Rattle.ras_daemon.specs.Ended.{OverFiles, RefusesFiles};
+ghost use Rattle.ras_daemon.specs.Ended.{OverFiles, RefusesFiles, TakesNoLine};
 ghost use Rattle.ras_daemon.specs.Headline.{OverRun};
 ghost use Rattle.ras_daemon.specs.Running.{IsStart, RunAhead};
 
@@ -44,7 +44,9 @@ pub fn run<S: Source, B: Board>(alloc: Global, source: &mut S, board: &mut B) ->
     ensures listed { result ≡ Exit.Usage → ⊥ }
     ensures causes { SourceCause result (S.faults source.old) (S.faults source.new)
         × BoardCause result (B.faults board.old) (B.faults board.new) }
-    ensures device { LeavesDevice (B.told board.old) (B.told board.new)
+    // Files that refuse it leave the device alone.
+    ensures apart { TakesNoLine (Some Task.Run) (B.told board.old)
+        → LeavesDevice (B.told board.old) (B.told board.new)
         (B.clock board.old) (B.clock board.new) }
 {
     let mut reader = match LineReader::new(alloc) {
@@ -71,11 +73,11 @@ fn take_script<S: Source, B: Board>(
     requires ready { IsReady ledger (B.told board.old) (B.clock board.old) }
     requires account { IsAccount ledger.account.state }
 
-    ensures does { (start : Start) (script : List ℕ) (t : Told) → IsStart start ledger
+    ensures does { (start : Start) (script : List ℕ) (t : Told) → IsStart start ledger t
         → S.left source.old ≡ Some script → B.told board.old ≡ Some t
         → TakesScript (looks B.told B.clock B.faults) start script t result
         board.old board.new }
-    ensures ahead { (start : Start) (script : List ℕ) (t : Told) → IsStart start ledger
+    ensures ahead { (start : Start) (script : List ℕ) (t : Told) → IsStart start ledger t
         → S.left source.old ≡ Some script → B.told board.old ≡ Some t
         → RunAhead (result ≡ Exit.SourceFault) start script t (S.left source.new)
         (B.told board.new) }
@@ -84,8 +86,6 @@ fn take_script<S: Source, B: Board>(
     ensures listed { result ≡ Exit.Usage → ⊥ }
     ensures causes { SourceCause result (S.faults source.old) (S.faults source.new)
         × BoardCause result (B.faults board.old) (B.faults board.new) }
-    ensures device { LeavesDevice (B.told board.old) (B.told board.new)
-        (B.clock board.old) (B.clock board.new) }
 {
     if let Err(exit) = print_standing(alloc, &ledger.account, board) {
         return exit;
