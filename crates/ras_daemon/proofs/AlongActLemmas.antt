@@ -20,7 +20,7 @@ use Rattle.ras_daemon.specs.RunActs.{AreActsAlong}
 use Rattle.ras_daemon.specs.Running.{AreAccepted, AreFirst, LinesMoment, outputs}
 use Rattle.ras_daemon.specs.Script.{reads_of}
 use Rattle.ras_daemon.proofs.FirstLinesLemmas.{first-before}
-use Rattle.ras_daemon.proofs.PlaceLemmas.{accepted-snoc, first_more, outputs-snoc}
+use Rattle.ras_daemon.proofs.PlaceLemmas.{accepted-snoc, outputs-snoc}
 
 -- ---- lists of them
 

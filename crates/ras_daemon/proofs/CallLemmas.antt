@@ -21,7 +21,6 @@ use Rattle.ras_daemon.specs.Headline.{Headline, IsWhole, OverRun, StopsRecover, 
 use Rattle.ras_daemon.specs.RunOutput.{closing_line, run_output}
 use Rattle.ras_daemon.specs.RunStatus.{run_exit, start_of}
 use Rattle.board_core.specs.Doing.{Seen}
-use Rattle.erst_store.specs.Store.{Stored}
 use Rattle.ras_daemon.specs.Doing.{DoesRun}
 use Rattle.ras_daemon.proofs.RunLemmas.{run_ends, run_stops}
 use Rattle.ras_daemon.specs.Running.{AreAll, AreFirst, EndsIn, EndsSo, RunEnds, RunMoment, outputs}

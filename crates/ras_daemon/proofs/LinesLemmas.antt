@@ -25,7 +25,7 @@ use Rattle.ras_run.specs.LaterKinds.{taken_line}
 use Rattle.ras_run.specs.LineActs.{AreActsUnless, AreEventActs, AreLineActs, HoldsAfter, refused_acts}
 use Rattle.ras_run.specs.Places.{IsBoardAfter, Start}
 use Rattle.ras_run.specs.Status.{event_refusal, places_before_refusal, put_refusal, refusal_at}
-use Rattle.ras_run.specs.Taking.{IsAccepted, IsRunAfter, MayFail, TakesLine}
+use Rattle.ras_run.specs.Taking.{IsRunAfter, MayFail, TakesLine}
 use Rattle.ras_daemon.specs.Doing.{AreAllAsked, AreLinesActs, DoesFirst, DoesLines, IsAsked, MayAsk}
 use Rattle.ras_daemon.specs.RunActs.{AreActsAlong, asked_acts, script_asked}
 use Rattle.ras_daemon.specs.Running.{AreAccepted, AreAll, AreFirst}
@@ -160,21 +160,24 @@ Took see start script t number reader left run old new =
 
 pub took_none : {X : Type 0} (see : X → Seen) (start : Start) (script : List ℕ) (t : Told) (reader : Reader) (left : Option (List ℕ)) (run : Run) (x : X) → reader ≡ record { line = []; held = []; taken = 0 }
     → IsRunAfter start [] run → HoldsAfter start [] t → left ≡ Some script → Took see start script t 0 reader left run x x
-took_none see start script t reader left run x fresh after holds tells = (record {
-  done = [];
-  now = script;
-  tells = tells;
-  lines = rw fresh refl;
-  count = refl;
-  after = after;
-  holds = holds;
-  accepted = tt;
-  acts = [];
-  along = refl;
-  cut = rw fresh refl;
-  size = rw fresh (omega arith);
-  kept = inl (rw fresh refl);
-}, does_nothing see x)
+took_none see start script t reader left run x fresh after holds tells = (
+  record {
+    done = [];
+    now = script;
+    tells = tells;
+    lines = rw fresh refl;
+    count = refl;
+    after = after;
+    holds = holds;
+    accepted = tt;
+    acts = [];
+    along = refl;
+    cut = rw fresh refl;
+    size = rw fresh (omega arith);
+    kept = inl (rw fresh refl);
+  },
+  does_nothing see x,
+)
 
 -- ---- a line is given
 
@@ -226,30 +229,32 @@ module _ (start : Start) (script : List ℕ) (t : Told) (number : ℕ) (reader n
       → TakesLine start (reads_in taking.done, read_given) (Ok tt) more → AreLineActs start (reads_in taking.done, read_given) (after_acts taking.acts t) acts → Took see start script t (number + 1) new now more old later
   took_line see more acts old mid later well does is_line grew gave moves takes are =
       let lines = given_lines gave moves in
-      let text = given_text reader new taking.now lines.0 is_line grew (subst (λ n. MovesLine (Ok true) reader new (Some taking.now) n) lines.1 (subst (λ b. MovesLine (Ok true) reader new b now) taking.tells moves)) in
-      (record {
-        done = taking.done ++ line ∷ [];
-        now = lines.0;
-        tells = lines.1;
-        lines = lines.2;
-        count = (let c = taking.count in simp length-append (omega arith));
-        after = rw reads-given takes.1;
-        holds = taking.holds;
-        accepted = rw reads-given (accepted-snoc start (reads_in taking.done) read_given taking.accepted takes.0);
-        acts = taking.acts ++ acts;
-        along = rw reads-given (along-snoc start (reads_in taking.done) read_given t taking.acts acts taking.along are);
-        cut =
-            taking.cut ∙ ap (λ lines. taking.done ++ lines) text.0
-            ∙ ap (λ l. taking.done ++ l ∷ lines_of (new.held ++ lines.0)) (sym same)
-            ∙ sym (append_assoc taking.done (line ∷ []) (lines_of (new.held ++ lines.0)));
-        size =
-            (let first = taking.size in
-            let then = text.1 in
-            let snoc = size-snoc taking.done line in
-            let long : length line ≡ length new.line = ap length same in
-            omega arith);
-        kept = subst (λ l. (script ≡ script_of (taking.done ++ l ∷ []) ++ (new.held ++ lines.0)) ⊎ ((new.held ≡ []) × (lines.0 ≡ []))) (sym same) (kept_on script taking.done reader new taking.now lines.0 is_line taking.kept (subst (λ n. MovesLine (Ok true) reader new (Some taking.now) n) lines.1 (subst (λ b. MovesLine (Ok true) reader new b now) taking.tells moves)));
-      }, does_then see taking.acts acts went_well old mid later well tt does)
+      let text = given_text reader new taking.now lines.0 is_line grew (subst (λ n. MovesLine (Ok true) reader new (Some taking.now) n) lines.1 (subst (λ b. MovesLine (Ok true) reader new b now) taking.tells moves)) in (
+        record {
+          done = taking.done ++ line ∷ [];
+          now = lines.0;
+          tells = lines.1;
+          lines = lines.2;
+          count = (let c = taking.count in simp length-append (omega arith));
+          after = rw reads-given takes.1;
+          holds = taking.holds;
+          accepted = rw reads-given (accepted-snoc start (reads_in taking.done) read_given taking.accepted takes.0);
+          acts = taking.acts ++ acts;
+          along = rw reads-given (along-snoc start (reads_in taking.done) read_given t taking.acts acts taking.along are);
+          cut =
+              taking.cut ∙ ap (λ lines. taking.done ++ lines) text.0
+              ∙ ap (λ l. taking.done ++ l ∷ lines_of (new.held ++ lines.0)) (sym same)
+              ∙ sym (append_assoc taking.done (line ∷ []) (lines_of (new.held ++ lines.0)));
+          size =
+              (let first = taking.size in
+              let then = text.1 in
+              let snoc = size-snoc taking.done line in
+              let long : length line ≡ length new.line = ap length same in
+              omega arith);
+          kept = subst (λ l. (script ≡ script_of (taking.done ++ l ∷ []) ++ (new.held ++ lines.0)) ⊎ ((new.held ≡ []) × (lines.0 ≡ []))) (sym same) (kept_on script taking.done reader new taking.now lines.0 is_line taking.kept (subst (λ n. MovesLine (Ok true) reader new (Some taking.now) n) lines.1 (subst (λ b. MovesLine (Ok true) reader new b now) taking.tells moves)));
+        },
+        does_then see taking.acts acts went_well old mid later well tt does,
+      )
 
 -- what the board has then is what the lines taken left
 pub board_then : (start : Start) (script : List ℕ) (t : Told) (number : ℕ) (reader : Reader) (left : Option (List ℕ)) (run : Run) (taking : Taking start script t number reader left run)

@@ -3,13 +3,13 @@ use Rattle.std.proofs.Common.{◌≡◌, ℕ, List, Option, Result, Ok, Err, ref
 use Rattle.std.specs.Prelude.{⊤, IfSome, IsSomeAnd}
 use Rattle.board_core.specs.Cause.{Faults, print_call}
 use Rattle.board_core.specs.Clock.{Clock}
-use Rattle.board_core.specs.Doing.{Act, Does, Ended, Seen}
+use Rattle.board_core.specs.Doing.{Act, Does, Seen}
 use Rattle.board_core.specs.Told.{FailsPrint, Relates, Steps, Told, after_print}
 use Rattle.ras_account.specs.Account.{State}
 use Rattle.ras_journal.specs.declared.standing.Standing.{Standing}
 use Rattle.ras_journal.specs.Appending.{Before}
 use Rattle.ras_ledger.specs.Keeping.{Stands}
-use Rattle.ras_exit.specs.Acts.{end_of, print_acts}
+use Rattle.ras_exit.specs.Acts.{end_of}
 use Rattle.ras_exit.specs.Causes.{BoardCause, BoardCauseBy, Causes, SourceCause, SourceCauseBy}
 use Rattle.ras_exit.specs.Endings.{OnAnswer, CallEnding, EndsBy, IsAnswer, IsCut, IsLineExit, OnlyFault, answered, ending_of, faulted, source_failed, starved}
 use Rattle.ras_exit.specs.declared.exit.Exit.{Exit}

@@ -30,7 +30,7 @@ use Rattle.ras_daemon.specs.Doing.{AreAllAsked, DoesFirst, DoesScript, IsAsked, 
 use Rattle.ras_daemon.specs.RunActs.{AreActsAlong, AreScriptActs, DidOf, last_acts, orders_acts, script_asked}
 use Rattle.ras_daemon.specs.RunOutput.{closing_line}
 use Rattle.ras_daemon.specs.RunStatus.{run_exit}
-use Rattle.ras_daemon.specs.Running.{AreAll, AreFirst, EndsEarly, EndsIn, EndsSo, LinesMoment, OpenMoment, RunEnds, lines_from, outputs}
+use Rattle.ras_daemon.specs.Running.{AreFirst, EndsEarly, EndsIn, EndsSo, LinesMoment, OpenMoment, RunEnds, lines_from, outputs}
 use Rattle.ras_daemon.specs.Script.{reads_of}
 use Rattle.ras_daemon.proofs.AlongActLemmas.{along_begun, along_done, along_moment, along_prints, moment_in}
 use Rattle.ras_daemon.proofs.FirstLinesLemmas.{closing-same}

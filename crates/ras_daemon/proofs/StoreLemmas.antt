@@ -1,15 +1,14 @@
 -- The record store along the events of a run, and while one of them is taken.
-use Rattle.std.proofs.Common.{◌≡◌, ℕ, Bool, true, false, nat_eq, cond, if◌then◌else◌, List, [], ◌∷◌, ◌++◌, length, map, drop, take, Option, None, Some, Result, Ok, Err, refl, sym, ap, subst, ◌∙◌, inl, inr, append_assoc, append-nil, arith}
+use Rattle.std.proofs.Common.{◌≡◌, ℕ, Bool, true, false, nat_eq, cond, if◌then◌else◌, List, [], ◌∷◌, ◌++◌, length, map, drop, Option, None, Some, Result, Ok, Err, refl, sym, ap, subst, ◌∙◌, inl, inr, append_assoc, append-nil, arith}
 use Rattle.std.specs.Prelude.{◌⊎◌, filter, IfOk}
 use Rattle.std.specs.List.{AllByRecursion, fold}
 use Rattle.std.specs.Option.{option_map_or}
 use Rattle.std.proofs.lemmas.Bool.Decides.{nat_tests}
 use Rattle.std.proofs.lemmas.List.Elements.{filter-append}
-use Rattle.cper_records.specs.Readable.{filled, read_under}
 use Rattle.erst_store.specs.Store.{Stored, bytes_under, refusal_of, with_record}
 use Rattle.erst_store.specs.StoreLemmas.{found-with_record, under-with_record}
 use Rattle.erst_store.specs.declared.store.PutRefused.{PutRefused}
-use Rattle.board_core.specs.Stop.{Becomes, Begins, Left}
+use Rattle.board_core.specs.Stop.{Begins, Left}
 use Rattle.ras_base.specs.Places.{places, places_behind}
 use Rattle.ras_base.specs.PlacesLemmas.{places_behind-append}
 use Rattle.ras_account.specs.Accounts.{IsAccount}
@@ -34,10 +33,10 @@ use Rattle.ras_run.specs.Places.{Start, account_at, store_at}
 use Rattle.ras_run.specs.Status.{event_refusal, put_refusal, refusal_at}
 use Rattle.ras_run.specs.Taking.{IsAccepted}
 use Rattle.ras_run.proofs.PlaceLemmas.{store-snoc}
-use Rattle.ras_run.proofs.StoreLemmas.{left_by, line_store}
+use Rattle.ras_run.proofs.StoreLemmas.{line_store}
 use Rattle.ras_daemon.specs.Headline.{last_laid_with, laid_with, lines_with}
-use Rattle.ras_daemon.specs.Running.{AreAccepted, AreFirst, AtLine, outputs}
-use Rattle.ras_daemon.specs.Script.{begun_of, begun_with, events_of, first_line, is_event, line_after, places_begun, reads_of}
+use Rattle.ras_daemon.specs.Running.{AreAccepted, AreFirst}
+use Rattle.ras_daemon.specs.Script.{begun_of, begun_with, first_line, is_event, line_after, places_begun, reads_of}
 use Rattle.ras_daemon.specs.StoreDuring.{KeepsOthers, KeepsRecords, PutsAnew, StoreDuring}
 use Rattle.ras_daemon.proofs.CountLemmas.{events_among, first-events}
 use Rattle.ras_daemon.proofs.EventLemmas.{IsPlain, IsTakenRead, place-plain, taken-all, taken-first}
