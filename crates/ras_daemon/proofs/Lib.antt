@@ -4,6 +4,7 @@ pub mod LineEndLemmas
 pub mod RunLemmas
 pub mod DidLemmas
 pub mod ListLemmas
+pub mod FewLemmas
 pub mod StopLemmas
 pub mod FirstLinesLemmas
 pub mod EventLemmas

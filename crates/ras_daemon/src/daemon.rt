@@ -12,7 +12,7 @@ ghost use Rattle.ras_exit.specs.StopLine.{stop_line};
 ghost use Rattle.ras_exit.specs.Telling.{OnlyPrints, PrintsPart};
 ghost use Rattle.ras_run.specs.Files.{files_refusal};
 ghost use Rattle.text_laws.specs.DoneLines.{done_count};
-ghost use Rattle.ras_daemon.specs.Ahead.{TakesAhead};
+ghost use Rattle.ras_daemon.specs.Ahead.{TakesAhead, TakesFewOf};
 ghost use Rattle.ras_daemon.specs.Doing.{DoesRun};
 ghost use Rattle.ras_daemon.specs.Ended.{IsQuiet, IsQuietBoard, OverFiles, RefusesFiles};
 ghost use Rattle.ras_daemon.specs.Ended.{TakesNoLine};
@@ -71,6 +71,9 @@ pub fn rasd<S: Source, B: Board>(
         IsSomeAnd (B.told board.new) (TakesAhead result script left told)))
         (task_of words.now) (S.left source.old) (B.told board.old) }
 
+    // Of any source at most 67,108,865 bytes are taken.
+    ensures few { TakesFewOf (S.left source.old) (S.left source.new) }
+
     // A run does its acts in order: the opening's, the print of the orders that stand, those of each
     // line before the first refused one, and the print of the last line. At an answer all are done;
     // if a call of the board failed it is the last that was made of them; else some first ones are
@@ -112,7 +115,9 @@ pub fn rasd<S: Source, B: Board>(
     ensures source { SourceCause result (S.faults source.old) (S.faults source.new) }
     ensures board { BoardCause result (B.faults board.old) (B.faults board.new) }
 
-    // If no line is taken the device is left alone.
+    // If no line is taken, since the words don't ask for a run or the files refuse it, the source and
+    // the device are left alone.
+    ensures unread { TakesNoLine (task_of words.now) (B.told board.old) → source.new ≡ source.old }
     ensures apart { TakesNoLine (task_of words.now) (B.told board.old)
         → LeavesDevice (B.told board.old) (B.told board.new)
         (B.clock board.old) (B.clock board.new) }
@@ -146,6 +151,7 @@ fn call<S: Source, B: Board>(
         RunAhead (result ≡ Exit.SourceFault) start script told (S.left source.new)
         (B.told board.new))
         (task_of words.now) (S.left source.old) (B.told board.old) }
+    ensures few { TakesFewOf (S.left source.old) (S.left source.new) }
     ensures refused { OverFiles
         (λ before now. RefusesFiles (files_refusal before.here) result before now)
         (task_of words.now) (B.told board.old) (B.told board.new) }
@@ -153,6 +159,7 @@ fn call<S: Source, B: Board>(
         → IfSome (S.left source.old) (λ script. S.left source.new ≡ Some []) }
     ensures source { SourceCause result (S.faults source.old) (S.faults source.new) }
     ensures board { BoardCause result (B.faults board.old) (B.faults board.new) }
+    ensures unread { TakesNoLine (task_of words.now) (B.told board.old) → source.new ≡ source.old }
     ensures apart { TakesNoLine (task_of words.now) (B.told board.old)
         → LeavesDevice (B.told board.old) (B.told board.new)
         (B.clock board.old) (B.clock board.new) }

@@ -8,6 +8,7 @@ ghost use Rattle.ras_exit.specs.Endings.{IsLineExit};
 ghost use Rattle.ras_run.specs.LineActs.{HoldsAfter};
 ghost use Rattle.ras_run.specs.Places.{Start};
 ghost use Rattle.ras_run.specs.Taking.{IsReady, IsRunAfter};
+ghost use Rattle.ras_daemon.specs.Ahead.{TakesFewOf};
 ghost use Rattle.ras_daemon.specs.Doing.{DoesLines};
 ghost use Rattle.ras_daemon.specs.Running.{EndsAhead};
 
@@ -44,6 +45,7 @@ pub fn take_lines<S: Source, B: Board>(
         (B.told board.new) }
     ensures ended { result ≡ Ok tt
         → IfSome (S.left source.old) (λ script. S.left source.new ≡ Some []) }
+    ensures few { TakesFewOf (S.left source.old) (S.left source.new) }
     ensures stop { IfErr result IsLineExit }
     ensures causes { Causes SourceCause result (S.faults source.old) (S.faults source.new)
         × Causes BoardCause result (B.faults board.old) (B.faults board.new) }

@@ -9,6 +9,7 @@ ghost use Rattle.ras_exit.specs.Causes.{BoardCause, SourceCause};
 ghost use Rattle.ras_run.specs.Files.{files_refusal};
 ghost use Rattle.ras_run.specs.Places.{Start};
 ghost use Rattle.ras_run.specs.Taking.{IsReady};
+ghost use Rattle.ras_daemon.specs.Ahead.{TakesFewOf};
 ghost use Rattle.ras_daemon.specs.Doing.{DoesRun, TakesScript};
 ghost use Rattle.ras_daemon.specs.Ended.{OverFiles, RefusesFiles, TakesNoLine};
 ghost use Rattle.ras_daemon.specs.Headline.{OverRun};
@@ -41,10 +42,12 @@ pub fn run<S: Source, B: Board>(alloc: Global, source: &mut S, board: &mut B) ->
         (Some Task.Run) (B.told board.old) (B.told board.new) }
     ensures ended { result ≡ Exit.Done
         → IfSome (S.left source.old) (λ script. S.left source.new ≡ Some []) }
+    ensures few { TakesFewOf (S.left source.old) (S.left source.new) }
     ensures listed { result ≡ Exit.Usage → ⊥ }
     ensures causes { SourceCause result (S.faults source.old) (S.faults source.new)
         × BoardCause result (B.faults board.old) (B.faults board.new) }
-    // Files that refuse it leave the device alone.
+    // Files that refuse it leave the device and the source alone.
+    ensures unread { TakesNoLine (Some Task.Run) (B.told board.old) → source.new ≡ source.old }
     ensures apart { TakesNoLine (Some Task.Run) (B.told board.old)
         → LeavesDevice (B.told board.old) (B.told board.new)
         (B.clock board.old) (B.clock board.new) }
@@ -83,6 +86,7 @@ fn take_script<S: Source, B: Board>(
         (B.told board.new) }
     ensures ended { result ≡ Exit.Done
         → IfSome (S.left source.old) (λ script. S.left source.new ≡ Some []) }
+    ensures few { TakesFewOf (S.left source.old) (S.left source.new) }
     ensures listed { result ≡ Exit.Usage → ⊥ }
     ensures causes { SourceCause result (S.faults source.old) (S.faults source.new)
         × BoardCause result (B.faults board.old) (B.faults board.new) }

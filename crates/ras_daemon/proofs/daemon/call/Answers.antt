@@ -4,6 +4,7 @@ use Rattle.board_core.specs.Doing.{looks}
 use Rattle.ras_exit.specs.StopLine.{stop_line}
 use Rattle.ras_exit.specs.declared.exit.Exit.TheVariants.{Usage}
 use Rattle.ras_daemon.specs.Task.{task_of}
+use Rattle.ras_daemon.proofs.FewLemmas.{few_none}
 use Rattle.ras_daemon.proofs.SaidLemmas.{says_cause, says_source, says_printed}
 use Rattle.ras_daemon.proofs.UsageLemmas.{if-none, only-prints, usage-said}
 use Rattle.ras_daemon.proofs.daemon.call.Goals as goal
@@ -27,3 +28,6 @@ returns-in-None-clause-source g c =
 pub returns-in-None-clause-board : goal.returns-in-None-clause-board
 returns-in-None-clause-board g c =
     says_cause (looks g.B.Board.told g.B.Board.clock g.B.Board.faults) Usage c.last_line.result (stop_line Usage) c.args.board.now c.last_line.new.board refl c.last_line.ensures.says
+
+pub returns-in-None-clause-few : goal.returns-in-None-clause-few
+returns-in-None-clause-few g c = few_none (g.S.Source.left c.args.source.now)

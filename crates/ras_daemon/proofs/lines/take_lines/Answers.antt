@@ -1,4 +1,4 @@
-use Rattle.std.proofs.Common.{◌≡◌, ℕ, List, ◌+◌, false, Ok, Err, Some, ap, refl, true, ◌∙◌, arith}
+use Rattle.std.proofs.Common.{◌≡◌, ℕ, List, ◌+◌, false, Ok, Err, Some, ap, refl, subst, sym, true, ◌∙◌, arith}
 use Rattle.std.proofs.lemmas.Result.{err_from_is_err_and}
 use Rattle.board_core.specs.Doing.{after_acts, looks}
 use Rattle.ras_exit.specs.declared.reason.Reason.TheVariants.{LongLine}
@@ -10,6 +10,8 @@ use Rattle.ras_run.specs.LaterKinds.{taken_line}
 use Rattle.ras_daemon.specs.Script.{reads_in}
 use Rattle.ras_daemon.proofs.GrowLemmas.{part_grows}
 use Rattle.ras_daemon.proofs.LinesLemmas.{all_taken, board_then, gave_as, given, if_more, lines_end, moved_as, moved_tells, none_given, stopped, tells_same, took_line, took_none, took_now}
+use Rattle.ras_script.specs.Reader.{Reader}
+use Rattle.ras_daemon.proofs.FewLemmas.{TakesOf, takes_few, takes_more, takes_none}
 use Rattle.ras_daemon.proofs.LineEndLemmas.{ahead_given, ahead_none, not_fault}
 use Rattle.ras_daemon.proofs.ScriptLemmas.{told_after}
 use Rattle.ras_daemon.proofs.lines.take_lines.Goals as goal
@@ -18,6 +20,7 @@ pub loop-number-init : goal.loop-number-init
 loop-number-init g c = record {
   took = λ start script t after left is holds. took_none (looks g.B.Board.told g.B.Board.clock g.B.Board.faults) start script t _ _ _ c.args.board.now c.requires.fresh after holds left;
   tells = tells_same _;
+  few = subst (λ (r : Reader). TakesOf r.taken (g.S.Source.left c.args.source.now) (g.S.Source.left c.args.source.now)) (sym c.requires.fresh) (takes_none (g.S.Source.left c.args.source.now));
   ready = c.requires.ready;
   counted = omega arith;
   source = refl;
@@ -38,6 +41,7 @@ loop-number-preserved g c = record {
       (moved_as _ (Ok true) c.loop-number.reader c.advance.new.self (g.S.Source.left c.loop-number.source) (g.S.Source.left c.advance.new.source) (ap Ok c.in-Ok-true.field-0-test) c.in-Ok-true.ensures.moves)
       takes does.1);
   tells = if_more _ _ _ c.loop-number.invariant.tells (λ script (now : (rest : List ℕ) × (g.S.Source.left c.loop-number.source ≡ Some rest)). moved_tells (Ok c.in-Ok-true.field-0) c.loop-number.reader c.advance.new.self now.0 _ _ now.1 c.in-Ok-true.ensures.moves);
+  few = takes_more (Ok c.in-Ok-true.field-0) c.loop-number.reader c.advance.new.self _ _ _ c.loop-number.invariant.few c.in-Ok-true.ensures.moves;
   ready = c.in_ok-take_line-in-Ok-true.ensures.ready;
   counted = (let more = c.in-Ok-true.ensures.given (ap Ok c.in-Ok-true.field-0-test) in let so_far = c.loop-number.invariant.counted in omega arith);
   source = c.in-Ok-true.ensures.cause ∙ c.loop-number.invariant.source;
@@ -127,3 +131,28 @@ returns-in-Err-LineTooLong-clause-ahead g c = λ start script t after left is ho
     let taking = took.0 in
     ahead_none _ start script t _ c.loop-number.reader c.advance.new.self (g.S.Source.left c.loop-number.source) (g.S.Source.left c.advance.new.source) _ _ taking
     (told_after taking.acts t (g.B.Board.told c.args.board.now) (g.B.Board.told c.loop-number.board) is took.1.told) c.in-Err-LineTooLong.ensures.ahead (λ fault. absurd cc) c.in-Err-LineTooLong.ensures.moves
+
+pub returns-in_err-take_line-in-Ok-true-clause-few : goal.returns-in_err-take_line-in-Ok-true-clause-few
+returns-in_err-take_line-in-Ok-true-clause-few g c =
+    takes_few c.advance.new.self.taken (g.S.Source.left c.args.source.now) (g.S.Source.left c.advance.new.source) c.in-Ok-true.ensures.few
+    (takes_more (Ok c.in-Ok-true.field-0) c.loop-number.reader c.advance.new.self (g.S.Source.left c.args.source.now) (g.S.Source.left c.loop-number.source) (g.S.Source.left c.advance.new.source) c.loop-number.invariant.few c.in-Ok-true.ensures.moves)
+
+pub returns-in-Ok-false-clause-few : goal.returns-in-Ok-false-clause-few
+returns-in-Ok-false-clause-few g c =
+    takes_few c.advance.new.self.taken (g.S.Source.left c.args.source.now) (g.S.Source.left c.advance.new.source) c.in-Ok-false.ensures.few
+    (takes_more (Ok c.in-Ok-false.field-0) c.loop-number.reader c.advance.new.self (g.S.Source.left c.args.source.now) (g.S.Source.left c.loop-number.source) (g.S.Source.left c.advance.new.source) c.loop-number.invariant.few c.in-Ok-false.ensures.moves)
+
+pub returns-in-Err-Source-clause-few : goal.returns-in-Err-Source-clause-few
+returns-in-Err-Source-clause-few g c =
+    takes_few c.advance.new.self.taken (g.S.Source.left c.args.source.now) (g.S.Source.left c.advance.new.source) c.in-Err-Source.ensures.few
+    (takes_more (Err c.in-Err-Source.field-0) c.loop-number.reader c.advance.new.self (g.S.Source.left c.args.source.now) (g.S.Source.left c.loop-number.source) (g.S.Source.left c.advance.new.source) c.loop-number.invariant.few c.in-Err-Source.ensures.moves)
+
+pub returns-in-Err-TooLong-clause-few : goal.returns-in-Err-TooLong-clause-few
+returns-in-Err-TooLong-clause-few g c =
+    takes_few c.advance.new.self.taken (g.S.Source.left c.args.source.now) (g.S.Source.left c.advance.new.source) c.in-Err-TooLong.ensures.few
+    (takes_more (Err c.in-Err-TooLong.field-0) c.loop-number.reader c.advance.new.self (g.S.Source.left c.args.source.now) (g.S.Source.left c.loop-number.source) (g.S.Source.left c.advance.new.source) c.loop-number.invariant.few c.in-Err-TooLong.ensures.moves)
+
+pub returns-in-Err-LineTooLong-clause-few : goal.returns-in-Err-LineTooLong-clause-few
+returns-in-Err-LineTooLong-clause-few g c =
+    takes_few c.advance.new.self.taken (g.S.Source.left c.args.source.now) (g.S.Source.left c.advance.new.source) c.in-Err-LineTooLong.ensures.few
+    (takes_more (Err c.in-Err-LineTooLong.field-0) c.loop-number.reader c.advance.new.self (g.S.Source.left c.args.source.now) (g.S.Source.left c.loop-number.source) (g.S.Source.left c.advance.new.source) c.loop-number.invariant.few c.in-Err-LineTooLong.ensures.moves)

@@ -10,6 +10,7 @@ use Rattle.ras_daemon.specs.RunStatus.{start_of}
 use Rattle.ras_daemon.specs.Running.{RunAhead}
 use Rattle.ras_exit.proofs.DeviceLemmas.{device_goes_on}
 use Rattle.ras_daemon.proofs.AheadLemmas.{ahead_opened}
+use Rattle.ras_daemon.proofs.FewLemmas.{few_none}
 use Rattle.ras_daemon.proofs.RunLemmas.{files_refused, if_told, none_called, not_opened, opening_device, over_files, over_run, refused_none, start_opened, takes_lines, told_on, was_opened}
 use Rattle.ras_daemon.proofs.running.run.Goals as goal
 
@@ -65,3 +66,12 @@ returns-in-Ok-open-clause-refused g c =
     over_files (λ before now. RefusesFiles (files_refusal before.here) c.take_script.result before now) (g.B.Board.told c.args.board.now) (g.B.Board.told c.take_script.new.board)
     (λ before one. refused_none c.take_script.result before (g.B.Board.told c.take_script.new.board) c.in-Ok-open.ledger.account.state
     (if_told (λ t. recovered t.here.file0 t.here.file1 ≡ Ok c.in-Ok-open.ledger.account.state) (g.B.Board.told c.args.board.now) before one c.in-Ok-open.ensures.opens))
+
+pub returns-in-Ok-open-clause-unread : goal.returns-in-Ok-open-clause-unread
+returns-in-Ok-open-clause-unread g c = λ none. absurd (takes_lines (g.B.Board.told c.args.board.now) c.in-Ok-open.ledger.account.state none (λ t is. if_told _ _ t is c.in-Ok-open.ensures.opens))
+
+pub returns-in-Err-clause-few : goal.returns-in-Err-clause-few
+returns-in-Err-clause-few g c = few_none (g.S.Source.left c.args.source.now)
+
+pub returns-clause-few : goal.returns-clause-few
+returns-clause-few g c = few_none (g.S.Source.left c.args.source.now)
