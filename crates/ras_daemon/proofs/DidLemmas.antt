@@ -21,14 +21,15 @@ use Rattle.ras_recover.specs.DiskCalls.{IsBeginning, Makes, ReadsPlace, with_cal
 use Rattle.ras_recover.specs.Opening.{opening_acts}
 use Rattle.ras_recover.specs.OpeningCalls.{AfterOpening, AfterRecovery, IsRecovery, IsRecoveryOf, MakesOpening, ReadsBoth}
 use Rattle.ras_recover.proofs.CallsLemmas.{any_right, both_read_alone}
-use Rattle.ras_recover.proofs.OpeningCallsLemmas.{an_opening, standing_recovers}
+use Rattle.ras_recover.proofs.OpeningCallsLemmas.{an_opening, opens_calls, standing_recovers}
 use Rattle.ras_exit.specs.Endings.{CallEnding, EndsBy, IfAnswered, OnlyFault, answered, ending_of, faulted, source_failed, starved}
 use Rattle.ras_exit.specs.declared.exit.Exit.{Exit}
 use Rattle.ras_exit.specs.declared.exit.Exit.TheVariants.{NoMemory}
 use Rattle.ras_exit.proofs.EndingLemmas.{memory_ran_out}
 use Rattle.ras_run.specs.Places.{Start}
 use Rattle.ras_run.proofs.ReopenLemmas.{after_reading}
-use Rattle.ras_daemon.specs.Doing.{DoesRun}
+use Rattle.ras_daemon.specs.Doing.{DoesRun, Opens}
+use Rattle.ras_daemon.specs.Ended.{HasOpened}
 use Rattle.ras_daemon.specs.RunActs.{AreOpeningActs, AreRunActs, AreRunCalls, AreScriptActs, DidOf, DidRun, ListsAccesses}
 use Rattle.ras_daemon.specs.RunStatus.{start_of}
 use Rattle.ras_daemon.proofs.RunLemmas.{none_empty}
@@ -182,6 +183,29 @@ run_did see account script exit t old new recovers (inl d) = by (see new).told d
     by : (told : Option Told) → IsSomeAnd told (AfterOpening t) → (exit ≡ NoMemory → IsSomeAnd told (AfterRecovery t)) → IsSomeAnd told (DidRun (start_of account t) script (ending_of exit) t)
     by None after kept = absurd after
     by (Some u) after kept = ended (ending_of exit) refl d.cut u after kept
+
+-- ---- the opening comes first
+
+did_later : (acts : List Act) (ending : CallEnding) (there now : Told) → DidOf acts ending there now → (later : List DiskCall) × (now.disk_calls ≡ there.disk_calls ++ later)
+did_later acts answered there now is = (calls_of acts, ap (λ (u : Told). u.disk_calls) is ∙ calls_by_acts acts there)
+did_later acts (faulted kind) there now fails = (let lists = calls_by_fails kind acts there now fails in (lists.made, lists.listed))
+did_later acts ending there now (done, begins, is) = (calls_of done, ap (λ (u : Told). u.disk_calls) is ∙ calls_by_acts done there)
+
+has_opened : (t there now : Told) → MakesOpening t there → (later : List DiskCall) × (now.disk_calls ≡ there.disk_calls ++ later) → HasOpened t now
+has_opened t there now makes later =
+    let first = opens_calls t there makes in
+    record {
+      opening = first.made;
+      are = first.are;
+      later = later.0;
+      listed = later.1 ∙ ap (λ l. l ++ later.0) first.listed ∙ append_assoc t.disk_calls first.made later.0;
+    }
+
+pub opened_first : {X : Type 0} (see : X → Seen) (start : Start) (script : List ℕ) (exit : Exit) (t : Told) (old new : X) → Opens see start script exit t old new → IsSomeAnd (see new).told (HasOpened t)
+opened_first see start script exit t old new d =
+    some_weaker (λ now. (acts : List Act) × AreScriptActs start script d.there acts × DidOf acts (ending_of exit) d.there now) (HasOpened t) (see new).told
+    (λ now did. has_opened t d.there now d.makes (did_later did.0 (ending_of exit) d.there now did.2))
+    (takes_did see start script d.there exit d.mid new d.rests d.takes)
 
 -- ---- accesses
 

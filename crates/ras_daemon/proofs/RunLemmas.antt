@@ -20,13 +20,13 @@ use Rattle.ras_account.specs.History.{empty}
 use Rattle.ras_journal.specs.Recovered.{JournalFile, Recovers, Refusal, damaged, journal_of, position_of, recovered, too_long}
 use Rattle.ras_journal.specs.Appending.{Before}
 use Rattle.ras_ledger.specs.declared.ledger.Ledger.{Ledger}
-use Rattle.ras_recover.specs.DiskCalls.{IsReading}
+use Rattle.ras_recover.specs.DiskCalls.{IsBeginning, IsReading, Makes}
 use Rattle.ras_recover.specs.Opening.{Opening, standing_opened}
-use Rattle.ras_recover.specs.OpeningCalls.{AfterOpening, AfterRecovery, MakesOpening}
+use Rattle.ras_recover.specs.OpeningCalls.{AfterOpening, AfterRecovery, IsRecovery, MakesOpening}
 use Rattle.ras_recover.specs.Recovering.{file_number}
-use Rattle.ras_recover.proofs.OpeningCallsLemmas.{refused_keeps, told_opened}
+use Rattle.ras_recover.proofs.OpeningCallsLemmas.{refused_keeps, refused_recovers, told_opened}
 use Rattle.ras_exit.specs.declared.exit.Exit.{Exit}
-use Rattle.ras_exit.specs.declared.exit.Exit.TheVariants.{Damaged, NoMemory, TooLong}
+use Rattle.ras_exit.specs.declared.exit.Exit.TheVariants.{Damaged, DiskFault, NoMemory, TooLong}
 use Rattle.ras_exit.specs.Endings.{CallEnding, EndsBy, IfAnswered, IsCut, OnAnswer, OnlyFault, answered, ending_of, faulted, is_answered, source_failed, starved}
 use Rattle.ras_exit.proofs.DeviceLemmas.{StoreIsLeft, device_by}
 use Rattle.ras_exit.proofs.EndingLemmas.{ends_weaker, memory_ran_out, not_both, on_cut}
@@ -35,8 +35,8 @@ use Rattle.ras_run.specs.Places.{Start}
 use Rattle.ras_exit.specs.StopLine.{stop_line}
 use Rattle.ras_run.specs.Files.{KeepsFiles, files_refusal, refusal_exit}
 use Rattle.ras_run.specs.Taking.{IsReady, Opens, Prints}
-use Rattle.ras_daemon.specs.Doing.{DoesRun, Ends, TakesScript}
-use Rattle.ras_daemon.specs.Ended.{OverFiles, Refuses, RefusesFiles, TakesNoLine}
+use Rattle.ras_daemon.specs.Doing.{DoesRun, Ends, Opens as OpensRun, TakesScript}
+use Rattle.ras_daemon.specs.Ended.{AreRefused, EndsRefused, OverFiles, Refuses, RefusesFiles}
 use Rattle.ras_daemon.specs.Headline.{OverRun}
 use Rattle.ras_daemon.specs.RunOutput.{closing_line}
 use Rattle.ras_daemon.specs.RunStatus.{start_of}
@@ -139,8 +139,10 @@ cut_is exit cut = by (ending_of exit) cut
 -- ---- files that are refused
 
 -- nothing was printed, and the run was cut short
-pub refuses_cut : (why result : Exit) (before now : Told) → IsCut result → Prints [] before now → KeepsFiles before now → Refuses why result before now
-refuses_cut why result before now cut text keeps = record {
+pub refuses_cut : (why result : Exit) (before now : Told) → EndsRefused why result → Makes (IsBeginning IsRecovery) before now → IsCut result → Prints [] before now → KeepsFiles before now → Refuses why result before now
+refuses_cut why result before now ends calls cut text keeps = record {
+  ends = ends;
+  calls = calls;
   tells = record {
     answers = on_cut result (result ≡ why) cut;
     begun = ([], (stop_line why, refl), text);
@@ -172,6 +174,34 @@ refused_as held why exit is opens = by (ending_of exit) refl opens
     by (faulted kind) so found = inr (ap is_answered so)
     by starved so found = inr (ap is_answered so)
 
+-- how such a run ends
+disk_failed : (exit : Exit) → ending_of exit ≡ faulted disk_call → exit ≡ DiskFault
+disk_failed DiskFault is = refl
+disk_failed exit is = absurd cc
+
+refused_exits : (held : Result State Refusal) (why exit : Exit) → refusal_exit held ≡ Some why → Opens (Err exit) held → (exit ≡ why) ⊎ ((exit ≡ DiskFault) ⊎ (exit ≡ NoMemory))
+refused_exits held why exit is opens = by (ending_of exit) refl opens
+  where
+    by : (ending : CallEnding) → ending_of exit ≡ ending → EndsBy (refusal_exit held ≡ Some exit) ⊤ (OnlyFault disk_call) ending → (exit ≡ why) ⊎ ((exit ≡ DiskFault) ⊎ (exit ≡ NoMemory))
+    by answered so found = inl (some_same exit why (sym found ∙ is))
+    by source_failed so found = absurd found
+    by (faulted kind) so only = inr (inl (disk_failed exit (so ∙ ap faulted only)))
+    by starved so any = inr (inr (memory_ran_out exit so))
+
+refused_ends : {X : Type 0} (see : X → Seen) (why exit result : Exit) (line : List ℕ) (a b : X) → (exit ≡ why) ⊎ ((exit ≡ DiskFault) ⊎ (exit ≡ NoMemory)) → Ends see exit result line a b → EndsRefused why result
+refused_ends see why exit result line a b found ends = by ends
+  where
+    as_exit : result ≡ exit → (exit ≡ why) ⊎ ((exit ≡ DiskFault) ⊎ (exit ≡ NoMemory)) → EndsRefused why result
+    as_exit is (inl same) = inl (is ∙ same)
+    as_exit is (inr (inl disk)) = inr (inl (is ∙ disk))
+    as_exit is (inr (inr memory)) = inr (inr (inr (is ∙ memory)))
+
+    by : Ends see exit result line a b → EndsRefused why result
+    by (inl (answer, inl said)) = as_exit said.0 found
+    by (inl (answer, inr (inl failed))) = inr (inr (inl failed.0))
+    by (inl (answer, inr (inr short))) = inr (inr (inr short.0))
+    by (inr cut) = as_exit cut.1 found
+
 answer_weaker : (result : Exit) (P Q : Type 0) → OnAnswer result P → (P → Q) → OnAnswer result Q
 answer_weaker result P Q holds gives = by (ending_of result) holds
   where
@@ -179,7 +209,7 @@ answer_weaker result P Q holds gives = by (ending_of result) holds
     by answered holds = gives holds
     by ending holds = tt
 
-module _ (why result : Exit) (line : List ℕ) (before mid : Told) (text : Prints [] before mid) (keeps : KeepsFiles before mid) where
+module _ (why result : Exit) (line : List ℕ) (before mid : Told) (ends : EndsRefused why result) (calls : Makes (IsBeginning IsRecovery) before mid) (text : Prints [] before mid) (keeps : KeepsFiles before mid) where
   -- a last line, or a beginning of it
   refuses_printed : (new : Option Told) → line ≡ stop_line why → Relates (Printed why result line) (Some mid) new → IsSomeAnd new (Refuses why result before)
   refuses_printed None same printed = absurd printed
@@ -193,6 +223,8 @@ module _ (why result : Exit) (line : List ℕ) (before mid : Told) (text : Print
           whole = answer_weaker result ((result ≡ why) × (printed.part ≡ line)) (now.here.out ≡ before.here.out ++ stop_line why) printed.answers (λ both. told ∙ ap (λ last. before.here.out ++ last) (both.1 ∙ same));
         };
         files = rw printed.is (record { file0 = keeps.file0; file1 = keeps.file1 });
+        ends = ends;
+        calls = record { made = calls.made; listed = ap (λ (t : Told). t.disk_calls) printed.is ∙ calls.listed; are = calls.are };
       }
 
 pub files_refused : {X : Type 0} (see : X → Seen) (exit result : Exit) (state : State) (before : Told) (old mid new : X) → (see old).told ≡ Some before → Relates AfterOpening (see old).told (see mid).told
@@ -208,11 +240,20 @@ files_refused see exit result state before old mid new one after opens ends = by
     text : Prints [] before found.0
     text = found.2.text ∙ sym (append-nil before.here.out)
 
-    last : (why : Exit) → refusal_exit held ≡ Some why → KeepsFiles before found.0 → (exit ≡ why) ⊎ IsCut exit → Ends see exit result (closing_line state exit) mid new → IsSomeAnd (see new).told (Refuses why result before)
-    last why is keeps as_found (inr cut) = rw (cut.2, found.1) (refuses_cut why result before found.0 (rw cut.1 cut.0) text keeps)
-    last why is keeps (inr cut) (inl said) = absurd (not_both exit cut said.0)
-    last why is keeps (inl same) (inl said) =
-        refuses_printed why result (closing_line state exit) before found.0 text keeps (see new).told (ap (closing_line state) same ∙ refusal_line held why state is)
+    calls : (w : Refusal) → held ≡ Err w → Makes (IsBeginning IsRecovery) before found.0
+    calls w is =
+        let begun = found.2.calls.are in
+        record { made = found.2.calls.made; listed = found.2.calls.listed; are = record { whole = begun.whole; are = refused_recovers w before.here begun.whole is begun.are; begins = begun.begins } }
+
+    here : Opens (Err exit) held
+    here = if_told (λ t. Opens (Err exit) (recovered t.here.file0 t.here.file1)) (see old).told before one opens
+
+    last : (why : Exit) → refusal_exit held ≡ Some why → Makes (IsBeginning IsRecovery) before found.0 → KeepsFiles before found.0 → (exit ≡ why) ⊎ IsCut exit → Ends see exit result (closing_line state exit) mid new → IsSomeAnd (see new).told (Refuses why result before)
+    last why is made keeps as_found (inr cut) =
+        rw (cut.2, found.1) (refuses_cut why result before found.0 (refused_ends see why exit result (closing_line state exit) mid new (refused_exits held why exit is here) (inr cut)) made (rw cut.1 cut.0) text keeps)
+    last why is made keeps (inr cut) (inl said) = absurd (not_both exit cut said.0)
+    last why is made keeps (inl same) (inl said) =
+        refuses_printed why result (closing_line state exit) before found.0 (refused_ends see why exit result (closing_line state exit) mid new (refused_exits held why exit is here) (inl said)) made text keeps (see new).told (ap (closing_line state) same ∙ refusal_line held why state is)
         (subst (λ (o : Option Told). Relates (Printed why result (closing_line state exit)) o (see new).told) found.1
         (subst (λ (e : Exit). Relates (Printed e result (closing_line state exit)) (see mid).told (see new).told) same (says_printed see exit result (closing_line state exit) mid new said.1)))
 
@@ -221,8 +262,7 @@ files_refused see exit result state before old mid new one after opens ends = by
     by (Some why) is =
         let err = refusal_err held why is in
         let kept : KeepsFiles before found.0 = record { file0 = refused_keeps err.0 before found.0 err.1 found.2; file1 = found.2.file1 } in
-        let as_found = refused_as held why exit is (if_told (λ t. Opens (Err exit) (recovered t.here.file0 t.here.file1)) (see old).told before one opens) in
-        last why is kept as_found ends
+        last why is (calls err.0 err.1) kept (refused_as held why exit is here) ends
 
 -- files that are opened aren't refused
 opened_not : (held : Result State Refusal) (account : State) → held ≡ Ok account → refusal_exit held ≡ None
@@ -231,7 +271,7 @@ opened_not held account is = ap (λ (h : Result State Refusal). refusal_exit h) 
 pub refused_none : (result : Exit) (before : Told) (new : Option Told) (account : State) → recovered before.here.file0 before.here.file1 ≡ Ok account → RefusesFiles (files_refusal before.here) result before new
 refused_none result before new account is = rw (opened_not (recovered before.here.file0 before.here.file1) account is) tt
 
-pub takes_lines : (told : Option Told) (account : State) → TakesNoLine (Some Run) told → ((t : Told) → told ≡ Some t → recovered t.here.file0 t.here.file1 ≡ Ok account) → ⊥
+pub takes_lines : (told : Option Told) (account : State) → AreRefused told → ((t : Told) → told ≡ Some t → recovered t.here.file0 t.here.file1 ≡ Ok account) → ⊥
 takes_lines None account never is = never
 takes_lines (Some t) account (exit, refused) is =
     let none : None ≡ Some exit = sym (opened_not (recovered t.here.file0 t.here.file1) account (is t refl)) ∙ refused in cc
@@ -256,6 +296,14 @@ recovery_none t = record {
   where
     syncs : List DiskCall
     syncs = Sync Zero ∷ Sync One ∷ []
+
+pub starved_refused : (told : Option Told) → OverFiles (λ before now. RefusesFiles (files_refusal before.here) NoMemory before now) (Some Run) told told
+starved_refused None = tt
+starved_refused (Some t) = by (files_refusal t.here)
+  where
+    by : (refusal : Option Exit) → RefusesFiles refusal NoMemory t (Some t)
+    by None = tt
+    by (Some why) = refuses_cut why NoMemory t t (inr (inr (inr refl))) (recovery_none t).calls refl (sym (append-nil t.here.out)) (record { file0 = refl; file1 = refl })
 
 pub none_called : {X : Type 0} (see : X → Seen) (start : Start) (script : List ℕ) (t : Told) (x : X) → (see x).told ≡ Some t → DoesRun see start script NoMemory t x x
 none_called see start script t x is =
@@ -289,11 +337,11 @@ ledger_holds start ledger u told clock begins account before = record {
 pub was_opened : {X : Type 0} (see : X → Seen) (start : Start) (script : List ℕ) (exit : Exit) (ledger : Ledger) (t : Told) (a b new : X) → (is : (see a).told ≡ Some t)
     → (after : Relates AfterOpening (see a).told (see b).told) → IsStart start ledger (told_on AfterOpening (see a).told (see b).told t is after).0 → IsAccount ledger.account.state
     → Relates MakesOpening (see a).told (see b).told → Adds (Opening (see a).clock t.here) (see a).clock (see b).clock → IsReady ledger (see b).told (see b).clock
-    → TakesScript see start script (told_on AfterOpening (see a).told (see b).told t is after).0 exit b new → DoesRun see start script exit t a new
+    → TakesScript see start script (told_on AfterOpening (see a).told (see b).told t is after).0 exit b new → OpensRun see start script exit t a new
 was_opened see start script exit ledger t a b new is after begins account makes stops ready takes =
     let found = told_on AfterOpening (see a).told (see b).told t is after in
     let before = before_at ledger.journal.standing ledger.account.state (see b).told (see b).clock found.0 ready.stands found.1 in
-    inr (record {
+    record {
       mid = b;
       there = found.0;
       makes = told_both MakesOpening (see a).told (see b).told t found.0 is found.1 makes;
@@ -302,7 +350,7 @@ was_opened see start script exit ledger t a b new is after begins account makes 
       rests = before.rests;
       holds = ledger_holds start ledger found.0 (see b).told (see b).clock begins account before;
       takes = takes;
-    })
+    }
 
 -- the device is left alone while it is opened
 pub opening_device : (told new : Option Told) (a b : Clock) → StoreIsLeft told a → Relates AfterOpening told new → ((t : Told) → told ≡ Some t → Adds (Opening a t.here) a b) → LeavesDevice told new a b

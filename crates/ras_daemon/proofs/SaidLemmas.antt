@@ -11,9 +11,9 @@ use Rattle.ras_journal.specs.Appending.{Before}
 use Rattle.ras_ledger.specs.Keeping.{Stands}
 use Rattle.ras_exit.specs.Acts.{end_of}
 use Rattle.ras_exit.specs.Causes.{BoardCause, BoardCauseBy, Causes, SourceCause, SourceCauseBy}
-use Rattle.ras_exit.specs.Endings.{OnAnswer, CallEnding, EndsBy, IsAnswer, IsCut, IsLineExit, OnlyFault, answered, ending_of, faulted, source_failed, starved}
+use Rattle.ras_exit.specs.Endings.{OnAnswer, CallEnding, EndsBy, IsAnswer, IsCut, IsLineExit, IsStop, OnlyFault, answered, ending_of, faulted, source_failed, starved}
 use Rattle.ras_exit.specs.declared.exit.Exit.{Exit}
-use Rattle.ras_exit.specs.declared.exit.Exit.TheVariants.{PrintFault, Usage}
+use Rattle.ras_exit.specs.declared.exit.Exit.TheVariants.{PrintFault, SourceFault, Usage}
 use Rattle.ras_exit.proofs.EndingLemmas.{not_both, on_answer, on_cut}
 use Rattle.ras_exit.proofs.PrintLemmas.{not_printed, part_causes, printed}
 use Rattle.ras_run.specs.Taking.{IsPrintExit}
@@ -88,6 +88,22 @@ ends_causes see (Err found) exit result line a b s s' f is source board (inl sai
 ends_causes see (Err found) exit result line a b s s' f is source board (inr cut) =
     let same : result ≡ found = cut.1 ∙ is.0 in
     (rw same source, rw (same, cut.2) board)
+
+-- and where no line was
+stop_source : (exit : Exit) (s : ℕ) → IsStop exit → SourceCause exit s s
+stop_source SourceFault s stop = absurd stop
+stop_source exit s stop = refl
+
+pub stopped_causes : {X : Type 0} (see : X → Seen) (exit result : Exit) (line : List ℕ) (a b : X) (s : ℕ) (f : Faults) → IsStop exit → BoardCause exit f (see a).faults → Ends see exit result line a b → SourceCause result s s × BoardCause result f (see b).faults
+stopped_causes see exit result line a b s f stop board (inl said) =
+    let still : (see a).faults ≡ f = subst (λ (e : CallEnding). BoardCauseBy e f (see a).faults) (answers exit said.0) board in (
+      says_source see exit result line a b s s said.0 refl said.1,
+      subst (λ (g : Faults). BoardCause result g (see b).faults) still (says_cause see exit result line a b said.0 said.1),
+    )
+stopped_causes see exit result line a b s f stop board (inr cut) = (
+  subst (λ (e : Exit). SourceCause e s s) (sym cut.1) (stop_source exit s stop),
+  rw (cut.1, cut.2) board,
+)
 
 -- the same of the print before them, if it failed
 pub orders_causes : {X : Type 0} (see : X → Seen) (acts : List Act) (exit : Exit) (a b : X) (s : ℕ) → IsPrintExit exit → Does see acts (end_of (ending_of exit)) a b → SourceCause exit s s × BoardCause exit (see a).faults (see b).faults

@@ -15,7 +15,7 @@ ghost use Rattle.text_laws.specs.DoneLines.{done_count};
 ghost use Rattle.ras_daemon.specs.Ahead.{TakesAhead, TakesFewOf};
 ghost use Rattle.ras_daemon.specs.Doing.{DoesRun};
 ghost use Rattle.ras_daemon.specs.Ended.{IsQuiet, IsQuietBoard, OverFiles, RefusesFiles};
-ghost use Rattle.ras_daemon.specs.Ended.{TakesNoLine};
+ghost use Rattle.ras_daemon.specs.Ended.{AreRefused, HasOpened, TakesNoLine};
 ghost use Rattle.ras_daemon.specs.Headline.{Headline, IsWhole, OverRun, StopsRecover, laid_with};
 ghost use Rattle.ras_daemon.specs.RunActs.{AreRunCalls, DidRun, ListsAccesses};
 ghost use Rattle.ras_daemon.specs.RunOutput.{run_output};
@@ -95,10 +95,16 @@ pub fn rasd<S: Source, B: Board>(
         (λ now. now.here.store ≡ laid_with start script (event_count start script)))
         (task_of words.now) (S.left source.old) (B.told board.old) }
 
-    // If the files at the start are damaged or too long, the run says so and leaves them.
+    // The source is read only once the journal is open. If the files at the start are damaged or too
+    // long, the run says so and leaves them, and it doesn't read the source.
+    ensures opened { OverRun (λ start script told. (source.new ≡ source.old)
+        ⊎ IsSomeAnd (B.told board.new) (HasOpened told))
+        (task_of words.now) (S.left source.old) (B.told board.old) }
     ensures refused { OverFiles
         (λ before now. RefusesFiles (files_refusal before.here) result before now)
         (task_of words.now) (B.told board.old) (B.told board.new) }
+    ensures unread { task_of words.now ≡ Some Task.Run → AreRefused (B.told board.old)
+        → source.new ≡ source.old }
 
     // A run is done once its source is read to its end. If no count of faults rose, a run that is
     // refused nowhere is done, unless memory ran out.
@@ -115,9 +121,7 @@ pub fn rasd<S: Source, B: Board>(
     ensures source { SourceCause result (S.faults source.old) (S.faults source.new) }
     ensures board { BoardCause result (B.faults board.old) (B.faults board.new) }
 
-    // If no line is taken, since the words don't ask for a run or the files refuse it, the source and
-    // the device are left alone.
-    ensures unread { TakesNoLine (task_of words.now) (B.told board.old) → source.new ≡ source.old }
+    // If the words don't ask for a run, or the files refuse it, the device is left alone.
     ensures apart { TakesNoLine (task_of words.now) (B.told board.old)
         → LeavesDevice (B.told board.old) (B.told board.new)
         (B.clock board.old) (B.clock board.new) }
@@ -159,7 +163,11 @@ fn call<S: Source, B: Board>(
         → IfSome (S.left source.old) (λ script. S.left source.new ≡ Some []) }
     ensures source { SourceCause result (S.faults source.old) (S.faults source.new) }
     ensures board { BoardCause result (B.faults board.old) (B.faults board.new) }
-    ensures unread { TakesNoLine (task_of words.now) (B.told board.old) → source.new ≡ source.old }
+    ensures opened { OverRun (λ start script told. (source.new ≡ source.old)
+        ⊎ IsSomeAnd (B.told board.new) (HasOpened told))
+        (task_of words.now) (S.left source.old) (B.told board.old) }
+    ensures unread { task_of words.now ≡ Some Task.Run → AreRefused (B.told board.old)
+        → source.new ≡ source.old }
     ensures apart { TakesNoLine (task_of words.now) (B.told board.old)
         → LeavesDevice (B.told board.old) (B.told board.new)
         (B.clock board.old) (B.clock board.new) }

@@ -1,6 +1,6 @@
 //! A run: the journal is opened, and the script is taken over it.
 
-ghost use Rattle.std.specs.Prelude.{◌≡◌, ℕ, List, [], Some, IfSome};
+ghost use Rattle.std.specs.Prelude.{◌≡◌, ◌⊎◌, ℕ, List, [], Some, IfSome, IsSomeAnd};
 ghost use Rattle.board_core.specs.Device.{LeavesDevice};
 ghost use Rattle.board_core.specs.Doing.{looks};
 ghost use Rattle.board_core.specs.Told.{Told};
@@ -11,7 +11,7 @@ ghost use Rattle.ras_run.specs.Places.{Start};
 ghost use Rattle.ras_run.specs.Taking.{IsReady};
 ghost use Rattle.ras_daemon.specs.Ahead.{TakesFewOf};
 ghost use Rattle.ras_daemon.specs.Doing.{DoesRun, TakesScript};
-ghost use Rattle.ras_daemon.specs.Ended.{OverFiles, RefusesFiles, TakesNoLine};
+ghost use Rattle.ras_daemon.specs.Ended.{AreRefused, HasOpened, OverFiles, RefusesFiles};
 ghost use Rattle.ras_daemon.specs.Headline.{OverRun};
 ghost use Rattle.ras_daemon.specs.Running.{IsStart, RunAhead};
 
@@ -40,6 +40,9 @@ pub fn run<S: Source, B: Board>(alloc: Global, source: &mut S, board: &mut B) ->
     ensures refused { OverFiles
         (λ before now. RefusesFiles (files_refusal before.here) result before now)
         (Some Task.Run) (B.told board.old) (B.told board.new) }
+    ensures opened { OverRun (λ start script told. (source.new ≡ source.old)
+        ⊎ IsSomeAnd (B.told board.new) (HasOpened told))
+        (Some Task.Run) (S.left source.old) (B.told board.old) }
     ensures ended { result ≡ Exit.Done
         → IfSome (S.left source.old) (λ script. S.left source.new ≡ Some []) }
     ensures few { TakesFewOf (S.left source.old) (S.left source.new) }
@@ -47,8 +50,8 @@ pub fn run<S: Source, B: Board>(alloc: Global, source: &mut S, board: &mut B) ->
     ensures causes { SourceCause result (S.faults source.old) (S.faults source.new)
         × BoardCause result (B.faults board.old) (B.faults board.new) }
     // Files that refuse it leave the device and the source alone.
-    ensures unread { TakesNoLine (Some Task.Run) (B.told board.old) → source.new ≡ source.old }
-    ensures apart { TakesNoLine (Some Task.Run) (B.told board.old)
+    ensures unread { AreRefused (B.told board.old) → source.new ≡ source.old }
+    ensures apart { AreRefused (B.told board.old)
         → LeavesDevice (B.told board.old) (B.told board.new)
         (B.clock board.old) (B.clock board.new) }
 {

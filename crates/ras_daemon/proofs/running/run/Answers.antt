@@ -1,17 +1,20 @@
-use Rattle.std.proofs.Common.{◌≡◌, ap, Err, Ok}
+use Rattle.std.proofs.Common.{◌≡◌, ap, Err, Ok, IsSomeAnd, inl, inr, refl}
+use Rattle.std.specs.Prelude.{◌⊎◌}
 use Rattle.board_core.specs.Doing.{looks}
 use Rattle.ras_exit.specs.declared.exit.Exit.TheVariants.{NoMemory, SourceFault}
 use Rattle.ras_journal.specs.Recovered.{recovered}
 use Rattle.ras_recover.specs.OpeningCalls.{AfterOpening}
 use Rattle.ras_run.specs.Files.{files_refusal}
-use Rattle.ras_daemon.specs.Ended.{RefusesFiles}
+use Rattle.ras_daemon.specs.Ended.{HasOpened, RefusesFiles}
+use Rattle.ras_daemon.proofs.DidLemmas.{opened_first}
 use Rattle.ras_daemon.specs.Doing.{DoesRun}
 use Rattle.ras_daemon.specs.RunStatus.{start_of}
 use Rattle.ras_daemon.specs.Running.{RunAhead}
 use Rattle.ras_exit.proofs.DeviceLemmas.{device_goes_on}
 use Rattle.ras_daemon.proofs.AheadLemmas.{ahead_opened}
 use Rattle.ras_daemon.proofs.FewLemmas.{few_none}
-use Rattle.ras_daemon.proofs.RunLemmas.{files_refused, if_told, none_called, not_opened, opening_device, over_files, over_run, refused_none, start_opened, takes_lines, told_on, was_opened}
+use Rattle.ras_daemon.proofs.RunLemmas.{files_refused, if_told, none_called, not_opened, opening_device, over_files, over_run, refused_none, starved_refused, start_opened, takes_lines, told_on, was_opened}
+use Rattle.ras_daemon.proofs.SaidLemmas.{stopped_causes}
 use Rattle.ras_daemon.proofs.running.run.Goals as goal
 
 pub returns-in-Err-clause-does : goal.returns-in-Err-clause-does
@@ -27,9 +30,9 @@ returns-in-Ok-open-clause-does g c =
     (λ account script t left is recovers.
     (let u = told_on AfterOpening _ _ t is c.in-Ok-open.ensures.told in
     let begins = start_opened account t u.0 c.in-Ok-open.ledger recovers (if_told _ _ t is c.in-Ok-open.ensures.opens) (if_told _ _ t is c.in-Ok-open.ensures.standing) u.2 in
-    was_opened see (start_of account t) script c.take_script.result c.in-Ok-open.ledger t c.args.board.now c.open.new.board c.take_script.new.board is
+    inr (was_opened see (start_of account t) script c.take_script.result c.in-Ok-open.ledger t c.args.board.now c.open.new.board c.take_script.new.board is
     c.in-Ok-open.ensures.told begins c.in-Ok-open.ensures.account c.in-Ok-open.ensures.whole (c.in-Ok-open.ensures.stops t is) c.in-Ok-open.ensures.ready
-    (c.take_script.ensures.does (start_of account t) script u.0 begins left u.1)))
+    (c.take_script.ensures.does (start_of account t) script u.0 begins left u.1))))
 
 pub returns-clause-does : goal.returns-clause-does
 returns-clause-does g c =
@@ -75,3 +78,33 @@ returns-in-Err-clause-few g c = few_none (g.S.Source.left c.args.source.now)
 
 pub returns-clause-few : goal.returns-clause-few
 returns-clause-few g c = few_none (g.S.Source.left c.args.source.now)
+
+pub returns-in-Err-clause-opened : goal.returns-in-Err-clause-opened
+returns-in-Err-clause-opened g c =
+    over_run (λ start script told. (c.args.source.now ≡ c.args.source.now) ⊎ IsSomeAnd (g.B.Board.told c.args.board.now) (HasOpened told)) (g.S.Source.left c.args.source.now) (g.B.Board.told c.args.board.now)
+    (λ account script t left is recovers. inl refl)
+
+pub returns-clause-opened : goal.returns-clause-opened
+returns-clause-opened g c =
+    over_run (λ start script told. (c.args.source.now ≡ c.args.source.now) ⊎ IsSomeAnd (g.B.Board.told c.end_run-in-Err-open.new.board) (HasOpened told)) (g.S.Source.left c.args.source.now) (g.B.Board.told c.args.board.now)
+    (λ account script t left is recovers. inl refl)
+
+pub returns-in-Ok-open-clause-opened : goal.returns-in-Ok-open-clause-opened
+returns-in-Ok-open-clause-opened g c =
+    let see = looks g.B.Board.told g.B.Board.clock g.B.Board.faults in
+    over_run (λ start script told. (c.take_script.new.source ≡ c.args.source.now) ⊎ IsSomeAnd (g.B.Board.told c.take_script.new.board) (HasOpened told)) (g.S.Source.left c.args.source.now) (g.B.Board.told c.args.board.now)
+    (λ account script t left is recovers.
+    (let u = told_on AfterOpening _ _ t is c.in-Ok-open.ensures.told in
+    let begins = start_opened account t u.0 c.in-Ok-open.ledger recovers (if_told _ _ t is c.in-Ok-open.ensures.opens) (if_told _ _ t is c.in-Ok-open.ensures.standing) u.2 in
+    inr (opened_first see (start_of account t) script c.take_script.result t c.args.board.now c.take_script.new.board
+    (was_opened see (start_of account t) script c.take_script.result c.in-Ok-open.ledger t c.args.board.now c.open.new.board c.take_script.new.board is
+    c.in-Ok-open.ensures.told begins c.in-Ok-open.ensures.account c.in-Ok-open.ensures.whole (c.in-Ok-open.ensures.stops t is) c.in-Ok-open.ensures.ready
+    (c.take_script.ensures.does (start_of account t) script u.0 begins left u.1)))))
+
+pub returns-in-Err-clause-refused : goal.returns-in-Err-clause-refused
+returns-in-Err-clause-refused g c = starved_refused (g.B.Board.told c.args.board.now)
+
+pub returns-clause-causes : goal.returns-clause-causes
+returns-clause-causes g c =
+    let see = looks g.B.Board.told g.B.Board.clock g.B.Board.faults in
+    stopped_causes see c.in-Err-open.exit c.end_run-in-Err-open.result _ c.open.new.board c.end_run-in-Err-open.new.board _ _ c.in-Err-open.ensures.stop c.in-Err-open.ensures.faults c.end_run-in-Err-open.ensures.ends
