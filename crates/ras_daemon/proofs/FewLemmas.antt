@@ -3,7 +3,7 @@ use Rattle.std.proofs.Common.{◌≡◌, ℕ, ◌+◌, ◌≤◌, Bool, true, fa
 use Rattle.ras_script.specs.declared.reader.NextRefused.{NextRefused}
 use Rattle.ras_script.specs.declared.reader.TheConstants.{LONGEST_SCRIPT}
 use Rattle.ras_script.specs.Reader.{AreTaken, Moves, MovesLine, Reader}
-use Rattle.ras_daemon.specs.Ahead.{TakesFew, TakesFewOf}
+use Rattle.ras_daemon.specs.Ahead.{TakesFewOf}
 
 -- so many bytes of what a source told first were taken of it
 pub record Takes (count : ℕ) (script left : List ℕ) : Type 0 where

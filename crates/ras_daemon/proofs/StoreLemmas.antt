@@ -92,26 +92,26 @@ put-refused number exit None store with is = absurd cc
 put-refused number exit (Some why) store with is = refl
 
 module _ (start : Start) (before : List NumberedLine) (number : ℕ) where
-  abbrev store : List Stored
-  store = store_at start before
+  abbrev store_here : List Stored
+  store_here = store_at start before
 
   stored-line : (line : Line) (event : Result Event Refusal) → IsTaken line → event_of (settings_told before) line ≡ event → IfOk event IsPlain → event_refusal start (before, (number, Ok line)) event ≡ None
-      → stored_by event store ≡ with_put_by line store
+      → stored_by event store_here ≡ with_put_by line store_here
   stored-line line (Err why) taken is plain none = absurd cc
-  stored-line line (Ok Nothing) taken is plain none = sym (line_store store (settings_told before) line Nothing is) ∙ store-put store line taken
-  stored-line line (Ok Settled) taken is plain none = sym (line_store store (settings_told before) line Settled is) ∙ store-put store line taken
-  stored-line line (Ok (Counted made)) taken is plain none = sym (line_store store (settings_told before) line (Counted made) is) ∙ store-put store line taken
-  stored-line line (Ok (Put id bytes)) taken is plain none = sym (line_store store (settings_told before) line (Put id bytes) is) ∙ store-put store line taken
+  stored-line line (Ok Nothing) taken is plain none = sym (line_store store_here (settings_told before) line Nothing is) ∙ store-put store_here line taken
+  stored-line line (Ok Settled) taken is plain none = sym (line_store store_here (settings_told before) line Settled is) ∙ store-put store_here line taken
+  stored-line line (Ok (Counted made)) taken is plain none = sym (line_store store_here (settings_told before) line (Counted made) is) ∙ store-put store_here line taken
+  stored-line line (Ok (Put id bytes)) taken is plain none = sym (line_store store_here (settings_told before) line (Put id bytes) is) ∙ store-put store_here line taken
   stored-line line (Ok (Saved id bytes)) taken is plain none = absurd plain
   stored-line line (Ok (Polled seconds)) taken is plain none = absurd plain
-  stored-line line (Ok Reopened) taken is plain none = sym (line_store store (settings_told before) line Reopened is) ∙ store-put store line taken
+  stored-line line (Ok Reopened) taken is plain none = sym (line_store store_here (settings_told before) line Reopened is) ∙ store-put store_here line taken
 
-  stored-refused : (read : Result Line LineRefused) (exit : Exit) (event : Result Event Refusal) → IfOk event IsPlain → event_refusal start (before, (number, read)) event ≡ Some exit → stored_by event store ≡ store
+  stored-refused : (read : Result Line LineRefused) (exit : Exit) (event : Result Event Refusal) → IfOk event IsPlain → event_refusal start (before, (number, read)) event ≡ Some exit → stored_by event store_here ≡ store_here
   stored-refused read exit (Err why) plain is = refl
   stored-refused read exit (Ok Nothing) plain is = refl
   stored-refused read exit (Ok Settled) plain is = refl
   stored-refused read exit (Ok (Counted made)) plain is = refl
-  stored-refused read exit (Ok (Put id bytes)) plain is = put-refused number exit (refusal_of id bytes store) store (with_record id bytes store) is
+  stored-refused read exit (Ok (Put id bytes)) plain is = put-refused number exit (refusal_of id bytes store_here) store_here (with_record id bytes store_here) is
   stored-refused read exit (Ok (Saved id bytes)) plain is = absurd plain
   stored-refused read exit (Ok (Polled seconds)) plain is = absurd plain
   stored-refused read exit (Ok Reopened) plain is = refl
