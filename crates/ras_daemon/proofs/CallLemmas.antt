@@ -17,17 +17,18 @@ use Rattle.ras_exit.specs.Endings.{CallEnding, IfAnswered, OnAnswer, OnWhole, Un
 use Rattle.ras_exit.specs.Telling.{PrintsPart}
 use Rattle.ras_run.specs.Output.{output_at}
 use Rattle.ras_run.specs.Places.{Start, account_at, store_at}
-use Rattle.ras_daemon.specs.Headline.{Headline, IsWhole, OverRun, StopsRecover, account_with, laid_with}
+use Rattle.ras_daemon.specs.Headline.{Headline, IsWhole, OverRun, Settles, StopsRecover, account_with, laid_with}
 use Rattle.ras_daemon.specs.RunOutput.{closing_line, run_output}
 use Rattle.ras_daemon.specs.RunStatus.{run_exit, start_of}
 use Rattle.board_core.specs.Doing.{Seen}
-use Rattle.ras_daemon.specs.Doing.{DoesRun}
+use Rattle.ras_daemon.specs.Doing.{DoesRun, Opens}
 use Rattle.ras_daemon.proofs.RunLemmas.{run_ends, run_stops}
-use Rattle.ras_daemon.specs.Running.{AreAll, AreFirst, EndsIn, EndsSo, RunEnds, RunMoment, outputs}
+use Rattle.ras_daemon.specs.Running.{AreAll, AreFirst, EndsIn, EndsSo, OpenMoment, RunEnds, RunMoment, outputs}
 use Rattle.ras_daemon.specs.Script.{events_of}
 use Rattle.ras_daemon.specs.declared.word.Task.{Task}
 use Rattle.ras_daemon.specs.declared.word.Task.TheVariants.{Run}
-use Rattle.ras_daemon.proofs.HeadlineLemmas.{closing-quiet, headline, moment-prints}
+use Rattle.ras_daemon.proofs.HeadlineLemmas.{closing-quiet, headline, headline-nothing, headline-since, moment-prints}
+use Rattle.ras_daemon.proofs.ScriptLemmas.{takes_stops}
 use Rattle.ras_daemon.proofs.CountLemmas.{account-first, count-first, events_among}
 use Rattle.ras_daemon.proofs.FirstLinesLemmas.{closing-same}
 use Rattle.ras_daemon.proofs.StoreLemmas.{store-first}
@@ -225,3 +226,32 @@ module _ {X : Type 0} (see : X → Seen) (account : State) (script : List ℕ) (
         by : (told : Option Told) → (see new).told ≡ told → IsSomeAnd told (RunEnds start script exit t.here.out) → IsSomeAnd told (λ now. PrintsPart (run_output start script) t.here.out now.here.out)
         by None is ends = absurd ends
         by (Some now) is ends = begun-now (see old).clock (see new).clock start script t.here now.here text stops (earlier (see old).clock.now (see new).clock.now now.here stops.later (may now is))
+
+-- from the moment on at which its journal is open
+pub run-settles : {X : Type 0} (see : X → Seen) (account : State) (script : List ℕ) (exit : Exit) (t : Told) (old new : X) → Recovers account t.here → Opens see (start_of account t) script exit t old new
+    → Settles (start_of account t) script t.here (see old).clock (see new).clock
+run-settles see account script exit t old new recovers d = record {
+  at = (see d.mid).clock.now;
+  later = d.stops.later;
+  within = adds.later;
+  before = λ left may. elim (moments.each (see old).clock.now left (omega arith) may) [ inl was ↦ inl was | inr moment ↦ begun left moment ];
+  from = λ left may. elim (adds.each (see d.mid).clock.now left (omega arith) may) [ inl was ↦ rests left was | inr moment ↦ later left moment ];
+}
+  where
+    adds : Adds (OpenMoment (start_of account t) script d.there.here.out) (see d.mid).clock (see new).clock
+    adds = takes_stops see (start_of account t) script d.there exit d.mid new d.rests d.holds d.takes
+
+    moments : Adds (RunMoment (see old).clock (start_of account t) script t.here) (see old).clock (see new).clock
+    moments = run_stops see account script exit t old new recovers (inr d)
+
+    begun : (left : Left) → RunMoment (see old).clock (start_of account t) script t.here left → LeftNow (see old).clock left ⊎ Headline (start_of account t) script t.here left
+    begun left (inl now) = inl now
+    begun left (inr moment) = inr (headline-since (start_of account t) script t.here left moment)
+
+    later : (left : Left) → OpenMoment (start_of account t) script d.there.here.out left → Headline (start_of account t) script t.here left
+    later left moment = headline-since (start_of account t) script t.here left (inr (d.holds.account, subst (λ out. OpenMoment (start_of account t) script out left) d.text moment))
+
+    rests : (left : Left) → LeftNow (see d.mid).clock left → Headline (start_of account t) script t.here left
+    rests left was =
+        subst (Headline (start_of account t) script t.here) (sym (d.rests.only left was))
+        (headline-nothing (start_of account t) script t.here d.there.here d.text (record { is = d.holds.at.recovers }) d.holds.board.store)

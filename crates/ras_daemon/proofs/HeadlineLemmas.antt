@@ -28,7 +28,7 @@ use Rattle.ras_exit.specs.Telling.{PrintsPart}
 use Rattle.ras_daemon.specs.Headline.{Headline, StopsRecover, account_with, laid_with, last_laid_with}
 use Rattle.ras_daemon.specs.RunOutput.{closing_line, lines_output, output_upto, run_output}
 use Rattle.ras_daemon.specs.RunStatus.{run_exit}
-use Rattle.ras_daemon.specs.Running.{AreAccepted, AreAll, AreFirst, AtEnd, AtLine, AtStart, BetweenLines, RunMoment, lines_from, outputs}
+use Rattle.ras_daemon.specs.Running.{AreAccepted, AreAll, AreFirst, AtEnd, AtLine, AtOpening, AtStart, BetweenLines, OpenMoment, RunMoment, lines_from, outputs}
 use Rattle.ras_daemon.specs.Script.{events_of, is_event, line_after, reads_of}
 use Rattle.ras_daemon.specs.StoreDuring.{KeepsOthers, KeepsRecords, KnownBy, StoreDuring}
 use Rattle.ras_daemon.proofs.CountLemmas.{account-first, count-first, events_among, output-first, tells-last}
@@ -289,12 +289,15 @@ module _ (start : Start) (script : List ℕ) (here left : Left) where
 
 -- ---- at every moment
 
+pub headline-since : (start : Start) (script : List ℕ) (here left : Left) → AtOpening start here.out left ⊎ (IsAccount start.account × OpenMoment start script here.out left) → Headline start script here left
+headline-since start script here left (inl opening) = headline-nothing start script here left opening.text opening.recovers opening.store
+headline-since start script here left (inr (account, inl at)) = headline-start start script here left account at
+headline-since start script here left (inr (account, inr (inl (inl between)))) = headline-between start script here left account between
+headline-since start script here left (inr (account, inr (inl (inr at)))) = headline-line start script here left account at
+headline-since start script here left (inr (account, inr (inr end))) = headline-end start script here left account end
+
 pub headline : (clock : Clock) (start : Start) (script : List ℕ) (here left : Left) → StopsRecover start clock
     → (LeftNow clock left → left.out ≡ here.out) → (LeftNow clock left → left.store ≡ start.store)
     → RunMoment clock start script here left → Headline start script here left
 headline clock start script here left stops text store (inl now) = headline-nothing start script here left (text now) (stops left now) (store now)
-headline clock start script here left stops text store (inr (inl opening)) = headline-nothing start script here left opening.text opening.recovers opening.store
-headline clock start script here left stops text store (inr (inr (account, inl at))) = headline-start start script here left account at
-headline clock start script here left stops text store (inr (inr (account, inr (inl (inl between))))) = headline-between start script here left account between
-headline clock start script here left stops text store (inr (inr (account, inr (inl (inr at))))) = headline-line start script here left account at
-headline clock start script here left stops text store (inr (inr (account, inr (inr end)))) = headline-end start script here left account end
+headline clock start script here left stops text store (inr moment) = headline-since start script here left moment

@@ -1,7 +1,7 @@
 -- What a stop at any moment of a run leaves, and what a run leaves where it ends.
-use Rattle.std.specs.Prelude.{◌≡◌, ℕ, ◌+◌, ◌<◌, ◌⊎◌, List, ◌++◌, length, map, take, Option, Some, ⊤}
+use Rattle.std.specs.Prelude.{◌≡◌, ℕ, ◌+◌, ◌<◌, ◌≤◌, ◌⊎◌, List, ◌++◌, length, map, take, Option, Some, ⊤}
 use Rattle.std.specs.List.{flat_map}
-use Rattle.board_core.specs.Clock.{Clock, LeftNow}
+use Rattle.board_core.specs.Clock.{Always, Clock, LeftNow}
 use Rattle.board_core.specs.Stop.{Left}
 use Rattle.board_core.specs.Told.{Told}
 use Rattle.erst_store.specs.Store.{Stored}
@@ -70,6 +70,15 @@ pub record IsWhole (start : Start) (script : List ℕ) (before now : Told) : Typ
   pub text : now.here.out ≡ before.here.out ++ printed
   pub recovers : Recovers (account_with start script (done_count printed)) now.here
   pub store : now.here.store ≡ laid_with start script (done_count printed)
+
+-- There is a moment of a run from which the headline holds, whatever a stop at its start may leave:
+-- when its journal is open. A stop before it leaves that, or what the headline says.
+pub record Settles (start : Start) (script : List ℕ) (here : Left) (old new : Clock) : Type 0 where
+  pub at : ℕ
+  pub later : old.now ≤ at
+  pub within : at ≤ new.now
+  pub before : Always new old.now (λ left. LeftNow old left ⊎ Headline start script here left)
+  pub from : Always new at (Headline start script here)
 
 -- whatever a stop at the start of a run may leave recovers the account at its start too
 abbrev pub StopsRecover : Start → Clock → Type 0

@@ -16,7 +16,8 @@ ghost use Rattle.ras_daemon.specs.Ahead.{TakesAhead, TakesFewOf};
 ghost use Rattle.ras_daemon.specs.Doing.{DoesRun};
 ghost use Rattle.ras_daemon.specs.Ended.{IsQuiet, IsQuietBoard, OverFiles, RefusesFiles};
 ghost use Rattle.ras_daemon.specs.Ended.{AreRefused, HasOpened, TakesNoLine};
-ghost use Rattle.ras_daemon.specs.Headline.{Headline, IsWhole, OverRun, StopsRecover, laid_with};
+ghost use Rattle.ras_daemon.specs.Headline.{Headline, IsWhole, OverRun, Settles, StopsRecover};
+ghost use Rattle.ras_daemon.specs.Headline.{laid_with};
 ghost use Rattle.ras_daemon.specs.RunActs.{AreRunCalls, DidRun, ListsAccesses};
 ghost use Rattle.ras_daemon.specs.RunOutput.{run_output};
 ghost use Rattle.ras_daemon.specs.RunStatus.{run_exit};
@@ -45,6 +46,12 @@ pub fn rasd<S: Source, B: Board>(
     // events left, or what is on the way of the next.
     ensures headline { OverRun (λ start script told. StopsRecover start (B.clock board.old)
         → Always (B.clock board.new) (B.clock board.old).now (Headline start script told.here))
+        (task_of words.now) (S.left source.old) (B.told board.old) }
+
+    // Once the source is read this holds without that premise, from the moment on at which the
+    // journal was open.
+    ensures settled { OverRun (λ start script told. (source.new ≡ source.old)
+        ⊎ Settles start script told.here (B.clock board.old) (B.clock board.new))
         (task_of words.now) (S.left source.old) (B.told board.old) }
 
     // The exit and what was printed are the stated functions of the script, the account and the record
@@ -163,6 +170,9 @@ fn call<S: Source, B: Board>(
         → IfSome (S.left source.old) (λ script. S.left source.new ≡ Some []) }
     ensures source { SourceCause result (S.faults source.old) (S.faults source.new) }
     ensures board { BoardCause result (B.faults board.old) (B.faults board.new) }
+    ensures settled { OverRun (λ start script told. (source.new ≡ source.old)
+        ⊎ Settles start script told.here (B.clock board.old) (B.clock board.new))
+        (task_of words.now) (S.left source.old) (B.told board.old) }
     ensures opened { OverRun (λ start script told. (source.new ≡ source.old)
         ⊎ IsSomeAnd (B.told board.new) (HasOpened told))
         (task_of words.now) (S.left source.old) (B.told board.old) }

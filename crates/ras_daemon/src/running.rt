@@ -12,7 +12,7 @@ ghost use Rattle.ras_run.specs.Taking.{IsReady};
 ghost use Rattle.ras_daemon.specs.Ahead.{TakesFewOf};
 ghost use Rattle.ras_daemon.specs.Doing.{DoesRun, TakesScript};
 ghost use Rattle.ras_daemon.specs.Ended.{AreRefused, HasOpened, OverFiles, RefusesFiles};
-ghost use Rattle.ras_daemon.specs.Headline.{OverRun};
+ghost use Rattle.ras_daemon.specs.Headline.{OverRun, Settles};
 ghost use Rattle.ras_daemon.specs.Running.{IsStart, RunAhead};
 
 use crate::Task;
@@ -42,6 +42,9 @@ pub fn run<S: Source, B: Board>(alloc: Global, source: &mut S, board: &mut B) ->
         (Some Task.Run) (B.told board.old) (B.told board.new) }
     ensures opened { OverRun (λ start script told. (source.new ≡ source.old)
         ⊎ IsSomeAnd (B.told board.new) (HasOpened told))
+        (Some Task.Run) (S.left source.old) (B.told board.old) }
+    ensures settled { OverRun (λ start script told. (source.new ≡ source.old)
+        ⊎ Settles start script told.here (B.clock board.old) (B.clock board.new))
         (Some Task.Run) (S.left source.old) (B.told board.old) }
     ensures ended { result ≡ Exit.Done
         → IfSome (S.left source.old) (λ script. S.left source.new ≡ Some []) }

@@ -6,7 +6,9 @@ use Rattle.ras_journal.specs.Recovered.{recovered}
 use Rattle.ras_recover.specs.OpeningCalls.{AfterOpening}
 use Rattle.ras_run.specs.Files.{files_refusal}
 use Rattle.ras_daemon.specs.Ended.{HasOpened, RefusesFiles}
+use Rattle.ras_daemon.proofs.CallLemmas.{run-settles}
 use Rattle.ras_daemon.proofs.DidLemmas.{opened_first}
+use Rattle.ras_daemon.specs.Headline.{Settles}
 use Rattle.ras_daemon.specs.Doing.{DoesRun}
 use Rattle.ras_daemon.specs.RunStatus.{start_of}
 use Rattle.ras_daemon.specs.Running.{RunAhead}
@@ -108,3 +110,25 @@ pub returns-clause-causes : goal.returns-clause-causes
 returns-clause-causes g c =
     let see = looks g.B.Board.told g.B.Board.clock g.B.Board.faults in
     stopped_causes see c.in-Err-open.exit c.end_run-in-Err-open.result _ c.open.new.board c.end_run-in-Err-open.new.board _ _ c.in-Err-open.ensures.stop c.in-Err-open.ensures.faults c.end_run-in-Err-open.ensures.ends
+
+pub returns-in-Err-clause-settled : goal.returns-in-Err-clause-settled
+returns-in-Err-clause-settled g c =
+    over_run (λ start script told. (c.args.source.now ≡ c.args.source.now) ⊎ Settles start script told.here (g.B.Board.clock c.args.board.now) (g.B.Board.clock c.args.board.now)) (g.S.Source.left c.args.source.now) (g.B.Board.told c.args.board.now)
+    (λ account script t left is recovers. inl refl)
+
+pub returns-clause-settled : goal.returns-clause-settled
+returns-clause-settled g c =
+    over_run (λ start script told. (c.args.source.now ≡ c.args.source.now) ⊎ Settles start script told.here (g.B.Board.clock c.args.board.now) (g.B.Board.clock c.end_run-in-Err-open.new.board)) (g.S.Source.left c.args.source.now) (g.B.Board.told c.args.board.now)
+    (λ account script t left is recovers. inl refl)
+
+pub returns-in-Ok-open-clause-settled : goal.returns-in-Ok-open-clause-settled
+returns-in-Ok-open-clause-settled g c =
+    let see = looks g.B.Board.told g.B.Board.clock g.B.Board.faults in
+    over_run (λ start script told. (c.take_script.new.source ≡ c.args.source.now) ⊎ Settles start script told.here (g.B.Board.clock c.args.board.now) (g.B.Board.clock c.take_script.new.board)) (g.S.Source.left c.args.source.now) (g.B.Board.told c.args.board.now)
+    (λ account script t left is recovers.
+    (let u = told_on AfterOpening _ _ t is c.in-Ok-open.ensures.told in
+    let begins = start_opened account t u.0 c.in-Ok-open.ledger recovers (if_told _ _ t is c.in-Ok-open.ensures.opens) (if_told _ _ t is c.in-Ok-open.ensures.standing) u.2 in
+    inr (run-settles see account script c.take_script.result t c.args.board.now c.take_script.new.board recovers
+    (was_opened see (start_of account t) script c.take_script.result c.in-Ok-open.ledger t c.args.board.now c.open.new.board c.take_script.new.board is
+    c.in-Ok-open.ensures.told begins c.in-Ok-open.ensures.account c.in-Ok-open.ensures.whole (c.in-Ok-open.ensures.stops t is) c.in-Ok-open.ensures.ready
+    (c.take_script.ensures.does (start_of account t) script u.0 begins left u.1)))))
