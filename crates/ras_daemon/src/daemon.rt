@@ -1,6 +1,6 @@
 //! The top call.
 
-ghost use Rattle.std.specs.Prelude.{◌≡◌, ◌⊎◌, ◌++◌, [], length, Some, IfSome, IfNone, IsSomeAnd};
+ghost use Rattle.std.specs.Prelude.{◌≡◌, ◌≢◌, ◌⊎◌, ◌++◌, ℕ, [], length, Some, IfSome, IfNone, IsSomeAnd};
 ghost use Rattle.board_core.specs.Clock.{Always};
 ghost use Rattle.board_core.specs.Device.{LeavesDevice};
 ghost use Rattle.board_core.specs.Doing.{looks};
@@ -128,6 +128,9 @@ pub fn rasd<S: Source, B: Board>(
     ensures source { SourceCause result (S.faults source.old) (S.faults source.new) }
     ensures board { BoardCause result (B.faults board.old) (B.faults board.new) }
 
+    // A status that the device of the record store answered is told only if it isn't 0.
+    ensures coded { (code : ℕ) → result ≡ Exit.ErstStatus code → code ≢ 0 }
+
     // If the words don't ask for a run, or the files refuse it, the device is left alone.
     ensures apart { TakesNoLine (task_of words.now) (B.told board.old)
         → LeavesDevice (B.told board.old) (B.told board.new)
@@ -170,6 +173,7 @@ fn call<S: Source, B: Board>(
         → IfSome (S.left source.old) (λ script. S.left source.new ≡ Some []) }
     ensures source { SourceCause result (S.faults source.old) (S.faults source.new) }
     ensures board { BoardCause result (B.faults board.old) (B.faults board.new) }
+    ensures coded { (code : ℕ) → result ≡ Exit.ErstStatus code → code ≢ 0 }
     ensures settled { OverRun (λ start script told. (source.new ≡ source.old)
         ⊎ Settles start script told.here (B.clock board.old) (B.clock board.new))
         (task_of words.now) (S.left source.old) (B.told board.old) }

@@ -1,6 +1,6 @@
 //! A run: the journal is opened, and the script is taken over it.
 
-ghost use Rattle.std.specs.Prelude.{◌≡◌, ◌⊎◌, ℕ, List, [], Some, IfSome, IsSomeAnd};
+ghost use Rattle.std.specs.Prelude.{◌≡◌, ◌≢◌, ◌⊎◌, ℕ, List, [], Some, IfSome, IsSomeAnd};
 ghost use Rattle.board_core.specs.Device.{LeavesDevice};
 ghost use Rattle.board_core.specs.Doing.{looks};
 ghost use Rattle.board_core.specs.Told.{Told};
@@ -50,6 +50,7 @@ pub fn run<S: Source, B: Board>(alloc: Global, source: &mut S, board: &mut B) ->
         → IfSome (S.left source.old) (λ script. S.left source.new ≡ Some []) }
     ensures few { TakesFewOf (S.left source.old) (S.left source.new) }
     ensures listed { result ≡ Exit.Usage → ⊥ }
+    ensures coded { (code : ℕ) → result ≡ Exit.ErstStatus code → code ≢ 0 }
     ensures causes { SourceCause result (S.faults source.old) (S.faults source.new)
         × BoardCause result (B.faults board.old) (B.faults board.new) }
     // Files that refuse it leave the device and the source alone.
@@ -94,6 +95,7 @@ fn take_script<S: Source, B: Board>(
         → IfSome (S.left source.old) (λ script. S.left source.new ≡ Some []) }
     ensures few { TakesFewOf (S.left source.old) (S.left source.new) }
     ensures listed { result ≡ Exit.Usage → ⊥ }
+    ensures coded { (code : ℕ) → result ≡ Exit.ErstStatus code → code ≢ 0 }
     ensures causes { SourceCause result (S.faults source.old) (S.faults source.new)
         × BoardCause result (B.faults board.old) (B.faults board.new) }
 {

@@ -16,7 +16,7 @@ use Rattle.ras_exit.proofs.DeviceLemmas.{device_goes_on}
 use Rattle.ras_daemon.proofs.AheadLemmas.{ahead_opened}
 use Rattle.ras_daemon.proofs.FewLemmas.{few_none}
 use Rattle.ras_daemon.proofs.RunLemmas.{files_refused, if_told, none_called, not_opened, opening_device, over_files, over_run, refused_none, starved_refused, start_opened, takes_lines, told_on, was_opened}
-use Rattle.ras_daemon.proofs.SaidLemmas.{stopped_causes}
+use Rattle.ras_daemon.proofs.SaidLemmas.{stop_coded, stopped_causes}
 use Rattle.ras_daemon.proofs.running.run.Goals as goal
 
 pub returns-in-Err-clause-does : goal.returns-in-Err-clause-does
@@ -132,3 +132,7 @@ returns-in-Ok-open-clause-settled g c =
     (was_opened see (start_of account t) script c.take_script.result c.in-Ok-open.ledger t c.args.board.now c.open.new.board c.take_script.new.board is
     c.in-Ok-open.ensures.told begins c.in-Ok-open.ensures.account c.in-Ok-open.ensures.whole (c.in-Ok-open.ensures.stops t is) c.in-Ok-open.ensures.ready
     (c.take_script.ensures.does (start_of account t) script u.0 begins left u.1)))))
+
+pub returns-clause-coded : goal.returns-clause-coded
+returns-clause-coded g c =
+    stop_coded (looks g.B.Board.told g.B.Board.clock g.B.Board.faults) c.in-Err-open.exit c.end_run-in-Err-open.result _ c.open.new.board c.end_run-in-Err-open.new.board c.in-Err-open.ensures.stop c.end_run-in-Err-open.ensures.ends

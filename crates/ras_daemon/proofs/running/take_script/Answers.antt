@@ -11,7 +11,7 @@ use Rattle.ras_texts.specs.Orders.{standing_lines}
 use Rattle.ras_daemon.specs.RunActs.{orders_acts}
 use Rattle.ras_daemon.specs.Running.{EndsAhead, lines_from}
 use Rattle.ras_daemon.proofs.AheadLemmas.{ahead_end, fault_before}
-use Rattle.ras_daemon.proofs.SaidLemmas.{before_at, ends_causes, ends_listed, ends_printed, orders_causes}
+use Rattle.ras_daemon.proofs.SaidLemmas.{before_at, ends_causes, ends_coded, ends_listed, ends_printed, orders_causes, print_coded}
 use Rattle.ras_daemon.proofs.FewLemmas.{few_none}
 use Rattle.ras_daemon.proofs.RunLemmas.{ledger_holds}
 use Rattle.ras_daemon.proofs.ScriptLemmas.{printed_holds, printed_out, told_after}
@@ -89,3 +89,14 @@ returns-clause-listed g c =
 
 pub returns-in-Err-clause-few : goal.returns-in-Err-clause-few
 returns-in-Err-clause-few g c = few_none (g.S.Source.left c.args.source.now)
+
+pub returns-clause-coded : goal.returns-clause-coded
+returns-clause-coded g c =
+    let ends_as : EndsAs c.take_lines.result c.match-take_lines.exit = (elim c.match-take_lines.branch [
+      | in-Ok w ↦ rw w.in-Ok.is w.exit-is
+      | in-Err-take_lines w ↦ rw w.in-Err-take_lines.is (w.exit-is, w.in-Err-take_lines.ensures.stop)
+    ]) in
+    ends_coded (looks g.B.Board.told g.B.Board.clock g.B.Board.faults) c.take_lines.result c.match-take_lines.exit c.end_run.result _ c.take_lines.new.board c.end_run.new.board ends_as c.end_run.ensures.ends
+
+pub returns-in-Err-clause-coded : goal.returns-in-Err-clause-coded
+returns-in-Err-clause-coded g c = λ code is. print_coded c.in-Err.exit c.in-Err.ensures.exit code is
