@@ -88,7 +88,7 @@ ALL_KINDS = {
 ALL_KINDS[b"panic"] = (hexadecimal, *ALL_KINDS[b"bank"])
 # The kinds that a run doesn't take yet, and refuses as none. Once one is taken, its name goes from here: then the rows,
 # the cases and the random histories that need it are tried, and those that hold without it alone are left out.
-LATER = {b"erst", b"put", b"poll", b"panic"}
+LATER = {b"poll", b"panic"}
 KINDS = {kind: words for kind, words in ALL_KINDS.items() if kind not in LATER}
 
 

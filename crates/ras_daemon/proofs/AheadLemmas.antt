@@ -6,7 +6,6 @@ use Rattle.std.proofs.lemmas.Bool.Decides.{nat_tests}
 use Rattle.board_core.specs.Doing.{Seen}
 use Rattle.board_core.specs.Told.{Relates, Told}
 use Rattle.ras_base.specs.Places.{places, places_behind}
-use Rattle.ras_account.specs.Account.{account_of}
 use Rattle.ras_account.specs.Accounts.{IsAccount}
 use Rattle.ras_events.specs.Reports.{NumberedLine}
 use Rattle.ras_script.specs.declared.reader.TheConstants.{LONGEST_LINE}
@@ -71,7 +70,7 @@ fault_before see exit result line a b (inl (answer, inr (inr short))) fault = le
 pub ahead_opened : (Fault : Type 0) (start : Start) (script : List ℕ) (t u : Told) (left : Option (List ℕ)) (told : Option Told) → u.here.out ≡ t.here.out → RunAhead Fault start script u left told → RunAhead Fault start script t left told
 ahead_opened Fault start script t u left told same (inl none) = inl none
 ahead_opened Fault start script t u left told same (inr ahead) =
-    inr (ahead.0, subst (λ out. EndsAhead Fault start script (out ++ standing_lines (account_of start.history)) left told) same ahead.1)
+    inr (ahead.0, subst (λ out. EndsAhead Fault start script (out ++ standing_lines start.account) left told) same ahead.1)
 
 -- ---- which event isn't done
 
@@ -128,9 +127,9 @@ end_after (line ∷ done) more n few = by (is_event_line line) refl (λ m less. 
 -- ---- the clause
 
 -- what was read ahead where lines were taken
-takes_ahead : (exit : Exit) (start : Start) (script left : List ℕ) (t now : Told) → IsAccount (account_of start.history) → ReadAhead (exit ≡ SourceFault) start script (lines_from start t.here.out) left now → TakesAhead exit script left t now
+takes_ahead : (exit : Exit) (start : Start) (script left : List ℕ) (t now : Told) → IsAccount start.account → ReadAhead (exit ≡ SourceFault) start script (lines_from start t.here.out) left now → TakesAhead exit script left t now
 takes_ahead exit start script left t now account ahead =
-    let orders : List ℕ = standing_lines (account_of start.history) in
+    let orders : List ℕ = standing_lines start.account in
     let lines : List ℕ = outputs start (reads_in ahead.done) in
     let part : List ℕ = ahead.text.0 in
     let counts : done_count ((orders ++ lines) ++ part) ≡ events_among (places (reads_in ahead.done)) + done_count part = count-first start script (reads_in ahead.done) ahead.first account part in
@@ -182,5 +181,5 @@ pub run-ahead : (exit : Exit) (task : Option Task) (script : Option (List ℕ)) 
     → OverRun (λ start text t. RunAhead (exit ≡ SourceFault) start text t left now) task script told
     → OverRun (λ start text t. IsSomeAnd now (λ n. PrintsPart (run_output start text) t.here.out n.here.out)) task script told
     → OverRun (λ start text t. IsSomeAnd left (λ rest. IsSomeAnd now (TakesAhead exit text rest t))) task script told
-run-ahead exit (Some Run) (Some text) (Some t) left now ahead printed = λ history recovers. ahead_told exit (start_of history t.here) text t left now (ahead history recovers) (printed history recovers)
+run-ahead exit (Some Run) (Some text) (Some t) left now ahead printed = λ account recovers. ahead_told exit (start_of account t) text t left now (ahead account recovers) (printed account recovers)
 run-ahead exit task script told left now ahead printed = tt

@@ -1,8 +1,8 @@
 -- The acts of lines one after another: what they come to, and that each line has some.
 use Rattle.std.proofs.Common.{◌≡◌, ℕ, List, [], ◌∷◌, ◌++◌, refl, ap, sym, ◌∙◌, subst, append_assoc, append-nil, inl, inr}
 use Rattle.std.specs.List.{AllByRecursion, flat_map}
-use Rattle.board_core.specs.Doing.{Act, AreOffDevice, Moment, after_acts}
-use Rattle.board_core.specs.Stop.{Left, Begins}
+use Rattle.board_core.specs.Doing.{Act, Moment, after_acts}
+use Rattle.board_core.specs.Stop.{Left}
 use Rattle.board_core.specs.Told.{Told}
 use Rattle.board_core.proofs.DoingLemmas.{after-append, moment_parts}
 use Rattle.ras_base.specs.Places.{places, places_behind}
@@ -12,15 +12,15 @@ use Rattle.ras_run.specs.LineActs.{AreLineActs, HoldsAfter}
 use Rattle.ras_run.specs.Output.{output_at}
 use Rattle.ras_run.specs.Places.{Start}
 use Rattle.ras_run.specs.Status.{places_before_refusal}
+use Rattle.ras_run.specs.Moments.{CourseMoment, course_at}
 use Rattle.ras_run.specs.Taking.{IsAccepted, LineMoment}
-use Rattle.ras_run.proofs.LineLawLemmas.{line_holds, line_moment, line_off, line_out}
+use Rattle.ras_run.proofs.LineLawLemmas.{line_holds, line_moment, line_out}
 use Rattle.ras_run.proofs.LineLemmas.{some_acts}
-use Rattle.ras_run.proofs.PrintActLemmas.{off_both}
 use Rattle.ras_daemon.specs.RunActs.{AreActsAlong}
 use Rattle.ras_daemon.specs.Running.{AreAccepted, AreFirst, LinesMoment, outputs}
 use Rattle.ras_daemon.specs.Script.{reads_of}
 use Rattle.ras_daemon.proofs.FirstLinesLemmas.{first-before}
-use Rattle.ras_daemon.proofs.PlaceLemmas.{accepted-snoc, first_more, outputs-snoc}
+use Rattle.ras_daemon.proofs.PlaceLemmas.{accepted-snoc, outputs-snoc}
 
 -- ---- lists of them
 
@@ -48,10 +48,6 @@ along_some start (p ∷ ps) t =
     let rest = along_some start ps (after_acts here.0 t) in
     (here.0 ++ rest.0, (here.0, rest.0, refl, here.1, rest.1))
 
-pub along_off : (start : Start) (ps : List Place) (t : Told) (acts : List Act) → AreActsAlong start ps t acts → AreOffDevice acts
-along_off start [] t acts is = rw is tt
-along_off start (p ∷ ps) t acts (here, rest, is, at, along) = rw is (off_both here rest (line_off start p t here at) (along_off start ps (after_acts here t) rest along))
-
 -- ---- what they come to, each line being accepted
 
 -- Once they are done, the files hold the account of these lines, and their text is printed.
@@ -61,7 +57,7 @@ along_done start before [] t acts all holds is = rw is (rw (append-nil before) h
 along_done start before (read ∷ reads) t acts all holds (here, rest, is, at, along) =
     subst (λ (u : Told). HoldsAfter start (before ++ read ∷ reads) u) (sym (ap (λ (zs : List Act). after_acts zs t) is ∙ after-append here rest t))
     (subst (λ (lines : List NumberedLine). HoldsAfter start lines (after_acts rest (after_acts here t))) (append_assoc before (read ∷ []) reads)
-    (along_done start (before ++ read ∷ []) reads (after_acts here t) rest all.1 (line_holds start before read.0 read.1 t holds here all.0 at) along))
+    (along_done start (before ++ read ∷ []) reads (after_acts here t) rest all.1 (line_holds start before read.0 read.1 t holds here at all.0) along))
 
 pub along_prints : (start : Start) (ps : List Place) (t : Told) (acts : List Act) → AllByRecursion (IsAccepted start) ps → AreActsAlong start ps t acts
     → (after_acts acts t).here.out ≡ t.here.out ++ flat_map (output_at start) ps
@@ -75,16 +71,15 @@ along_prints start (p ∷ ps) t acts all (here, rest, is, at, along) =
 -- ---- what a stop leaves at a moment of them
 
 module _ (start : Start) (script out : List ℕ) where
-  moment_in : (before rest : List NumberedLine) (read : NumberedLine) (t : Told) (left : Left) → before ++ read ∷ rest ≡ reads_of script → AreAccepted start before → t.here.out ≡ out ++ outputs start before
+  pub moment_in : (before rest : List NumberedLine) (read : NumberedLine) (t : Told) (left : Left) → before ++ read ∷ rest ≡ reads_of script → AreAccepted start before → t.here.out ≡ out ++ outputs start before
       → LineMoment start (before, read) t.here left → LinesMoment start script out left
-  moment_in before rest read t left splits accepted text (inl here) =
-      inl (record { before = before; first = record { rest = read ∷ rest; splits = splits; accepted = accepted }; recovers = here.1; text = here.0 ∙ text })
-  moment_in before rest read t left splits accepted text (inr taken) = inr (record {
+  moment_in before rest read t left splits accepted text moment = inr (record {
     before = before;
     read = read;
-    first = first_more start script before rest read splits accepted taken.0;
-    recovers = taken.1;
-    text = subst (λ from. Begins (output_at start (before, read)) from left.out) text taken.2;
+    rest = rest;
+    splits = splits;
+    accepted = accepted;
+    course = subst (λ from. CourseMoment (IsAccepted start (before, read)) (course_at start (before, read)) from left) text moment;
   })
 
   moment_behind : (before reads rest : List NumberedLine) (t : Told) (acts : List Act) (left : Left) → before ++ (reads ++ rest) ≡ reads_of script → AreAccepted start before
@@ -93,12 +88,12 @@ module _ (start : Start) (script out : List ℕ) where
   moment_behind before [] rest t acts left splits accepted all text holds is moment = absurd (subst (λ (zs : List Act). Moment zs t left) is moment)
   moment_behind before (read ∷ reads) rest t acts left splits accepted all text holds (here, more, is, at, along) moment =
       elim (moment_parts here more t left (subst (λ (zs : List Act). Moment zs t left) is moment)) [
-        | inl now ↦ moment_in before (reads ++ rest) read t left splits accepted text (line_moment start before read.0 read.1 t holds here all.0 at left now)
+        | inl now ↦ moment_in before (reads ++ rest) read t left splits accepted text (line_moment start before read.0 read.1 t holds here at all.0.fit left now)
         | inr later ↦
             moment_behind (before ++ read ∷ []) reads rest (after_acts here t) more left
             (append_assoc before (read ∷ []) (reads ++ rest) ∙ splits) (accepted-snoc start before read accepted all.0) all.1
             (line_out start (before, read) t here all.0 at ∙ ap (λ from. from ++ output_at start (before, read)) text ∙ append_assoc out (outputs start before) (output_at start (before, read)) ∙ ap (λ more. out ++ more) (sym (outputs-snoc start before read)))
-            (line_holds start before read.0 read.1 t holds here all.0 at) along later
+            (line_holds start before read.0 read.1 t holds here at all.0) along later
       ]
 
   pub along_moment : (before : List NumberedLine) (t : Told) (acts : List Act) (left : Left) → AreFirst start script before → t.here.out ≡ out → HoldsAfter start [] t

@@ -6,7 +6,7 @@ use Rattle.board_core.specs.Clock.{Adds, Always, Clock, LeftNow}
 use Rattle.board_core.specs.Stop.{Left}
 use Rattle.board_core.specs.Told.{Told}
 use Rattle.ras_base.specs.Places.{places}
-use Rattle.ras_account.specs.Account.{State, account_of}
+use Rattle.ras_account.specs.Account.{State}
 use Rattle.ras_account.specs.Accounts.{IsAccount}
 use Rattle.ras_journal.specs.Recovered.{Recovers}
 use Rattle.ras_texts.specs.Orders.{standing_lines}
@@ -16,40 +16,43 @@ use Rattle.ras_exit.specs.declared.exit.Exit.{Exit}
 use Rattle.ras_exit.specs.Endings.{CallEnding, IfAnswered, OnAnswer, OnWhole, UnlessFaulted, answered, ending_of, faulted, source_failed, starved}
 use Rattle.ras_exit.specs.Telling.{PrintsPart}
 use Rattle.ras_run.specs.Output.{output_at}
-use Rattle.ras_run.specs.Places.{Start, account_at}
-use Rattle.ras_daemon.specs.Headline.{Headline, IsWhole, OverRun, StopsRecover, account_with}
+use Rattle.ras_run.specs.Places.{Start, account_at, store_at}
+use Rattle.ras_daemon.specs.Headline.{Headline, IsWhole, OverRun, Settles, StopsRecover, account_with, laid_with}
 use Rattle.ras_daemon.specs.RunOutput.{closing_line, run_output}
 use Rattle.ras_daemon.specs.RunStatus.{run_exit, start_of}
 use Rattle.board_core.specs.Doing.{Seen}
-use Rattle.ras_account.specs.History.{History}
-use Rattle.ras_daemon.specs.Doing.{DoesRun}
+use Rattle.ras_daemon.specs.Doing.{DoesRun, Opens}
 use Rattle.ras_daemon.proofs.RunLemmas.{run_ends, run_stops}
-use Rattle.ras_daemon.specs.Running.{AreAll, AreFirst, EndsIn, EndsSo, RunEnds, RunMoment, outputs}
+use Rattle.ras_daemon.specs.Running.{AreAll, AreFirst, EndsIn, EndsSo, OpenMoment, RunEnds, RunMoment, outputs}
 use Rattle.ras_daemon.specs.Script.{events_of}
 use Rattle.ras_daemon.specs.declared.word.Task.{Task}
 use Rattle.ras_daemon.specs.declared.word.Task.TheVariants.{Run}
-use Rattle.ras_daemon.proofs.HeadlineLemmas.{closing-quiet, headline, moment-prints}
+use Rattle.ras_daemon.proofs.HeadlineLemmas.{closing-quiet, headline, headline-nothing, headline-since, moment-prints}
+use Rattle.ras_daemon.proofs.ScriptLemmas.{takes_stops}
 use Rattle.ras_daemon.proofs.CountLemmas.{account-first, count-first, events_among}
 use Rattle.ras_daemon.proofs.FirstLinesLemmas.{closing-same}
+use Rattle.ras_daemon.proofs.StoreLemmas.{store-first}
+use Rattle.ras_daemon.specs.Runs.{event_count}
+use Rattle.ras_exit.specs.declared.exit.Exit.TheVariants.{Done}
 use Rattle.text_laws.proofs.DoneLemmas.{none_done}
 
 -- ---- where a run comes to an answer
 
 -- all that it prints
 text-so : (start : Start) (script : List ℕ) (exit : Exit) (before : List NumberedLine) → AreAll start script exit before
-    → standing_lines (account_of start.history) ++ (outputs start before ++ closing_line (account_at start before) exit) ≡ run_output start script
+    → standing_lines start.account ++ (outputs start before ++ closing_line (account_at start before) exit) ≡ run_output start script
 text-so start script exit before all = λ i.
-    standing_lines (account_of start.history) ++ (flat_map (output_at start) (sym all.all i) ++ closing-same start script exit before all i)
+    standing_lines start.account ++ (flat_map (output_at start) (sym all.all i) ++ closing-same start script exit before all i)
 
 -- it was printed
 output-so : (start : Start) (script : List ℕ) (exit : Exit) (old now : Told) → EndsSo start script exit old.here.out now → now.here.out ≡ old.here.out ++ run_output start script
 output-so start script exit old now ends = ends.text ∙ ap (λ (text : List ℕ). old.here.out ++ text) (text-so start script exit ends.before ends.all)
 
 -- and its done lines number the events
-counted-so : (start : Start) (script : List ℕ) (exit : Exit) (before : List NumberedLine) → AreAll start script exit before → IsAccount (account_of start.history)
+counted-so : (start : Start) (script : List ℕ) (exit : Exit) (before : List NumberedLine) → AreAll start script exit before → IsAccount start.account
     → done_count (run_output start script) ≡ length (events_of start script)
 counted-so start script exit before all account =
-    let standing : List ℕ = standing_lines (account_of start.history) in
+    let standing : List ℕ = standing_lines start.account in
     let last : List ℕ = closing_line (account_at start before) exit in
     let none : done_count last ≡ 0 = none_done last last [] (closing-quiet (account_at start before) exit) (append-nil last) in
     ap done_count (sym (text-so start script exit before all) ∙ sym (append_assoc standing (outputs start before) last))
@@ -76,37 +79,50 @@ module _ (start : Start) (script : List ℕ) (old now : Told) where
 
   -- whole events, by their number
   whole-by : (printed : List ℕ) (n : ℕ) → now.here.out ≡ old.here.out ++ printed → done_count printed ≡ n → Recovers (account_with start script n) now.here
-      → IsWhole start script old now
-  whole-by printed n text count recovers = record {
+      → now.here.store ≡ laid_with start script n → IsWhole start script old now
+  whole-by printed n text count recovers store = record {
     printed = printed;
     text = text;
     recovers = subst (λ (k : ℕ). Recovers (account_with start script k) now.here) (sym count) recovers;
+    store = subst (λ (k : ℕ). now.here.store ≡ laid_with start script k) (sym count) store;
   }
 
-  whole-lines : (before : List NumberedLine) (last : List ℕ) → AreFirst start script before → IsAccount (account_of start.history)
-      → Recovers (account_at start before) now.here → done_count last ≡ 0
-      → now.here.out ≡ old.here.out ++ ((standing_lines (account_of start.history) ++ outputs start before) ++ last) → IsWhole start script old now
-  whole-lines before last first account recovers none text =
-      whole-by ((standing_lines (account_of start.history) ++ outputs start before) ++ last) (events_among (places before)) text
+  whole-lines : (before : List NumberedLine) (last : List ℕ) → AreFirst start script before → IsAccount start.account
+      → Recovers (account_at start before) now.here → now.here.store ≡ store_at start before → done_count last ≡ 0
+      → now.here.out ≡ old.here.out ++ ((standing_lines start.account ++ outputs start before) ++ last) → IsWhole start script old now
+  whole-lines before last first account recovers store none text =
+      whole-by ((standing_lines start.account ++ outputs start before) ++ last) (events_among (places before)) text
       (count-first start script before first account last ∙ omega (arith, none))
       (subst (λ (a : State). Recovers a now.here) (sym (account-first start script before first account)) recovers)
+      (store ∙ sym (store-first start script before first account))
 
   whole-so : (exit : Exit) → EndsSo start script exit old.here.out now → IsWhole start script old now
   whole-so exit ends =
       let last : List ℕ = closing_line (account_at start ends.before) exit in
-      whole-lines ends.before last ends.all.first ends.account ends.recovers
+      whole-lines ends.before last ends.all.first ends.account ends.recovers ends.store
       (none_done last last [] (closing-quiet (account_at start ends.before) exit) (append-nil last))
-      (ends.text ∙ ap (λ (text : List ℕ). old.here.out ++ text) (sym (append_assoc (standing_lines (account_of start.history)) (outputs start ends.before) last)))
+      (ends.text ∙ ap (λ (text : List ℕ). old.here.out ++ text) (sym (append_assoc (standing_lines start.account) (outputs start ends.before) last)))
 
-  early-lines : (before : List NumberedLine) → AreFirst start script before → Recovers (account_at start before) now.here
-      → (IsAccount (account_of start.history) × (now.here.out ≡ old.here.out ++ (standing_lines (account_of start.history) ++ outputs start before)))
+  early-lines : (before : List NumberedLine) → AreFirst start script before → Recovers (account_at start before) now.here → now.here.store ≡ store_at start before
+      → (IsAccount start.account × (now.here.out ≡ old.here.out ++ (standing_lines start.account ++ outputs start before)))
       ⊎ ((now.here.out ≡ old.here.out) × (before ≡ []))
       → IsWhole start script old now
-  early-lines before first recovers (inl (account, text)) =
-      whole-lines before [] first account recovers refl
-      (text ∙ ap (λ (more : List ℕ). old.here.out ++ more) (sym (append-nil (standing_lines (account_of start.history) ++ outputs start before))))
-  early-lines before first recovers (inr (text, none)) =
+  early-lines before first recovers store (inl (account, text)) =
+      whole-lines before [] first account recovers store refl
+      (text ∙ ap (λ (more : List ℕ). old.here.out ++ more) (sym (append-nil (standing_lines start.account ++ outputs start before))))
+  early-lines before first recovers store (inr (text, none)) =
       whole-by [] 0 (text ∙ sym (append-nil old.here.out)) refl (subst (λ (reads : List NumberedLine). Recovers (account_at start reads) now.here) none recovers)
+      (store ∙ ap (store_at start) none)
+
+  -- the store at the end of a script
+  pub ends-stored : (exit : Exit) → RunEnds start script exit old.here.out now → exit ≡ Done → now.here.store ≡ laid_with start script (event_count start script)
+  ends-stored exit ends done = by (subst (λ (e : Exit). RunEnds start script e old.here.out now) done ends)
+    where
+      by : EndsSo start script Done old.here.out now → now.here.store ≡ laid_with start script (event_count start script)
+      by ends =
+          ends.store
+          ∙ sym (store-first start script ends.before ends.all.first ends.account)
+          ∙ ap (λ (ps : List Place). laid_with start script (events_among ps)) (sym ends.all.all)
 
   pub ends-whole : (exit : Exit) → RunEnds start script exit old.here.out now → OnWhole exit (IsWhole start script old now)
   ends-whole exit ends = by (ending_of exit) ends
@@ -114,8 +130,8 @@ module _ (start : Start) (script : List ℕ) (old now : Told) where
       by : (ending : CallEnding) → EndsIn start script exit ending old.here.out now → UnlessFaulted ending (IsWhole start script old now)
       by answered ends = whole-so exit ends
       by (faulted kind) ends = tt
-      by source_failed ends = early-lines ends.before ends.first ends.recovers ends.text
-      by starved ends = early-lines ends.before ends.first ends.recovers ends.text
+      by source_failed ends = early-lines ends.before ends.first ends.recovers ends.store ends.text
+      by starved ends = early-lines ends.before ends.first ends.recovers ends.store ends.text
 
 -- ---- where words ask for a run
 
@@ -123,7 +139,7 @@ module _ (start : Start) (script : List ℕ) (old now : Told) where
 pub over-run : (P Q : Start → List ℕ → Told → Type 0) (task : Option Task) (script : Option (List ℕ)) (told : Option Told)
     → ((start : Start) (text : List ℕ) (t : Told) → told ≡ Some t → P start text t → Q start text t)
     → OverRun P task script told → OverRun Q task script told
-over-run P Q (Some Run) (Some text) (Some t) gives has = λ history recovers. gives (start_of history t.here) text t refl (has history recovers)
+over-run P Q (Some Run) (Some text) (Some t) gives has = λ account recovers. gives (start_of account t) text t refl (has account recovers)
 over-run P Q task script told gives has = tt
 
 -- what holds of what is told now
@@ -144,7 +160,7 @@ on-whole exit P (Some t) has = has
 
 -- what a stop since the start of a run leaves
 pub always-headline : (old new : Clock) (start : Start) (script : List ℕ) (here : Left) → StopsRecover start old
-    → ((left : Left) → LeftNow old left → left.out ≡ here.out) → ((left : Left) → LeftNow old left → left.store ≡ here.store)
+    → ((left : Left) → LeftNow old left → left.out ≡ here.out) → ((left : Left) → LeftNow old left → left.store ≡ start.store)
     → Adds (RunMoment old start script here) old new → Always new old.now (Headline start script here)
 always-headline old new start script here stops text store adds left may = by (adds.each old.now left (omega arith) may)
   where
@@ -163,15 +179,15 @@ begun-now old new start script here now text adds may = by (adds.each old.now no
 
 -- ---- the clauses of a run, from what it did
 
-module _ {X : Type 0} (see : X → Seen) (history : History) (script : List ℕ) (exit : Exit) (t : Told) (old new : X) (recovers : Recovers (account_of history) t.here) (does : DoesRun see (start_of history t.here) script exit t old new) where
+module _ {X : Type 0} (see : X → Seen) (account : State) (script : List ℕ) (exit : Exit) (t : Told) (old new : X) (recovers : Recovers account t.here) (does : DoesRun see (start_of account t) script exit t old new) where
   abbrev start : Start
-  start = start_of history t.here
+  start = start_of account t
 
   runs : IsSomeAnd (see new).told (RunEnds start script exit t.here.out)
-  runs = run_ends see history script exit t old new recovers does
+  runs = run_ends see account script exit t old new recovers does
 
   stops : Adds (RunMoment (see old).clock start script t.here) (see old).clock (see new).clock
-  stops = run_stops see history script exit t old new recovers does
+  stops = run_stops see account script exit t old new recovers does
 
   by-ends : (P : Type 0) → ((now : Told) → RunEnds start script exit t.here.out now → P) → P
   by-ends P gives = by (see new).told runs
@@ -194,6 +210,9 @@ module _ {X : Type 0} (see : X → Seen) (history : History) (script : List ℕ)
   run-whole = on-whole exit (IsWhole start script t) (see new).told
       (some-weaker (RunEnds start script exit t.here.out) (λ now. OnWhole exit (IsWhole start script t now)) (see new).told (λ now. ends-whole start script t now exit) runs)
 
+  pub run-stored : exit ≡ Done → IsSomeAnd (see new).told (λ now. now.here.store ≡ laid_with start script (event_count start script))
+  run-stored done = some-weaker (RunEnds start script exit t.here.out) (λ now. now.here.store ≡ laid_with start script (event_count start script)) (see new).told (λ now ends. ends-stored start script t now exit ends done) runs
+
   module _ (text : (left : Left) → LeftNow (see old).clock left → left.out ≡ t.here.out) where
     pub run-headline : ((left : Left) → LeftNow (see old).clock left → left.store ≡ t.here.store) → StopsRecover start (see old).clock → Always (see new).clock (see old).clock.now (Headline start script t.here)
     run-headline store recover = always-headline (see old).clock (see new).clock start script t.here recover text store stops
@@ -205,3 +224,32 @@ module _ {X : Type 0} (see : X → Seen) (history : History) (script : List ℕ)
         by : (told : Option Told) → (see new).told ≡ told → IsSomeAnd told (RunEnds start script exit t.here.out) → IsSomeAnd told (λ now. PrintsPart (run_output start script) t.here.out now.here.out)
         by None is ends = absurd ends
         by (Some now) is ends = begun-now (see old).clock (see new).clock start script t.here now.here text stops (earlier (see old).clock.now (see new).clock.now now.here stops.later (may now is))
+
+-- from the moment on at which its journal is open
+pub run-settles : {X : Type 0} (see : X → Seen) (account : State) (script : List ℕ) (exit : Exit) (t : Told) (old new : X) → Recovers account t.here → Opens see (start_of account t) script exit t old new
+    → Settles (start_of account t) script t.here (see old).clock (see new).clock
+run-settles see account script exit t old new recovers d = record {
+  at = (see d.mid).clock.now;
+  later = d.stops.later;
+  within = adds.later;
+  before = λ left may. elim (moments.each (see old).clock.now left (omega arith) may) [ inl was ↦ inl was | inr moment ↦ begun left moment ];
+  from = λ left may. elim (adds.each (see d.mid).clock.now left (omega arith) may) [ inl was ↦ rests left was | inr moment ↦ later left moment ];
+}
+  where
+    adds : Adds (OpenMoment (start_of account t) script d.there.here.out) (see d.mid).clock (see new).clock
+    adds = takes_stops see (start_of account t) script d.there exit d.mid new d.rests d.holds d.takes
+
+    moments : Adds (RunMoment (see old).clock (start_of account t) script t.here) (see old).clock (see new).clock
+    moments = run_stops see account script exit t old new recovers (inr d)
+
+    begun : (left : Left) → RunMoment (see old).clock (start_of account t) script t.here left → LeftNow (see old).clock left ⊎ Headline (start_of account t) script t.here left
+    begun left (inl now) = inl now
+    begun left (inr moment) = inr (headline-since (start_of account t) script t.here left moment)
+
+    later : (left : Left) → OpenMoment (start_of account t) script d.there.here.out left → Headline (start_of account t) script t.here left
+    later left moment = headline-since (start_of account t) script t.here left (inr (d.holds.account, subst (λ out. OpenMoment (start_of account t) script out left) d.text moment))
+
+    rests : (left : Left) → LeftNow (see d.mid).clock left → Headline (start_of account t) script t.here left
+    rests left was =
+        subst (Headline (start_of account t) script t.here) (sym (d.rests.only left was))
+        (headline-nothing (start_of account t) script t.here d.there.here d.text (record { is = d.holds.at.recovers }) d.holds.board.store)

@@ -4,9 +4,8 @@ use Rattle.std.specs.Prelude.{filter}
 use Rattle.std.specs.List.{AllByRecursion, flat_map}
 use Rattle.ras_base.specs.Places.{places, places_behind}
 use Rattle.ras_base.specs.PlacesLemmas.{places-snoc}
-use Rattle.ras_account.specs.Account.{account_of}
 use Rattle.ras_account.specs.Accounts.{IsAccount}
-use Rattle.ras_account.specs.History.{with_entries}
+use Rattle.ras_account.specs.Continued.{account_after_all}
 use Rattle.ras_facts.specs.declared.entry.Entry.{Entry}
 use Rattle.ras_texts.specs.Orders.{standing_lines}
 use Rattle.ras_texts.specs.Text.{done_line}
@@ -58,13 +57,13 @@ silent-not : (start : Start) (p : Place) → Tells start p → is_event p ≡ fa
 silent-not start p (inl event) is = absurd (cc (event.event, is))
 silent-not start p (inr none) is = none.silent
 
-reports-not : (start : Start) (p : Place) → Tells start p → is_event p ≡ false → entries_at [] p ≡ []
+reports-not : (start : Start) (p : Place) → Tells start p → is_event p ≡ false → entries_at start.store p ≡ []
 reports-not start p (inl event) is = absurd (cc (event.event, is))
 reports-not start p (inr none) is = none.reports
 
 -- ---- the first lines of a script are its first events
 
-module _ (start : Start) (script : List ℕ) (before : List NumberedLine) (first : AreFirst start script before) (account : IsAccount (account_of start.history)) where
+module _ (start : Start) (script : List ℕ) (before : List NumberedLine) (first : AreFirst start script before) (account : IsAccount start.account) where
   told : AllByRecursion (Tells start) (places before)
   told = tells-first start script before first account
 
@@ -76,26 +75,26 @@ module _ (start : Start) (script : List ℕ) (before : List NumberedLine) (first
   -- their account
   pub account-first : account_with start script (events_among (places before)) ≡ account_at start before
   account-first =
-      ap (λ (es : List Entry). account_of (with_entries start.history es))
-      (ap (flat_map (entries_at [])) first-events
-      ∙ flat_map-passing is_event (entries_at []) (places before) (all-weaker (Tells start) (λ p. is_event p ≡ false → entries_at [] p ≡ []) (reports-not start) (places before) told))
+      ap (λ (es : List Entry). account_after_all start.account es)
+      (ap (flat_map (entries_at start.store)) first-events
+      ∙ flat_map-passing is_event (entries_at start.store) (places before) (all-weaker (Tells start) (λ p. is_event p ≡ false → entries_at start.store p ≡ []) (reports-not start) (places before) told))
 
   -- what they have printed
-  pub output-first : output_upto start script (events_among (places before)) ≡ standing_lines (account_of start.history) ++ outputs start before
+  pub output-first : output_upto start script (events_among (places before)) ≡ standing_lines start.account ++ outputs start before
   output-first =
-      ap (λ (text : List ℕ). standing_lines (account_of start.history) ++ text)
+      ap (λ (text : List ℕ). standing_lines start.account ++ text)
       (ap (flat_map (output_at start)) first-events
       ∙ flat_map-passing is_event (output_at start) (places before) (all-weaker (Tells start) (λ p. is_event p ≡ false → output_at start p ≡ []) (silent-not start) (places before) told))
 
   -- and how many it says are done
-  pub count-first : (more : List ℕ) → done_count ((standing_lines (account_of start.history) ++ outputs start before) ++ more) ≡ events_among (places before) + done_count more
+  pub count-first : (more : List ℕ) → done_count ((standing_lines start.account ++ outputs start before) ++ more) ≡ events_among (places before) + done_count more
   count-first more =
-      ap done_count (append_assoc (standing_lines (account_of start.history)) (outputs start before) more)
-      ∙ quiet_count (standing_lines (account_of start.history)) (outputs start before ++ more) (standing_quiet (account_of start.history) account)
+      ap done_count (append_assoc (standing_lines start.account) (outputs start before) more)
+      ∙ quiet_count (standing_lines start.account) (outputs start before ++ more) (standing_quiet start.account account)
       ∙ count-places start (places before) more told
 
 -- what the line behind them tells
-pub tells-last : (start : Start) (script : List ℕ) (before : List NumberedLine) (read : NumberedLine) → AreFirst start script (before ++ read ∷ []) → IsAccount (account_of start.history)
+pub tells-last : (start : Start) (script : List ℕ) (before : List NumberedLine) (read : NumberedLine) → AreFirst start script (before ++ read ∷ []) → IsAccount start.account
     → Tells start (before, read)
 tells-last start script before read first account = by (places before) (subst (AllByRecursion (Tells start)) (places-snoc before read) (tells-first start script (before ++ read ∷ []) first account))
   where

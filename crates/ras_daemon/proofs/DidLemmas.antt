@@ -1,12 +1,12 @@
 -- Which acts of a run were done, and which disk calls these made.
-use Rattle.std.proofs.Common.{◌≡◌, ℕ, List, [], ◌∷◌, ◌++◌, map, IsSomeAnd, refl, ap, sym, ◌∙◌, subst, append_assoc, append-nil, inl, inr}
+use Rattle.std.proofs.Common.{◌≡◌, ℕ, List, [], ◌∷◌, ◌++◌, map, Option, None, Some, IsSomeAnd, refl, ap, sym, ◌∙◌, subst, append_assoc, append-nil, inl, inr}
 use Rattle.std.specs.Prelude.{⊤}
 use Rattle.std.proofs.lemmas.List.{map-append}
 use Rattle.board_core.specs.Cause.{disk_call}
 use Rattle.board_core.specs.declared.board.DiskCall.{DiskCall}
 use Rattle.board_core.specs.Doing.{Act, Seen, after_acts, calls, calls_of, disk_calls_by}
 use Rattle.board_core.specs.Told.{Told}
-use Rattle.board_core.proofs.ActLemmas.{calls_by_acts, calls_by_fails}
+use Rattle.board_core.proofs.ActLemmas.{accesses_by_acts, calls_by_acts, calls_by_fails}
 use Rattle.board_core.proofs.DoingLemmas.{after-append, fails_first, fails_then}
 use Rattle.ras_base.specs.Prefix.{IsPrefixOf}
 use Rattle.ras_recover.specs.DiskCalls.{IsBeginning, Makes, with_calls}
@@ -14,14 +14,15 @@ use Rattle.ras_recover.specs.Opening.{opening_acts}
 use Rattle.ras_recover.specs.OpeningActs.{AreOpeningActs, FailsOpening}
 use Rattle.ras_recover.specs.OpeningCalls.{AfterRecovery, IsRecoveryOf, MakesOpening}
 use Rattle.ras_recover.proofs.OpeningActsLemmas.{after_reading, listed_alone}
-use Rattle.ras_recover.proofs.OpeningCallsLemmas.{reads_all, recovery_on}
-use Rattle.ras_exit.specs.Endings.{CallEnding, EndsBy, OnlyFault, answered, ending_of, faulted, source_failed, starved}
+use Rattle.ras_recover.proofs.OpeningCallsLemmas.{opens_calls, reads_all, recovery_on}
+use Rattle.ras_exit.specs.Endings.{CallEnding, EndsBy, IfAnswered, OnlyFault, answered, ending_of, faulted, source_failed, starved}
 use Rattle.ras_exit.specs.declared.exit.Exit.{Exit}
 use Rattle.ras_exit.specs.declared.exit.Exit.TheVariants.{DiskFault}
 use Rattle.ras_exit.proofs.EndingLemmas.{memory_ran_out}
 use Rattle.ras_run.specs.Places.{Start}
-use Rattle.ras_daemon.specs.Doing.{DoesRun}
-use Rattle.ras_daemon.specs.RunActs.{AreRunActs, AreRunCalls, AreScriptActs, DidOf, DidRun}
+use Rattle.ras_daemon.specs.Doing.{DoesRun, Opens}
+use Rattle.ras_daemon.specs.Ended.{HasOpened}
+use Rattle.ras_daemon.specs.RunActs.{AreRunActs, AreRunCalls, AreScriptActs, DidOf, DidRun, ListsAccesses}
 use Rattle.ras_daemon.proofs.CallLemmas.{some-weaker}
 use Rattle.ras_daemon.proofs.ScriptLemmas.{script_some, takes_did}
 
@@ -98,6 +99,37 @@ run_did see start script exit t old new (inl d) = by (ending_of exit) refl d.cut
         let broke : ending_of exit ≡ faulted disk_call = so ∙ ap faulted only in
         some-weaker (FailsOpening t) (DidRun start script (ending_of exit) t) (see new).told (λ u failed. not_read start script t u (ending_of exit) broke failed) (d.fails (disk_failed exit broke))
     by starved so any = some-weaker (AfterRecovery t) (DidRun start script (ending_of exit) t) (see new).told (λ u after. read_some start script t u (ending_of exit) so after) (d.kept (memory_ran_out exit so))
+
+-- ---- the opening comes first
+
+did_later : (acts : List Act) (ending : CallEnding) (there now : Told) → DidOf acts ending there now → (later : List DiskCall) × (now.disk_calls ≡ there.disk_calls ++ later)
+did_later acts answered there now is = (calls_of acts, ap (λ (u : Told). u.disk_calls) is ∙ calls_by_acts acts there)
+did_later acts (faulted kind) there now fails = (let lists = calls_by_fails kind acts there now fails in (lists.made, lists.listed))
+did_later acts ending there now (done, begins, is) = (calls_of done, ap (λ (u : Told). u.disk_calls) is ∙ calls_by_acts done there)
+
+has_opened : (t there now : Told) → MakesOpening t there → (later : List DiskCall) × (now.disk_calls ≡ there.disk_calls ++ later) → HasOpened t now
+has_opened t there now makes later =
+    let first = opens_calls t there makes in
+    record {
+      opening = first.made;
+      are = first.are;
+      later = later.0;
+      listed = later.1 ∙ ap (λ l. l ++ later.0) first.listed ∙ append_assoc t.disk_calls first.made later.0;
+    }
+
+pub opened_first : {X : Type 0} (see : X → Seen) (start : Start) (script : List ℕ) (exit : Exit) (t : Told) (old new : X) → Opens see start script exit t old new → IsSomeAnd (see new).told (HasOpened t)
+opened_first see start script exit t old new d =
+    some-weaker (λ now. (acts : List Act) × AreScriptActs start script d.there acts × DidOf acts (ending_of exit) d.there now) (HasOpened t) (see new).told
+    (λ now did. has_opened t d.there now d.makes (did_later did.0 (ending_of exit) d.there now did.2))
+    (takes_did see start script d.there exit d.mid new d.rests d.takes)
+
+-- ---- accesses
+
+-- at an answer they are those of all acts
+pub did_access : (start : Start) (script : List ℕ) (ending : CallEnding) (t : Told) (told : Option Told) → IsSomeAnd told (DidRun start script ending t) → IfAnswered ending (IsSomeAnd told (ListsAccesses start script t))
+did_access start script answered t None did = absurd did
+did_access start script answered t (Some now) (acts, are, is) = record { acts = acts; are = are; listed = ap (λ (u : Told). u.accesses) is ∙ accesses_by_acts acts t }
+did_access start script ending t told did = tt
 
 -- ---- disk calls
 

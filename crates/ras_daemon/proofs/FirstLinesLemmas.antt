@@ -4,18 +4,20 @@ use Rattle.std.specs.Prelude.{if◌then◌else◌, unwrap_or}
 use Rattle.std.specs.List.{AllByRecursion, cons_option, filter_map, flat_map}
 use Rattle.ras_base.specs.Places.{places, places_behind}
 use Rattle.ras_base.specs.PlacesLemmas.{places_behind-append, places-snoc}
-use Rattle.ras_account.specs.Account.{account_of}
-use Rattle.ras_account.specs.History.{with_entries}
+use Rattle.ras_account.specs.Continued.{account_after_all}
+use Rattle.erst_store.specs.declared.store.PutRefused.{PutRefused}
+use Rattle.erst_store.specs.Store.{refusal_of}
 use Rattle.ras_events.specs.declared.event.Event.{Event}
 use Rattle.ras_events.specs.declared.event.Event.TheVariants.{Nothing, Settled, Counted, Put, Saved, Polled, Reopened}
 use Rattle.ras_events.specs.declared.event.LineRefusal.{LineRefusal}
+use Rattle.ras_events.specs.declared.event.LineRefusal.TheVariants.{Bad, NoTable}
+use Rattle.ras_events.specs.Making.{entries_in}
 use Rattle.ras_texts.specs.Text.{end_line}
 use Rattle.ras_events.specs.Reports.{NumberedLine, Place, entries_at, event_at}
-use Rattle.ras_events.specs.Making.{entries_in}
 use Rattle.ras_exit.specs.declared.exit.Exit.{Exit}
 use Rattle.ras_exit.specs.declared.exit.Exit.TheVariants.{Done, Full, Usage}
-use Rattle.ras_run.specs.Places.{Start, account_at, history_at, has_no_room_for, standing_at}
-use Rattle.ras_run.specs.Status.{event_refusal, places_before_refusal, refusal_at}
+use Rattle.ras_run.specs.Places.{Start, account_at, has_no_room_for, standing_at, store_at}
+use Rattle.ras_run.specs.Status.{event_refusal, places_before_refusal, put_refusal, refusal_at}
 use Rattle.ras_run.specs.Taking.{IsAccepted}
 use Rattle.ras_daemon.specs.RunOutput.{closing_line}
 use Rattle.ras_daemon.specs.RunStatus.{first_among, refusal_among, run_exit}
@@ -67,15 +69,20 @@ full-not : (b : Bool) → IsNotDone (if b then Some Full else None)
 full-not true = tt
 full-not false = tt
 
+put-not : (number : ℕ) (refusal : Option PutRefused) → IsNotDone (put_refusal number refusal)
+put-not number None = tt
+put-not number (Some why) = tt
+
 refused-not : (start : Start) (place : Place) (event : Result Event LineRefusal) → IsNotDone (event_refusal start place event)
-refused-not start (before, (number, line)) (Err why) = tt
-refused-not start (before, (number, line)) (Ok (Counted made)) = full-not (has_no_room_for (history_at start before) (standing_at start before) (entries_in made))
+refused-not start (before, (number, line)) (Err (Bad why)) = tt
+refused-not start (before, (number, line)) (Err NoTable) = tt
+refused-not start (before, (number, line)) (Ok (Counted made)) = full-not (has_no_room_for (account_at start before) (standing_at start before) (entries_in made))
+refused-not start (before, (number, line)) (Ok (Put id bytes)) = put-not number (refusal_of id bytes (store_at start before))
+refused-not start (before, (number, line)) (Ok (Saved id bytes)) = tt
+refused-not start (before, (number, line)) (Ok (Polled seconds)) = tt
 refused-not start (before, (number, line)) (Ok Nothing) = tt
 refused-not start (before, (number, line)) (Ok Settled) = tt
 refused-not start (before, (number, line)) (Ok Reopened) = tt
-refused-not start (before, (number, line)) (Ok (Put id bytes)) = tt
-refused-not start (before, (number, line)) (Ok (Saved id bytes)) = tt
-refused-not start (before, (number, line)) (Ok (Polled seconds)) = tt
 
 first-not : (o : Option Exit) (rest : List Exit) → IsNotDone o → IsNotDone (first_among rest) → IsNotDone (first_among (cons_option o rest))
 first-not None rest one others = others
@@ -115,6 +122,6 @@ closing-same start script exit before all =
     by exit all.exit_is ∙ ap (closing_line (account_at start (reads_of script))) (sym all.exit_is)
   where
     by : (e : Exit) → run_exit start script ≡ e → closing_line (account_at start before) e ≡ closing_line (account_at start (reads_of script)) e
-    by Done is = ap (λ (ps : List Place). end_line (account_of (with_entries start.history (flat_map (entries_at []) ps)))) (sym all.all ∙ done-all start script is)
+    by Done is = ap (λ (ps : List Place). end_line (account_after_all start.account (flat_map (entries_at start.store) ps))) (sym all.all ∙ done-all start script is)
     by Usage is = refl
     by e is = refl

@@ -10,9 +10,9 @@ use Rattle.ras_base.specs.Places.{places, places_behind}
 use Rattle.ras_base.specs.PlacesLemmas.{places-snoc}
 use Rattle.ras_base.specs.Prefix.{IsPrefixOf}
 use Rattle.ras_base.specs.PrefixLemmas.{IsPrefixOf-trans}
-use Rattle.ras_account.specs.Account.{State, account_of}
+use Rattle.ras_account.specs.Account.{State}
 use Rattle.ras_account.specs.Accounts.{IsAccount}
-use Rattle.ras_account.specs.History.{with_entries}
+use Rattle.ras_account.specs.Continued.{account_after_all}
 use Rattle.ras_journal.specs.Recovered.{Recovers}
 use Rattle.ras_texts.specs.Orders.{standing_lines}
 use Rattle.ras_events.specs.Reports.{NumberedLine, Place, entries_at}
@@ -21,19 +21,22 @@ use Rattle.text_laws.specs.QuietLines.{AreQuietLines}
 use Rattle.ras_exit.specs.declared.exit.Exit.{Exit}
 use Rattle.ras_exit.specs.declared.exit.Exit.TheVariants.{Done, Usage}
 use Rattle.ras_run.specs.Output.{output_at}
-use Rattle.ras_run.specs.Places.{Start, account_at}
+use Rattle.ras_run.specs.Moments.{IsBegun, course_at}
+use Rattle.ras_run.specs.Places.{Start, account_at, store_at}
 use Rattle.ras_run.specs.Status.{places_before_refusal}
 use Rattle.ras_exit.specs.Telling.{PrintsPart}
-use Rattle.ras_daemon.specs.Headline.{Headline, StopsRecover, account_with}
+use Rattle.ras_daemon.specs.Headline.{Headline, StopsRecover, account_with, laid_with, last_laid_with}
 use Rattle.ras_daemon.specs.RunOutput.{closing_line, lines_output, output_upto, run_output}
 use Rattle.ras_daemon.specs.RunStatus.{run_exit}
-use Rattle.ras_daemon.specs.Running.{AreAll, AreFirst, AtEnd, AtStart, BetweenLines, InLine, RunMoment, lines_from, outputs}
-use Rattle.ras_daemon.specs.Script.{events_of, is_event, reads_of}
+use Rattle.ras_daemon.specs.Running.{AreAccepted, AreAll, AreFirst, AtEnd, AtLine, AtOpening, AtStart, BetweenLines, OpenMoment, RunMoment, lines_from, outputs}
+use Rattle.ras_daemon.specs.Script.{events_of, is_event, line_after, reads_of}
+use Rattle.ras_daemon.specs.StoreDuring.{KeepsOthers, KeepsRecords, KnownBy, StoreDuring}
 use Rattle.ras_daemon.proofs.CountLemmas.{account-first, count-first, events_among, output-first, tells-last}
 use Rattle.ras_daemon.proofs.EventLemmas.{PrintsEvent, Tells}
 use Rattle.ras_daemon.proofs.ListLemmas.{take-whole}
 use Rattle.ras_daemon.proofs.FirstLinesLemmas.{closing-same, first-before, first-without}
-use Rattle.ras_daemon.proofs.PlaceLemmas.{outputs-snoc}
+use Rattle.ras_daemon.proofs.PlaceLemmas.{first_more, outputs-snoc}
+use Rattle.ras_daemon.proofs.StoreLemmas.{InLine, StoreNow, begun-now, first-kept, kept-during, line-course, none-kept, put-now, store-during, store-first, stored-next, taken-here}
 use Rattle.text_laws.proofs.DoneLemmas.{event_begun, none_done}
 use Rattle.text_laws.proofs.LineLemmas.{end_quiet, standing_quiet}
 use Rattle.ras_daemon.proofs.StopLemmas.{stop_quiet}
@@ -42,7 +45,7 @@ use Rattle.ras_daemon.proofs.StopLemmas.{stop_quiet}
 
 -- the orders that stand at its start
 abbrev at_start : Start → List ℕ
-at_start start = standing_lines (account_of start.history)
+at_start start = standing_lines start.account
 
 joined-twice : (one two three four : List ℕ) → ((one ++ two) ++ three) ++ four ≡ one ++ (two ++ (three ++ four))
 joined-twice one two three four = append_assoc (one ++ two) three four ∙ append_assoc one two (three ++ four)
@@ -98,20 +101,30 @@ behind-here here start lines part = joined-twice here start lines part ∙ ap (�
 pub moment-prints : (clock : Clock) (start : Start) (script : List ℕ) (here left : Left) → (LeftNow clock left → left.out ≡ here.out)
     → RunMoment clock start script here left → PrintsPart (run_output start script) here.out left.out
 moment-prints clock start script here left same (inl now) = ([], begins-start start script [] (at_start start) refl, same now ∙ sym (append-nil here.out))
-moment-prints clock start script here left same (inr (store, inl opening)) = ([], begins-start start script [] (at_start start) refl, opening.text ∙ sym (append-nil here.out))
-moment-prints clock start script here left same (inr (store, inr (account, inl at))) =
+moment-prints clock start script here left same (inr (inl opening)) = ([], begins-start start script [] (at_start start) refl, opening.text ∙ sym (append-nil here.out))
+moment-prints clock start script here left same (inr (inr (account, inl at))) =
     (at.text.part, begins-start start script at.text.part at.text.missing at.text.splits, at.text.is)
-moment-prints clock start script here left same (inr (store, inr (account, inr (inl (inl between))))) = (
+moment-prints clock start script here left same (inr (inr (account, inr (inl (inl between))))) = (
   at_start start ++ outputs start between.before,
   begins-between start script between.before between.first,
   between.text ∙ append_assoc here.out (at_start start) (outputs start between.before),
 )
-moment-prints clock start script here left same (inr (store, inr (account, inr (inl (inr in-line))))) = (
-  (at_start start ++ outputs start in-line.before) ++ in-line.text.part,
-  begins-in start script in-line.before in-line.read in-line.first in-line.text.part in-line.text.missing in-line.text.splits,
-  in-line.text.is ∙ behind-here here.out (at_start start) (outputs start in-line.before) in-line.text.part,
-)
-moment-prints clock start script here left same (inr (store, inr (account, inr (inr end)))) = (
+moment-prints clock start script here left same (inr (inr (account, inr (inl (inr at))))) =
+    by (line-course start at.before at.read (taken-here start script at.before at.rest at.read at.splits at.accepted account) (lines_from start here.out ++ outputs start at.before) left at.course)
+  where
+    by : IsBegun (course_at start (at.before, at.read)) (lines_from start here.out ++ outputs start at.before) left ⊎ InLine start at.before at.read (lines_from start here.out ++ outputs start at.before) left
+        → PrintsPart (run_output start script) here.out left.out
+    by (inl begun) = (
+      at_start start ++ outputs start at.before,
+      begins-between start script at.before (record { rest = at.read ∷ at.rest; splits = at.splits; accepted = at.accepted }),
+      begun.text ∙ append_assoc here.out (at_start start) (outputs start at.before),
+    )
+    by (inr in-line) = (
+      (at_start start ++ outputs start at.before) ++ in-line.text.part,
+      begins-in start script at.before at.read (first_more start script at.before at.rest at.read at.splits at.accepted in-line.accepted) in-line.text.part in-line.text.missing in-line.text.splits,
+      in-line.text.is ∙ behind-here here.out (at_start start) (outputs start at.before) in-line.text.part,
+    )
+moment-prints clock start script here left same (inr (inr (account, inr (inr end)))) = (
   (at_start start ++ outputs start end.before) ++ end.text.part,
   begins-end start script end.before end.exit end.all end.text.part end.text.missing end.text.splits,
   end.text.is ∙ behind-here here.out (at_start start) (outputs start end.before) end.text.part,
@@ -128,57 +141,71 @@ closing-quiet account exit = stop_quiet exit
 module _ (start : Start) (script : List ℕ) (here left : Left) where
   -- by the number of events that are done by what was printed
   headline-by : (printed : List ℕ) (n : ℕ) → left.out ≡ here.out ++ printed → IsPrefixOf printed (run_output start script) → done_count printed ≡ n
-      → Recovers (account_with start script n) left ⊎ Recovers (account_with start script (n + 1)) left
-      → (length (output_upto start script n) < length printed → Recovers (account_with start script (n + 1)) left)
-      → left.store ≡ here.store → Headline start script here left
-  headline-by printed n text begins count recovers acknowledged store = record {
+      → (account : State) → Recovers account left
+      → (account ≡ account_with start script n) ⊎ (account ≡ account_with start script (n + 1))
+      → (length (output_upto start script n) < length printed → account ≡ account_with start script (n + 1))
+      → StoreNow (line_after start script n) (laid_with start script n) left.store
+      → KeepsRecords (last_laid_with start script n) (KnownBy account) (laid_with start script n) → Headline start script here left
+  headline-by printed n text begins count account recovers whole acknowledged store kept = record {
     printed = printed;
     text = text;
     begins = begins;
-    recovers = subst (λ (k : ℕ). Recovers (account_with start script k) left ⊎ Recovers (account_with start script (k + 1)) left) (sym count) recovers;
-    acknowledged = subst (λ (k : ℕ). length (output_upto start script k) < length printed → Recovers (account_with start script (k + 1)) left) (sym count) acknowledged;
-    store = store;
+    account = account;
+    recovers = recovers;
+    whole = subst (λ (k : ℕ). (account ≡ account_with start script k) ⊎ (account ≡ account_with start script (k + 1))) (sym count) whole;
+    acknowledged = subst (λ (k : ℕ). length (output_upto start script k) < length printed → account ≡ account_with start script (k + 1)) (sym count) acknowledged;
+    store = subst (λ (k : ℕ). StoreDuring (line_after start script k) (laid_with start script k) left.store) (sym count) (store-during (line_after start script n) (laid_with start script n) left.store store);
+    kept = subst (λ (k : ℕ). KeepsOthers (line_after start script k) (last_laid_with start script k) (KnownBy account) left.store) (sym count)
+        (kept-during (line_after start script n) (last_laid_with start script n) (KnownBy account) (laid_with start script n) left.store store kept);
   }
 
   -- nothing was printed
-  pub headline-nothing : left.out ≡ here.out → Recovers (account_of start.history) left → left.store ≡ here.store → Headline start script here left
+  pub headline-nothing : left.out ≡ here.out → Recovers start.account left → left.store ≡ start.store → Headline start script here left
   headline-nothing text recovers store =
-      headline-by [] 0 (text ∙ sym (append-nil here.out)) (begins-start start script [] (at_start start) refl) refl (inl recovers) (λ longer. absurd (omega arith)) store
+      headline-by [] 0 (text ∙ sym (append-nil here.out)) (begins-start start script [] (at_start start) refl) refl start.account recovers (inl refl) (λ longer. absurd (omega arith))
+      (inl store) (none-kept start script (KnownBy start.account))
 
-  module _ (account : IsAccount (account_of start.history)) where
+  module _ (account : IsAccount start.account) where
     -- orders that stand at the start
-    pub headline-start : AtStart start here.out left → left.store ≡ here.store → Headline start script here left
-    headline-start at store =
+    pub headline-start : AtStart start here.out left → Headline start script here left
+    headline-start at =
         headline-by at.text.part 0 at.text.is (begins-start start script at.text.part at.text.missing at.text.splits)
-        (none_done (at_start start) at.text.part at.text.missing (standing_quiet (account_of start.history) account) at.text.splits)
-        (inl at.recovers)
+        (none_done (at_start start) at.text.part at.text.missing (standing_quiet start.account account) at.text.splits)
+        start.account at.recovers (inl refl)
         (λ longer. absurd (omega (arith, longer, length-append (at_start start) [], length-append at.text.part at.text.missing, ap (λ (text : List ℕ). length text) at.text.splits)))
-        store
+        (inl at.store) (none-kept start script (KnownBy start.account))
 
-    -- whole lines
-    pub headline-between : BetweenLines start script (lines_from start here.out) left → left.store ≡ here.store → Headline start script here left
-    headline-between between store =
-        let n : ℕ = events_among (places between.before) in
-        let printed : List ℕ = at_start start ++ outputs start between.before in
-        let counted : done_count (printed ++ []) ≡ n + done_count [] = count-first start script between.before between.first account [] in
-        headline-by printed n (between.text ∙ append_assoc here.out (at_start start) (outputs start between.before)) (begins-between start script between.before between.first)
+    -- behind whole lines, with nothing of the next one printed
+    headline-behind : (before : List NumberedLine) → AreFirst start script before → Recovers (account_at start before) left → left.out ≡ lines_from start here.out ++ outputs start before
+        → StoreNow (line_after start script (events_among (places before))) (laid_with start script (events_among (places before))) left.store → Headline start script here left
+    headline-behind before first recovers text store =
+        let n : ℕ = events_among (places before) in
+        let printed : List ℕ = at_start start ++ outputs start before in
+        let counted : done_count (printed ++ []) ≡ n + done_count [] = count-first start script before first account [] in
+        headline-by printed n (text ∙ append_assoc here.out (at_start start) (outputs start before)) (begins-between start script before first)
         (sym (ap done_count (append-nil printed)) ∙ counted ∙ omega arith)
-        (inl (subst (λ (a : State). Recovers a left) (sym (account-first start script between.before between.first account)) between.recovers))
-        (λ longer. absurd (omega (arith, longer, ap (λ (text : List ℕ). length text) (output-first start script between.before between.first account))))
-        store
+        (account_at start before) recovers
+        (inl (sym (account-first start script before first account)))
+        (λ longer. absurd (omega (arith, longer, ap (λ (text : List ℕ). length text) (output-first start script before first account))))
+        store (first-kept start (KnownBy (account_at start before)) script before first account)
+
+    pub headline-between : BetweenLines start script (lines_from start here.out) left → Headline start script here left
+    headline-between between =
+        headline-behind between.before between.first between.recovers between.text (inl (between.store ∙ sym (store-first start script between.before between.first account)))
 
     -- all that the next line prints: these are whole lines
     headline-whole : (before : List NumberedLine) (read : NumberedLine) (part : List ℕ) → AreFirst start script (before ++ read ∷ []) → Recovers (account_at start (before ++ read ∷ [])) left
-        → left.out ≡ (lines_from start here.out ++ outputs start before) ++ part → part ≡ output_at start (before, read) → left.store ≡ here.store → Headline start script here left
+        → left.out ≡ (lines_from start here.out ++ outputs start before) ++ part → part ≡ output_at start (before, read) → left.store ≡ store_at start (before ++ read ∷ []) → Headline start script here left
     headline-whole before read part first recovers text is store =
         headline-between (record {
           before = before ++ read ∷ [];
           first = first;
           recovers = recovers;
+          store = store;
           text = text
               ∙ append_assoc (lines_from start here.out) (outputs start before) part
               ∙ ap (λ (more : List ℕ). lines_from start here.out ++ more) (ap (λ (more : List ℕ). outputs start before ++ more) is ∙ sym (outputs-snoc start before read));
-        }) store
+        })
 
     -- one event more is done once the next line is
     event-more : (before : List NumberedLine) (read : NumberedLine) → is_event (before, read) ≡ true → events_among (places (before ++ read ∷ [])) ≡ events_among (places before) + 1
@@ -190,34 +217,44 @@ module _ (start : Start) (script : List ℕ) (here left : Left) where
     -- a beginning of what the next line prints
     headline-part : (before : List NumberedLine) (read : NumberedLine) (part missing : List ℕ) → AreFirst start script (before ++ read ∷ []) → Recovers (account_at start (before ++ read ∷ [])) left
         → left.out ≡ (lines_from start here.out ++ outputs start before) ++ part → part ++ missing ≡ output_at start (before, read) → 1 ≤ length missing
-        → PrintsEvent start (before, read) → left.store ≡ here.store → Headline start script here left
+        → PrintsEvent start (before, read) → StoreNow (line_after start script (events_among (places before))) (laid_with start script (events_among (places before))) left.store → Headline start script here left
     headline-part before read part missing first recovers text splits some event store =
         let n : ℕ = events_among (places before) in
         let without : AreFirst start script before = first-without start script before read first in
         let none : done_count part ≡ 0 = event_begun event.text part missing read.0 event.quiet (splits ∙ event.printed) some in
-        let more : Recovers (account_with start script (n + 1)) left =
-        subst (λ (a : State). Recovers a left)
-        (sym (account-first start script (before ++ read ∷ []) first account) ∙ ap (account_with start script) (event-more before read event.event)) recovers in
+        let more : account_at start (before ++ read ∷ []) ≡ account_with start script (n + 1) =
+        sym (account-first start script (before ++ read ∷ []) first account) ∙ ap (account_with start script) (event-more before read event.event) in
         headline-by ((at_start start ++ outputs start before) ++ part) n (text ∙ behind-here here.out (at_start start) (outputs start before) part)
         (begins-in start script before read first part missing splits)
         (count-first start script before without account part ∙ omega (arith, none))
-        (inr more) (λ longer. more) store
+        (account_at start (before ++ read ∷ [])) recovers (inr more) (λ longer. more) store
+        (first-kept start (KnownBy (account_at start (before ++ read ∷ []))) script before without account)
 
-    -- a line that is no event prints nothing
-    headline-next : (before : List NumberedLine) (read : NumberedLine) (part missing : List ℕ) → AreFirst start script (before ++ read ∷ []) → Recovers (account_at start (before ++ read ∷ [])) left
-        → left.out ≡ (lines_from start here.out ++ outputs start before) ++ part → part ++ missing ≡ output_at start (before, read) → left.store ≡ here.store
-        → Tells start (before, read) → Headline start script here left
-    headline-next before read part [] first recovers text splits store tells =
-        headline-whole before read part first recovers text (sym (append-nil part) ∙ splits) store
-    headline-next before read part (b ∷ missing) first recovers text splits store (inl event) =
-        headline-part before read part (b ∷ missing) first recovers text splits (omega arith) event store
-    headline-next before read part (b ∷ missing) first recovers text splits store (inr none) =
-        absurd (omega (arith, length-append part (b ∷ missing), ap (λ (more : List ℕ). length more) (splits ∙ none.silent)))
+    module _ (before rest : List NumberedLine) (read : NumberedLine) (splits : before ++ read ∷ rest ≡ reads_of script) (accepted : AreAccepted start before) where
+      -- a line that is no event prints nothing
+      headline-next : (at : InLine start before read (lines_from start here.out ++ outputs start before) left) (missing : List ℕ) → at.text.part ++ missing ≡ output_at start (before, read)
+          → Tells start (before, read) → Headline start script here left
+      headline-next at [] is tells =
+          headline-whole before read at.text.part (first_more start script before rest read splits accepted at.accepted) at.recovers at.text.is (sym (append-nil at.text.part) ∙ is)
+          (at.store ∙ sym (stored-next start script before rest read splits accepted account at.accepted))
+      headline-next at (b ∷ missing) is (inl event) =
+          headline-part before read at.text.part (b ∷ missing) (first_more start script before rest read splits accepted at.accepted) at.recovers at.text.is is (omega arith) event
+          (put-now start script before rest read splits accepted account left.store at.accepted.taken event.event at.store)
+      headline-next at (b ∷ missing) is (inr none) =
+          absurd (omega (arith, length-append at.text.part (b ∷ missing), ap (λ (more : List ℕ). length more) (is ∙ none.silent)))
 
-    pub headline-in : InLine start script (lines_from start here.out) left → left.store ≡ here.store → Headline start script here left
-    headline-in at store =
-        headline-next at.before at.read at.text.part at.text.missing at.first at.recovers at.text.is at.text.splits store
-        (tells-last start script at.before at.read at.first account)
+      headline-in : IsBegun (course_at start (before, read)) (lines_from start here.out ++ outputs start before) left ⊎ InLine start before read (lines_from start here.out ++ outputs start before) left
+          → Headline start script here left
+      headline-in (inl begun) =
+          headline-behind before (record { rest = read ∷ rest; splits = splits; accepted = accepted }) begun.recovers begun.text
+          (begun-now start script before rest read splits accepted account left (lines_from start here.out ++ outputs start before) begun)
+      headline-in (inr at) =
+          headline-next at at.text.missing at.text.splits (tells-last start script before read (first_more start script before rest read splits accepted at.accepted) account)
+
+    pub headline-line : AtLine start script (lines_from start here.out) left → Headline start script here left
+    headline-line at =
+        headline-in at.before at.rest at.read at.splits at.accepted
+        (line-course start at.before at.read (taken-here start script at.before at.rest at.read at.splits at.accepted account) (lines_from start here.out ++ outputs start at.before) left at.course)
 
     -- no event is behind the last one
     events-all : (exit : Exit) (before : List NumberedLine) → AreAll start script exit before → events_of start script ≡ filter is_event (places before)
@@ -228,7 +265,7 @@ module _ (start : Start) (script : List ℕ) (here left : Left) where
     account-past exit before all =
         let n : ℕ = events_among (places before) in
         let events : List Place = filter is_event (places before) in
-        ap (λ (ps : List Place). account_of (with_entries start.history (flat_map (entries_at []) ps)))
+        ap (λ (ps : List Place). account_after_all start.account (flat_map (entries_at start.store) ps))
         (ap (take (n + 1)) (events-all exit before all)
         ∙ take-whole events (n + 1) (omega arith)
         ∙ sym (take-whole events n (omega arith))
@@ -236,26 +273,31 @@ module _ (start : Start) (script : List ℕ) (here left : Left) where
         ∙ account-first start script before all.first account
 
     -- the last line
-    pub headline-end : AtEnd start script (lines_from start here.out) left → left.store ≡ here.store → Headline start script here left
-    headline-end at store =
+    pub headline-end : AtEnd start script (lines_from start here.out) left → Headline start script here left
+    headline-end at =
         let n : ℕ = events_among (places at.before) in
         let none : done_count at.text.part ≡ 0 = none_done (closing_line (account_at start at.before) at.exit) at.text.part at.text.missing (closing-quiet (account_at start at.before) at.exit) at.text.splits in
         headline-by ((at_start start ++ outputs start at.before) ++ at.text.part) n
         (at.text.is ∙ behind-here here.out (at_start start) (outputs start at.before) at.text.part)
         (begins-end start script at.before at.exit at.all at.text.part at.text.missing at.text.splits)
         (count-first start script at.before at.all.first account at.text.part ∙ omega (arith, none))
-        (inl (subst (λ (a : State). Recovers a left) (sym (account-first start script at.before at.all.first account)) at.recovers))
-        (λ longer. subst (λ (a : State). Recovers a left) (sym (account-past at.exit at.before at.all)) at.recovers)
-        store
+        (account_at start at.before) at.recovers
+        (inl (sym (account-first start script at.before at.all.first account)))
+        (λ longer. sym (account-past at.exit at.before at.all))
+        (inl (at.store ∙ sym (store-first start script at.before at.all.first account)))
+        (first-kept start (KnownBy (account_at start at.before)) script at.before at.all.first account)
 
 -- ---- at every moment
 
+pub headline-since : (start : Start) (script : List ℕ) (here left : Left) → AtOpening start here.out left ⊎ (IsAccount start.account × OpenMoment start script here.out left) → Headline start script here left
+headline-since start script here left (inl opening) = headline-nothing start script here left opening.text opening.recovers opening.store
+headline-since start script here left (inr (account, inl at)) = headline-start start script here left account at
+headline-since start script here left (inr (account, inr (inl (inl between)))) = headline-between start script here left account between
+headline-since start script here left (inr (account, inr (inl (inr at)))) = headline-line start script here left account at
+headline-since start script here left (inr (account, inr (inr end))) = headline-end start script here left account end
+
 pub headline : (clock : Clock) (start : Start) (script : List ℕ) (here left : Left) → StopsRecover start clock
-    → (LeftNow clock left → left.out ≡ here.out) → (LeftNow clock left → left.store ≡ here.store)
+    → (LeftNow clock left → left.out ≡ here.out) → (LeftNow clock left → left.store ≡ start.store)
     → RunMoment clock start script here left → Headline start script here left
 headline clock start script here left stops text store (inl now) = headline-nothing start script here left (text now) (stops left now) (store now)
-headline clock start script here left stops text store (inr (kept, inl opening)) = headline-nothing start script here left opening.text opening.recovers kept
-headline clock start script here left stops text store (inr (kept, inr (account, inl at))) = headline-start start script here left account at kept
-headline clock start script here left stops text store (inr (kept, inr (account, inr (inl (inl between))))) = headline-between start script here left account between kept
-headline clock start script here left stops text store (inr (kept, inr (account, inr (inl (inr at))))) = headline-in start script here left account at kept
-headline clock start script here left stops text store (inr (kept, inr (account, inr (inr end)))) = headline-end start script here left account end kept
+headline clock start script here left stops text store (inr moment) = headline-since start script here left moment

@@ -1,33 +1,30 @@
 -- Two scripts one after the other, and the script that joins them.
-use Rattle.std.proofs.Common.{◌≡◌, ℕ, ◌+◌, List, [], ◌∷◌, ◌++◌, None, Result, Ok, Err, IfOk, refl, sym, ap, ◌∙◌, append-nil, append_assoc, map}
+use Rattle.std.proofs.Common.{◌≡◌, ℕ, ◌+◌, List, [], ◌∷◌, ◌++◌, None, Result, Ok, Err, refl, sym, ap, ◌∙◌, append-nil, append_assoc, map}
 use Rattle.std.specs.List.{enumerate_from, filter_map, flat_map}
+use Rattle.std.specs.Prelude.{IfOk}
 use Rattle.std.proofs.lemmas.List.{map-append}
+use Rattle.std.proofs.lemmas.List.Sums.{fold-append}
 use Rattle.std.proofs.lemmas.List.Elements.{filter_map-append}
 use Rattle.ras_base.specs.Places.{places, places_behind}
 use Rattle.apei_sources.specs.Hest.{Sources}
 use Rattle.ras_facts.specs.declared.entry.Entry.{Entry}
-use Rattle.ras_account.specs.Account.{account_of}
-use Rattle.ras_account.specs.History.{with_entries}
+use Rattle.ras_account.specs.Continued.{account_after, account_after_all}
 use Rattle.ras_script.specs.declared.line.Line.{Line}
 use Rattle.ras_script.specs.declared.line.LineRefused.{LineRefused}
 use Rattle.ras_events.specs.declared.settings.Settings.{Settings}
-use Rattle.ras_events.specs.Events.{event_of, settings_after}
-use Rattle.erst_store.specs.Store.{Stored}
+use Rattle.ras_events.specs.Events.{Lists, event_of, settings_after}
 use Rattle.ras_events.specs.Making.{entries_in}
-use Rattle.ras_events.specs.Stores.{laid, store_after, store_by}
-use Rattle.ras_run.specs.LaterKinds.{IsTaken}
-use Rattle.ras_run.proofs.LaterKindLemmas.{lines-taken}
-use Rattle.ras_script.specs.declared.line.Line.TheVariants as asks
-use Rattle.ras_events.specs.Reports.{NumberedLine, driver_by, entries_at, last_of, made_in, reports, row_by, rows_told, settings_told, sources_by}
+use Rattle.ras_events.specs.Reports.{NumberedLine, driver_by, entries_at, event_at, last_of, made_in, reports, row_by, rows_told, settings_told, sources_by}
+use Rattle.ras_events.specs.Stores.{laid}
 use Rattle.ras_events.proofs.ReportLemmas.{reports-cut, settings-line}
-use Rattle.ras_events.proofs.StoreLemmas.{laid-cut}
-use Rattle.ras_run.specs.LaterKinds.{taken_line}
+use Rattle.ras_run.specs.LaterKinds.{IsTaken, taken_line}
+use Rattle.ras_run.proofs.LaterKindLemmas.{lines-taken}
 use Rattle.ras_run.specs.Places.{Start}
 use Rattle.ras_daemon.specs.Headline.{account_with, reported}
 use Rattle.ras_daemon.specs.Runs.{AreJoined, Follows, IsTakenWhole, event_count}
-use Rattle.ras_events.specs.Events.{Lists, no_settings}
+use Rattle.ras_events.specs.Events.{no_settings}
 use Rattle.ras_daemon.specs.Script.{reads_in, reads_of}
-use Rattle.ras_daemon.proofs.HistoryLemmas.{with_entries-append}
+use Rattle.ras_daemon.proofs.EventLemmas.{made-plain, place-plain}
 use Rattle.ras_daemon.proofs.RunLawLemmas.{by-events, reported-all, reports-none, taken-events}
 
 -- what a line asks for, or why it can't be read
@@ -92,47 +89,20 @@ settings-untold before others none = λ i. record { topology = rows i; sources =
         ∙ ap (λ (xs : List Lists). filter_map driver_by before ++ xs) (none-last (filter_map driver_by others) (ap (λ (s : Settings). s.driver) none))
         ∙ append-nil (filter_map driver_by before)
 
--- ---- the store, which no line that is taken changes
-
-line-lays-none : (line : Line) → IsTaken line → store_by [] line ≡ []
-line-lays-none asks.Nothing taken = refl
-line-lays-none (asks.Row row) taken = refl
-line-lays-none (asks.Table table) taken = refl
-line-lays-none (asks.Report report) taken = refl
-line-lays-none (asks.Entry entry) taken = refl
-line-lays-none (asks.Put id bytes) taken = absurd taken
-line-lays-none (asks.Panic id bank) taken = absurd taken
-line-lays-none (asks.Poll seconds) taken = refl
-line-lays-none asks.Restart taken = refl
-
-read-lays-none : (k : ℕ) (read : ReadLine) → IfOk read IsTaken → store_after [] (k, read) ≡ []
-read-lays-none k (Ok line) taken = line-lays-none line taken
-read-lays-none k (Err why) taken = refl
-
-lines-lay-none : (k : ℕ) (lines : List (List ℕ)) → laid [] (enumerate_from k (map taken_line lines)) ≡ []
-lines-lay-none k [] = refl
-lines-lay-none k (line ∷ lines) =
-    ap (λ (store : List Stored). laid store (enumerate_from (k + 1) (map taken_line lines))) (read-lays-none k (taken_line line) (lines-taken line))
-    ∙ lines-lay-none (k + 1) lines
-
--- a line lays the same whatever its number is
-laid-line-same : (one other : List NumberedLine) (k m : ℕ) (read : ReadLine) → laid [] one ≡ laid [] other → laid [] (one ++ (k, read) ∷ []) ≡ laid [] (other ++ (m, read) ∷ [])
-laid-line-same one other k m (Ok line) same = laid-cut [] one ((k, Ok line) ∷ []) ∙ ap (λ (store : List Stored). store_by store line) same ∙ sym (laid-cut [] other ((m, Ok line) ∷ []))
-laid-line-same one other k m (Err why) same = laid-cut [] one ((k, Err why) ∷ []) ∙ same ∙ sym (laid-cut [] other ((m, Err why) ∷ []))
-
 -- ---- what lines report
 
-entries-line : (one other : List NumberedLine) (k m : ℕ) (read : ReadLine) → settings_told one ≡ settings_told other → laid [] one ≡ laid [] other
-    → entries_at [] (one, (k, read)) ≡ entries_at [] (other, (m, read))
-entries-line one other k m (Ok line) same store = λ i. entries_in (made_in (same i).topology (store i) (event_of (same i) line))
-entries-line one other k m (Err why) same store = refl
+entries-line : (one other : List NumberedLine) (k m : ℕ) (read : ReadLine) → IfOk read IsTaken → settings_told one ≡ settings_told other → entries_at [] (one, (k, read)) ≡ entries_at [] (other, (m, read))
+entries-line one other k m (Ok line) taken same =
+    ap (λ (s : Settings). entries_in (made_in s.topology (laid [] one) (event_of s line))) same
+    ∙ ap entries_in (made-plain (settings_told other).topology (laid [] one) (laid [] other) (event_at (other, (m, Ok line))) (place-plain other (m, Ok line) taken))
+entries-line one other k m (Err why) taken same = refl
 
-entries-same : (one other : List NumberedLine) (k m : ℕ) (xs : List ReadLine) → settings_told one ≡ settings_told other → laid [] one ≡ laid [] other
-    → flat_map (entries_at []) (places_behind one (enumerate_from k xs)) ≡ flat_map (entries_at []) (places_behind other (enumerate_from m xs))
-entries-same one other k m [] same store = refl
-entries-same one other k m (x ∷ xs) same store = λ i.
-    entries-line one other k m x same store i
-    ++ entries-same (one ++ (k, x) ∷ []) (other ++ (m, x) ∷ []) (k + 1) (m + 1) xs (settings-line-same one other k m x same) (laid-line-same one other k m x store) i
+entries-same : (one other : List NumberedLine) (k m : ℕ) (lines : List (List ℕ)) → settings_told one ≡ settings_told other
+    → flat_map (entries_at []) (places_behind one (enumerate_from k (map taken_line lines))) ≡ flat_map (entries_at []) (places_behind other (enumerate_from m (map taken_line lines)))
+entries-same one other k m [] same = refl
+entries-same one other k m (line ∷ lines) same = λ i.
+    entries-line one other k m (taken_line line) (lines-taken line) same i
+    ++ entries-same (one ++ (k, taken_line line) ∷ []) (other ++ (m, taken_line line) ∷ []) (k + 1) (m + 1) lines (settings-line-same one other k m (taken_line line) same) i
 
 -- lines behind others are numbered on
 enumerate-append : {X : Type 0} (n : ℕ) (xs ys : List X) → (m : ℕ) × (enumerate_from n (xs ++ ys) ≡ enumerate_from n xs ++ enumerate_from m ys)
@@ -162,9 +132,6 @@ module _ (one other both : List ℕ) (joined : AreJoined one other both) where
       let last : List NumberedLine = enumerate_from m (map taken_line joined.second) in
       let untold : settings_told (rows ++ first) ≡ settings_told rows =
       settings-untold rows first (settings-same [] [] k 1 (map taken_line joined.first) refl ∙ joined.untold) in
-      let unlaid : laid [] (rows ++ first) ≡ laid [] rows =
-      laid-cut [] rows first ∙ ap (λ (store : List Stored). laid store first) (lines-lay-none 1 joined.rows)
-      ∙ lines-lay-none k joined.first ∙ sym (lines-lay-none 1 joined.rows) in
       let reads : reads_of both ≡ (rows ++ first) ++ last =
       ap (λ (lines : List (List ℕ)). reads_in lines) (joined.both_is ∙ sym (append_assoc joined.rows joined.first joined.second))
       ∙ both_is ∙ ap (λ (xs : List NumberedLine). xs ++ last) one_is in
@@ -173,7 +140,7 @@ module _ (one other both : List ℕ) (joined : AreJoined one other both) where
       let of_other : reports [] (reads_of other) ≡ flat_map (entries_at []) (places_behind rows second) =
       ap (λ (lines : List (List ℕ)). reports [] (reads_in lines)) joined.other_is ∙ ap (λ (xs : List NumberedLine). reports [] xs) other_is ∙ behind-silent rows second joined.silent in
       let of_last : flat_map (entries_at []) (places_behind (rows ++ first) last) ≡ reports [] (reads_of other) =
-      entries-same (rows ++ first) rows m l (map taken_line joined.second) untold unlaid ∙ sym of_other in
+      entries-same (rows ++ first) rows m l joined.second untold ∙ sym of_other in
       ap (λ (xs : List NumberedLine). reports [] xs) reads
       ∙ reports-cut [] (rows ++ first) last
       ∙ (λ i. sym of_one i ++ of_last i)
@@ -181,13 +148,12 @@ module _ (one other both : List ℕ) (joined : AreJoined one other both) where
 -- what a script that is taken whole reports
 reported-whole : (start : Start) (script : List ℕ) → IsTakenWhole start script → reported start script (event_count start script) ≡ reports [] (reads_of script)
 reported-whole start script taken =
-    reported-all start script ∙ ap (flat_map (entries_at [])) (taken-events start script taken) ∙ by-events (entries_at []) reports-none (places (reads_of script))
+    reported-all start script ∙ ap (flat_map (entries_at [])) (taken-events start script taken) ∙ by-events (entries_at []) (reports-none []) (places (reads_of script))
 
 pub account-joined : (start next : Start) (one other both : List ℕ) → AreJoined one other both
     → IsTakenWhole start one → Follows start one (event_count start one) next → IsTakenWhole next other → IsTakenWhole start both
     → account_with next other (event_count next other) ≡ account_with start both (event_count start both)
 account-joined start next one other both joined taken follows then whole =
-    (λ i. account_of (with_entries (follows i) (reported-whole next other then i)))
-    ∙ ap (λ (es : List Entry). account_of (with_entries (with_entries start.history es) (reports [] (reads_of other)))) (reported-whole start one taken)
-    ∙ ap account_of (sym (with_entries-append start.history (reports [] (reads_of one)) (reports [] (reads_of other))))
-    ∙ ap (λ (es : List Entry). account_of (with_entries start.history es)) (sym (reports-joined one other both joined) ∙ sym (reported-whole start both whole))
+    (λ i. account_after_all ((follows ∙ ap (account_after_all start.account) (reported-whole start one taken)) i) (reported-whole next other then i))
+    ∙ sym (fold-append account_after start.account (reports [] (reads_of one)) (reports [] (reads_of other)))
+    ∙ ap (account_after_all start.account) (sym (reports-joined one other both joined) ∙ sym (reported-whole start both whole))

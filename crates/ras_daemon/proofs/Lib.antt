@@ -4,10 +4,13 @@ pub mod LineEndLemmas
 pub mod RunLemmas
 pub mod DidLemmas
 pub mod ListLemmas
+pub mod FewLemmas
+pub mod FewLinksLemmas
 pub mod StopLemmas
 pub mod FirstLinesLemmas
 pub mod EventLemmas
 pub mod CountLemmas
+pub mod StoreLemmas
 pub mod HeadlineLemmas
 pub mod CallLemmas
 pub mod HistoryLemmas
@@ -18,7 +21,6 @@ pub mod ScriptLemmas
 pub mod TakenLemmas
 pub mod SaidLemmas
 pub mod GrowLemmas
-pub mod SameLemmas
 pub mod AgainLemmas
 pub mod CompleteLemmas
 pub mod TellingLemmas

@@ -2,7 +2,8 @@
 use Rattle.std.proofs.Common.{◌≡◌, ℕ, ◌+◌, Bool, true, false, cond, List, [], ◌∷◌, ◌++◌, length, map, Option, None, Some, IfSome, IsSomeAnd, Result, Ok, Err, refl, ap, sym, ◌∙◌, subst, append_assoc, append-nil, length-append, arith, inl, inr, ◌<◌, ◌≤◌, suc}
 use Rattle.std.specs.Prelude.{⊤, ◌⊎◌, is_some}
 use Rattle.board_core.specs.declared.board.DiskCall.{DiskCall}
-use Rattle.board_core.specs.Doing.{Act, GoesWell, Seen, after_acts, broke, calls, went_well}
+use Rattle.board_core.specs.Cause.{Kind}
+use Rattle.board_core.specs.Doing.{Act, Breaks, GoesWell, Seen, after_acts, broke, calls, went_well}
 use Rattle.board_core.specs.Told.{Told}
 use Rattle.board_core.proofs.DoingLemmas.{does_nothing, does_then}
 use Rattle.ras_events.specs.Reports.{NumberedLine, Place, event_at}
@@ -14,25 +15,25 @@ use Rattle.ras_script.specs.SplittingLaws.{script_of}
 use Rattle.ras_script.proofs.LinesLemmas.{line_alone, line_cut}
 use Rattle.std.proofs.lemmas.Grind.{flat_map-append}
 use Rattle.ras_base.specs.Places.{places, places_behind}
-use Rattle.ras_exit.specs.Acts.{DoesBy, ended_with}
+use Rattle.ras_exit.specs.Acts.{DoesBy}
 use Rattle.ras_exit.specs.declared.exit.Exit.{Exit}
 use Rattle.ras_exit.specs.declared.exit.Exit.TheVariants.{Done, SourceFault}
 use Rattle.ras_exit.specs.Endings.{CallEnding, EndsBy, IfAnswered, answered, ending_of, faulted, source_failed, starved}
 use Rattle.ras_exit.proofs.EndingLemmas.{on_answer}
 use Rattle.ras_run.specs.declared.run.Run.{Run}
 use Rattle.ras_run.specs.LaterKinds.{taken_line}
-use Rattle.ras_run.specs.LineActs.{AreActsUnless, AreEventActs, AreLineActs}
-use Rattle.ras_run.specs.Places.{Start}
-use Rattle.ras_run.specs.Status.{places_before_refusal, refusal_at}
-use Rattle.ras_run.specs.Taking.{IsAccepted, IsRunAfter, TakesLine}
-use Rattle.ras_daemon.specs.Doing.{DoesFirst, DoesLines, EndsBehind}
-use Rattle.ras_daemon.specs.RunActs.{AreActsAlong, AreLinesActs}
+use Rattle.ras_run.specs.LineActs.{AreActsUnless, AreEventActs, AreLineActs, HoldsAfter, refused_acts}
+use Rattle.ras_run.specs.Places.{IsBoardAfter, Start}
+use Rattle.ras_run.specs.Status.{event_refusal, places_before_refusal, put_refusal, refusal_at}
+use Rattle.ras_run.specs.Taking.{IsRunAfter, MayFail, TakesLine}
+use Rattle.ras_daemon.specs.Doing.{AreAllAsked, AreLinesActs, DoesFirst, DoesLines, IsAsked, MayAsk}
+use Rattle.ras_daemon.specs.RunActs.{AreActsAlong, asked_acts, script_asked}
 use Rattle.ras_daemon.specs.Running.{AreAccepted, AreAll, AreFirst}
 use Rattle.ras_exit.specs.ScriptEnd.{ending_exit}
 use Rattle.ras_daemon.specs.Script.{reads_in, reads_of}
-use Rattle.ras_daemon.proofs.AlongActLemmas.{along-append, along-snoc, along_begun, along_some}
+use Rattle.ras_daemon.proofs.AlongActLemmas.{along-append, along-snoc, along_begun, along_done, along_some}
 use Rattle.ras_daemon.proofs.FirstLinesLemmas.{first-before}
-use Rattle.ras_daemon.proofs.PlaceLemmas.{accepted-snoc, all_read, first_more, line_refused, reads-append, reads_behind}
+use Rattle.ras_daemon.proofs.PlaceLemmas.{accepted-snoc, all_read, first_more, line_refused, none-asked, reads-append, reads_behind, script-asked}
 
 -- lines, and then others with their ending
 abbrev pub with_lines : List (List ℕ) → Lines → Lines
@@ -46,6 +47,7 @@ pub record Taking (start : Start) (script : List ℕ) (t : Told) (number : ℕ) 
   pub lines : script_lines script ≡ with_lines done (lines_to_come reader now)
   pub count : number ≡ length done
   pub after : IsRunAfter start (reads_in done) run
+  pub holds : HoldsAfter start [] t
   pub accepted : AreAccepted start (reads_in done)
   pub acts : List Act
   pub along : AreActsAlong start (places (reads_in done)) t acts
@@ -157,8 +159,8 @@ Took see start script t number reader left run old new =
     (taking : Taking start script t number reader left run) × GoesWell taking.acts (see old) (see new)
 
 pub took_none : {X : Type 0} (see : X → Seen) (start : Start) (script : List ℕ) (t : Told) (reader : Reader) (left : Option (List ℕ)) (run : Run) (x : X) → reader ≡ record { line = []; held = []; taken = 0 }
-    → IsRunAfter start [] run → left ≡ Some script → Took see start script t 0 reader left run x x
-took_none see start script t reader left run x fresh after tells = (
+    → IsRunAfter start [] run → HoldsAfter start [] t → left ≡ Some script → Took see start script t 0 reader left run x x
+took_none see start script t reader left run x fresh after holds tells = (
   record {
     done = [];
     now = script;
@@ -166,6 +168,7 @@ took_none see start script t reader left run x fresh after tells = (
     lines = rw fresh refl;
     count = refl;
     after = after;
+    holds = holds;
     accepted = tt;
     acts = [];
     along = refl;
@@ -234,6 +237,7 @@ module _ (start : Start) (script : List ℕ) (t : Told) (number : ℕ) (reader n
           lines = lines.2;
           count = (let c = taking.count in simp length-append (omega arith));
           after = rw reads-given takes.1;
+          holds = taking.holds;
           accepted = rw reads-given (accepted-snoc start (reads_in taking.done) read_given taking.accepted takes.0);
           acts = taking.acts ++ acts;
           along = rw reads-given (along-snoc start (reads_in taking.done) read_given t taking.acts acts taking.along are);
@@ -251,6 +255,11 @@ module _ (start : Start) (script : List ℕ) (t : Told) (number : ℕ) (reader n
         },
         does_then see taking.acts acts went_well old mid later well tt does,
       )
+
+-- what the board has then is what the lines taken left
+pub board_then : (start : Start) (script : List ℕ) (t : Told) (number : ℕ) (reader : Reader) (left : Option (List ℕ)) (run : Run) (taking : Taking start script t number reader left run)
+    → IsBoardAfter start (reads_in taking.done) (after_acts taking.acts t)
+board_then start script t number reader left run taking = (along_done start [] (reads_in taking.done) t taking.acts taking.accepted taking.holds taking.along).board
 
 -- ---- where a run ends among its lines
 
@@ -270,16 +279,29 @@ left_nil : {A : Type 0} (xs ys : List A) → xs ++ ys ≡ [] → xs ≡ []
 left_nil [] ys is = refl
 left_nil (x ∷ xs) ys is = absurd cc
 
--- a refused line does nothing
-refused_none : (refusal : Option Exit) (exit : Exit) (Are : List Act → Type 0) (acts : List Act) → refusal ≡ Some exit → AreActsUnless refusal Are acts → acts ≡ []
-refused_none refusal exit Are acts is are = let there : AreActsUnless (Some exit) Are acts = subst (λ (o : Option Exit). AreActsUnless o Are acts) is are in there
+-- a refused line does what is asked of the record store, if it puts a record
+refused_are : (refusal : Option Exit) (exit : Exit) (refused : List Act) (Are : List Act → Type 0) (acts : List Act) → refusal ≡ Some exit → AreActsUnless refusal refused Are acts → acts ≡ refused
+refused_are refusal exit refused Are acts is are = let there : AreActsUnless (Some exit) refused Are acts = subst (λ (o : Option Exit). AreActsUnless o refused Are acts) is are in there
+
+some_is : (refusal : Option Exit) (exit : Exit) → refusal ≡ Some exit → is_some refusal ≡ true
+some_is refusal exit is = ap (λ (o : Option Exit). is_some o) is
 
 module _ {X : Type 0} (see : X → Seen) (start : Start) (script : List ℕ) (t : Told) (before rest : List NumberedLine) (read : NumberedLine) (splits : before ++ read ∷ rest ≡ reads_of script) (accepted : AreAccepted start before)
     (acts line : List Act) (along : AreActsAlong start (places before) t acts) (are : AreLineActs start (before, read) (after_acts acts t) line) (old mid new : X) (well : GoesWell acts (see old) (see mid)) where
   abbrev first_here : AreFirst start script before
   first_here = record { rest = read ∷ rest; splits = splits; accepted = accepted }
 
-  -- a line of which some disk calls were made is one of those before the first refused one
+  -- a refused line does what it asks
+  abbrev line_asks : (exit : Exit) → refusal_at start (before, read) ≡ Some exit → IsAsked start script before line
+  line_asks exit refused = record {
+    read = read;
+    rest = rest;
+    splits = splits;
+    refused = some_is (refusal_at start (before, read)) exit refused;
+    is = refused_are (refusal_at start (before, read)) exit (refused_acts (event_at (before, read))) (AreEventActs start (before, read) (after_acts acts t) (event_at (before, read))) line refused are;
+  }
+
+  -- a line of which some disk calls were made is one of those up to the first refused one
   part_of : (made : List DiskCall) (later : List Act) → map calls made ++ later ≡ line → (more : List Act) × AreLinesActs start script t ((acts ++ map calls made) ++ more)
   part_of made later is = by (refusal_at start (before, read)) refl
     where
@@ -289,46 +311,75 @@ module _ {X : Type 0} (see : X → Seen) (start : Start) (script : List ℕ) (t 
           let others = along_some start behind (after_acts line (after_acts acts t)) in
           let whole : AreActsAlong start ((before, read) ∷ behind) (after_acts acts t) (line ++ others.0) = (line, others.0, refl, are, others.1) in
           let there : places_before_refusal start (places (reads_of script)) ≡ places before ++ (before, read) ∷ behind =
-          first-before start script before first_here ∙ ap (λ (o : Option Exit). places before ++ cond (is_some o) [] ((before, read) ∷ behind)) taken in (
-            later ++ others.0,
-            rw there (subst (AreActsAlong start (places before ++ (before, read) ∷ behind) t)
-                (ap (λ more. acts ++ (more ++ others.0)) (sym is) ∙ ap (λ more. acts ++ more) (append_assoc (map calls made) later others.0) ∙ sym (append_assoc acts (map calls made) (later ++ others.0)))
-                (along-append start (places before) ((before, read) ∷ behind) t acts (line ++ others.0) along whole)),
+          first-before start script before first_here ∙ ap (λ (o : Option Exit). places before ++ cond (is_some o) [] ((before, read) ∷ behind)) taken in
+          let asked : List Act = script_asked start script in
+          let made_acts : List Act = map calls made in (
+            later ++ (others.0 ++ asked),
+            record {
+              along = acts ++ (line ++ others.0);
+              lines = rw there (along-append start (places before) ((before, read) ∷ behind) t acts (line ++ others.0) along whole);
+              is = append_assoc acts made_acts (later ++ (others.0 ++ asked))
+                  ∙ ap (λ more. acts ++ more) (sym (append_assoc made_acts later (others.0 ++ asked)) ∙ ap (λ more. more ++ (others.0 ++ asked)) is ∙ sym (append_assoc line others.0 asked))
+                  ∙ sym (append_assoc acts (line ++ others.0) asked);
+            },
           )
-      by (Some why) refused =
-          let none : map calls made ++ later ≡ [] = is ∙ refused_none (refusal_at start (before, read)) why (AreEventActs start (before, read) (after_acts acts t) (event_at (before, read))) line refused are in
-          let begun = along_begun start script before t acts first_here along in
-          (begun.0, rw (left_nil (map calls made) later none, append-nil) begun.1)
+      by (Some exit) refused = (
+        later,
+        record {
+          along = acts;
+          lines = subst (λ (ps : List Place). AreActsAlong start ps t acts) (sym (line_refused start script before rest read exit splits accepted refused).all) along;
+          is = append_assoc acts (map calls made) later ∙ ap (λ more. acts ++ more) (is ∙ (line_asks exit refused).is ∙ sym (script-asked start script before rest read exit splits accepted refused));
+        },
+      )
 
   pub stopped : (exit : Exit) (run : Run) → TakesLine start (before, read) (Err exit) run → DoesBy see line (ending_of exit) mid new → DoesLines see start script t (Err exit) run old new
   stopped exit run takes does = by (ending_of exit) refl takes does
     where
-      behind : (ending : CallEnding) → ending_of exit ≡ ending → (lines : List NumberedLine) (made : List Act) → AreFirst start script lines → AreActsAlong start (places lines) t made
-          → DoesFirst see (AreLinesActs start script t) made ending old new → IfAnswered ending (AreAll start script exit lines) → DoesLines see start script t (Err exit) run old new
-      behind ending is lines made first are does all = record {
+      behind : (ending : CallEnding) → ending_of exit ≡ ending → (lines : List NumberedLine) (made asked : List Act) → AreFirst start script lines → AreActsAlong start (places lines) t made → MayAsk start script lines asked
+          → DoesFirst see (AreLinesActs start script t) (made ++ asked) ending old new → IfAnswered ending (AreAllAsked start script exit lines asked) → DoesLines see start script t (Err exit) run old new
+      behind ending is lines made asked first are asks does all = record {
         before = lines;
         first = first;
         acts = made;
         along = are;
-        does = subst (λ (e : CallEnding). DoesFirst see (AreLinesActs start script t) made e old new) (sym is) does;
-        ends = subst (λ (e : CallEnding). IfAnswered e (AreAll start script exit lines)) (sym is) all;
+        asked = asked;
+        asks = asks;
+        does = subst (λ (e : CallEnding). DoesFirst see (AreLinesActs start script t) (made ++ asked) e old new) (sym is) does;
+        ends = subst (λ (e : CallEnding). IfAnswered e (AreAllAsked start script exit lines asked)) (sym is) all;
       }
 
-      by : (ending : CallEnding) → ending_of exit ≡ ending → EndsBy (refusal_at start (before, read) ≡ Some exit) ⊤ (λ kind. IsAccepted start (before, read)) ending → DoesBy see line ending mid new
+      fails : (kind : Kind) → ending_of exit ≡ faulted kind → MayFail start (before, read) kind → DoesBy see line (faulted kind) mid new → DoesLines see start script t (Err exit) run old new
+      fails kind is (inl taken) failed =
+          behind (faulted kind) is (before ++ read ∷ []) (acts ++ line) [] (first_more start script before rest read splits accepted taken) (along-snoc start before read t acts line along are) (inl refl)
+          (subst (λ (l : List Act). Breaks kind l (see old) (see new)) (sym (append-nil (acts ++ line))) (does_then see acts line (broke kind) old mid new well tt failed)) tt
+      fails kind is (inr (own, put)) failed = put_fails (refusal_at start (before, read)) refl
+        where
+          put_fails : (refusal : Option Exit) → refusal_at start (before, read) ≡ refusal → DoesLines see start script t (Err exit) run old new
+          put_fails None taken =
+              let none : put_refusal read.0 (Some put.why) ≡ None =
+              ap (put_refusal read.0) (sym put.refused) ∙ ap (event_refusal start (before, read)) (sym put.event) ∙ taken in absurd cc
+          put_fails (Some why) refused =
+              behind (faulted kind) is before acts line first_here along (inr (line_asks why refused)) (does_then see acts line (broke kind) old mid new well tt failed) tt
+
+      by : (ending : CallEnding) → ending_of exit ≡ ending → EndsBy (refusal_at start (before, read) ≡ Some exit) ⊤ (MayFail start (before, read)) ending → DoesBy see line ending mid new
           → DoesLines see start script t (Err exit) run old new
       by answered is refused done =
-          let none = refused_none (refusal_at start (before, read)) exit (AreEventActs start (before, read) (after_acts acts t) (event_at (before, read))) line refused are in
-          behind answered is before acts first_here along
-          (subst (λ (l : List Act). GoesWell l (see old) (see new)) (ap (λ more. acts ++ more) none ∙ append-nil acts) (does_then see acts line went_well old mid new well tt done))
-          (line_refused start script before rest read exit splits accepted refused)
-      by (faulted kind) is taken failed =
-          behind (faulted kind) is (before ++ read ∷ []) (acts ++ line) (first_more start script before rest read splits accepted taken) (along-snoc start before read t acts line along are)
-          (does_then see acts line (broke kind) old mid new well tt failed) tt
+          behind answered is before acts line first_here along (inr (line_asks exit refused)) (does_then see acts line went_well old mid new well tt done)
+          (record {
+            all = line_refused start script before rest read exit splits accepted refused;
+            is = (line_asks exit refused).is ∙ sym (script-asked start script before rest read exit splits accepted refused);
+          })
+      by (faulted kind) is may failed = fails kind is may failed
       by source_failed is never some = absurd never
       by starved is any some =
           let part = part_of some.made some.later some.splits in
-          behind starved is before acts first_here along
-          (record { made = some.made; later = part.0; are = part.1; does = does_then see acts (map calls some.made) went_well old mid new well tt some.does }) tt
+          behind starved is before acts [] first_here along (inl refl)
+          (record {
+            made = some.made;
+            later = part.0;
+            are = rw append-nil part.1;
+            does = rw append-nil (does_then see acts (map calls some.made) went_well old mid new well tt some.does);
+          }) tt
 
 -- ---- where no line is given
 
@@ -342,32 +393,69 @@ module _ {X : Type 0} (see : X → Seen) (start : Start) (script : List ℕ) (t 
   first_taken : AreFirst start script (reads_in taking.done)
   first_taken = lines_first start script t number reader left run taking
 
-  ends_here : (result : Result (Unit {0}) Exit) → DoesFirst see (AreLinesActs start script t) taking.acts (ended_with result) old new → EndsBehind start script (reads_in taking.done) result run → DoesLines see start script t result run old new
-  ends_here result does ends = record { before = reads_in taking.done; first = first_taken; acts = taking.acts; along = taking.along; does = does; ends = ends }
-
   -- the source failed
   pub took_now : DoesLines see start script t (Err SourceFault) run old new
   took_now =
       let begun = along_begun start script (reads_in taking.done) t taking.acts first_taken taking.along in
-      ends_here (Err SourceFault) (record { made = []; later = begun.0; are = rw append-nil begun.1; does = rw append-nil well }) tt
+      let none : (taking.acts ++ []) ++ [] ≡ taking.acts = append-nil (taking.acts ++ []) ∙ append-nil taking.acts in
+      record {
+        before = reads_in taking.done;
+        first = first_taken;
+        acts = taking.acts;
+        along = taking.along;
+        asked = [];
+        asks = inl refl;
+        does = record {
+          made = [];
+          later = begun.0 ++ script_asked start script;
+          are = record {
+            along = taking.acts ++ begun.0;
+            lines = begun.1;
+            is = ap (λ l. l ++ (begun.0 ++ script_asked start script)) none ∙ sym (append_assoc taking.acts begun.0 (script_asked start script));
+          };
+          does = subst (λ (l : List Act). GoesWell l (see old) (see new)) (sym none) well;
+        };
+        ends = tt;
+      }
+
+  none_behind : GoesWell (taking.acts ++ []) (see old) (see new)
+  none_behind = rw append-nil well
 
   whole_given : (ending : Ending) → lines_to_come reader taking.now ≡ no_line ending → script_lines script ≡ record { whole = taking.done; ending = ending }
   whole_given ending none = taking.lines ∙ ap (with_lines taking.done) none ∙ ap (λ whole. record { whole = whole; ending = ending }) (append-nil taking.done)
 
-  all_given : (ending : Ending) (exit : Exit) → exit ≡ ending_exit number ending → lines_to_come reader taking.now ≡ no_line ending → AreAll start script exit (reads_in taking.done)
-  all_given ending exit is none =
-      subst (λ e. AreAll start script e (reads_in taking.done)) (sym (is ∙ ap (λ n. ending_exit n ending) taking.count))
-      (all_read start script taking.done ending (whole_given ending none) taking.accepted)
+  all_given : (ending : Ending) (exit : Exit) → exit ≡ ending_exit number ending → lines_to_come reader taking.now ≡ no_line ending → AreAllAsked start script exit (reads_in taking.done) []
+  all_given ending exit is none = record {
+    all = subst (λ e. AreAll start script e (reads_in taking.done)) (sym (is ∙ ap (λ n. ending_exit n ending) taking.count))
+        (all_read start script taking.done ending (whole_given ending none) taking.accepted);
+    is = sym (ap (λ (l : Lines). asked_acts start (places (reads_in l.whole))) (whole_given ending none) ∙ none-asked start (places (reads_in taking.done)) taking.accepted);
+  }
 
   -- they end here, in this way
   pub lines_end : (ending : Ending) (exit : Exit) → ending_of exit ≡ answered → exit ≡ ending_exit number ending → lines_to_come reader taking.now ≡ no_line ending → DoesLines see start script t (Err exit) run old new
-  lines_end ending exit answer is none = ends_here (Err exit)
-      (subst (λ (e : CallEnding). DoesFirst see (AreLinesActs start script t) taking.acts e old new) (sym answer) well)
-      (on_answer exit (AreAll start script exit (reads_in taking.done)) (all_given ending exit is none))
+  lines_end ending exit answer is none = record {
+    before = reads_in taking.done;
+    first = first_taken;
+    acts = taking.acts;
+    along = taking.along;
+    asked = [];
+    asks = inl refl;
+    does = subst (λ (e : CallEnding). DoesFirst see (AreLinesActs start script t) (taking.acts ++ []) e old new) (sym answer) none_behind;
+    ends = on_answer exit (AreAllAsked start script exit (reads_in taking.done) []) (all_given ending exit is none);
+  }
 
   -- all of them were taken
   pub all_taken : lines_to_come reader taking.now ≡ no_line script_ended → DoesLines see start script t (Ok tt) run old new
-  all_taken none = ends_here (Ok tt) well (all_given script_ended Done refl none, taking.after)
+  all_taken none = record {
+    before = reads_in taking.done;
+    first = first_taken;
+    acts = taking.acts;
+    along = taking.along;
+    asked = [];
+    asks = inl refl;
+    does = none_behind;
+    ends = (all_given script_ended Done refl none, taking.after);
+  }
 
   -- what the reader said of the lines to come
   pub none_given : (result : Result Bool NextRefused) (other : Reader) (now : Option (List ℕ)) (ending : Ending) → MovesLine result reader other left now → Gave result reader other left now

@@ -16,6 +16,7 @@ use Rattle.mca_status.specs.declared.classes.Class.TheVariants.{Ce as ce_of_bank
 use Rattle.mca_status.specs.declared.classes.ItemClass.TheVariants.{Ce}
 use Rattle.dimm_topology.specs.Labels.{Bytes, same_label}
 use Rattle.page_policy.specs.declared.buckets.Limit.{Limit}
+use Rattle.erst_store.specs.Store.{Stored}
 use Rattle.ras_facts.specs.declared.bank.BankReport.{BankReport}
 use Rattle.ras_facts.specs.declared.entry.Entry.{Entry}
 use Rattle.ras_facts.specs.declared.items.Item.{Item}
@@ -39,11 +40,12 @@ use Rattle.ras_load.specs.Summary.{class_total, weight_of_class}
 use Rattle.ras_load.specs.declared.script.TheConstants.{MOST_LINES}
 use Rattle.ras_load.proofs.FeedLemmas.{lines_whole}
 use Rattle.ras_run.specs.Places.{Start, account_at}
+use Rattle.ras_run.proofs.PlaceLemmas.{account-snoc}
 use Rattle.ras_script.specs.Lines.{Lines}
 use Rattle.ras_daemon.specs.Loading.{load_account, load_start}
 use Rattle.ras_daemon.specs.Script.{reads_in}
 use Rattle.ras_daemon.proofs.LoadRoomLemmas.{entry_of_one, module_with}
-use Rattle.ras_daemon.proofs.LoadTakenLemmas.{AreTaken, account-snoc, asked, banks_more, made_by, nothing_opened, numbered, numbered-snoc, reads_are}
+use Rattle.ras_daemon.proofs.LoadTakenLemmas.{AreTaken, asked, banks_more, made_by, nothing_opened, numbered, numbered-snoc, reads_are}
 
 -- ---- the weight of corrected errors
 
@@ -168,9 +170,9 @@ module _ (before : List NumberedLine) (place i number : ℕ) where
   page = usable_page_of (cap_in bank) (status_in bank) bank.addr (misc_in bank)
 
   -- it makes one entry, which is one corrected error
-  entries_are : entries_at [] (before, (place, asked (Report (Bank bank)))) ≡ entry_of_one (name_of i) (1000 + i) (item_of label page 1) ∷ []
+  entries_are : (store : List Stored) → entries_at store (before, (place, asked (Report (Bank bank)))) ≡ entry_of_one (name_of i) (1000 + i) (item_of label page 1) ∷ []
   unfolding channel_of label page
-  entries_are =
+  entries_are store =
       let below : channel_of number < 4 = mod_below (number / 2 ^ 33 / 1000) 4 (omega arith) in
       ap (λ (class : Option Class). entries_in (made_by bank (bank_item bank (settings_told before).topology) class)) (corrected_is (channel_of number) below)
       ∙ ap (λ weight. entry_of_one (name_of i) (1000 + i) (item_of label page weight) ∷ []) (weight_is (channel_of number) below)
@@ -178,7 +180,7 @@ module _ (before : List NumberedLine) (place i number : ℕ) where
   account_is : (start : Start) → account_at start (before ++ (place, asked (Report (Bank bank))) ∷ []) ≡ account_after (account_at start before) (entry_of_one (name_of i) (1000 + i) (item_of label page 1))
   account_is start =
       account-snoc start before (place, asked (Report (Bank bank)))
-      ∙ ap (λ (entries : List Entry). account_after_all (account_at start before) entries) entries_are
+      ∙ ap (λ (entries : List Entry). account_after_all (account_at start before) entries) (entries_are start.store)
 
 nothing_counted : IsCounted 0 (account_of empty)
 nothing_counted = record {

@@ -1,10 +1,12 @@
 -- The account of a run over a script that is made up, which begins over empty files.
 use Rattle.std.proofs.Common.{◌≡◌, ℕ, List, [], Ok, IfOk, refl, sym, ap, ◌∙◌, subst}
 use Rattle.std.specs.List.{flat_map}
+use Rattle.board_core.specs.Stop.{Left}
 use Rattle.board_core.specs.Told.{Told}
 use Rattle.ras_account.specs.Account.{State, account_of}
-use Rattle.ras_account.specs.History.{History, empty, with_entries}
-use Rattle.ras_events.specs.Reports.{Place, entries_at}
+use Rattle.ras_account.specs.Continued.{account_after_all}
+use Rattle.ras_account.specs.History.{empty}
+use Rattle.ras_events.specs.Reports.{Place, entries_at, reports}
 use Rattle.ras_exit.specs.declared.exit.Exit.{Exit}
 use Rattle.ras_exit.specs.declared.exit.Exit.TheVariants.{Done}
 use Rattle.ras_journal.specs.File.{front_of}
@@ -26,20 +28,20 @@ nothing_recovered = record { is = refl }
 done_account : (start : Start) (script : List ℕ) (old now : Told) → RunEnds start script Done old.here.out now → recovered now.here.file0 now.here.file1 ≡ Ok (account_at start (reads_of script))
 done_account start script old now ends =
     ends.recovers.is
-    ∙ ap (λ (ps : List Place). Ok (account_of (with_entries start.history (flat_map (entries_at []) ps)))) (sym ends.all.all ∙ done-all start script ends.all.exit_is)
+    ∙ ap (λ (ps : List Place). Ok (account_after_all start.account (flat_map (entries_at start.store) ps))) (sym ends.all.all ∙ done-all start script ends.all.exit_is)
 
 -- what a run over the script leaves in files that were empty, if it is done
 load_recovered : (n : ℕ) (script : List ℕ) (exit : Exit) (old now : Told) → script ≡ load_script n → old.here ≡ nothing_there → exit ≡ Done
-    → ((history : History) → Recovers (account_of history) old.here → RunEnds (start_of history old.here) script exit old.here.out now)
+    → ((account : State) → Recovers account old.here → RunEnds (start_of account old) script exit old.here.out now)
     → recovered now.here.file0 now.here.file1 ≡ Ok (load_account n)
 load_recovered n script exit old now script_is here_is done runs =
     let starts : Recovers (account_of empty) old.here = subst (Recovers (account_of empty)) (sym here_is) nothing_recovered in
-    done_account (start_of empty old.here) script old now (subst (λ (e : Exit). RunEnds (start_of empty old.here) script e old.here.out now) done (runs empty starts))
-    ∙ (λ i. Ok (account_at (start_of empty (here_is i)) (reads_of (script_is i))))
+    done_account (start_of (account_of empty) old) script old now (subst (λ (e : Exit). RunEnds (start_of (account_of empty) old) script e old.here.out now) done (runs (account_of empty) starts))
+    ∙ (λ i. Ok (account_after_all (account_of empty) (reports (here_is i).store (reads_of (script_is i)))))
 
 -- What is recovered after it is the account of all its lines. This is all that is asked of the run.
 pub load_found : (n : ℕ) (script : List ℕ) (exit : Exit) (old now : Told) (state : State) → script ≡ load_script n → old.here ≡ nothing_there → exit ≡ Done
-    → ((history : History) → Recovers (account_of history) old.here → RunEnds (start_of history old.here) script exit old.here.out now)
+    → ((account : State) → Recovers account old.here → RunEnds (start_of account old) script exit old.here.out now)
     → recovered now.here.file0 now.here.file1 ≡ Ok state → state ≡ load_account n
 load_found n script exit old now state script_is here_is done runs found =
     subst (λ r. IfOk r (λ a. state ≡ a)) (sym found ∙ load_recovered n script exit old now script_is here_is done runs) refl

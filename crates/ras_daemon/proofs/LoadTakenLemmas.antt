@@ -23,10 +23,9 @@ use Rattle.ras_facts.specs.Facts.{bank_item, bank_name, cap_in, status_in}
 use Rattle.ras_facts.specs.Valid.{IsValidFact}
 use Rattle.ras_facts.proofs.BankLemmas.{bank_valid}
 use Rattle.ras_reports.specs.declared.details.Detail.TheVariants.{Bank as bank_detail}
-use Rattle.ras_account.specs.Account.{account_of}
+use Rattle.ras_account.specs.Account.{State}
 use Rattle.ras_account.specs.Continued.{account_after, account_after_all, is_fresh_in}
-use Rattle.ras_account.specs.History.{History}
-use Rattle.ras_account.proofs.AccountLemmas.{account_of-entries}
+use Rattle.ras_account.specs.Numbers.{fresh_entries_in}
 use Rattle.ras_account.proofs.SoundLemmas.{empty-sound}
 use Rattle.ras_journal.specs.declared.standing.Standing.{Standing}
 use Rattle.ras_journal.specs.File.{front_of}
@@ -54,9 +53,9 @@ use Rattle.ras_load.specs.declared.script.TheConstants.{MOST_LINES}
 use Rattle.ras_load.proofs.FeedLemmas.{lines_whole}
 use Rattle.ras_load.proofs.ReadingLemmas.{line_in_range, lines_in_range}
 use Rattle.ras_run.specs.LaterKinds.{is_later, later_kinds, taken_line}
-use Rattle.ras_run.specs.Places.{Start, account_at, has_no_room_for, history_at, lacks_room_for, news_after, standing_at, standing_with_news}
+use Rattle.ras_run.specs.Places.{Start, account_at, has_no_room_for, lacks_room_for, standing_at, standing_with_news}
 use Rattle.ras_run.specs.Status.{refusal_at}
-use Rattle.ras_run.proofs.PlaceLemmas.{history-snoc, standing-snoc}
+use Rattle.ras_run.proofs.PlaceLemmas.{account-snoc, standing-snoc}
 use Rattle.ras_daemon.specs.Loading.{load_start}
 use Rattle.ras_daemon.specs.RunStatus.{first_among, refusal_among, run_exit}
 use Rattle.ras_daemon.specs.Script.{reads_in}
@@ -127,35 +126,35 @@ enumerate-snoc n (y ∷ ys) x =
 pub numbered-snoc : (lines : List Line) (line : Line) → numbered (lines ++ line ∷ []) ≡ numbered lines ++ (1 + length (map asked lines), asked line) ∷ []
 numbered-snoc lines line = ap (enumerate_from 1) (map-append asked lines (line ∷ [])) ∙ enumerate-snoc 1 (map asked lines) (asked line)
 
--- ---- what a report adds after a history
+-- ---- what a report adds after an account
 
-record TakesEntries (k : ℕ) (history : History) (standing : Standing) (entries : List Entry) : Type 0 where
-  pub room : has_no_room_for history standing entries ≡ false
-  pub place : HasPlace (k + 1) (account_after_all (account_of history) entries) (standing_with_news history standing (news_after history entries))
+record TakesEntries (k : ℕ) (account : State) (standing : Standing) (entries : List Entry) : Type 0 where
+  pub room : has_no_room_for account standing entries ≡ false
+  pub place : HasPlace (k + 1) (account_after_all account entries) (standing_with_news account standing (fresh_entries_in account entries))
 
 neither : (a b : Bool) → a ≡ false → b ≡ false → (a || b) ≡ false
 neither true b one other = absurd cc
 neither false b one other = other
 
-takes_none : (k : ℕ) (history : History) (standing : Standing) → k < 50000 → HasPlace k (account_of history) standing → TakesEntries k history standing []
-takes_none k history standing few is = record { room = neither _ false (nothing_past k (account_of history) standing few is) refl; place = wider k (account_of history) standing is }
+takes_none : (k : ℕ) (account : State) (standing : Standing) → k < 50000 → HasPlace k account standing → TakesEntries k account standing []
+takes_none k account standing few is = record { room = neither _ false (nothing_past k account standing few is) refl; place = wider k account standing is }
 
-module _ (k : ℕ) (history : History) (standing : Standing) (name : Name) (seconds : ℕ) (item : Item) (few : k < 50000) (is : HasPlace k (account_of history) standing) (valid : IsValidFact (report_of_one name seconds item)) where
+module _ (k : ℕ) (account : State) (standing : Standing) (name : Name) (seconds : ℕ) (item : Item) (few : k < 50000) (is : HasPlace k account standing) (valid : IsValidFact (report_of_one name seconds item)) where
   abbrev entry : Entry
   entry = entry_of_one name seconds item
 
-  news_room : (fresh : Bool) → lacks_room_for history standing (if fresh then entry ∷ [] else []) ≡ false
-  news_room true = journal_has_room k (account_of history) standing name seconds item few is valid
+  news_room : (fresh : Bool) → lacks_room_for account standing (if fresh then entry ∷ [] else []) ≡ false
+  news_room true = journal_has_room k account standing name seconds item few is valid
   news_room false = refl
 
-  news_place : (fresh : Bool) → HasPlace (k + 1) (account_after (account_of history) entry) (standing_with_news history standing (if fresh then entry ∷ [] else []))
-  news_place true = kept k (account_of history) standing name seconds item few is valid
-  news_place false = stays k (account_of history) standing name seconds item few is valid
+  news_place : (fresh : Bool) → HasPlace (k + 1) (account_after account entry) (standing_with_news account standing (if fresh then entry ∷ [] else []))
+  news_place true = kept k account standing name seconds item few is valid
+  news_place false = stays k account standing name seconds item few is valid
 
-  takes_one : TakesEntries k history standing (entry ∷ [])
+  takes_one : TakesEntries k account standing (entry ∷ [])
   takes_one = record {
-    room = neither _ _ (account_has_room k (account_of history) standing name seconds item few is valid) (news_room (is_fresh_in (account_of history) entry));
-    place = news_place (is_fresh_in (account_of history) entry);
+    room = neither _ _ (account_has_room k account standing name seconds item few is valid) (news_room (is_fresh_in account entry));
+    place = news_place (is_fresh_in account entry);
   }
 
 -- what the report of a bank makes: nothing, or the fact of its one item
@@ -166,11 +165,11 @@ made_by bank item_of class =
     (option_map (λ c. report_of_one (bank_name bank) bank.seconds (item_of c)) class))
     []
 
-takes_made : {C : Type 0} (k : ℕ) (history : History) (standing : Standing) (bank : BankReport) (item_of : C → Item) (class : Option C) → k < 50000 → HasPlace k (account_of history) standing
+takes_made : {C : Type 0} (k : ℕ) (account : State) (standing : Standing) (bank : BankReport) (item_of : C → Item) (class : Option C) → k < 50000 → HasPlace k account standing
     → IfSome (option_map (λ c. report_of_one (bank_name bank) bank.seconds (item_of c)) class) IsValidFact
-    → TakesEntries k history standing (entries_in (made_by bank item_of class))
-takes_made k history standing bank item_of None few is valid = takes_none k history standing few is
-takes_made k history standing bank item_of (Some c) few is valid = takes_one k history standing (bank_name bank) bank.seconds (item_of c) few is valid
+    → TakesEntries k account standing (entries_in (made_by bank item_of class))
+takes_made k account standing bank item_of None few is valid = takes_none k account standing few is
+takes_made k account standing bank item_of (Some c) few is valid = takes_one k account standing (bank_name bank) bank.seconds (item_of c) few is valid
 
 -- ---- the lines so far
 
@@ -186,9 +185,6 @@ pub record AreTaken (start : Start) (k : ℕ) (before : List NumberedLine) : Typ
   pub rows : (settings_told before).topology ≡ machine_rows
   pub place : HasPlace k (account_at start before) (standing_at start before)
 
-pub account-snoc : (start : Start) (before : List NumberedLine) (read : NumberedLine) → account_at start (before ++ read ∷ []) ≡ account_after_all (account_at start before) (entries_at [] (before, read))
-account-snoc start before read = ap account_of (history-snoc start before read) ∙ account_of-entries (history_at start before) (entries_at [] (before, read))
-
 module _ (start : Start) (k : ℕ) (before : List NumberedLine) (number : ℕ) (bank : BankReport) (few : k < 50000) (are : AreTaken start k before) (range : IsBankInRange bank) where
   abbrev read : NumberedLine
   read = (number, Ok (Report (Bank bank)))
@@ -196,10 +192,10 @@ module _ (start : Start) (k : ℕ) (before : List NumberedLine) (number : ℕ) (
   abbrev rows : List RowOf
   rows = (settings_told before).topology
 
-  takes : TakesEntries k (history_at start before) (standing_at start before) (entries_at [] (before, read))
+  takes : TakesEntries k (account_at start before) (standing_at start before) (entries_at start.store (before, read))
   takes =
       let numbers = range.0 in
-      takes_made k (history_at start before) (standing_at start before) bank (bank_item bank rows) (class_of_rows (cap_in bank) (status_in bank)) few are.place
+      takes_made k (account_at start before) (standing_at start before) bank (bank_item bank rows) (class_of_rows (cap_in bank) (status_in bank)) few are.place
       (bank_valid bank rows (numbers.0, range.1, range.2, numbers.1.1.0) numbers.1.0 numbers.1.1.1.1.1.1.0 (subst IsTopology (sym are.rows) machine_is))
 
   not_refused : refusal_at start (before, read) ≡ None
@@ -215,13 +211,13 @@ module _ (start : Start) (k : ℕ) (before : List NumberedLine) (number : ℕ) (
     rows = ap (λ settings. settings.topology) (settings-line before number (Report (Bank bank))) ∙ are.rows;
     place =
         subst (λ account. HasPlace (k + 1) account (standing_at start (before ++ read ∷ []))) (sym (account-snoc start before read))
-        (subst (HasPlace (k + 1) (account_after_all (account_at start before) (entries_at [] (before, read)))) (sym (standing-snoc start before read)) takes.place);
+        (subst (HasPlace (k + 1) (account_after_all (account_at start before) (entries_at start.store (before, read)))) (sym (standing-snoc start before read)) takes.place);
   }
 
-machine_taken : (start : Start) → HasPlace 0 (account_of start.history) start.standing → AreTaken start 0 (numbered machine_lines)
+machine_taken : (start : Start) → HasPlace 0 start.account start.standing → AreTaken start 0 (numbered machine_lines)
 machine_taken start place = record { none = refl; rows = refl; place = place }
 
-pub banks_more : (start : Start) (n : ℕ) → HasPlace 0 (account_of start.history) start.standing → n ≤ MOST_LINES → AreTaken start n (numbered (load_lines n))
+pub banks_more : (start : Start) (n : ℕ) → HasPlace 0 start.account start.standing → n ≤ MOST_LINES → AreTaken start n (numbered (load_lines n))
 unfolding bank_lines
 banks_more start zero place few = machine_taken start place
 banks_more start (suc n) place few =
@@ -234,7 +230,7 @@ banks_more start (suc n) place few =
 
 -- ---- the whole script
 
-pub nothing_opened : HasPlace 0 (account_of load_start.history) load_start.standing
+pub nothing_opened : HasPlace 0 load_start.account load_start.standing
 unfolding position_of journal_of front_of
 nothing_opened = record {
   account = empty-sound;

@@ -5,14 +5,16 @@ use Rattle.std.proofs.lemmas.List.{map-append, length-map}
 use Rattle.std.proofs.lemmas.Grind.{flat_map-append}
 use Rattle.ras_base.specs.Places.{places, places_behind}
 use Rattle.ras_base.specs.PlacesLemmas.{places-snoc, places_behind-append}
-use Rattle.ras_events.specs.Reports.{NumberedLine, Place}
+use Rattle.ras_events.specs.Reports.{NumberedLine, Place, event_at}
 use Rattle.ras_script.specs.Lines.{Ending, Lines, script_lines}
 use Rattle.ras_exit.specs.declared.exit.Exit.{Exit}
 use Rattle.ras_run.specs.LaterKinds.{taken_line}
+use Rattle.ras_run.specs.LineActs.{refused_acts}
 use Rattle.ras_run.specs.Output.{output_at}
 use Rattle.ras_run.specs.Places.{Start}
 use Rattle.ras_run.specs.Status.{places_before_refusal, refusal_at}
 use Rattle.ras_run.specs.Taking.{IsAccepted}
+use Rattle.ras_daemon.specs.RunActs.{asked_acts, script_asked}
 use Rattle.ras_daemon.specs.RunStatus.{refusal_among}
 use Rattle.ras_daemon.specs.Running.{AreAccepted, AreAll, AreFirst, outputs}
 use Rattle.ras_exit.specs.ScriptEnd.{ending_exit, script_exit}
@@ -67,6 +69,22 @@ before-refused start (q ∷ ps) qs p exit all is = rw all.0.taken (ap (λ tail. 
 refusal-first : (start : Start) (ps qs : List Place) (p : Place) (exit : Exit) → AllByRecursion (IsAccepted start) ps → refusal_at start p ≡ Some exit → refusal_among start (ps ++ p ∷ qs) ≡ Some exit
 refusal-first start [] qs p exit all is = rw is refl
 refusal-first start (q ∷ ps) qs p exit all is = rw all.0.taken (refusal-first start ps qs p exit all.1 is)
+
+-- what accepted lines ask, and then a refused one
+pub none-asked : (start : Start) (ps : List Place) → AllByRecursion (IsAccepted start) ps → asked_acts start ps ≡ []
+none-asked start [] all = refl
+none-asked start (p ∷ ps) all = rw all.0.taken (none-asked start ps all.1)
+
+refused-asked : (start : Start) (ps qs : List Place) (p : Place) (exit : Exit) → AllByRecursion (IsAccepted start) ps → refusal_at start p ≡ Some exit → asked_acts start (ps ++ p ∷ qs) ≡ refused_acts (event_at p)
+refused-asked start [] qs p exit all is = rw is refl
+refused-asked start (q ∷ ps) qs p exit all is = rw all.0.taken (refused-asked start ps qs p exit all.1 is)
+
+pub script-asked : (start : Start) (script : List ℕ) (before rest : List NumberedLine) (read : NumberedLine) (exit : Exit) → before ++ read ∷ rest ≡ reads_of script
+    → AreAccepted start before → refusal_at start (before, read) ≡ Some exit → script_asked start script ≡ refused_acts (event_at (before, read))
+script-asked start script before rest read exit splits accepted refused =
+    ap (λ reads. asked_acts start (places reads)) (sym splits)
+    ∙ ap (asked_acts start) (places_behind-append [] before (read ∷ rest))
+    ∙ refused-asked start (places before) (places_behind (before ++ read ∷ []) rest) (before, read) exit accepted refused
 
 -- A script that ends behind these lines.
 pub all_read : (start : Start) (script : List ℕ) (done : List (List ℕ)) (ending : Ending) → script_lines script ≡ record { whole = done; ending = ending }

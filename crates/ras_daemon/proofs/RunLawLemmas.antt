@@ -29,14 +29,19 @@ use Rattle.ras_texts.specs.Orders.{standing_lines}
 use Rattle.ras_events.specs.declared.event.Event.{Event}
 use Rattle.ras_events.specs.declared.event.Event.TheVariants.{Nothing}
 use Rattle.ras_events.specs.declared.event.LineRefusal.{LineRefusal}
-use Rattle.ras_events.specs.Reports.{NumberedLine, Place, entries_at, event_at, made_in, reports, settings_told}
+use Rattle.erst_store.specs.Store.{Stored}
 use Rattle.ras_events.specs.Making.{entries_in}
+use Rattle.ras_events.specs.Preparing.{orders_along_entries}
+use Rattle.ras_events.specs.Reports.{NumberedLine, Place, entries_at, event_at, made_in, reports, settings_told}
 use Rattle.ras_events.specs.Stores.{laid}
 use Rattle.ras_events.specs.Sizes.{IsFact}
 use Rattle.ras_events.specs.Texts.{orders_of_entries}
-use Rattle.ras_events.proofs.HistoryLemmas.{news_behind}
-use Rattle.ras_run.specs.Output.{event_output, output_at}
-use Rattle.ras_run.specs.Places.{Start, account_at, history_at}
+use Rattle.ras_events.proofs.HistoryLemmas.{account_by_history, news_behind, orders_by_history}
+use Rattle.ras_events.proofs.ReportLemmas.{reports-cut}
+use Rattle.ras_account.specs.Continued.{account_after_all}
+use Rattle.ras_account.specs.Numbers.{fresh_entries_in}
+use Rattle.ras_run.specs.Output.{event_done, event_text_at, output_at}
+use Rattle.ras_run.specs.Places.{Start, account_at}
 use Rattle.ras_run.specs.Status.{places_before_refusal, refusal_at}
 use Rattle.ras_account.specs.Modules.{Module, has_tripped}
 use Rattle.ras_account.proofs.ModuleOrderLemmas.{module-orders}
@@ -48,9 +53,9 @@ use Rattle.ras_run.specs.LaterKinds.{taken_line}
 use Rattle.ras_daemon.specs.Headline.{account_with, reported}
 use Rattle.ras_daemon.specs.RunOutput.{closing_line, lines_output, output_upto, run_output}
 use Rattle.ras_daemon.specs.RunStatus.{run_exit}
-use Rattle.ras_daemon.specs.Runs.{CountTheSame, Follows, IsTakenWhole, ReportsFacts, event_count, facts_of, history_after, logged, ordered}
+use Rattle.ras_daemon.specs.Runs.{BeginsWith, CountTheSame, Follows, IsTakenWhole, ReportsFacts, event_count, facts_of, history_after, logged, ordered}
 use Rattle.ras_daemon.specs.Script.{events_of, is_event, reads_of, reads_in}
-use Rattle.ras_daemon.proofs.EventLemmas.{reports-snoc}
+use Rattle.ras_daemon.proofs.EventLemmas.{IsTakenRead, entries-plain, taken-all}
 use Rattle.ras_daemon.proofs.AgainLemmas.{counts-again, facts-again, facts_of-append}
 use Rattle.ras_daemon.proofs.HistoryLemmas.{again-counted, among-own, fresh-once, none-logged, orders-entries, with_entries-append}
 use Rattle.ras_daemon.proofs.ListLemmas.{all-front, flat_map-passing, take-whole}
@@ -60,8 +65,8 @@ use Rattle.ras_daemon.proofs.FirstLinesLemmas.{done-all}
 
 no-event : (p : Place) → is_event p ≡ false → event_at p ≡ Ok Nothing
 no-event (before, (number, Ok asks.Nothing)) is = refl
-no-event (before, (number, Ok line)) is = cc
-no-event (before, (number, Err why)) is = cc
+no-event (before, (number, Ok line)) is = absurd cc
+no-event (before, (number, Err why)) is = absurd cc
 
 all-any : {X : Type 0} (P : X → Type 0) → ((x : X) → P x) → (xs : List X) → AllByRecursion P xs
 all-any P each [] = tt
@@ -71,17 +76,17 @@ all-any P each (x ∷ xs) = (each x, all-any P each xs)
 pub by-events : {Y : Type 0} (f : Place → List Y) → ((p : Place) → is_event p ≡ false → f p ≡ []) → (ps : List Place) → flat_map f (filter is_event ps) ≡ flat_map f ps
 by-events f none ps = flat_map-passing is_event f ps (all-any (λ p. is_event p ≡ false → f p ≡ []) none ps)
 
-pub reports-none : (p : Place) → is_event p ≡ false → entries_at [] p ≡ []
-reports-none p is = ap (λ (event : Result Event LineRefusal). entries_in (made_in (settings_told p.0).topology (laid [] p.0) event)) (no-event p is)
+pub reports-none : (store : List Stored) (p : Place) → is_event p ≡ false → entries_at store p ≡ []
+reports-none store p is = ap (λ (event : Result Event LineRefusal). entries_in (made_in (settings_told p.0).topology (laid store p.0) event)) (no-event p is)
 
 prints-none : (start : Start) (p : Place) → is_event p ≡ false → output_at start p ≡ []
-prints-none start p is = ap (event_output start p) (no-event p is)
+prints-none start p is = ap (λ event. event_text_at start p.0 event ++ event_done p.1.0 event) (no-event p is)
 
 abbrev ordered_at : Start → Place → List Order
-ordered_at start p = orders_of_entries (history_at start p.0) (entries_at [] p)
+ordered_at start p = orders_along_entries (account_at start p.0) (entries_at start.store p)
 
 orders-none : (start : Start) (p : Place) → is_event p ≡ false → ordered_at start p ≡ []
-orders-none start p is = ap (orders_of_entries (history_at start p.0)) (reports-none p is)
+orders-none start p is = ap (orders_along_entries (account_at start p.0)) (reports-none start.store p is)
 
 -- ---- beginnings of lists
 
@@ -106,7 +111,7 @@ before-front start (p ∷ ps) = by (is_some (refusal_at start p)) (before-front 
 
 pub output-begins : (start : Start) (script : List ℕ) (n : ℕ) → IsPrefixOf (output_upto start script n) (run_output start script)
 output-begins start script n =
-    let standing : List ℕ = standing_lines (account_of start.history) in
+    let standing : List ℕ = standing_lines start.account in
     let closing : List ℕ = closing_line (account_at start (reads_of script)) (run_exit start script) in
     let events : List Place = events_of start script in
     let one : List ℕ = flat_map (output_at start) (take n events) in
@@ -120,42 +125,92 @@ output-begins start script n =
           ∙ ap (λ (text : List ℕ). standing ++ text) (sym (append_assoc one other closing) ∙ ap (λ (text : List ℕ). text ++ closing) all),
     )
 
--- ---- what is logged
+-- ---- what is reported needs no record store
 
-pub logs-follow : (start : Start) (script : List ℕ) (n : ℕ) → fresh_entries (history_after start script n) ≡ fresh_entries start.history ++ logged start script n
-logs-follow start script n = news_behind start.history (reported start script n)
+abbrev IsTakenPlace : Place → Type 0
+IsTakenPlace p = IsTakenRead p.1
 
-pub logs-once : (start : Start) (script : List ℕ) (n : ℕ) → IsDistinct same_name (names_of (fresh_entries start.history ++ logged start script n))
-logs-once start script n = subst (λ (es : List Entry). IsDistinct same_name (names_of es)) (logs-follow start script n) (fresh-once (history_after start script n))
+places-taken : (before reads : List NumberedLine) → AllByRecursion IsTakenRead reads → AllByRecursion IsTakenPlace (places_behind before reads)
+places-taken before [] all = tt
+places-taken before (read ∷ reads) all = (all.0, places-taken (before ++ read ∷ []) reads all.1)
+
+all-filter : {X : Type 0} (P : X → Type 0) (p : X → Bool) (xs : List X) → AllByRecursion P xs → AllByRecursion P (filter p xs)
+all-filter P p [] all = tt
+all-filter {X} P p (x ∷ xs) all = by (p x) (all-filter P p xs all.1)
+  where
+    by : (b : Bool) → AllByRecursion P (filter p xs) → AllByRecursion P (if b then x ∷ filter p xs else filter p xs)
+    by true rest = (all.0, rest)
+    by false rest = rest
+
+entries-any : (one other : List Stored) (ps : List Place) → AllByRecursion IsTakenPlace ps → flat_map (entries_at one) ps ≡ flat_map (entries_at other) ps
+entries-any one other [] all = refl
+entries-any one other (p ∷ ps) all = λ i. entries-plain one other p.0 p.1 all.0 i ++ entries-any one other ps all.1 i
+
+all-events : (script : List ℕ) → AllByRecursion IsTakenPlace (filter is_event (places (reads_of script)))
+all-events script = all-filter IsTakenPlace is_event (places (reads_of script)) (places-taken [] (reads_of script) (taken-all script))
+
+events-front : (start : Start) (script : List ℕ) (n : ℕ) → IsPrefixOf (take n (events_of start script)) (filter is_event (places (reads_of script)))
+events-front start script n =
+    let all : List Place = filter is_event (places (reads_of script)) in
+    IsPrefixOf-trans (take n (events_of start script)) (events_of start script) all (prefix-take n (events_of start script))
+    (prefix-filter is_event (places_before_refusal start (places (reads_of script))) (places (reads_of script)) (before-front start (places (reads_of script))))
+
+pub reported-any : (start : Start) (store : List Stored) (script : List ℕ) (n : ℕ) → reported start script n ≡ flat_map (entries_at store) (take n (events_of start script))
+reported-any start store script n =
+    let front = events-front start script n in
+    entries-any start.store store (take n (events_of start script))
+    (all-front IsTakenPlace (take n (events_of start script)) front.0 (subst (AllByRecursion IsTakenPlace) (sym front.1) (all-events script)))
+
+-- ---- the account of a history
+
+module _ (history : History) (start : Start) (is : BeginsWith history start) where
+  pub accounts-follow : (script : List ℕ) (n : ℕ) → account_with start script n ≡ account_of (history_after history start script n)
+  accounts-follow script n =
+      ap (λ (a : State). account_after_all a (reported start script n)) is ∙ account_by_history history (reported start script n)
+
+  -- ---- what is logged
+
+  pub logs-follow : (script : List ℕ) (n : ℕ) → fresh_entries (history_after history start script n) ≡ fresh_entries history ++ logged start script n
+  logs-follow script n =
+      news_behind history (reported start script n)
+      ∙ ap (λ (a : State). fresh_entries history ++ fresh_entries_in a (reported start script n)) (sym is)
+
+  pub logs-once : (script : List ℕ) (n : ℕ) → IsDistinct same_name (names_of (fresh_entries history ++ logged start script n))
+  logs-once script n = subst (λ (es : List Entry). IsDistinct same_name (names_of es)) (logs-follow script n) (fresh-once (history_after history start script n))
 
 -- the events of a script that is taken whole are all of its events
 pub taken-events : (start : Start) (script : List ℕ) → IsTakenWhole start script → events_of start script ≡ filter is_event (places (reads_of script))
 taken-events start script taken = ap (filter is_event) (done-all start script taken)
 
 pub reported-all : (start : Start) (script : List ℕ) → reported start script (event_count start script) ≡ flat_map (entries_at []) (events_of start script)
-reported-all start script = ap (flat_map (entries_at [])) (take-whole (events_of start script) (event_count start script) (omega arith))
+reported-all start script = reported-any start [] script (event_count start script) ∙ ap (flat_map (entries_at [])) (take-whole (events_of start script) (event_count start script) (omega arith))
 
 -- and what any run reports of it is among what these report
 reported-front : (start next : Start) (script : List ℕ) (n : ℕ) → IsTakenWhole start script → IsPrefixOf (reported next script n) (reported start script (event_count start script))
 reported-front start next script n taken =
     let all : List Place = filter is_event (places (reads_of script)) in
-    subst (IsPrefixOf (reported next script n)) (ap (flat_map (entries_at [])) (sym (taken-events start script taken)) ∙ sym (reported-all start script))
-    (prefix-flat_map (entries_at []) (take n (events_of next script)) all
-    (IsPrefixOf-trans (take n (events_of next script)) (events_of next script) all (prefix-take n (events_of next script))
-    (prefix-filter is_event (places_before_refusal next (places (reads_of script))) (places (reads_of script)) (before-front next (places (reads_of script))))))
+    subst (λ (es : List Entry). IsPrefixOf es (reported start script (event_count start script))) (sym (reported-any next [] script n))
+    (subst (IsPrefixOf (flat_map (entries_at []) (take n (events_of next script)))) (ap (flat_map (entries_at [])) (sym (taken-events start script taken)) ∙ sym (reported-all start script))
+    (prefix-flat_map (entries_at []) (take n (events_of next script)) all (events-front next script n)))
 
-pub logs-again : (start next : Start) (script : List ℕ) (n : ℕ) → IsTakenWhole start script → Follows start script (event_count start script) next → names_of (logged next script n) ≡ []
-logs-again start next script n taken follows =
+pub logs-again : (history : History) (start next : Start) (script : List ℕ) (n : ℕ) → BeginsWith history start → IsTakenWhole start script → Follows start script (event_count start script) next → names_of (logged next script n) ≡ []
+logs-again history start next script n is taken follows =
     let all : List Entry = reported start script (event_count start script) in
     let front = reported-front start next script n taken in
     let names : names_of (reported next script n) ++ names_of front.0 ≡ names_of all = sym (names_of-append (reported next script n) front.0) ∙ ap names_of front.1 in
-    none-logged next.history (reported next script n)
-    (subst (λ (h : History). AllByRecursion (λ name. is_among (names_in h) name ≡ true) (names_of (reported next script n))) (sym follows)
-    (all-front (λ name. is_among (names_in (with_entries start.history all)) name ≡ true) (names_of (reported next script n)) (names_of front.0)
-    (subst (AllByRecursion (λ name. is_among (names_in (with_entries start.history all)) name ≡ true)) (sym names) (among-own start.history all))))
+    ap (λ (a : State). names_of (fresh_entries_in a (reported next script n))) (follows ∙ accounts-follow history start is script (event_count start script))
+    ∙ none-logged (with_entries history all) (reported next script n)
+    (all-front (λ name. is_among (names_in (with_entries history all)) name ≡ true) (names_of (reported next script n)) (names_of front.0)
+    (subst (AllByRecursion (λ name. is_among (names_in (with_entries history all)) name ≡ true)) (sym names) (among-own history all)))
 
 -- what a run that follows a stop reports are those again, and the others
-module _ (start next : Start) (script : List ℕ) (n : ℕ) (taken : IsTakenWhole start script) (follows : Follows start script n next) (whole : IsTakenWhole next script) where
+module _ (history : History) (start next : Start) (script : List ℕ) (n : ℕ) (begins : BeginsWith history start) (taken : IsTakenWhole start script) (follows : Follows start script n next) (whole : IsTakenWhole next script) where
+  abbrev stopped : History
+  stopped = with_entries history (reported start script n)
+
+  next-is : next.account ≡ account_of stopped
+  next-is = follows ∙ accounts-follow history start begins script n
+
   all-again : reported next script (event_count next script) ≡ reported start script (event_count start script)
   all-again =
       reported-all next script
@@ -163,48 +218,49 @@ module _ (start next : Start) (script : List ℕ) (n : ℕ) (taken : IsTakenWhol
       ∙ sym (reported-all start script)
 
   account-again : (rest : List Entry) → reported start script n ++ rest ≡ reported start script (event_count start script)
-      → account_with next script (event_count next script) ≡ account_of (with_entries (with_entries start.history (reported start script n)) (reported start script n ++ rest))
+      → account_with next script (event_count next script) ≡ account_of (with_entries stopped (reported start script n ++ rest))
   account-again rest is =
-      (λ i. account_of (with_entries (follows i) (all-again i)))
-      ∙ ap (λ (es : List Entry). account_of (with_entries (with_entries start.history (reported start script n)) es)) (sym is)
+      (λ i. account_after_all (next-is i) ((all-again ∙ sym is) i))
+      ∙ account_by_history stopped (reported start script n ++ rest)
 
   pub resumed-counts : CountTheSame (account_with next script (event_count next script)) (account_with start script (event_count start script))
   resumed-counts =
       let front = reported-front start start script n taken in
       subst (λ (a : State). CountTheSame a (account_with start script (event_count start script))) (sym (account-again front.0 front.1))
-      (subst (λ (es : List Entry). CountTheSame (account_of (with_entries (with_entries start.history (reported start script n)) (reported start script n ++ front.0))) (account_of (with_entries start.history es)))
-      front.1 (counts-again start.history (reported start script n) front.0))
+      (subst (λ (a : State). CountTheSame (account_of (with_entries stopped (reported start script n ++ front.0))) a)
+      (ap (λ (es : List Entry). account_of (with_entries history es)) front.1 ∙ sym (accounts-follow history start begins script (event_count start script)))
+      (counts-again history (reported start script n) front.0))
 
   -- what both runs log
   pub logs-together : facts_of (logged start script n ++ logged next script (event_count next script)) ≡ facts_of (logged start script (event_count start script))
   logs-together =
-      let h : History = start.history in
+      let h : History = history in
       let xs : List Entry = reported start script n in
       let (rest, is) = reported-front start start script n taken in
       let one : List Entry = logged start script n in
       let other : List Entry = logged next script (event_count next script) in
       let all : List Entry = logged start script (event_count start script) in
-      let news : fresh_entries (history_after next script (event_count next script)) ≡ fresh_entries h ++ (one ++ other) =
-      logs-follow next script (event_count next script)
-      ∙ ap (λ (es : List Entry). es ++ other) (ap fresh_entries follows ∙ logs-follow start script n)
+      let later : other ≡ fresh_entries_in (account_of stopped) (xs ++ rest) = (λ i. fresh_entries_in (next-is i) ((all-again ∙ sym is) i)) in
+      let news : fresh_entries (with_entries stopped (xs ++ rest)) ≡ fresh_entries h ++ (one ++ other) =
+      news_behind stopped (xs ++ rest)
+      ∙ (λ i. logs-follow history start begins script n i ++ sym later i)
       ∙ append_assoc (fresh_entries h) one other in
-      let history : history_after next script (event_count next script) ≡ with_entries (with_entries h xs) (xs ++ rest) =
-      (λ i. with_entries (follows i) (all-again i)) ∙ ap (with_entries (with_entries h xs)) (sym is) in
       append_cancel_left (facts_of (fresh_entries h)) (facts_of (one ++ other)) (facts_of all)
       (sym (facts_of-append (fresh_entries h) (one ++ other))
-      ∙ ap facts_of (sym news ∙ ap fresh_entries history)
+      ∙ ap facts_of (sym news)
       ∙ facts-again h xs rest
       ∙ ap (λ (es : List Entry). facts_of (fresh_entries (with_entries h es))) is
-      ∙ ap facts_of (logs-follow start script (event_count start script))
+      ∙ ap facts_of (logs-follow history start begins script (event_count start script))
       ∙ facts_of-append (fresh_entries h) all)
 
   pub resumed-same : ReportsFacts start script → account_with next script (event_count next script) ≡ account_with start script (event_count start script)
   resumed-same facts =
       let front = reported-front start start script n taken in
       account-again front.0 front.1
-      ∙ again-counted start.history (reported start script n) front.0
+      ∙ again-counted history (reported start script n) front.0
       (all-front IsFact (reported start script n) front.0 (subst (AllByRecursion IsFact) (sym front.1) (recursion_from_All IsFact (reported start script (event_count start script)) facts)))
-      ∙ ap (λ (es : List Entry). account_of (with_entries start.history es)) front.1
+      ∙ ap (λ (es : List Entry). account_of (with_entries history es)) front.1
+      ∙ sym (accounts-follow history start begins script (event_count start script))
 
 -- ---- what is ordered
 
@@ -232,68 +288,80 @@ places-front before (read ∷ reads) (p ∷ ps) (rest, is) =
     let more = places-front (before ++ read ∷ []) reads ps (rest, tail) in
     (read ∷ more.0, (λ i. head i ∷ more.1 i))
 
+-- the history that lines leave
+abbrev history_at : History → Start → List NumberedLine → History
+history_at history start before = with_entries history (reports start.store before)
+
 -- orders of lines in order
-module _ (given : History → List Order) (grows : (h : History) (e : Entry) → given (with_entry h e) ≡ given h ++ orders_behind h e) (start : Start) where
+module _ (given : History → List Order) (grows : (h : History) (e : Entry) → given (with_entry h e) ≡ given h ++ orders_behind h e) (history : History) (start : Start) (is : BeginsWith history start) where
+  orders-at : (before : List NumberedLine) (read : NumberedLine) → orders_of_entries (history_at history start before) (entries_at start.store (before, read)) ≡ ordered_at start (before, read)
+  orders-at before read =
+      sym (orders_by_history (history_at history start before) (entries_at start.store (before, read)))
+      ∙ ap (λ (a : State). orders_along_entries a (entries_at start.store (before, read)))
+      (sym (ap (λ (a : State). account_after_all a (reports start.store before)) is ∙ account_by_history history (reports start.store before)))
+
+  reports-snoc : (before : List NumberedLine) (read : NumberedLine) → reports start.store (before ++ read ∷ []) ≡ reports start.store before ++ entries_at start.store (before, read)
+  reports-snoc before read = reports-cut start.store before (read ∷ []) ∙ ap (λ (es : List Entry). reports start.store before ++ es) (append-nil (entries_at start.store (before, read)))
+
   orders-lines : (before reads : List NumberedLine)
-      → given (history_at start (before ++ reads)) ≡ given (history_at start before) ++ flat_map (ordered_at start) (places_behind before reads)
-  orders-lines before [] = ap (λ (xs : List NumberedLine). given (history_at start xs)) (append-nil before) ∙ sym (append-nil (given (history_at start before)))
+      → given (history_at history start (before ++ reads)) ≡ given (history_at history start before) ++ flat_map (ordered_at start) (places_behind before reads)
+  orders-lines before [] = ap (λ (xs : List NumberedLine). given (history_at history start xs)) (append-nil before) ∙ sym (append-nil (given (history_at history start before)))
   orders-lines before (read ∷ reads) =
       let rest : List Order = flat_map (ordered_at start) (places_behind (before ++ read ∷ []) reads) in
-      ap (λ (xs : List NumberedLine). given (history_at start xs)) (sym (append_assoc before (read ∷ []) reads))
+      ap (λ (xs : List NumberedLine). given (history_at history start xs)) (sym (append_assoc before (read ∷ []) reads))
       ∙ orders-lines (before ++ read ∷ []) reads
-      ∙ ap (λ (es : List Entry). given (with_entries start.history es) ++ rest) (reports-snoc before read)
-      ∙ ap (λ (h : History). given h ++ rest) (with_entries-append start.history (reports [] before) (entries_at [] (before, read)))
-      ∙ ap (λ (os : List Order). os ++ rest) (orders-entries given grows (history_at start before) (entries_at [] (before, read)))
-      ∙ append_assoc (given (history_at start before)) (ordered_at start (before, read)) rest
+      ∙ ap (λ (es : List Entry). given (with_entries history es) ++ rest) (reports-snoc before read)
+      ∙ ap (λ (h : History). given h ++ rest) (with_entries-append history (reports start.store before) (entries_at start.store (before, read)))
+      ∙ ap (λ (os : List Order). os ++ rest) (orders-entries given grows (history_at history start before) (entries_at start.store (before, read)) ∙ ap (λ (os : List Order). given (history_at history start before) ++ os) (orders-at before read))
+      ∙ append_assoc (given (history_at history start before)) (ordered_at start (before, read)) rest
 
-  pub given-follow : (script : List ℕ) (n : ℕ) → given (history_after start script n) ≡ given start.history ++ ordered start script n
+  pub given-follow : (script : List ℕ) (n : ℕ) → given (history_after history start script n) ≡ given history ++ ordered start script n
   given-follow script n =
       let all : List Place = places (reads_of script) in
       let (front, begins, passing) = first-passing is_event n (places_before_refusal start all) in
-      let (first, is) = places-front [] (reads_of script) front (IsPrefixOf-trans front (places_before_refusal start all) all begins (before-front start all)) in
-      ap (λ (es : List Entry). given (with_entries start.history es)) (ap (flat_map (entries_at [])) passing ∙ by-events (entries_at []) reports-none front ∙ ap (flat_map (entries_at [])) is)
+      let (first, same) = places-front [] (reads_of script) front (IsPrefixOf-trans front (places_before_refusal start all) all begins (before-front start all)) in
+      ap (λ (es : List Entry). given (with_entries history es)) (ap (flat_map (entries_at start.store)) passing ∙ by-events (entries_at start.store) (reports-none start.store) front ∙ ap (flat_map (entries_at start.store)) same)
       ∙ orders-lines [] first
-      ∙ ap (λ (os : List Order). given start.history ++ os)
-      (ap (flat_map (ordered_at start)) (sym is) ∙ sym (by-events (ordered_at start) (orders-none start) front) ∙ ap (flat_map (ordered_at start)) (sym passing))
+      ∙ ap (λ (os : List Order). given history ++ os)
+      (ap (flat_map (ordered_at start)) (sym same) ∙ sym (by-events (ordered_at start) (orders-none start) front) ∙ ap (flat_map (ordered_at start)) (sym passing))
 
-pub orders-follow : (start : Start) (script : List ℕ) (n : ℕ) → orders (history_after start script n) ≡ orders start.history ++ ordered start script n
-orders-follow start script n = given-follow orders (λ h e. refl) start script n
+module _ (history : History) (start : Start) (is : BeginsWith history start) (script : List ℕ) (n : ℕ) where
+  abbrev after : History
+  after = history_after history start script n
 
-pub page-once : (start : Start) (script : List ℕ) (n page : ℕ) → AreOnceInOrder page (orders_for_page page (orders start.history ++ ordered start script n))
-page-once start script n page =
-    let history : History = history_after start script n in
-    subst (λ (given : List Order). AreOnceInOrder page (orders_for_page page given)) (orders-follow start script n)
-    (subst (AreOnceInOrder page) (sym (page-orders page history)) (once_in_order (reports_of (sightings history)) page))
+  pub orders-follow : orders after ≡ orders history ++ ordered start script n
+  orders-follow = given-follow orders (λ h e. refl) history start is script n
 
-pub module-once : (start : Start) (script : List ℕ) (n : ℕ) (label : Bytes) → HasRow (history_after start script n) label
-    → orders_for_module (module_place (history_after start script n) label) (orders_since_mark start.history ++ ordered start script n)
-    ≡ (if has_tripped (module_errors (history_after start script n) label) then replace_order (history_after start script n) label ∷ [] else [])
-module-once start script n label row =
-    let history : History = history_after start script n in
-    ap (orders_for_module (module_place history label)) (sym (given-follow orders_since_mark (λ h e. refl) start script n))
-    ∙ module-orders history label row
+  pub page-once : (page : ℕ) → AreOnceInOrder page (orders_for_page page (orders history ++ ordered start script n))
+  page-once page =
+      subst (λ (given : List Order). AreOnceInOrder page (orders_for_page page given)) orders-follow
+      (subst (AreOnceInOrder page) (sym (page-orders page after)) (once_in_order (reports_of (sightings after)) page))
 
--- ---- what stands after the orders
+  pub module-once : (label : Bytes) → HasRow after label
+      → orders_for_module (module_place after label) (orders_since_mark history ++ ordered start script n)
+      ≡ (if has_tripped (module_errors after label) then replace_order after label ∷ [] else [])
+  module-once label row =
+      ap (orders_for_module (module_place after label)) (sym (given-follow orders_since_mark (λ h e. refl) history start is script n))
+      ∙ module-orders after label row
 
-pub page-stands : (start : Start) (script : List ℕ) (n page : ℕ)
-    → state_in (account_of (history_after start script n)).pages page ≡ state_under (orders_for_page page (orders start.history ++ ordered start script n))
-page-stands start script n page =
-    let history : History = history_after start script n in
-    state-under (reports_of (sightings history)) page
-    ∙ ap state_under (sym (page-orders page history))
-    ∙ ap (λ (given : List Order). state_under (orders_for_page page given)) (orders-follow start script n)
+  -- ---- what stands after the orders
 
-pub module-stands : (start : Start) (script : List ℕ) (n : ℕ) (label : Bytes) (row : Module)
-    → lookup (same_label label) (account_of (history_after start script n)).modules ≡ Some row
-    → row.replace ≡ has_tripped (module_errors (history_after start script n) label)
-module-stands start script n label row there = by (is_seen history label) (sym (module-row history label) ∙ there)
-  where
-    history : History
-    history = history_after start script n
+  account-is : account_with start script n ≡ account_of after
+  account-is = accounts-follow history start is script n
 
-    by : (b : Bool) → (if b then Some (module_of history label) else None) ≡ Some row → row.replace ≡ has_tripped (module_errors history label)
-    by true is = ap (λ (m : Option Module). option_map_or (λ (m : Module). m.replace) m false) (sym is)
-    by false is = cc
+  pub page-stands : (page : ℕ) → state_in (account_with start script n).pages page ≡ state_under (orders_for_page page (orders history ++ ordered start script n))
+  page-stands page =
+      ap (λ (a : State). state_in a.pages page) account-is
+      ∙ state-under (reports_of (sightings after)) page
+      ∙ ap state_under (sym (page-orders page after))
+      ∙ ap (λ (given : List Order). state_under (orders_for_page page given)) orders-follow
+
+  pub module-stands : (label : Bytes) (row : Module) → lookup (same_label label) (account_with start script n).modules ≡ Some row → row.replace ≡ has_tripped (module_errors after label)
+  module-stands label row there = by (is_seen after label) (sym (module-row after label) ∙ ap (λ (a : State). lookup (same_label label) a.modules) (sym account-is) ∙ there)
+    where
+      by : (b : Bool) → (if b then Some (module_of after label) else None) ≡ Some row → row.replace ≡ has_tripped (module_errors after label)
+      by true is = ap (λ (m : Option Module). option_map_or (λ (m : Module). m.replace) m false) (sym is)
+      by false is = absurd cc
 
 -- ---- lines behind others
 

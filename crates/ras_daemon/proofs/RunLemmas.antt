@@ -16,16 +16,16 @@ use Rattle.board_core.specs.Told.{Relates, Told}
 use Rattle.ras_base.specs.Prefix.{IsPrefixOf}
 use Rattle.ras_account.specs.Account.{State, account_of}
 use Rattle.ras_account.specs.Accounts.{IsAccount}
-use Rattle.ras_account.specs.History.{History, empty}
+use Rattle.ras_account.specs.History.{empty}
 use Rattle.ras_journal.specs.Recovered.{JournalFile, Recovers, Refusal, damaged, journal_of, position_of, recovered, too_long}
 use Rattle.ras_journal.specs.Appending.{Before}
 use Rattle.ras_ledger.specs.declared.ledger.Ledger.{Ledger}
-use Rattle.ras_recover.specs.DiskCalls.{IsReading}
+use Rattle.ras_recover.specs.DiskCalls.{IsBeginning, IsReading, Makes}
 use Rattle.ras_recover.specs.Opening.{Opening, standing_opened}
 use Rattle.ras_recover.specs.OpeningActs.{FailsOpening}
-use Rattle.ras_recover.specs.OpeningCalls.{AfterOpening, AfterRecovery, MakesOpening}
+use Rattle.ras_recover.specs.OpeningCalls.{AfterOpening, AfterRecovery, IsRecovery, MakesOpening}
 use Rattle.ras_recover.specs.Recovering.{file_number}
-use Rattle.ras_recover.proofs.OpeningCallsLemmas.{refused_keeps, told_opened}
+use Rattle.ras_recover.proofs.OpeningCallsLemmas.{refused_keeps, refused_recovers, told_opened}
 use Rattle.ras_exit.specs.declared.exit.Exit.{Exit}
 use Rattle.ras_exit.specs.declared.exit.Exit.TheVariants.{Damaged, DiskFault, NoMemory, TooLong}
 use Rattle.ras_exit.specs.Endings.{CallEnding, EndsBy, IfAnswered, IsCut, OnAnswer, OnlyFault, answered, ending_of, faulted, is_answered, source_failed, starved}
@@ -36,32 +36,29 @@ use Rattle.ras_run.specs.Places.{Start}
 use Rattle.ras_exit.specs.StopLine.{stop_line}
 use Rattle.ras_run.specs.Files.{KeepsFiles, files_refusal, refusal_exit}
 use Rattle.ras_run.specs.Taking.{IsReady, Opens, Prints}
-use Rattle.ras_run.proofs.StandsLemmas.{before_of}
-use Rattle.ras_daemon.specs.Doing.{DoesRun, Ends, TakesScript}
-use Rattle.ras_daemon.specs.Ended.{OverFiles, Refuses, RefusesFiles}
+use Rattle.ras_daemon.specs.Doing.{DoesRun, Ends, Opens as OpensRun, TakesScript}
+use Rattle.ras_daemon.specs.Ended.{AreRefused, EndsRefused, OverFiles, Refuses, RefusesFiles}
 use Rattle.ras_daemon.specs.Headline.{OverRun}
 use Rattle.ras_daemon.specs.RunOutput.{closing_line}
 use Rattle.ras_daemon.specs.RunStatus.{start_of}
 use Rattle.ras_daemon.specs.Running.{EndsIn, IsStart, OpenMoment, RunEnds, RunMoment}
 use Rattle.ras_daemon.specs.declared.word.Task.{Task}
 use Rattle.ras_daemon.specs.declared.word.Task.TheVariants.{Run}
-use Rattle.ras_daemon.proofs.SaidLemmas.{Printed, none_printed, says_printed}
-use Rattle.ras_daemon.proofs.ScriptLemmas.{OpenStop, early_none, takes_runs, takes_stops}
+use Rattle.ras_daemon.proofs.SaidLemmas.{Printed, before_at, says_printed}
+use Rattle.ras_daemon.proofs.ScriptLemmas.{early_none, takes_runs, takes_stops}
 
 -- ---- where source and board tell, and the files hold a history
 
 pub over_run : (P : Start → List ℕ → Told → Type 0) (left : Option (List ℕ)) (told : Option Told)
-    → ((history : History) (script : List ℕ) (t : Told) → left ≡ Some script → told ≡ Some t → Recovers (account_of history) t.here → P (start_of history t.here) script t)
+    → ((account : State) (script : List ℕ) (t : Told) → left ≡ Some script → told ≡ Some t → Recovers account t.here → P (start_of account t) script t)
     → OverRun P (Some Run) left told
 over_run P None told holds = tt
 over_run P (Some script) None holds = tt
-over_run P (Some script) (Some t) holds = λ history recovers. holds history script t refl refl recovers
+over_run P (Some script) (Some t) holds = λ account recovers. holds account script t refl refl recovers
 
-pub over_files : (P : Told → Told → Type 0) (old new : Option Told) (a b : Clock) → LeavesDevice old new a b → ((before now : Told) → old ≡ Some before → new ≡ Some now → P before now)
-    → OverFiles P (Some Run) old new
-over_files P None new a b leaves holds = tt
-over_files P (Some before) None a b leaves holds = absurd leaves.0
-over_files P (Some before) (Some now) a b leaves holds = holds before now refl refl
+pub over_files : (P : Told → Option Told → Type 0) (old new : Option Told) → ((before : Told) → old ≡ Some before → P before new) → OverFiles P (Some Run) old new
+over_files P None new holds = tt
+over_files P (Some before) new holds = holds before refl
 
 ok_same : {A E : Type 0} (x y : A) → ◌≡◌ {A = Result A E} (Ok x) (Ok y) → x ≡ y
 ok_same {A} {E} x y is = ap (λ (r : Result A E). result_unwrap_or r x) is
@@ -78,9 +75,13 @@ none_empty account file0 file1 recovers none = by (journal_of file0 file1) refl
 
 -- ---- the start
 
-pub start_opened : (history : History) (t : Told) (ledger : Ledger) → Recovers (account_of history) t.here → recovered t.here.file0 t.here.file1 ≡ Ok ledger.account.state
-    → ledger.journal.standing ≡ standing_opened t.here.file0 t.here.file1 → IsStart (start_of history t.here) ledger
-start_opened history t ledger recovers opens standing = record { account = ok_same ledger.account.state (account_of history) (sym opens ∙ recovers.is); standing = standing }
+pub start_opened : (account : State) (t u : Told) (ledger : Ledger) → Recovers account t.here → recovered t.here.file0 t.here.file1 ≡ Ok ledger.account.state
+    → ledger.journal.standing ≡ standing_opened t.here.file0 t.here.file1 → AfterOpening t u → IsStart (start_of account t) ledger u
+start_opened account t u ledger recovers opens standing after = record {
+  account = ok_same ledger.account.state account (sym opens ∙ recovers.is);
+  standing = standing;
+  board = record { store = after.store; slow = ap (λ volatile. volatile.slow) after.volatile };
+}
 
 -- what holds where a board tells this
 pub if_told : (P : Told → Type 0) (told : Option Told) (t : Told) → told ≡ Some t → IfSome told P → P t
@@ -101,21 +102,21 @@ told_both P told new t u one two relates = subst (λ n. Relates P (Some t) n) tw
 -- ---- what stops leave
 
 -- while the journal is opened
-pub opening_moments : (history : History) (script : List ℕ) (t : Told) (a b : Clock) → Recovers (account_of history) t.here → Adds (Opening a t.here) a b
-    → Adds (RunMoment a (start_of history t.here) script t.here) a b
-opening_moments history script t a b recovers adds = adds_weaker (Opening a t.here) (RunMoment a (start_of history t.here) script t.here) a b adds (λ left opening. by left opening)
+pub opening_moments : (account : State) (script : List ℕ) (t : Told) (a b : Clock) → Recovers account t.here → Adds (Opening a t.here) a b
+    → Adds (RunMoment a (start_of account t) script t.here) a b
+opening_moments account script t a b recovers adds = adds_weaker (Opening a t.here) (RunMoment a (start_of account t) script t.here) a b adds (λ left opening. by left opening)
   where
-    by : (left : Left) → Opening a t.here left → RunMoment a (start_of history t.here) script t.here left
+    by : (left : Left) → Opening a t.here left → RunMoment a (start_of account t) script t.here left
     by left (inl now) = inl now
     by left (inr formats) =
-        let same : account_of history ≡ account_of empty = none_empty (account_of history) t.here.file0 t.here.file1 recovers.is formats.none in
-        inr (ap (λ (l : Left). l.store) formats.rest, inl (record { recovers = rw same formats.recovers; text = ap (λ (l : Left). l.out) formats.rest }))
+        let same : account ≡ account_of empty = none_empty account t.here.file0 t.here.file1 recovers.is formats.none in
+        inr (inl (record { recovers = rw same formats.recovers; store = ap (λ (l : Left). l.store) formats.rest; text = ap (λ (l : Left). l.out) formats.rest }))
 
 -- and once it is open
-pub opened_moments : (clock : Clock) (start : Start) (script : List ℕ) (t u : Told) (b c : Clock) → IsAccount (account_of start.history) → u.here.out ≡ t.here.out → u.here.store ≡ t.here.store
-    → Adds (OpenStop start script u) b c → Adds (RunMoment clock start script t.here) b c
-opened_moments clock start script t u b c account same store adds = adds_weaker (OpenStop start script u) (RunMoment clock start script t.here) b c adds
-    (λ left both. inr (both.0 ∙ store, inr (account, subst (λ out. OpenMoment start script out left) same both.1)))
+pub opened_moments : (clock : Clock) (start : Start) (script : List ℕ) (t u : Told) (b c : Clock) → IsAccount start.account → u.here.out ≡ t.here.out
+    → Adds (OpenMoment start script u.here.out) b c → Adds (RunMoment clock start script t.here) b c
+opened_moments clock start script t u b c account same adds = adds_weaker (OpenMoment start script u.here.out) (RunMoment clock start script t.here) b c adds
+    (λ left moment. inr (inr (account, subst (λ out. OpenMoment start script out left) same moment)))
 
 -- ---- a journal that isn't opened
 
@@ -137,6 +138,19 @@ cut_is exit cut = by (ending_of exit) cut
     by ending cut = refl
 
 -- ---- files that are refused
+
+-- nothing was printed, and the run was cut short
+pub refuses_cut : (why result : Exit) (before now : Told) → EndsRefused why result → Makes (IsBeginning IsRecovery) before now → IsCut result → Prints [] before now → KeepsFiles before now → Refuses why result before now
+refuses_cut why result before now ends calls cut text keeps = record {
+  ends = ends;
+  calls = calls;
+  tells = record {
+    answers = on_cut result (result ≡ why) cut;
+    begun = ([], (stop_line why, refl), text);
+    whole = on_cut result (now.here.out ≡ before.here.out ++ stop_line why) cut;
+  };
+  files = keeps;
+}
 
 some_same : {A : Type 0} (x y : A) → Some x ≡ Some y → x ≡ y
 some_same x y is = ap (λ o. unwrap_or o x) is
@@ -161,6 +175,34 @@ refused_as held why exit is opens = by (ending_of exit) refl opens
     by (faulted kind) so found = inr (ap is_answered so)
     by starved so found = inr (ap is_answered so)
 
+-- how such a run ends
+disk_failed : (exit : Exit) → ending_of exit ≡ faulted disk_call → exit ≡ DiskFault
+disk_failed DiskFault is = refl
+disk_failed exit is = absurd cc
+
+refused_exits : (held : Result State Refusal) (why exit : Exit) → refusal_exit held ≡ Some why → Opens (Err exit) held → (exit ≡ why) ⊎ ((exit ≡ DiskFault) ⊎ (exit ≡ NoMemory))
+refused_exits held why exit is opens = by (ending_of exit) refl opens
+  where
+    by : (ending : CallEnding) → ending_of exit ≡ ending → EndsBy (refusal_exit held ≡ Some exit) ⊤ (OnlyFault disk_call) ending → (exit ≡ why) ⊎ ((exit ≡ DiskFault) ⊎ (exit ≡ NoMemory))
+    by answered so found = inl (some_same exit why (sym found ∙ is))
+    by source_failed so found = absurd found
+    by (faulted kind) so only = inr (inl (disk_failed exit (so ∙ ap faulted only)))
+    by starved so any = inr (inr (memory_ran_out exit so))
+
+refused_ends : {X : Type 0} (see : X → Seen) (why exit result : Exit) (line : List ℕ) (a b : X) → (exit ≡ why) ⊎ ((exit ≡ DiskFault) ⊎ (exit ≡ NoMemory)) → Ends see exit result line a b → EndsRefused why result
+refused_ends see why exit result line a b found ends = by ends
+  where
+    as_exit : result ≡ exit → (exit ≡ why) ⊎ ((exit ≡ DiskFault) ⊎ (exit ≡ NoMemory)) → EndsRefused why result
+    as_exit is (inl same) = inl (is ∙ same)
+    as_exit is (inr (inl disk)) = inr (inl (is ∙ disk))
+    as_exit is (inr (inr memory)) = inr (inr (inr (is ∙ memory)))
+
+    by : Ends see exit result line a b → EndsRefused why result
+    by (inl (answer, inl said)) = as_exit said.0 found
+    by (inl (answer, inr (inl failed))) = inr (inr (inl failed.0))
+    by (inl (answer, inr (inr short))) = inr (inr (inr short.0))
+    by (inr cut) = as_exit cut.1 found
+
 pub answer_weaker : (result : Exit) (P Q : Type 0) → OnAnswer result P → (P → Q) → OnAnswer result Q
 answer_weaker result P Q holds gives = by (ending_of result) holds
   where
@@ -168,7 +210,7 @@ answer_weaker result P Q holds gives = by (ending_of result) holds
     by answered holds = gives holds
     by ending holds = tt
 
-module _ (why result : Exit) (line : List ℕ) (before mid : Told) (text : Prints [] before mid) (keeps : KeepsFiles before mid) where
+module _ (why result : Exit) (line : List ℕ) (before mid : Told) (ends : EndsRefused why result) (calls : Makes (IsBeginning IsRecovery) before mid) (text : Prints [] before mid) (keeps : KeepsFiles before mid) where
   -- a last line, or a beginning of it
   refuses_printed : (new : Option Told) → line ≡ stop_line why → Relates (Printed why result line) (Some mid) new → IsSomeAnd new (Refuses why result before)
   refuses_printed None same printed = absurd printed
@@ -182,11 +224,13 @@ module _ (why result : Exit) (line : List ℕ) (before mid : Told) (text : Print
           whole = answer_weaker result ((result ≡ why) × (printed.part ≡ line)) (now.here.out ≡ before.here.out ++ stop_line why) printed.answers (λ both. told ∙ ap (λ last. before.here.out ++ last) (both.1 ∙ same));
         };
         files = rw printed.is (record { file0 = keeps.file0; file1 = keeps.file1 });
+        ends = ends;
+        calls = record { made = calls.made; listed = ap (λ (t : Told). t.disk_calls) printed.is ∙ calls.listed; are = calls.are };
       }
 
-pub files_refused : {X : Type 0} (see : X → Seen) (exit result : Exit) (state : State) (before now : Told) (old mid new : X) → (see old).told ≡ Some before → (see new).told ≡ Some now → Relates AfterOpening (see old).told (see mid).told
-    → IfSome (see old).told (λ t. Opens (Err exit) (recovered t.here.file0 t.here.file1)) → Ends see exit result (closing_line state exit) mid new → RefusesFiles (files_refusal before.here) result before now
-files_refused see exit result state before now old mid new one two after opens ends = by (files_refusal before.here) refl
+pub files_refused : {X : Type 0} (see : X → Seen) (exit result : Exit) (state : State) (before : Told) (old mid new : X) → (see old).told ≡ Some before → Relates AfterOpening (see old).told (see mid).told
+    → IfSome (see old).told (λ t. Opens (Err exit) (recovered t.here.file0 t.here.file1)) → Ends see exit result (closing_line state exit) mid new → RefusesFiles (files_refusal before.here) result before (see new).told
+files_refused see exit result state before old mid new one after opens ends = by (files_refusal before.here) refl
   where
     found : (u : Told) × ((see mid).told ≡ Some u) × AfterOpening before u
     found = told_on AfterOpening (see old).told (see mid).told before one after
@@ -197,24 +241,41 @@ files_refused see exit result state before now old mid new one two after opens e
     text : Prints [] before found.0
     text = found.2.text ∙ sym (append-nil before.here.out)
 
-    last : (why : Exit) → refusal_exit held ≡ Some why → KeepsFiles before found.0 → (exit ≡ why) ⊎ IsCut exit → Ends see exit result (closing_line state exit) mid new → IsSomeAnd (see new).told (Refuses why result before)
-    last why is keeps as_found (inr cut) =
-        refuses_printed why result (stop_line why) before found.0 text keeps (see new).told refl
-        (none_printed why result (stop_line why) (Some found.0) (see new).told (on_cut result ((result ≡ why) × ([] ≡ stop_line why)) (rw cut.1 cut.0)) (ap (λ x. (see x).told) cut.2 ∙ found.1))
-    last why is keeps (inr cut) (inl said) = absurd (not_both exit cut said.0)
-    last why is keeps (inl same) (inl said) =
-        refuses_printed why result (closing_line state exit) before found.0 text keeps (see new).told (ap (closing_line state) same ∙ refusal_line held why state is)
+    calls : (w : Refusal) → held ≡ Err w → Makes (IsBeginning IsRecovery) before found.0
+    calls w is =
+        let begun = found.2.calls.are in
+        record { made = found.2.calls.made; listed = found.2.calls.listed; are = record { whole = begun.whole; are = refused_recovers w before.here begun.whole is begun.are; begins = begun.begins } }
+
+    here : Opens (Err exit) held
+    here = if_told (λ t. Opens (Err exit) (recovered t.here.file0 t.here.file1)) (see old).told before one opens
+
+    last : (why : Exit) → refusal_exit held ≡ Some why → Makes (IsBeginning IsRecovery) before found.0 → KeepsFiles before found.0 → (exit ≡ why) ⊎ IsCut exit → Ends see exit result (closing_line state exit) mid new → IsSomeAnd (see new).told (Refuses why result before)
+    last why is made keeps as_found (inr cut) =
+        rw (cut.2, found.1) (refuses_cut why result before found.0 (refused_ends see why exit result (closing_line state exit) mid new (refused_exits held why exit is here) (inr cut)) made (rw cut.1 cut.0) text keeps)
+    last why is made keeps (inr cut) (inl said) = absurd (not_both exit cut said.0)
+    last why is made keeps (inl same) (inl said) =
+        refuses_printed why result (closing_line state exit) before found.0 (refused_ends see why exit result (closing_line state exit) mid new (refused_exits held why exit is here) (inl said)) made text keeps (see new).told (ap (closing_line state) same ∙ refusal_line held why state is)
         (subst (λ (o : Option Told). Relates (Printed why result (closing_line state exit)) o (see new).told) found.1
         (subst (λ (e : Exit). Relates (Printed e result (closing_line state exit)) (see mid).told (see new).told) same (says_printed see exit result (closing_line state exit) mid new said.1)))
 
-    by : (refusal : Option Exit) → files_refusal before.here ≡ refusal → RefusesFiles refusal result before now
+    by : (refusal : Option Exit) → files_refusal before.here ≡ refusal → RefusesFiles refusal result before (see new).told
     by None is = tt
     by (Some why) is =
         let err = refusal_err held why is in
         let kept : KeepsFiles before found.0 = record { file0 = refused_keeps err.0 before found.0 err.1 found.2; file1 = found.2.file1 } in
-        let as_found = refused_as held why exit is (if_told (λ t. Opens (Err exit) (recovered t.here.file0 t.here.file1)) (see old).told before one opens) in
-        let here : IsSomeAnd (Some now) (Refuses why result before) = subst (λ o. IsSomeAnd o (Refuses why result before)) two (last why is kept as_found ends) in
-        here
+        last why is (calls err.0 err.1) kept (refused_as held why exit is here) ends
+
+-- files that are opened aren't refused
+opened_not : (held : Result State Refusal) (account : State) → held ≡ Ok account → refusal_exit held ≡ None
+opened_not held account is = ap (λ (h : Result State Refusal). refusal_exit h) is
+
+pub refused_none : (result : Exit) (before : Told) (new : Option Told) (account : State) → recovered before.here.file0 before.here.file1 ≡ Ok account → RefusesFiles (files_refusal before.here) result before new
+refused_none result before new account is = rw (opened_not (recovered before.here.file0 before.here.file1) account is) tt
+
+pub takes_lines : (told : Option Told) (account : State) → AreRefused told → ((t : Told) → told ≡ Some t → recovered t.here.file0 t.here.file1 ≡ Ok account) → ⊥
+takes_lines None account never is = never
+takes_lines (Some t) account (exit, refused) is =
+    let none : None ≡ Some exit = sym (opened_not (recovered t.here.file0 t.here.file1) account (is t refl)) ∙ refused in cc
 
 -- ---- a run, from what its parts did
 
@@ -237,51 +298,60 @@ recovery_none t = record {
     syncs : List DiskCall
     syncs = Sync Zero ∷ Sync One ∷ []
 
+pub starved_refused : (told : Option Told) → OverFiles (λ before now. RefusesFiles (files_refusal before.here) NoMemory before now) (Some Run) told told
+starved_refused None = tt
+starved_refused (Some t) = by (files_refusal t.here)
+  where
+    by : (refusal : Option Exit) → RefusesFiles refusal NoMemory t (Some t)
+    by None = tt
+    by (Some why) = refuses_cut why NoMemory t t (inr (inr (inr refl))) (recovery_none t).calls refl (sym (append-nil t.here.out)) (record { file0 = refl; file1 = refl })
+
 pub none_called : {X : Type 0} (see : X → Seen) (start : Start) (script : List ℕ) (t : Told) (x : X) → (see x).told ≡ Some t → DoesRun see start script NoMemory t x x
 none_called see start script t x is =
     let opened : AfterOpening t t = told_opened (Some t) (Some t) (recovery_none t) in
     inl (record { cut = tt; told = rw is opened; kept = λ memory. rw is (recovery_none t); fails = λ disk. absurd cc; stops = adds_none (Opening (see x).clock t.here) (see x).clock })
 
 -- the journal wasn't opened
-pub not_opened : {X : Type 0} (see : X → Seen) (history : History) (script : List ℕ) (exit result : Exit) (line : List ℕ) (t : Told) (a b new : X) → (see a).told ≡ Some t → Recovers (account_of history) t.here
+pub not_opened : {X : Type 0} (see : X → Seen) (account : State) (script : List ℕ) (exit result : Exit) (line : List ℕ) (t : Told) (a b new : X) → (see a).told ≡ Some t → Recovers account t.here
     → IfSome (see a).told (λ u. Opens (Err exit) (recovered u.here.file0 u.here.file1)) → Relates AfterOpening (see a).told (see b).told → (exit ≡ NoMemory → Relates AfterRecovery (see a).told (see b).told)
-    → (exit ≡ DiskFault → Relates FailsOpening (see a).told (see b).told) → Adds (Opening (see a).clock t.here) (see a).clock (see b).clock → Ends see exit result line b new → DoesRun see (start_of history t.here) script result t a new
-not_opened see history script exit result line t a b new is recovers opens after kept fails stops ends = by ends
+    → (exit ≡ DiskFault → Relates FailsOpening (see a).told (see b).told) → Adds (Opening (see a).clock t.here) (see a).clock (see b).clock → Ends see exit result line b new → DoesRun see (start_of account t) script result t a new
+not_opened see account script exit result line t a b new is recovers opens after kept fails stops ends = by ends
   where
     cut : IsCutOpening exit
-    cut = cut_opening exit (account_of history) (recovered t.here.file0 t.here.file1) recovers.is (if_told (λ u. Opens (Err exit) (recovered u.here.file0 u.here.file1)) (see a).told t is opens)
+    cut = cut_opening exit account (recovered t.here.file0 t.here.file1) recovers.is (if_told (λ u. Opens (Err exit) (recovered u.here.file0 u.here.file1)) (see a).told t is opens)
 
     some : (P : Told → Told → Type 0) → Relates P (see a).told (see b).told → IsSomeAnd (see b).told (P t)
     some P relates = let found = told_on P (see a).told (see b).told t is relates in rw found.1 found.2
 
-    by : Ends see exit result line b new → DoesRun see (start_of history t.here) script result t a new
+    by : Ends see exit result line b new → DoesRun see (start_of account t) script result t a new
     by (inl said) = absurd (not_both exit (cut_is exit cut) said.0)
     by (inr ended) = rw (ended.1, ended.2) (inl (record { cut = cut; told = some AfterOpening after; kept = λ memory. some AfterRecovery (kept memory); fails = λ disk. some FailsOpening (fails disk); stops = stops }))
 
 -- it was opened
-pub ledger_holds : (start : Start) (ledger : Ledger) (u : Told) (told : Option Told) (clock : Clock) → IsStart start ledger → IsAccount ledger.account.state → Before ledger.journal.standing ledger.account.state u told clock → HoldsAfter start [] u
+pub ledger_holds : (start : Start) (ledger : Ledger) (u : Told) (told : Option Told) (clock : Clock) → IsStart start ledger u → IsAccount ledger.account.state → Before ledger.journal.standing ledger.account.state u told clock → HoldsAfter start [] u
 ledger_holds start ledger u told clock begins account before = record {
   account = subst IsAccount begins.account account;
   at = record { recovers = before.at.recovers ∙ ap Ok begins.account; position = before.at.position ∙ ap Some begins.standing };
+  board = begins.board;
 }
 
-pub was_opened : {X : Type 0} (see : X → Seen) (start : Start) (script : List ℕ) (exit : Exit) (ledger : Ledger) (t : Told) (a b new : X) → (is : (see a).told ≡ Some t) → IsStart start ledger → IsAccount ledger.account.state
-    → (after : Relates AfterOpening (see a).told (see b).told) → Relates MakesOpening (see a).told (see b).told → Adds (Opening (see a).clock t.here) (see a).clock (see b).clock → IsReady ledger (see b).told (see b).clock
-    → TakesScript see start script (told_on AfterOpening (see a).told (see b).told t is after).0 exit b new → DoesRun see start script exit t a new
-was_opened see start script exit ledger t a b new is begins account after makes stops ready takes =
+pub was_opened : {X : Type 0} (see : X → Seen) (start : Start) (script : List ℕ) (exit : Exit) (ledger : Ledger) (t : Told) (a b new : X) → (is : (see a).told ≡ Some t)
+    → (after : Relates AfterOpening (see a).told (see b).told) → IsStart start ledger (told_on AfterOpening (see a).told (see b).told t is after).0 → IsAccount ledger.account.state
+    → Relates MakesOpening (see a).told (see b).told → Adds (Opening (see a).clock t.here) (see a).clock (see b).clock → IsReady ledger (see b).told (see b).clock
+    → TakesScript see start script (told_on AfterOpening (see a).told (see b).told t is after).0 exit b new → OpensRun see start script exit t a new
+was_opened see start script exit ledger t a b new is after begins account makes stops ready takes =
     let found = told_on AfterOpening (see a).told (see b).told t is after in
-    let before = before_of ledger.journal.standing ledger.account.state (see b).told (see b).clock found.0 ready.stands found.1 in
-    inr (record {
+    let before = before_at ledger.journal.standing ledger.account.state (see b).told (see b).clock found.0 ready.stands found.1 in
+    record {
       mid = b;
       there = found.0;
       makes = told_both MakesOpening (see a).told (see b).told t found.0 is found.1 makes;
       text = found.2.text;
-      store = found.2.store;
       stops = stops;
       rests = before.rests;
       holds = ledger_holds start ledger found.0 (see b).told (see b).clock begins account before;
       takes = takes;
-    })
+    }
 
 -- the device is left alone while it is opened
 pub opening_device : (told new : Option Told) (a b : Clock) → StoreIsLeft told a → Relates AfterOpening told new → ((t : Told) → told ≡ Some t → Adds (Opening a t.here) a b) → LeavesDevice told new a b
@@ -295,9 +365,9 @@ opening_device told new a b law after stops =
 
 -- ---- how it ends, and what stops leave of it
 
-module _ {X : Type 0} (see : X → Seen) (history : History) (script : List ℕ) (exit : Exit) (t : Told) (old new : X) (recovers : Recovers (account_of history) t.here) where
+module _ {X : Type 0} (see : X → Seen) (account : State) (script : List ℕ) (exit : Exit) (t : Told) (old new : X) (recovers : Recovers account t.here) where
   abbrev start : Start
-  start = start_of history t.here
+  start = start_of account t
 
   early_by : (ending : CallEnding) → ending_of exit ≡ ending → EndsBy ⊥ ⊤ (OnlyFault disk_call) ending → (u : Told) → AfterOpening t u → (exit ≡ NoMemory → AfterRecovery t u) → EndsIn start script exit ending t.here.out u
   early_by answered so never u after kept = absurd never
@@ -305,7 +375,7 @@ module _ {X : Type 0} (see : X → Seen) (history : History) (script : List ℕ)
   early_by (faulted kind) so only u after kept = tt
   early_by starved so any u after kept =
       let keeps = kept (memory_ran_out exit so) in
-      early_none start script t u (record { is = rw (keeps.file0, keeps.file1) recovers.is }) keeps.text
+      early_none start script t u (record { is = rw (keeps.file0, keeps.file1) recovers.is }) keeps.store keeps.text
 
   pub run_ends : DoesRun see start script exit t old new → IsSomeAnd (see new).told (RunEnds start script exit t.here.out)
   run_ends (inr d) = subst (λ out. IsSomeAnd (see new).told (RunEnds start script exit out)) d.text (takes_runs see start script d.there exit d.mid new d.rests d.holds d.takes)
@@ -316,15 +386,15 @@ module _ {X : Type 0} (see : X → Seen) (history : History) (script : List ℕ)
       by (Some u) after kept = early_by (ending_of exit) refl d.cut u after kept
 
   pub run_stops : DoesRun see start script exit t old new → Adds (RunMoment (see old).clock start script t.here) (see old).clock (see new).clock
-  run_stops (inl d) = opening_moments history script t (see old).clock (see new).clock recovers d.stops
+  run_stops (inl d) = opening_moments account script t (see old).clock (see new).clock recovers d.stops
   run_stops (inr d) =
       adds_both (RunMoment (see old).clock start script t.here) (see old).clock (see d.mid).clock (see new).clock
-      (opening_moments history script t (see old).clock (see d.mid).clock recovers d.stops)
-      (opened_moments (see old).clock start script t d.there (see d.mid).clock (see new).clock d.holds.account d.text d.store (takes_stops see start script d.there exit d.mid new d.rests d.holds d.takes))
+      (opening_moments account script t (see old).clock (see d.mid).clock recovers d.stops)
+      (opened_moments (see old).clock start script t d.there (see d.mid).clock (see new).clock d.holds.account d.text (takes_stops see start script d.there exit d.mid new d.rests d.holds d.takes))
 
--- what follows of it where source and board tell, and the files hold a history
+-- what follows of it where source and board tell, and the files hold an account
 pub over_does : {X : Type 0} (see : X → Seen) (P : Start → List ℕ → Told → Type 0) (task : Option Task) (script : Option (List ℕ)) (told : Option Told) (exit : Exit) (old new : X)
-    → ((history : History) (text : List ℕ) (t : Told) → told ≡ Some t → Recovers (account_of history) t.here → DoesRun see (start_of history t.here) text exit t old new → P (start_of history t.here) text t)
+    → ((account : State) (text : List ℕ) (t : Told) → told ≡ Some t → Recovers account t.here → DoesRun see (start_of account t) text exit t old new → P (start_of account t) text t)
     → OverRun (λ start text t. DoesRun see start text exit t old new) task script told → OverRun P task script told
-over_does see P (Some Run) (Some text) (Some t) exit old new gives does = λ history recovers. gives history text t refl recovers (does history recovers)
+over_does see P (Some Run) (Some text) (Some t) exit old new gives does = λ account recovers. gives account text t refl recovers (does account recovers)
 over_does see P task script told exit old new gives does = tt

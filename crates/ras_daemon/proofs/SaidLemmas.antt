@@ -1,14 +1,19 @@
 -- What is told once a last line was printed or not, and why it ends so.
 use Rattle.std.proofs.Common.{◌≡◌, ℕ, List, Option, Result, Ok, Err, refl, ap, sym, ◌∙◌, subst, inl, inr, [], None, Some, append-nil}
-use Rattle.std.specs.Prelude.{⊤}
+use Rattle.std.specs.Prelude.{◌≢◌, ⊤, IfSome, IsSomeAnd}
 use Rattle.board_core.specs.Cause.{Faults, print_call}
+use Rattle.board_core.specs.Clock.{Clock}
 use Rattle.board_core.specs.Doing.{Act, Does, Seen}
 use Rattle.board_core.specs.Told.{FailsPrint, Relates, Steps, Told, after_print}
+use Rattle.ras_account.specs.Account.{State}
+use Rattle.ras_journal.specs.declared.standing.Standing.{Standing}
+use Rattle.ras_journal.specs.Appending.{Before}
+use Rattle.ras_ledger.specs.Keeping.{Stands}
 use Rattle.ras_exit.specs.Acts.{end_of}
 use Rattle.ras_exit.specs.Causes.{BoardCause, BoardCauseBy, Causes, SourceCause, SourceCauseBy}
-use Rattle.ras_exit.specs.Endings.{OnAnswer, CallEnding, EndsBy, IsAnswer, IsCut, IsLineExit, OnlyFault, answered, ending_of, faulted, source_failed, starved}
+use Rattle.ras_exit.specs.Endings.{OnAnswer, CallEnding, EndsBy, IsAnswer, IsCut, IsLineExit, IsStop, OnlyFault, answered, ending_of, faulted, source_failed, starved}
 use Rattle.ras_exit.specs.declared.exit.Exit.{Exit}
-use Rattle.ras_exit.specs.declared.exit.Exit.TheVariants.{PrintFault, Usage}
+use Rattle.ras_exit.specs.declared.exit.Exit.TheVariants.{ErstStatus, PrintFault, SourceFault, Usage}
 use Rattle.ras_exit.proofs.EndingLemmas.{not_both, on_answer, on_cut}
 use Rattle.ras_exit.proofs.PrintLemmas.{not_printed, part_causes, printed}
 use Rattle.ras_run.specs.Taking.{IsPrintExit}
@@ -84,6 +89,22 @@ ends_causes see (Err found) exit result line a b s s' f is source board (inr cut
     let same : result ≡ found = cut.1 ∙ is.0 in
     (rw same source, rw (same, cut.2) board)
 
+-- and where no line was
+stop_source : (exit : Exit) (s : ℕ) → IsStop exit → SourceCause exit s s
+stop_source SourceFault s stop = absurd stop
+stop_source exit s stop = refl
+
+pub stopped_causes : {X : Type 0} (see : X → Seen) (exit result : Exit) (line : List ℕ) (a b : X) (s : ℕ) (f : Faults) → IsStop exit → BoardCause exit f (see a).faults → Ends see exit result line a b → SourceCause result s s × BoardCause result f (see b).faults
+stopped_causes see exit result line a b s f stop board (inl said) =
+    let still : (see a).faults ≡ f = subst (λ (e : CallEnding). BoardCauseBy e f (see a).faults) (answers exit said.0) board in (
+      says_source see exit result line a b s s said.0 refl said.1,
+      subst (λ (g : Faults). BoardCause result g (see b).faults) still (says_cause see exit result line a b said.0 said.1),
+    )
+stopped_causes see exit result line a b s f stop board (inr cut) = (
+  subst (λ (e : Exit). SourceCause e s s) (sym cut.1) (stop_source exit s stop),
+  rw (cut.1, cut.2) board,
+)
+
 -- the same of the print before them, if it failed
 pub orders_causes : {X : Type 0} (see : X → Seen) (acts : List Act) (exit : Exit) (a b : X) (s : ℕ) → IsPrintExit exit → Does see acts (end_of (ending_of exit)) a b → SourceCause exit s s × BoardCause exit (see a).faults (see b).faults
 orders_causes see acts exit a b s ends does = (by (ending_of exit) ends, part_causes {T = Unit {0}} see acts (Err exit) a b does)
@@ -113,3 +134,34 @@ ends_listed see (Err found) exit result line a b is ends usage = by ends
     by (inl (answer, inr (inl failed))) = let e = sym failed.0 ∙ usage in cc
     by (inl (answer, inr (inr short))) = let e = sym short.0 ∙ usage in cc
     by (inr cut) = no_usage found is.1 (sym (cut.1 ∙ is.0) ∙ usage)
+
+-- never with a status of 0
+coded_line : (exit : Exit) (code : ℕ) → IsLineExit exit → exit ≡ ErstStatus code → code ≢ 0
+coded_line exit code line is = let here : IsLineExit (ErstStatus code) = subst IsLineExit is line in here
+
+coded_stop : (exit : Exit) (code : ℕ) → IsStop exit → exit ≡ ErstStatus code → code ≢ 0
+coded_stop exit code stop is = let here : IsStop (ErstStatus code) = subst IsStop is stop in here
+
+-- a last line is behind an exit, or there is a fault, or want of memory
+ends_as : {X : Type 0} (see : X → Seen) (exit result : Exit) (line : List ℕ) (a b : X) (code : ℕ) → Ends see exit result line a b → result ≡ ErstStatus code → exit ≡ ErstStatus code
+ends_as see exit result line a b code (inl (answer, inl said)) is = sym said.0 ∙ is
+ends_as see exit result line a b code (inl (answer, inr (inl failed))) is = let e = sym failed.0 ∙ is in absurd cc
+ends_as see exit result line a b code (inl (answer, inr (inr short))) is = let e = sym short.0 ∙ is in absurd cc
+ends_as see exit result line a b code (inr cut) is = sym cut.1 ∙ is
+
+pub ends_coded : {X : Type 0} (see : X → Seen) (lines : Result (Unit {0}) Exit) (exit result : Exit) (line : List ℕ) (a b : X) → EndsAs lines exit → Ends see exit result line a b → (code : ℕ) → result ≡ ErstStatus code → code ≢ 0
+ends_coded see (Ok done) exit result line a b is ends code told = let e = sym is ∙ ends_as see exit result line a b code ends told in absurd cc
+ends_coded see (Err found) exit result line a b is ends code told = coded_line found code is.1 (sym is.0 ∙ ends_as see exit result line a b code ends told)
+
+pub stop_coded : {X : Type 0} (see : X → Seen) (exit result : Exit) (line : List ℕ) (a b : X) → IsStop exit → Ends see exit result line a b → (code : ℕ) → result ≡ ErstStatus code → code ≢ 0
+stop_coded see exit result line a b stop ends code told = coded_stop exit code stop (ends_as see exit result line a b code ends told)
+
+-- nor where the orders weren't printed
+pub print_coded : (exit : Exit) → IsPrintExit exit → (code : ℕ) → exit ≡ ErstStatus code → code ≢ 0
+print_coded exit ends code is = let never : IsPrintExit (ErstStatus code) = subst IsPrintExit is ends in absurd never
+
+-- ---- over a ledger that stands
+
+pub before_at : (standing : Standing) (account : State) (told : Option Told) (clock : Clock) (t : Told) → Stands standing account told clock → told ≡ Some t → Before standing account t told clock
+before_at standing account told clock t stands is =
+    let here : IsSomeAnd (Some t) (λ u. Before standing account u told clock) = subst (λ o. IfSome o (λ u. Before standing account u told clock)) is stands in here

@@ -9,7 +9,7 @@ use Rattle.text_laws.proofs.ByteLemmas.{decimal_unbroken, is_unbroken, lacks_fro
 use Rattle.text_laws.proofs.LineLemmas.{refused_quiet}
 use Rattle.text_laws.proofs.QuietLemmas.{quiet_line, quiet_none}
 use Rattle.ras_exit.specs.declared.exit.Exit.{Exit}
-use Rattle.ras_exit.specs.declared.exit.Exit.TheVariants.{BadLine, Damaged, Full, TooLong, Usage}
+use Rattle.ras_exit.specs.declared.exit.Exit.TheVariants.{BadLine, Damaged, ErstBusy, ErstRefused, ErstStatus, Full, TooLong, Usage}
 use Rattle.ras_exit.specs.Reasons.{reason_number, reason_text, reason_word}
 use Rattle.ras_exit.specs.StopLine.{stop_line}
 
@@ -33,6 +33,11 @@ stop_quiet (Damaged file place) =
     (unbroken_both (codes "stop 7 file=" ++ decimal file ++ codes " place=") (decimal place)
     (unbroken_both (codes "stop 7 file=" ++ decimal file) (codes " place=")
     (unbroken_both (codes "stop 7 file=") (decimal file) refl (decimal_unbroken file)) refl) (decimal_unbroken place)) refl
+stop_quiet (ErstRefused line) =
+    quiet_line (codes "stop 9 line=" ++ decimal line) (unbroken_both (codes "stop 9 line=") (decimal line) refl (decimal_unbroken line)) refl
+stop_quiet ErstBusy = quiet_line (codes "stop 10 busy") refl refl
+stop_quiet (ErstStatus code) =
+    quiet_line (codes "stop 11 code=" ++ decimal code) (unbroken_both (codes "stop 11 code=") (decimal code) refl (decimal_unbroken code)) refl
 stop_quiet Full = quiet_line (codes "stop 8 full") refl refl
 stop_quiet TooLong = quiet_line (codes "stop 13 too-long") refl refl
 stop_quiet exit = quiet_none

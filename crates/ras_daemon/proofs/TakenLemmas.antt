@@ -2,7 +2,7 @@
 use Rattle.std.proofs.Common.{◌≡◌, ℕ, true, List, [], ◌++◌, map, Result, Ok, Err, refl, ap, sym, ◌∙◌, subst, append_assoc, append-nil, inl, inr}
 use Rattle.std.specs.Prelude.{⊤}
 use Rattle.board_core.specs.Cause.{print_call}
-use Rattle.board_core.specs.Doing.{Act, Breaks, Does, GoesWell, Seen, after_acts, broke, calls, went_well}
+use Rattle.board_core.specs.Doing.{Act, Breaks, Does, Ended, GoesWell, IsMade, Seen, after_acts, broke, calls, went_well}
 use Rattle.board_core.specs.Told.{Told}
 use Rattle.board_core.proofs.DoingLemmas.{does_first, does_then}
 use Rattle.ras_base.specs.Places.{places}
@@ -16,11 +16,11 @@ use Rattle.ras_exit.proofs.EndingLemmas.{memory_ran_out, not_both}
 use Rattle.ras_run.specs.declared.run.Run.{Run}
 use Rattle.ras_run.specs.Places.{Start, account_at}
 use Rattle.ras_run.specs.Taking.{IsPrintExit}
-use Rattle.ras_daemon.specs.Doing.{DoesFirst, DoesLines, DoesPart, DoesScript, Ends, IsLastBy, Says, TakesScript}
-use Rattle.ras_daemon.specs.RunActs.{AreActsAlong, AreLinesActs, AreScriptActs, last_acts, orders_acts}
+use Rattle.ras_daemon.specs.Doing.{AreAllAsked, AreLinesActs, DoesFirst, DoesLines, DoesPart, DoesScript, Ends, IsLastBy, MayAsk, Says, TakesScript}
+use Rattle.ras_daemon.specs.RunActs.{AreActsAlong, AreScriptActs, last_acts, orders_acts, script_asked}
 use Rattle.ras_daemon.specs.RunOutput.{closing_line}
 use Rattle.ras_daemon.specs.RunStatus.{run_exit}
-use Rattle.ras_daemon.specs.Running.{AreAll, AreFirst}
+use Rattle.ras_daemon.specs.Running.{AreFirst}
 use Rattle.ras_daemon.specs.Script.{reads_of}
 use Rattle.ras_daemon.proofs.ScriptLemmas.{script_begun}
 
@@ -46,16 +46,18 @@ module _ {X : Type 0} (see : X → Seen) (start : Start) (script : List ℕ) (t 
   behind_orders = after_acts (orders_acts start) t
 
   -- as a run ends with this exit
-  taken : (result : Exit) (ending : CallEnding) (before : List NumberedLine) (along last : List Act) (old new : X) → ending_of result ≡ ending → AreFirst start script before → AreActsAlong start (places before) behind_orders along
-      → IsLastBy start script before result ending last → DoesFirst see (AreScriptActs start script t) (orders_acts start ++ (along ++ last)) ending old new → DoesScript see start script t result old new
-  taken result ending before along last old new is first lines ends does = record {
+  taken : (result : Exit) (ending : CallEnding) (before : List NumberedLine) (along asked last : List Act) (old new : X) → ending_of result ≡ ending → AreFirst start script before → AreActsAlong start (places before) behind_orders along
+      → MayAsk start script before asked → IsLastBy start script before asked result ending last → DoesFirst see (AreScriptActs start script t) (orders_acts start ++ (along ++ (asked ++ last))) ending old new → DoesScript see start script t result old new
+  taken result ending before along asked last old new is first lines asks ends does = record {
     before = before;
     first = first;
     along = along;
     lines = lines;
+    asked = asked;
+    asks = asks;
     last = last;
-    ends = subst (λ (e : CallEnding). IsLastBy start script before result e last) (sym is) ends;
-    does = subst (λ (e : CallEnding). DoesFirst see (AreScriptActs start script t) (orders_acts start ++ (along ++ last)) e old new) (sym is) does;
+    ends = subst (λ (e : CallEnding). IsLastBy start script before asked result e last) (sym is) ends;
+    does = subst (λ (e : CallEnding). DoesFirst see (AreScriptActs start script t) (orders_acts start ++ (along ++ (asked ++ last))) e old new) (sym is) does;
   }
 
   -- the orders weren't printed
@@ -67,70 +69,78 @@ module _ {X : Type 0} (see : X → Seen) (start : Start) (script : List ℕ) (t 
       by source_failed is never does = absurd never
       by starved is any same = inl (memory_ran_out exit is, same)
       by (faulted kind) is only does =
-          inr (taken exit (faulted kind) [] [] [] old new is (record { rest = reads_of script; splits = refl; accepted = tt }) refl (inl refl) (does_first see (orders_acts start) ([] ++ []) (broke kind) old new tt does))
+          inr (taken exit (faulted kind) [] [] [] [] old new is (record { rest = reads_of script; splits = refl; accepted = tt }) refl (inl refl) (inl refl) (does_first see (orders_acts start) ([] ++ ([] ++ [])) (broke kind) old new tt does))
 
-  module _ (old a b new : X) (orders : GoesWell (orders_acts start) (see old) (see a)) (before : List NumberedLine) (first : AreFirst start script before) (along : List Act) (lines : AreActsAlong start (places before) behind_orders along) where
+  module _ (old a b new : X) (orders : GoesWell (orders_acts start) (see old) (see a)) (before : List NumberedLine) (first : AreFirst start script before) (along asked : List Act) (lines : AreActsAlong start (places before) behind_orders along) (asks : MayAsk start script before asked) where
+    -- behind the lines
+    behind : (last : List Act) (ended : Ended) → IsMade ended → GoesWell (along ++ asked) (see a) (see b) → Does see last ended b new → Does see (orders_acts start ++ (along ++ (asked ++ last))) ended old new
+    behind last ended made well does =
+        subst (λ (l : List Act). Does see (orders_acts start ++ l) ended old new) (append_assoc along asked last)
+        (does_then see (orders_acts start) ((along ++ asked) ++ last) ended old a new orders made (does_then see (along ++ asked) last ended a b new well made does))
+
     -- an answer with its last line
-    answer : (exit result : Exit) (line : List ℕ) → GoesWell along (see a) (see b) → AreAll start script exit before → IsAnswer exit → line ≡ closing_line (account_at start before) exit → Says see exit result line b new
+    answer : (exit result : Exit) (line : List ℕ) → GoesWell (along ++ asked) (see a) (see b) → AreAllAsked start script exit before asked → IsAnswer exit → line ≡ closing_line (account_at start before) exit → Says see exit result line b new
         → DoesScript see start script t result old new
     answer exit result line well all is same (inl (result_is, does)) =
         let ending : ending_of result ≡ answered = ap ending_of result_is ∙ answers exit is in
-        let all' : AreAll start script result before = subst (λ (e : Exit). AreAll start script e before) (sym result_is) all in
-        taken result answered before along (print_acts line) old new ending first lines
+        let all' : AreAllAsked start script result before asked = subst (λ (e : Exit). AreAllAsked start script e before asked) (sym result_is) all in
+        taken result answered before along asked (print_acts line) old new ending first lines asks
         (all', ap print_acts same ∙ ap (last_acts start before) (sym result_is))
-        (does_then see (orders_acts start) (along ++ print_acts line) went_well old a new orders tt (does_then see along (print_acts line) went_well a b new well tt does))
+        (behind (print_acts line) went_well tt well does)
     answer exit result line well all is same (inr (inl (result_is, does))) =
-        taken result (faulted print_call) before along (print_acts line) old new (ap ending_of result_is) first lines
+        taken result (faulted print_call) before along asked (print_acts line) old new (ap ending_of result_is) first lines asks
         (inr (exit, all, ap print_acts same))
-        (does_then see (orders_acts start) (along ++ print_acts line) (broke print_call) old a new orders tt (does_then see along (print_acts line) (broke print_call) a b new well tt does))
+        (behind (print_acts line) (broke print_call) tt well does)
     answer exit result line well all is same (inr (inr (result_is, none))) =
-        let begun = script_begun start script t before first along lines [] (inl refl) in
-        taken result starved before along [] old new (ap ending_of result_is) first lines refl (record {
+        let begun = script_begun start script t before first along lines asked asks [] (inl refl) in
+        taken result starved before along asked [] old new (ap ending_of result_is) first lines asks refl (record {
           made = [];
           later = begun.0;
           are = rw append-nil begun.1;
-          does = rw (none, append-nil) (subst (λ (l : List Act). GoesWell l (see old) (see b)) (ap (λ l. orders_acts start ++ l) (sym (append-nil along))) (does_then see (orders_acts start) along went_well old a b orders tt well));
+          does = rw (none, append-nil) (subst (λ (l : List Act). GoesWell (orders_acts start ++ (along ++ l)) (see old) (see b)) (sym (append-nil asked)) (does_then see (orders_acts start) (along ++ asked) went_well old a b orders tt well));
         })
 
   -- the lines were taken so, and then the run ends
   pub lines_taken : (old a b new : X) (lines_result : Result (Unit {0}) Exit) (run : Run) (exit result : Exit) → GoesWell (orders_acts start) (see old) (see a) → DoesLines see start script behind_orders lines_result run a b
       → EndsAs lines_result exit → Ends see exit result (closing_line run.ledger.account.state exit) b new → TakesScript see start script t result old new
   lines_taken old a b new (Ok done) run exit result orders d is (inl said) =
-      inr (answer old a b new orders d.before d.first d.acts d.along exit result (closing_line run.ledger.account.state exit) d.does (subst (λ (e : Exit). AreAll start script e d.before) (sym is) d.ends.0) said.0
+      inr (answer old a b new orders d.before d.first d.acts d.asked d.along d.asks exit result (closing_line run.ledger.account.state exit) d.does (subst (λ (e : Exit). AreAllAsked start script e d.before d.asked) (sym is) d.ends.0) said.0
       (ap (λ (s : State). closing_line s exit) d.ends.1.account) said.1)
   lines_taken old a b new (Ok done) run exit result orders d is (inr cut) = absurd (not_both exit cut.0 (rw is refl))
   lines_taken old a b new (Err found) run exit result orders d is ends =
       by (ending_of found) refl d.does d.ends (subst (λ (e : Exit). Ends see e result (closing_line run.ledger.account.state e) b new) is.0 ends)
     where
-      parts : DoesPart see (AreLinesActs start script behind_orders) d.acts a b → DoesPart see (AreScriptActs start script t) (orders_acts start ++ (d.acts ++ [])) old b
+      parts : DoesPart see (AreLinesActs start script behind_orders) (d.acts ++ d.asked) a b → DoesPart see (AreScriptActs start script t) (orders_acts start ++ (d.acts ++ (d.asked ++ []))) old b
       parts part =
           let first : List Act = orders_acts start in
+          let lines : List Act = d.acts ++ d.asked in
           let made : List Act = map calls part.made in
           let all : List Act = last_acts start (reads_of script) (run_exit start script) in
+          let none : d.acts ++ (d.asked ++ []) ≡ lines = ap (λ l. d.acts ++ l) (append-nil d.asked) in
           record {
             made = part.made;
             later = part.later ++ all;
             are = record {
-              along = (d.acts ++ made) ++ part.later;
-              lines = part.are;
-              is = append_assoc (first ++ (d.acts ++ [])) made (part.later ++ all)
-                  ∙ append_assoc first (d.acts ++ []) (made ++ (part.later ++ all))
-                  ∙ ap (λ l. first ++ (l ++ (made ++ (part.later ++ all)))) (append-nil d.acts)
-                  ∙ ap (λ l. first ++ l) (sym (append_assoc d.acts made (part.later ++ all)) ∙ sym (append_assoc (d.acts ++ made) part.later all));
+              along = part.are.along;
+              lines = part.are.lines;
+              is = ap (λ l. ((first ++ l) ++ made) ++ (part.later ++ all)) none
+                  ∙ append_assoc (first ++ lines) made (part.later ++ all)
+                  ∙ append_assoc first lines (made ++ (part.later ++ all))
+                  ∙ ap (λ l. first ++ l) (sym (append_assoc lines made (part.later ++ all)) ∙ sym (append_assoc (lines ++ made) part.later all) ∙ ap (λ l. l ++ all) part.are.is ∙ append_assoc part.are.along (script_asked start script) all);
             };
             does = subst (λ (l : List Act). GoesWell l (see old) (see b))
-                (ap (λ l. first ++ (l ++ made)) (sym (append-nil d.acts)) ∙ sym (append_assoc first (d.acts ++ []) made))
-                (does_then see first (d.acts ++ made) went_well old a b orders tt part.does);
+                (ap (λ l. first ++ (l ++ made)) (sym none) ∙ sym (append_assoc first (d.acts ++ (d.asked ++ [])) made))
+                (does_then see first (lines ++ made) went_well old a b orders tt part.does);
           }
 
-      by : (ending : CallEnding) → ending_of found ≡ ending → DoesFirst see (AreLinesActs start script behind_orders) d.acts ending a b → IfAnswered ending (AreAll start script found d.before)
+      by : (ending : CallEnding) → ending_of found ≡ ending → DoesFirst see (AreLinesActs start script behind_orders) (d.acts ++ d.asked) ending a b → IfAnswered ending (AreAllAsked start script found d.before d.asked)
           → Ends see found result (closing_line run.ledger.account.state found) b new → TakesScript see start script t result old new
       by answered so well all (inl said) =
-          inr (answer old a b new orders d.before d.first d.acts d.along found result (closing_line run.ledger.account.state found) well all said.0 (last_same found run.ledger.account.state (account_at start d.before) is.1) said.1)
+          inr (answer old a b new orders d.before d.first d.acts d.asked d.along d.asks found result (closing_line run.ledger.account.state found) well all said.0 (last_same found run.ledger.account.state (account_at start d.before) is.1) said.1)
       by answered so well all (inr cut) = absurd (not_both found cut.0 (ap is_answered so))
       by (faulted kind) so failed all (inl said) = absurd (not_both found (ap is_answered so) said.0)
       by (faulted kind) so failed all (inr cut) =
-          inr (rw (cut.1, cut.2) (taken found (faulted kind) d.before d.acts [] old b so d.first d.along (inl refl)
-          (subst (λ (l : List Act). Breaks kind l (see old) (see b)) (ap (λ l. orders_acts start ++ l) (sym (append-nil d.acts))) (does_then see (orders_acts start) d.acts (broke kind) old a b orders tt failed))))
+          inr (rw (cut.1, cut.2) (taken found (faulted kind) d.before d.acts d.asked [] old b so d.first d.along d.asks (inl refl)
+          (subst (λ (l : List Act). Breaks kind (orders_acts start ++ (d.acts ++ l)) (see old) (see b)) (sym (append-nil d.asked)) (does_then see (orders_acts start) (d.acts ++ d.asked) (broke kind) old a b orders tt failed))))
       by ending so part all (inl said) = absurd (not_both found (ap is_answered so) said.0)
-      by ending so part all (inr cut) = inr (rw (cut.1, cut.2) (taken found ending d.before d.acts [] old b so d.first d.along refl (parts part)))
+      by ending so part all (inr cut) = inr (rw (cut.1, cut.2) (taken found ending d.before d.acts d.asked [] old b so d.first d.along d.asks refl (parts part)))

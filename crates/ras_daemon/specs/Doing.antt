@@ -1,5 +1,5 @@
 -- Only for proofs: what the parts of a run did, as acts, by how they ended.
-use Rattle.std.specs.Prelude.{◌≡◌, ℕ, ◌⊎◌, List, [], ◌++◌, IsSomeAnd, Result, Ok, Err, map}
+use Rattle.std.specs.Prelude.{◌≡◌, ℕ, ◌⊎◌, true, List, [], ◌∷◌, ◌++◌, IsSomeAnd, Result, Ok, Err, is_some, map}
 use Rattle.board_core.specs.Cause.{disk_call, print_call}
 use Rattle.board_core.specs.Clock.{Adds, Rests}
 use Rattle.board_core.specs.declared.board.DiskCall.{DiskCall}
@@ -9,17 +9,19 @@ use Rattle.ras_base.specs.Places.{places}
 use Rattle.ras_recover.specs.Opening.{Opening}
 use Rattle.ras_recover.specs.OpeningActs.{FailsOpening}
 use Rattle.ras_recover.specs.OpeningCalls.{AfterOpening, AfterRecovery, MakesOpening}
-use Rattle.ras_events.specs.Reports.{NumberedLine}
+use Rattle.ras_events.specs.Reports.{NumberedLine, event_at}
 use Rattle.ras_exit.specs.Acts.{ended_with, print_acts}
 use Rattle.ras_exit.specs.Endings.{CallEnding, EndsBy, IsAnswer, IsCut, OnAnswer, OnlyFault, answered, ending_of, faulted}
 use Rattle.ras_exit.specs.declared.exit.Exit.{Exit}
 use Rattle.ras_exit.specs.declared.exit.Exit.TheVariants.{DiskFault, Done, NoMemory, PrintFault}
 use Rattle.ras_run.specs.declared.run.Run.{Run}
-use Rattle.ras_run.specs.LineActs.{HoldsAfter}
+use Rattle.ras_run.specs.LineActs.{HoldsAfter, refused_acts}
 use Rattle.ras_run.specs.Places.{Start}
+use Rattle.ras_run.specs.Status.{places_before_refusal, refusal_at}
 use Rattle.ras_run.specs.Taking.{IsRunAfter}
-use Rattle.ras_daemon.specs.RunActs.{AreActsAlong, AreLinesActs, AreScriptActs, last_acts, orders_acts}
+use Rattle.ras_daemon.specs.RunActs.{AreActsAlong, AreScriptActs, last_acts, orders_acts, script_asked}
 use Rattle.ras_daemon.specs.Running.{AreAll, AreFirst}
+use Rattle.ras_daemon.specs.Script.{reads_of}
 
 -- Behind these acts a line made disk calls that write nothing, maybe none, and then memory ran out
 -- or the source failed. Together they are the first ones of such acts.
@@ -36,10 +38,32 @@ DoesFirst see Are acts ending old new = DoesPart see Are acts old new
 
 -- ---- lines
 
--- These lines are all that a run takes, if it isn't cut short among them.
-abbrev pub EndsBehind : Start → List ℕ → List NumberedLine → Result (Unit {0}) Exit → Run → Type 0
-EndsBehind start script before (Ok done) run = AreAll start script Done before × IsRunAfter start before run
-EndsBehind start script before (Err exit) run = OnAnswer exit (AreAll start script exit before)
+-- the acts of all lines up to the first refused one
+pub record AreLinesActs (start : Start) (script : List ℕ) (t : Told) (acts : List Act) : Type 0 where
+  pub along : List Act
+  pub lines : AreActsAlong start (places_before_refusal start (places (reads_of script))) t along
+  pub is : acts ≡ along ++ script_asked start script
+
+-- These lines are all that a run takes, and behind them one is refused, or none.
+pub record AreAllAsked (start : Start) (script : List ℕ) (exit : Exit) (before : List NumberedLine) (asked : List Act) : Type 0 where
+  pub all : AreAll start script exit before
+  pub is : asked ≡ script_asked start script
+
+-- So it is if a run isn't cut short among its lines.
+abbrev pub EndsBehind : Start → List ℕ → List NumberedLine → List Act → Result (Unit {0}) Exit → Run → Type 0
+EndsBehind start script before asked (Ok done) run = AreAllAsked start script Done before asked × IsRunAfter start before run
+EndsBehind start script before asked (Err exit) run = OnAnswer exit (AreAllAsked start script exit before asked)
+
+-- what the record store was asked behind these lines: nothing, or what the refused line asks
+pub record IsAsked (start : Start) (script : List ℕ) (before : List NumberedLine) (asked : List Act) : Type 0 where
+  pub read : NumberedLine
+  pub rest : List NumberedLine
+  pub splits : before ++ read ∷ rest ≡ reads_of script
+  pub refused : is_some (refusal_at start (before, read)) ≡ true
+  pub is : asked ≡ refused_acts (event_at (before, read))
+
+abbrev pub MayAsk : Start → List ℕ → List NumberedLine → List Act → Type 0
+MayAsk start script before asked = (asked ≡ []) ⊎ IsAsked start script before asked
 
 -- The first lines of a script did their acts, or the last of them was cut short.
 pub record DoesLines {X : Type 0} (see : X → Seen) (start : Start) (script : List ℕ) (t : Told) (result : Result (Unit {0}) Exit) (run : Run) (old new : X) : Type 0 where
@@ -47,8 +71,10 @@ pub record DoesLines {X : Type 0} (see : X → Seen) (start : Start) (script : L
   pub first : AreFirst start script before
   pub acts : List Act
   pub along : AreActsAlong start (places before) t acts
-  pub does : DoesFirst see (AreLinesActs start script t) acts (ended_with result) old new
-  pub ends : EndsBehind start script before result run
+  pub asked : List Act
+  pub asks : MayAsk start script before asked
+  pub does : DoesFirst see (AreLinesActs start script t) (acts ++ asked) (ended_with result) old new
+  pub ends : EndsBehind start script before asked result run
 
 -- ---- the last line
 
@@ -67,11 +93,12 @@ Ends see exit result line old new =
 -- ---- a script, over a journal that was opened
 
 -- what is printed behind these lines: the last line, if the run came so far
-abbrev pub IsLastBy : Start → List ℕ → List NumberedLine → Exit → CallEnding → List Act → Type 0
-IsLastBy start script before exit answered last = AreAll start script exit before × (last ≡ last_acts start before exit)
-IsLastBy start script before exit (faulted kind) last =
-    (last ≡ []) ⊎ ((end : Exit) × AreAll start script end before × (last ≡ last_acts start before end))
-IsLastBy start script before exit ending last = last ≡ []
+abbrev pub IsLastBy : Start → List ℕ → List NumberedLine → List Act → Exit → CallEnding → List Act → Type 0
+IsLastBy start script before asked exit answered last =
+    AreAllAsked start script exit before asked × (last ≡ last_acts start before exit)
+IsLastBy start script before asked exit (faulted kind) last =
+    (last ≡ []) ⊎ ((end : Exit) × AreAllAsked start script end before asked × (last ≡ last_acts start before end))
+IsLastBy start script before asked exit ending last = last ≡ []
 
 -- The orders at the start were printed, then lines did their acts, and then the last line was
 -- printed, as far as the run came.
@@ -80,15 +107,17 @@ pub record DoesScript {X : Type 0} (see : X → Seen) (start : Start) (script : 
   pub first : AreFirst start script before
   pub along : List Act
   pub lines : AreActsAlong start (places before) (after_acts (orders_acts start) t) along
+  pub asked : List Act
+  pub asks : MayAsk start script before asked
   pub last : List Act
-  pub ends : IsLastBy start script before exit (ending_of exit) last
-  pub does : DoesFirst see (AreScriptActs start script t) (orders_acts start ++ (along ++ last)) (ending_of exit) old new
+  pub ends : IsLastBy start script before asked exit (ending_of exit) last
+  pub does : DoesFirst see (AreScriptActs start script t) (orders_acts start ++ (along ++ (asked ++ last))) (ending_of exit) old new
 
 -- or memory ran out before all that
 abbrev pub TakesScript : {X : Type 0} → (X → Seen) → Start → List ℕ → Told → Exit → X → X → Type 0
 TakesScript see start script t exit old new = ((exit ≡ NoMemory) × (new ≡ old)) ⊎ DoesScript see start script t exit old new
 
--- ---- a run over files that hold a history
+-- ---- a run over files that hold an account
 
 -- The journal wasn't opened: a disk call failed, or memory ran out.
 pub record DoesNotOpen {X : Type 0} (see : X → Seen) (exit : Exit) (t : Told) (old new : X) : Type 0 where
@@ -104,7 +133,6 @@ pub record Opens {X : Type 0} (see : X → Seen) (start : Start) (script : List 
   pub there : Told
   pub makes : MakesOpening t there
   pub text : there.here.out ≡ t.here.out
-  pub store : there.here.store ≡ t.here.store
   pub stops : Adds (Opening (see old).clock t.here) (see old).clock (see mid).clock
   pub rests : Rests there (see mid).told (see mid).clock
   pub holds : HoldsAfter start [] there

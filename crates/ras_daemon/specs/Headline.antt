@@ -1,45 +1,67 @@
 -- What a stop at any moment of a run leaves, and what a run leaves where it ends.
-use Rattle.std.specs.Prelude.{◌≡◌, ℕ, ◌+◌, ◌<◌, ◌⊎◌, List, [], ◌++◌, length, take, Option, Some, ⊤}
+use Rattle.std.specs.Prelude.{◌≡◌, ℕ, ◌+◌, ◌<◌, ◌≤◌, ◌⊎◌, List, ◌++◌, length, map, take, Option, Some, ⊤}
 use Rattle.std.specs.List.{flat_map}
-use Rattle.board_core.specs.Clock.{Clock, LeftNow}
+use Rattle.board_core.specs.Clock.{Always, Clock, LeftNow}
 use Rattle.board_core.specs.Stop.{Left}
 use Rattle.board_core.specs.Told.{Told}
+use Rattle.erst_store.specs.Store.{Stored}
 use Rattle.ras_base.specs.Prefix.{IsPrefixOf}
-use Rattle.ras_account.specs.Account.{State, account_of}
-use Rattle.ras_account.specs.History.{History, with_entries}
+use Rattle.ras_account.specs.Account.{State}
+use Rattle.ras_account.specs.Continued.{account_after_all}
 use Rattle.ras_facts.specs.declared.entry.Entry.{Entry}
 use Rattle.ras_journal.specs.Recovered.{Recovers}
-use Rattle.ras_events.specs.Reports.{entries_at}
+use Rattle.ras_events.specs.Reports.{NumberedLine, Place, entries_at}
+use Rattle.ras_events.specs.Stores.{laid, last_laid}
 use Rattle.text_laws.specs.DoneLines.{done_count}
 use Rattle.ras_run.specs.Places.{Start}
 use Rattle.ras_daemon.specs.RunOutput.{output_upto, run_output}
 use Rattle.ras_daemon.specs.RunStatus.{start_of}
-use Rattle.ras_daemon.specs.Script.{events_of}
+use Rattle.ras_daemon.specs.Script.{events_of, line_after}
+use Rattle.ras_daemon.specs.StoreDuring.{KeepsOthers, KnownBy, StoreDuring}
 use Rattle.ras_daemon.specs.declared.word.Task.{Task}
 use Rattle.ras_daemon.specs.declared.word.Task.TheVariants.{Run}
 
--- what the first n events of a script report, and the account of the earlier history with it
+-- what the first n events of a script report, and the account at the start with it
 abbrev pub reported : Start → List ℕ → ℕ → List Entry
-reported start script n = flat_map (entries_at []) (take n (events_of start script))
+reported start script n = flat_map (entries_at start.store) (take n (events_of start script))
 
 abbrev pub account_with : Start → List ℕ → ℕ → State
-account_with start script n = account_of (with_entries start.history (reported start script n))
+account_with start script n = account_after_all start.account (reported start script n)
+
+-- the lines of the first n events, the record store that they leave, and the bytes that they last
+-- laid under an identifier
+abbrev pub lines_with : Start → List ℕ → ℕ → List NumberedLine
+lines_with start script n = map (λ (place : Place). place.1) (take n (events_of start script))
+
+abbrev pub laid_with : Start → List ℕ → ℕ → List Stored
+laid_with start script n = laid start.store (lines_with start script n)
+
+abbrev pub last_laid_with : Start → List ℕ → ℕ → ℕ → Option (List ℕ)
+last_laid_with start script n id = last_laid start.store (lines_with start script n) id
 
 -- A stop leaves this of a run: the text that was printed before it, and a beginning of what it
--- prints. Where n events are done by what is printed, the files recover the account of the earlier
--- history with what the first n events report, or the first n and one. Once a byte of the next
--- event's output is printed, it is the latter. The record store is as it was.
+-- prints. If n events are done by what is printed, the files recover the account at the start with
+-- what the first n events report, or the first n and one. Once a byte of the next event's output is
+-- printed, it is the latter. The record store is what the first n events left, or one on the way of
+-- the next. Each record that was last laid and can be read, and that the next event doesn't put
+-- anew, is in the store, or the account knows its name.
 pub record Headline (start : Start) (script : List ℕ) (here left : Left) : Type 0 where
   pub printed : List ℕ
   pub text : left.out ≡ here.out ++ printed
   pub begins : IsPrefixOf printed (run_output start script)
-  pub recovers :
-      Recovers (account_with start script (done_count printed)) left
-      ⊎ Recovers (account_with start script (done_count printed + 1)) left
+  pub account : State
+  pub recovers : Recovers account left
+  pub whole :
+      (account ≡ account_with start script (done_count printed))
+      ⊎ (account ≡ account_with start script (done_count printed + 1))
   pub acknowledged :
       length (output_upto start script (done_count printed)) < length printed
-      → Recovers (account_with start script (done_count printed + 1)) left
-  pub store : left.store ≡ here.store
+      → account ≡ account_with start script (done_count printed + 1)
+  pub store :
+      StoreDuring (line_after start script (done_count printed)) (laid_with start script (done_count printed)) left.store
+  pub kept :
+      KeepsOthers (line_after start script (done_count printed)) (last_laid_with start script (done_count printed))
+      (KnownBy account) left.store
 
 -- What is told if no call of the board failed: whole events, those that are done by what was
 -- printed.
@@ -47,13 +69,23 @@ pub record IsWhole (start : Start) (script : List ℕ) (before now : Told) : Typ
   pub printed : List ℕ
   pub text : now.here.out ≡ before.here.out ++ printed
   pub recovers : Recovers (account_with start script (done_count printed)) now.here
+  pub store : now.here.store ≡ laid_with start script (done_count printed)
 
--- whatever a stop at the start of a run may leave recovers its earlier history too
+-- There is a moment of a run from which the headline holds, whatever a stop at its start may leave:
+-- when its journal is open. A stop before it leaves that, or what the headline says.
+pub record Settles (start : Start) (script : List ℕ) (here : Left) (old new : Clock) : Type 0 where
+  pub at : ℕ
+  pub later : old.now ≤ at
+  pub within : at ≤ new.now
+  pub before : Always new old.now (λ left. LeftNow old left ⊎ Headline start script here left)
+  pub from : Always new at (Headline start script here)
+
+-- whatever a stop at the start of a run may leave recovers the account at its start too
 abbrev pub StopsRecover : Start → Clock → Type 0
-StopsRecover start clock = (left : Left) → LeftNow clock left → Recovers (account_of start.history) left
+StopsRecover start clock = (left : Left) → LeftNow clock left → Recovers start.account left
 
--- if the words ask for a run, source and board tell, and the files hold a history
+-- if the words ask for a run, source and board tell, and the files hold an account
 abbrev pub OverRun : (Start → List ℕ → Told → Type 0) → Option Task → Option (List ℕ) → Option Told → Type 0
 OverRun P (Some Run) (Some script) (Some t) =
-    (history : History) → Recovers (account_of history) t.here → P (start_of history t.here) script t
+    (account : State) → Recovers account t.here → P (start_of account t) script t
 OverRun P task script told = ⊤

@@ -3,6 +3,7 @@ pub mod Commands
 pub mod Script
 pub mod RunStatus
 pub mod RunOutput
+pub mod StoreDuring
 pub mod Headline
 pub mod Ended
 pub mod Ahead

@@ -2,12 +2,12 @@
 -- account. The run has files of its own, which are empty at first.
 use Rattle.std.specs.Prelude.{ℕ, List, []}
 use Rattle.board_core.specs.Stop.{Left}
-use Rattle.ras_account.specs.Account.{State}
+use Rattle.ras_account.specs.Account.{State, account_of}
 use Rattle.ras_account.specs.History.{empty}
 use Rattle.ras_load.specs.LoadScript.{load_script}
 use Rattle.ras_load.specs.Summary.{load_line}
+use Rattle.ras_recover.specs.Opening.{standing_opened}
 use Rattle.ras_run.specs.Places.{Start, account_at}
-use Rattle.ras_daemon.specs.RunStatus.{start_of}
 use Rattle.ras_daemon.specs.Script.{reads_of}
 
 -- empty files, a store without records, and nothing printed
@@ -15,7 +15,7 @@ abbrev pub nothing_there : Left
 nothing_there = record { file0 = []; file1 = []; store = []; out = [] }
 
 abbrev pub load_start : Start
-load_start = start_of empty nothing_there
+load_start = record { account = account_of empty; standing = standing_opened [] []; store = []; slow = 0 }
 
 -- the account of all the lines of the script of a number
 abbrev pub load_account : ℕ → State

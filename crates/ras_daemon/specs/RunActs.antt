@@ -1,19 +1,18 @@
 -- What a run does to the board, as a list of acts, and how much of it was done.
-use Rattle.std.specs.Prelude.{◌≡◌, ℕ, List, [], ◌∷◌, ◌++◌}
+use Rattle.std.specs.Prelude.{◌≡◌, ℕ, List, [], ◌∷◌, ◌++◌, if◌then◌else◌, is_some}
 use Rattle.board_core.specs.declared.board.DiskCall.{DiskCall}
-use Rattle.board_core.specs.Doing.{Act, FailsActs, after_acts, calls_of}
+use Rattle.board_core.specs.Doing.{Act, FailsActs, accesses_of, after_acts, calls_of}
 use Rattle.board_core.specs.Told.{Told}
-use Rattle.ras_account.specs.Account.{account_of}
 use Rattle.ras_base.specs.Places.{places}
 use Rattle.ras_base.specs.Prefix.{IsPrefixOf}
 use Rattle.ras_recover.specs.OpeningActs.{AreOpeningActs}
-use Rattle.ras_events.specs.Reports.{NumberedLine, Place}
+use Rattle.ras_events.specs.Reports.{NumberedLine, Place, event_at}
 use Rattle.ras_exit.specs.Acts.{print_acts}
 use Rattle.ras_exit.specs.Endings.{CallEnding, answered, faulted}
 use Rattle.ras_exit.specs.declared.exit.Exit.{Exit}
-use Rattle.ras_run.specs.LineActs.{AreLineActs}
+use Rattle.ras_run.specs.LineActs.{AreLineActs, refused_acts}
 use Rattle.ras_run.specs.Places.{Start, account_at}
-use Rattle.ras_run.specs.Status.{places_before_refusal}
+use Rattle.ras_run.specs.Status.{places_before_refusal, refusal_at}
 use Rattle.ras_texts.specs.Orders.{standing_lines}
 use Rattle.ras_daemon.specs.RunOutput.{closing_line}
 use Rattle.ras_daemon.specs.RunStatus.{run_exit}
@@ -27,23 +26,28 @@ AreActsAlong start (place ∷ places) t acts =
     (here : List Act) × (rest : List Act) × (acts ≡ here ++ rest)
     × AreLineActs start place t here × AreActsAlong start places (after_acts here t) rest
 
--- the acts of all lines before the first refused one
-abbrev pub AreLinesActs : Start → List ℕ → Told → List Act → Type 0
-AreLinesActs start script t acts = AreActsAlong start (places_before_refusal start (places (reads_of script))) t acts
-
 -- the print of the orders that stand at the start, and of the last line behind these lines
 abbrev pub orders_acts : Start → List Act
-orders_acts start = print_acts (standing_lines (account_of start.history))
+orders_acts start = print_acts (standing_lines start.account)
 
 abbrev pub last_acts : Start → List NumberedLine → Exit → List Act
 last_acts start before exit = print_acts (closing_line (account_at start before) exit)
 
+-- what the first refused line does: the record store is asked of a put that it refuses
+abbrev pub asked_acts : Start → List Place → List Act
+asked_acts start [] = []
+asked_acts start (place ∷ places) =
+    if is_some (refusal_at start place) then refused_acts (event_at place) else asked_acts start places
+
+abbrev pub script_asked : Start → List ℕ → List Act
+script_asked start script = asked_acts start (places (reads_of script))
+
 -- Once the journal is open: the orders are printed, then the lines before the first refused one are
--- taken, and then the last line is printed.
+-- taken, then that one is refused, and then the last line is printed.
 pub record AreScriptActs (start : Start) (script : List ℕ) (t : Told) (acts : List Act) : Type 0 where
   pub along : List Act
-  pub lines : AreLinesActs start script (after_acts (orders_acts start) t) along
-  pub is : acts ≡ orders_acts start ++ (along ++ last_acts start (reads_of script) (run_exit start script))
+  pub lines : AreActsAlong start (places_before_refusal start (places (reads_of script))) (after_acts (orders_acts start) t) along
+  pub is : acts ≡ orders_acts start ++ (along ++ (script_asked start script ++ last_acts start (reads_of script) (run_exit start script)))
 
 -- the acts of a run over a board that tells this
 pub record AreRunActs (start : Start) (script : List ℕ) (t : Told) (acts : List Act) : Type 0 where
@@ -68,3 +72,9 @@ DidOf acts ending old now = (done : List Act) × IsPrefixOf done acts × (now �
 abbrev pub DidRun : Start → List ℕ → CallEnding → Told → Told → Type 0
 DidRun start script ending old now =
     (acts : List Act) × AreRunActs start script old acts × DidOf acts ending old now
+
+-- what is told lists the accesses of the run's acts behind those before it, and no others
+pub record ListsAccesses (start : Start) (script : List ℕ) (old now : Told) : Type 0 where
+  pub acts : List Act
+  pub are : AreRunActs start script old acts
+  pub listed : now.accesses ≡ old.accesses ++ accesses_of acts old

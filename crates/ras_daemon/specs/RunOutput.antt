@@ -2,7 +2,7 @@
 use Rattle.std.specs.Prelude.{ℕ, List, ◌++◌, take}
 use Rattle.std.specs.List.{flat_map}
 use Rattle.ras_base.specs.Places.{places}
-use Rattle.ras_account.specs.Account.{State, account_of}
+use Rattle.ras_account.specs.Account.{State}
 use Rattle.ras_events.specs.Reports.{NumberedLine}
 use Rattle.ras_texts.specs.Orders.{standing_lines}
 use Rattle.ras_texts.specs.Text.{end_line}
@@ -28,11 +28,11 @@ lines_output start reads = flat_map (output_at start) (places_before_refusal sta
 -- event prints, and the last line.
 abbrev pub run_output : Start → List ℕ → List ℕ
 run_output start script =
-    standing_lines (account_of start.history)
+    standing_lines start.account
     ++ (lines_output start (reads_of script)
     ++ closing_line (account_at start (reads_of script)) (run_exit start script))
 
 -- what it has printed once the first n events are done
 abbrev pub output_upto : Start → List ℕ → ℕ → List ℕ
 output_upto start script n =
-    standing_lines (account_of start.history) ++ flat_map (output_at start) (take n (events_of start script))
+    standing_lines start.account ++ flat_map (output_at start) (take n (events_of start script))

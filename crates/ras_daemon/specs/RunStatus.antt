@@ -1,9 +1,9 @@
 -- How a run ends.
 use Rattle.std.specs.Prelude.{ℕ, List, [], ◌∷◌, Option, None, Some, unwrap_or}
 use Rattle.std.specs.List.{filter_map}
-use Rattle.board_core.specs.Stop.{Left}
+use Rattle.board_core.specs.Told.{Told}
 use Rattle.ras_base.specs.Places.{places}
-use Rattle.ras_account.specs.History.{History}
+use Rattle.ras_account.specs.Account.{State}
 use Rattle.ras_recover.specs.Opening.{standing_opened}
 use Rattle.ras_events.specs.Reports.{Place}
 use Rattle.ras_exit.specs.declared.exit.Exit.{Exit}
@@ -12,9 +12,14 @@ use Rattle.ras_run.specs.Places.{Start}
 use Rattle.ras_run.specs.Status.{refusal_at}
 use Rattle.ras_daemon.specs.Script.{reads_of}
 
--- where a run over files that hold a history begins
-abbrev pub start_of : History → Left → Start
-start_of history here = record { history = history; standing = standing_opened here.file0 here.file1 }
+-- where a run begins over files that hold an account, on a board that tells this
+abbrev pub start_of : State → Told → Start
+start_of account t = record {
+  account = account;
+  standing = standing_opened t.here.file0 t.here.file1;
+  store = t.here.store;
+  slow = t.volatile.slow;
+}
 
 -- the first of a list
 abbrev pub first_among : {X : Type 0} → List X → Option X

@@ -5,7 +5,6 @@ use Rattle.board_core.specs.Clock.{Clock, LeftNow}
 use Rattle.board_core.specs.Stop.{Left, Begins}
 use Rattle.board_core.specs.Told.{Told}
 use Rattle.ras_base.specs.Places.{places}
-use Rattle.ras_account.specs.Account.{account_of}
 use Rattle.ras_account.specs.Accounts.{IsAccount}
 use Rattle.ras_journal.specs.Recovered.{Recovers}
 use Rattle.ras_ledger.specs.declared.ledger.Ledger.{Ledger}
@@ -17,7 +16,8 @@ use Rattle.ras_texts.specs.Orders.{standing_lines}
 use Rattle.ras_exit.specs.declared.exit.Exit.{Exit}
 use Rattle.ras_exit.specs.Endings.{CallEnding, answered, ending_of, faulted}
 use Rattle.ras_run.specs.Output.{output_at}
-use Rattle.ras_run.specs.Places.{Start, account_at}
+use Rattle.ras_run.specs.Moments.{CourseMoment, course_at}
+use Rattle.ras_run.specs.Places.{IsBoardAfter, Start, account_at, store_at}
 use Rattle.ras_run.specs.Status.{places_before_refusal}
 use Rattle.ras_run.specs.Taking.{IsAccepted}
 use Rattle.ras_daemon.specs.RunOutput.{closing_line}
@@ -48,43 +48,48 @@ pub record AreAll (start : Start) (script : List ℕ) (exit : Exit) (before : Li
 
 -- ---- what a stop leaves; the text is that before the lines
 
--- between two lines, or while the next one is taken
+-- between two lines, or while the next one is taken or refused
 pub record BetweenLines (start : Start) (script : List ℕ) (out : List ℕ) (left : Left) : Type 0 where
   pub before : List NumberedLine
   pub first : AreFirst start script before
   pub recovers : Recovers (account_at start before) left
+  pub store : left.store ≡ store_at start before
   pub text : left.out ≡ out ++ outputs start before
 
-pub record InLine (start : Start) (script : List ℕ) (out : List ℕ) (left : Left) : Type 0 where
+pub record AtLine (start : Start) (script : List ℕ) (out : List ℕ) (left : Left) : Type 0 where
   pub before : List NumberedLine
   pub read : NumberedLine
-  pub first : AreFirst start script (before ++ read ∷ [])
-  pub recovers : Recovers (account_at start (before ++ read ∷ [])) left
-  pub text : Begins (output_at start (before, read)) (out ++ outputs start before) left.out
+  pub rest : List NumberedLine
+  pub splits : before ++ read ∷ rest ≡ reads_of script
+  pub accepted : AreAccepted start before
+  pub course : CourseMoment (IsAccepted start (before, read)) (course_at start (before, read)) (out ++ outputs start before) left
 
 abbrev pub LinesMoment : Start → List ℕ → List ℕ → Left → Type 0
-LinesMoment start script out left = BetweenLines start script out left ⊎ InLine start script out left
+LinesMoment start script out left = BetweenLines start script out left ⊎ AtLine start script out left
 
 -- while the journal is opened, while the orders that stand at the start are printed, and while the
 -- last line is
 pub record AtOpening (start : Start) (out : List ℕ) (left : Left) : Type 0 where
-  pub recovers : Recovers (account_of start.history) left
+  pub recovers : Recovers start.account left
+  pub store : left.store ≡ start.store
   pub text : left.out ≡ out
 
 pub record AtStart (start : Start) (out : List ℕ) (left : Left) : Type 0 where
-  pub recovers : Recovers (account_of start.history) left
-  pub text : Begins (standing_lines (account_of start.history)) out left.out
+  pub recovers : Recovers start.account left
+  pub store : left.store ≡ start.store
+  pub text : Begins (standing_lines start.account) out left.out
 
 pub record AtEnd (start : Start) (script : List ℕ) (out : List ℕ) (left : Left) : Type 0 where
   pub before : List NumberedLine
   pub exit : Exit
   pub all : AreAll start script exit before
   pub recovers : Recovers (account_at start before) left
+  pub store : left.store ≡ store_at start before
   pub text : Begins (closing_line (account_at start before) exit) (out ++ outputs start before) left.out
 
 -- the text that stands before the lines
 abbrev pub lines_from : Start → List ℕ → List ℕ
-lines_from start out = out ++ standing_lines (account_of start.history)
+lines_from start out = out ++ standing_lines start.account
 
 -- once the journal is open
 abbrev pub OpenMoment : Start → List ℕ → List ℕ → Left → Type 0
@@ -93,17 +98,17 @@ OpenMoment start script out left =
     ⊎ (LinesMoment start script (lines_from start out) left ⊎ AtEnd start script (lines_from start out) left)
 
 -- What a stop leaves of a run: what one at its start may have left, or what stands at a moment of
--- it with the record store as it was. Once the journal is open, what it holds is an account.
+-- it. Once the journal is open, what it holds is an account.
 abbrev pub RunMoment : Clock → Start → List ℕ → Left → Left → Type 0
 RunMoment clock start script here left =
     LeftNow clock left
-    ⊎ ((left.store ≡ here.store)
-    × (AtOpening start here.out left ⊎ (IsAccount (account_of start.history) × OpenMoment start script here.out left)))
+    ⊎ (AtOpening start here.out left ⊎ (IsAccount start.account × OpenMoment start script here.out left))
 
--- a ledger with which a run begins so
-pub record IsStart (start : Start) (ledger : Ledger) : Type 0 where
-  pub account : ledger.account.state ≡ account_of start.history
+-- a ledger with which a run begins so, on a board that tells this
+pub record IsStart (start : Start) (ledger : Ledger) (t : Told) : Type 0 where
+  pub account : ledger.account.state ≡ start.account
   pub standing : ledger.journal.standing ≡ start.standing
+  pub board : IsBoardAfter start [] t
 
 -- ---- how a run ends; the text is that before it
 
@@ -113,18 +118,20 @@ pub record EndsEarly (start : Start) (script out : List ℕ) (now : Told) : Type
   pub before : List NumberedLine
   pub first : AreFirst start script before
   pub recovers : Recovers (account_at start before) now.here
+  pub store : now.here.store ≡ store_at start before
   pub text :
-      (IsAccount (account_of start.history)
-      × (now.here.out ≡ out ++ (standing_lines (account_of start.history) ++ outputs start before)))
+      (IsAccount start.account
+      × (now.here.out ≡ out ++ (standing_lines start.account ++ outputs start before)))
       ⊎ ((now.here.out ≡ out) × (before ≡ []))
 
 -- And if a run comes to an answer, its last line was printed.
 pub record EndsSo (start : Start) (script : List ℕ) (exit : Exit) (out : List ℕ) (now : Told) : Type 0 where
   pub before : List NumberedLine
   pub all : AreAll start script exit before
-  pub account : IsAccount (account_of start.history)
+  pub account : IsAccount start.account
   pub recovers : Recovers (account_at start before) now.here
-  pub text : now.here.out ≡ out ++ (standing_lines (account_of start.history) ++ (outputs start before ++ closing_line (account_at start before) exit))
+  pub store : now.here.store ≡ store_at start before
+  pub text : now.here.out ≡ out ++ (standing_lines start.account ++ (outputs start before ++ closing_line (account_at start before) exit))
 
 abbrev pub EndsIn : Start → List ℕ → Exit → CallEnding → List ℕ → Told → Type 0
 EndsIn start script exit answered out now = EndsSo start script exit out now
@@ -164,4 +171,4 @@ EndsAhead Fault start script from left told =
 abbrev pub RunAhead : Type 0 → Start → List ℕ → Told → Option (List ℕ) → Option Told → Type 0
 RunAhead Fault start script t left told =
     (left ≡ Some script)
-    ⊎ (IsAccount (account_of start.history) × EndsAhead Fault start script (lines_from start t.here.out) left told)
+    ⊎ (IsAccount start.account × EndsAhead Fault start script (lines_from start t.here.out) left told)

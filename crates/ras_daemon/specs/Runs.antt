@@ -11,21 +11,25 @@ use Rattle.ras_account.specs.Numbers.{fresh_entries_in}
 use Rattle.ras_events.specs.Events.{no_settings}
 use Rattle.ras_events.specs.Reports.{entries_at, reports, settings_told}
 use Rattle.ras_events.specs.Sizes.{IsFact}
-use Rattle.ras_events.specs.Texts.{orders_of_entries}
+use Rattle.ras_events.specs.Preparing.{orders_along_entries}
 use Rattle.ras_exit.specs.declared.exit.Exit.TheVariants.{Done}
-use Rattle.ras_run.specs.Places.{Start, history_at}
-use Rattle.ras_daemon.specs.Headline.{reported}
+use Rattle.ras_run.specs.Places.{Start, account_at}
+use Rattle.ras_daemon.specs.Headline.{account_with, reported}
 use Rattle.ras_daemon.specs.RunStatus.{run_exit}
 use Rattle.ras_script.specs.Lines.{script_lines}
 use Rattle.ras_daemon.specs.Script.{events_of, reads_in}
 
--- the history that a run leaves once its first n events are done
-abbrev pub history_after : Start → List ℕ → ℕ → History
-history_after start script n = with_entries start.history (reported start script n)
+-- a run begins with the account of a history
+abbrev pub BeginsWith : History → Start → Type 0
+BeginsWith history start = start.account ≡ account_of history
+
+-- the history that a run leaves behind it once its first n events are done
+abbrev pub history_after : History → Start → List ℕ → ℕ → History
+history_after history start script n = with_entries history (reported start script n)
 
 -- what these events log: of the entries that they report those that are news, each at its place
 abbrev pub logged : Start → List ℕ → ℕ → List Entry
-logged start script n = fresh_entries_in (account_of start.history) (reported start script n)
+logged start script n = fresh_entries_in start.account (reported start script n)
 
 -- the reports among entries
 abbrev pub facts_of : List Entry → List FactOf
@@ -36,7 +40,7 @@ facts_of (other ∷ entries) = facts_of entries
 -- the orders that these events give, each after all that was reported before it
 abbrev pub ordered : Start → List ℕ → ℕ → List Order
 ordered start script n =
-    flat_map (λ place. orders_of_entries (history_at start place.0) (entries_at [] place)) (take n (events_of start script))
+    flat_map (λ place. orders_along_entries (account_at start place.0) (entries_at start.store place)) (take n (events_of start script))
 
 -- how many events a run has that isn't stopped
 abbrev pub event_count : Start → List ℕ → ℕ
@@ -46,9 +50,9 @@ event_count start script = length (events_of start script)
 abbrev pub IsTakenWhole : Start → List ℕ → Type 0
 IsTakenWhole start script = run_exit start script ≡ Done
 
--- a run begins with what another one left once its first n events were done
+-- a run begins with the account that another one left once its first n events were done
 abbrev pub Follows : Start → List ℕ → ℕ → Start → Type 0
-Follows start script n next = next.history ≡ history_after start script n
+Follows start script n next = next.account ≡ account_with start script n
 
 -- a run reports facts alone, and sets no limit and retires no boot
 abbrev pub ReportsFacts : Start → List ℕ → Type 0

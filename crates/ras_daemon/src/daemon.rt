@@ -1,24 +1,26 @@
 //! The top call.
 
-ghost use Rattle.std.specs.Prelude.{◌≡◌, ◌⊎◌, ◌++◌, [], length, Some, IfSome, IsSomeAnd};
+ghost use Rattle.std.specs.Prelude.{◌≡◌, ◌≢◌, ◌⊎◌, ◌++◌, ℕ, [], length, Some, IfSome, IsSomeAnd};
 ghost use Rattle.board_core.specs.Clock.{Always};
 ghost use Rattle.board_core.specs.Device.{LeavesDevice};
 ghost use Rattle.board_core.specs.Doing.{looks};
+ghost use Rattle.ras_journal.specs.Recovered.{HasFewLinks};
 ghost use Rattle.ras_recover.specs.DiskCalls.{IsBeginning, Makes};
 ghost use Rattle.ras_exit.specs.Causes.{BoardCause, SourceCause};
 ghost use Rattle.ras_exit.specs.Endings.{OnAnswer, OnWhole, ending_of};
 ghost use Rattle.ras_exit.specs.Telling.{PrintsPart};
 ghost use Rattle.ras_run.specs.Files.{files_refusal};
 ghost use Rattle.text_laws.specs.DoneLines.{done_count};
-ghost use Rattle.ras_daemon.specs.Ahead.{TakesAhead};
+ghost use Rattle.ras_daemon.specs.Ahead.{TakesAhead, TakesFewOf};
 ghost use Rattle.ras_daemon.specs.Commands.{ByTask, MayEnd};
 ghost use Rattle.ras_daemon.specs.Doing.{DoesRun};
-ghost use Rattle.ras_daemon.specs.Ended.{IsQuiet, IsQuietBoard, OverFiles, RefusesFiles};
-ghost use Rattle.ras_daemon.specs.Headline.{Headline, IsWhole, OverRun, StopsRecover};
-ghost use Rattle.ras_daemon.specs.RunActs.{AreRunCalls, DidRun};
+ghost use Rattle.ras_daemon.specs.Ended.{AreRefused, HasOpened, IsQuiet, IsQuietBoard, OverFiles, RefusesFiles, TakesNoLine};
+ghost use Rattle.ras_daemon.specs.Headline.{Headline, IsWhole, OverRun, Settles, StopsRecover, laid_with};
+ghost use Rattle.ras_daemon.specs.RunActs.{AreRunCalls, DidRun, ListsAccesses};
 ghost use Rattle.ras_daemon.specs.RunOutput.{run_output};
 ghost use Rattle.ras_daemon.specs.RunStatus.{run_exit};
 ghost use Rattle.ras_daemon.specs.Running.{RunAhead};
+ghost use Rattle.ras_daemon.specs.Runs.{event_count};
 ghost use Rattle.ras_daemon.specs.Script.{events_of};
 ghost use Rattle.ras_daemon.specs.Task.{IfReads, UnlessReads, task_of};
 
@@ -40,15 +42,30 @@ pub fn rasd<S: Source, B: Board>(
     source: &mut S,
     board: &mut B,
 ) -> Exit
-    // A stop at any moment of a run leaves the account of the earlier history and a beginning of
-    // what this run reports, with each event that is done by what was printed.
+    // A stop at any moment of a run leaves the account at its start and a beginning of what this run
+    // reports, with each event that is done by what was printed; and of the record store what these
+    // events left, or what is on the way of the next.
     ensures headline { OverRun (λ start script told. StopsRecover start (B.clock board.old)
         → Always (B.clock board.new) (B.clock board.old).now (Headline start script told.here))
         (task_of words.now) (S.left source.old) (B.told board.old) }
 
-    // The exit and what was printed are the stated functions of the script, the earlier history and
-    // where the journal stands, and its done lines number its events. What is printed is cut short
-    // by a fault, or if memory runs out; but for a fault of the board whole events were done.
+    // Once the source is read this holds without that premise, from the moment on at which the
+    // journal was open.
+    ensures settled { OverRun (λ start script told. (source.new ≡ source.old)
+        ⊎ Settles start script told.here (B.clock board.old) (B.clock board.new))
+        (task_of words.now) (S.left source.old) (B.told board.old) }
+
+    // If no file that a stop at the start may leave has more than 256 links, none has that a stop may
+    // leave of a run.
+    ensures few_links { OverRun (λ start script told.
+        Always (B.clock board.old) (B.clock board.old).now HasFewLinks
+        → Always (B.clock board.new) (B.clock board.old).now HasFewLinks)
+        (task_of words.now) (S.left source.old) (B.told board.old) }
+
+    // The exit and what was printed are the stated functions of the script, the account and the
+    // record store at the start, and where the journal stands; its done lines number its events.
+    // What is printed is cut short by a fault, or if memory runs out; but for a fault of the board
+    // whole events were done.
     ensures status { OverRun (λ start script told. OnAnswer result (result ≡ run_exit start script))
         (task_of words.now) (S.left source.old) (B.told board.old) }
     ensures output { OverRun (λ start script told. OnAnswer result (IsSomeAnd (B.told board.new)
@@ -70,6 +87,9 @@ pub fn rasd<S: Source, B: Board>(
         IsSomeAnd (B.told board.new) (TakesAhead result script left told)))
         (task_of words.now) (S.left source.old) (B.told board.old) }
 
+    // Of any source at most 67,108,865 bytes are taken.
+    ensures few { TakesFewOf (S.left source.old) (S.left source.new) }
+
     // A run does its acts in order: the opening's, the print of the orders that stand, those of each
     // line before the first refused one, and the print of the last line. At an answer all of them
     // are done. If a call of the board failed it is the last that was begun of them. Else some first
@@ -81,10 +101,26 @@ pub fn rasd<S: Source, B: Board>(
         (Makes (IsBeginning (AreRunCalls start script told)) told))
         (task_of words.now) (S.left source.old) (B.told board.old) }
 
-    // If the files at the start are damaged or too long, the run says so and leaves them.
+    // Its accesses to the device are theirs, and once it is done the record store is what its events
+    // left.
+    ensures accesses { OverRun (λ start script told. OnAnswer result (IsSomeAnd (B.told board.new)
+        (ListsAccesses start script told)))
+        (task_of words.now) (S.left source.old) (B.told board.old) }
+    ensures stored { OverRun (λ start script told. result ≡ Exit.Done
+        → IsSomeAnd (B.told board.new)
+        (λ now. now.here.store ≡ laid_with start script (event_count start script)))
+        (task_of words.now) (S.left source.old) (B.told board.old) }
+
+    // The source is read only once the journal is open. If the files at the start are damaged or too
+    // long, the run says so and leaves them, and it doesn't read the source.
+    ensures opened { OverRun (λ start script told. (source.new ≡ source.old)
+        ⊎ IsSomeAnd (B.told board.new) (HasOpened told))
+        (task_of words.now) (S.left source.old) (B.told board.old) }
     ensures refused { OverFiles
         (λ before now. RefusesFiles (files_refusal before.here) result before now)
         (task_of words.now) (B.told board.old) (B.told board.new) }
+    ensures unread { task_of words.now ≡ Some Task.Run → AreRefused (B.told board.old)
+        → source.new ≡ source.old }
 
     // What reads the source is done once that is read to its end; all else leaves it alone. If no
     // count of faults rose, a run that is refused nowhere is done, unless memory ran out.
@@ -101,7 +137,13 @@ pub fn rasd<S: Source, B: Board>(
     // If a count of faults rose that fault is the exit, and every other count is as it was.
     ensures source { SourceCause result (S.faults source.old) (S.faults source.new) }
     ensures board { BoardCause result (B.faults board.old) (B.faults board.new) }
-    ensures device { LeavesDevice (B.told board.old) (B.told board.new)
+
+    // A status that the device of the record store answered is told only if it isn't 0.
+    ensures coded { (code : ℕ) → result ≡ Exit.ErstStatus code → code ≢ 0 }
+
+    // If the words don't ask for a run, or the files refuse it, the device is left alone.
+    ensures apart { TakesNoLine (task_of words.now) (B.told board.old)
+        → LeavesDevice (B.told board.old) (B.told board.new)
         (B.clock board.old) (B.clock board.new) }
 
     // Every other command tells what the source and the files ask for, and so do words of no form.
@@ -128,6 +170,7 @@ fn call<S: Source, B: Board>(
         RunAhead (result ≡ Exit.SourceFault) start script told (S.left source.new)
         (B.told board.new))
         (task_of words.now) (S.left source.old) (B.told board.old) }
+    ensures few { TakesFewOf (S.left source.old) (S.left source.new) }
     ensures refused { OverFiles
         (λ before now. RefusesFiles (files_refusal before.here) result before now)
         (task_of words.now) (B.told board.old) (B.told board.new) }
@@ -136,7 +179,17 @@ fn call<S: Source, B: Board>(
     ensures untouched { UnlessReads (task_of words.now) (source.new ≡ source.old) }
     ensures source { SourceCause result (S.faults source.old) (S.faults source.new) }
     ensures board { BoardCause result (B.faults board.old) (B.faults board.new) }
-    ensures device { LeavesDevice (B.told board.old) (B.told board.new)
+    ensures coded { (code : ℕ) → result ≡ Exit.ErstStatus code → code ≢ 0 }
+    ensures settled { OverRun (λ start script told. (source.new ≡ source.old)
+        ⊎ Settles start script told.here (B.clock board.old) (B.clock board.new))
+        (task_of words.now) (S.left source.old) (B.told board.old) }
+    ensures opened { OverRun (λ start script told. (source.new ≡ source.old)
+        ⊎ IsSomeAnd (B.told board.new) (HasOpened told))
+        (task_of words.now) (S.left source.old) (B.told board.old) }
+    ensures unread { task_of words.now ≡ Some Task.Run → AreRefused (B.told board.old)
+        → source.new ≡ source.old }
+    ensures apart { TakesNoLine (task_of words.now) (B.told board.old)
+        → LeavesDevice (B.told board.old) (B.told board.new)
         (B.clock board.old) (B.clock board.new) }
     ensures commands { ByTask result (task_of words.now) (S.left source.old) (S.left source.new)
         (B.told board.old) (B.told board.new) }

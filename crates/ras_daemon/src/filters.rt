@@ -6,6 +6,7 @@ ghost use Rattle.cper_pcie.specs.Filter.{pcie_filter};
 ghost use Rattle.line_filters.specs.Filters.{Filters, IsFilterExit, OfBoth};
 ghost use Rattle.ras_exit.specs.Causes.{BoardCause, SourceCause};
 ghost use Rattle.ras_klog.specs.Klog.{klog_filter};
+ghost use Rattle.ras_daemon.specs.Ahead.{TakesFewOf};
 
 use board_core::{Board, Source};
 use cper_pcie::PcieFilter;
@@ -25,6 +26,7 @@ pub fn print_pcie_sections<S: Source, B: Board>(
         (S.left source.new) (B.told board.old) (B.told board.new) }
     ensures ended { result ≡ Exit.Done
         → IfSome (S.left source.old) (λ script. S.left source.new ≡ Some []) }
+    ensures few { TakesFewOf (S.left source.old) (S.left source.new) }
     ensures exits { IsFilterExit result }
     ensures source { SourceCause result (S.faults source.old) (S.faults source.new) }
     ensures board { BoardCause result (B.faults board.old) (B.faults board.new) }
@@ -48,6 +50,7 @@ pub fn print_kernel_log<S: Source, B: Board>(
         (S.left source.new) (B.told board.old) (B.told board.new) }
     ensures ended { result ≡ Exit.Done
         → IfSome (S.left source.old) (λ script. S.left source.new ≡ Some []) }
+    ensures few { TakesFewOf (S.left source.old) (S.left source.new) }
     ensures exits { IsFilterExit result }
     ensures source { SourceCause result (S.faults source.old) (S.faults source.new) }
     ensures board { BoardCause result (B.faults board.old) (B.faults board.new) }

@@ -7,7 +7,8 @@ ghost use Rattle.dimm_topology.specs.Labels.{Bytes, same_label};
 ghost use Rattle.page_policy.specs.Histories.{AreOnceInOrder, state_in, state_under};
 ghost use Rattle.ras_base.specs.Prefix.{IsPrefixOf};
 ghost use Rattle.ras_facts.specs.Names.{same_name};
-ghost use Rattle.ras_account.specs.Account.{AreSame, account_of, module_errors, names_of};
+ghost use Rattle.ras_account.specs.Account.{account_of, module_errors, names_of};
+ghost use Rattle.ras_account.specs.History.{History};
 ghost use Rattle.ras_account.specs.Asked.{HasRow, module_place, orders_for_module, orders_for_page};
 ghost use Rattle.ras_account.specs.Asked.{replace_order};
 ghost use Rattle.ras_account.specs.Fresh.{fresh_entries};
@@ -17,19 +18,28 @@ ghost use Rattle.ras_run.specs.Places.{Start};
 ghost use Rattle.ras_daemon.specs.Headline.{account_with};
 ghost use Rattle.ras_daemon.specs.RunOutput.{lines_output, output_upto, run_output};
 ghost use Rattle.ras_daemon.specs.RunStatus.{run_exit};
-ghost use Rattle.ras_daemon.specs.Runs.{AreJoined, CountTheSame, Follows, IsTakenWhole};
+ghost use Rattle.ras_daemon.specs.Runs.{AreJoined, BeginsWith, CountTheSame, Follows};
+ghost use Rattle.ras_daemon.specs.Runs.{IsTakenWhole};
 ghost use Rattle.ras_daemon.specs.Runs.{ReportsFacts, event_count, facts_of, history_after};
 ghost use Rattle.ras_daemon.specs.Runs.{logged, ordered};
 ghost use Rattle.ras_daemon.specs.Script.{reads_in};
 
 /// The laws of runs on one journal. The function does nothing: its clauses are what it is for.
 pub fn run_laws()
-    // What a run prints and how it ends needs of the earlier history its account alone, and of the
-    // journal where it stands.
-    ensures output { (one other : Start) (script : List ℕ) → AreSame one.history other.history
-        → one.standing ≡ other.standing → run_output one script ≡ run_output other script }
-    ensures status { (one other : Start) (script : List ℕ) → AreSame one.history other.history
-        → one.standing ≡ other.standing → run_exit one script ≡ run_exit other script }
+    // What a run prints and how it ends needs of what was before it the account alone, where the
+    // journal stands, the record store, and how slow the store's device is.
+    ensures output { (one other : Start) (script : List ℕ) → one.account ≡ other.account
+        → one.standing ≡ other.standing → one.store ≡ other.store → one.slow ≡ other.slow
+        → run_output one script ≡ run_output other script }
+    ensures status { (one other : Start) (script : List ℕ) → one.account ≡ other.account
+        → one.standing ≡ other.standing → one.store ≡ other.store → one.slow ≡ other.slow
+        → run_exit one script ≡ run_exit other script }
+
+    // If the account at its start is that of a history, a run leaves the account of that history
+    // with what its first events report.
+    ensures accounts { (history : History) (start : Start) (script : List ℕ) (n : ℕ)
+        → BeginsWith history start → account_with start script n
+        ≡ account_of (history_after history start script n) }
 
     // What is printed once some events are done is a beginning of the output.
     ensures printed { (start : Start) (script : List ℕ) (n : ℕ)
@@ -41,26 +51,29 @@ pub fn run_laws()
         (lines_output start (reads_in (lines ++ more))) }
 
     // What a run logs comes after what the earlier runs logged, and no name is logged twice.
-    ensures logged { (start : Start) (script : List ℕ) (n : ℕ)
-        → fresh_entries (history_after start script n)
-        ≡ fresh_entries start.history ++ logged start script n }
-    ensures once { (start : Start) (script : List ℕ) (n : ℕ)
-        → IsDistinct same_name
-        (names_of (fresh_entries start.history ++ logged start script n)) }
+    ensures logged { (history : History) (start : Start) (script : List ℕ) (n : ℕ)
+        → BeginsWith history start → fresh_entries (history_after history start script n)
+        ≡ fresh_entries history ++ logged start script n }
+    ensures once { (history : History) (start : Start) (script : List ℕ) (n : ℕ)
+        → BeginsWith history start → IsDistinct same_name
+        (names_of (fresh_entries history ++ logged start script n)) }
 
     // So a script that was taken whole logs no report when it is run again.
-    ensures again { (start next : Start) (script : List ℕ) (n : ℕ) → IsTakenWhole start script
+    ensures again { (history : History) (start next : Start) (script : List ℕ) (n : ℕ)
+        → BeginsWith history start → IsTakenWhole start script
         → Follows start script (event_count start script) next
         → names_of (logged next script n) ≡ [] }
 
     // And a script that is run again after a stop at any of its events ends with the account with
     // which it ends where it isn't stopped, but for the number of entries, since limits are set
     // again. Where it reports facts alone that number is the same too.
-    ensures resumed { (start next : Start) (script : List ℕ) (n : ℕ) → IsTakenWhole start script
+    ensures resumed { (history : History) (start next : Start) (script : List ℕ) (n : ℕ)
+        → BeginsWith history start → IsTakenWhole start script
         → Follows start script n next → IsTakenWhole next script
         → CountTheSame (account_with next script (event_count next script))
         (account_with start script (event_count start script)) }
-    ensures same { (start next : Start) (script : List ℕ) (n : ℕ) → IsTakenWhole start script
+    ensures same { (history : History) (start next : Start) (script : List ℕ) (n : ℕ)
+        → BeginsWith history start → IsTakenWhole start script
         → Follows start script n next → IsTakenWhole next script → ReportsFacts start script
         → account_with next script (event_count next script)
         ≡ account_with start script (event_count start script) }
@@ -69,7 +82,8 @@ pub fn run_laws()
     // stop can keep a report's lines from being printed only if it comes between the report's
     // link and its print; what the report ordered stands then at the next start, by the clauses
     // on what stands.
-    ensures together { (start next : Start) (script : List ℕ) (n : ℕ) → IsTakenWhole start script
+    ensures together { (history : History) (start next : Start) (script : List ℕ) (n : ℕ)
+        → BeginsWith history start → IsTakenWhole start script
         → Follows start script n next → IsTakenWhole next script
         → facts_of (logged start script n ++ logged next script (event_count next script))
         ≡ facts_of (logged start script (event_count start script)) }
@@ -84,30 +98,32 @@ pub fn run_laws()
 
     // The orders of a run come after those of the earlier runs, and together they take a page out
     // of use at most once softly and at most once hard, and never softly after that.
-    ensures ordered { (start : Start) (script : List ℕ) (n : ℕ)
-        → orders (history_after start script n)
-        ≡ orders start.history ++ ordered start script n }
-    ensures page { (start : Start) (script : List ℕ) (n page : ℕ)
-        → AreOnceInOrder page
-        (orders_for_page page (orders start.history ++ ordered start script n)) }
+    ensures ordered { (history : History) (start : Start) (script : List ℕ) (n : ℕ)
+        → BeginsWith history start → orders (history_after history start script n)
+        ≡ orders history ++ ordered start script n }
+    ensures page { (history : History) (start : Start) (script : List ℕ) (n page : ℕ)
+        → BeginsWith history start → AreOnceInOrder page
+        (orders_for_page page (orders history ++ ordered start script n)) }
 
     // Since the last mark they ask for a module to be replaced once if its own corrected errors
     // have made its bucket trip, and else not at all.
-    ensures module { (start : Start) (script : List ℕ) (n : ℕ) (label : Bytes)
-        → let history = history_after start script n in HasRow history label
-        → orders_for_module (module_place history label)
-        (orders_since_mark start.history ++ ordered start script n)
-        ≡ (if has_tripped (module_errors history label)
-        then replace_order history label ∷ [] else []) }
+    ensures module { (history : History) (start : Start) (script : List ℕ) (n : ℕ)
+        (label : Bytes) → BeginsWith history start
+        → let after = history_after history start script n in HasRow after label
+        → orders_for_module (module_place after label)
+        (orders_since_mark history ++ ordered start script n)
+        ≡ (if has_tripped (module_errors after label)
+        then replace_order after label ∷ [] else []) }
 
     // What stands, and is printed when the next run starts: a page in the highest state that its
     // orders asked for, and a module that is to be replaced if its own errors made its bucket
     // trip.
-    ensures page_stands { (start : Start) (script : List ℕ) (n page : ℕ)
-        → state_in (account_of (history_after start script n)).pages page
-        ≡ state_under (orders_for_page page (orders start.history ++ ordered start script n)) }
-    ensures module_stands { (start : Start) (script : List ℕ) (n : ℕ) (label : Bytes)
-        (row : Module) → let history = history_after start script n in
-        lookup (same_label label) (account_of history).modules ≡ Some row
-        → row.replace ≡ has_tripped (module_errors history label) }
+    ensures page_stands { (history : History) (start : Start) (script : List ℕ) (n page : ℕ)
+        → BeginsWith history start
+        → state_in (account_with start script n).pages page
+        ≡ state_under (orders_for_page page (orders history ++ ordered start script n)) }
+    ensures module_stands { (history : History) (start : Start) (script : List ℕ) (n : ℕ)
+        (label : Bytes) (row : Module) → BeginsWith history start
+        → lookup (same_label label) (account_with start script n).modules ≡ Some row
+        → row.replace ≡ has_tripped (module_errors (history_after history start script n) label) }
 {}

@@ -23,7 +23,7 @@ use Rattle.ras_texts.specs.Unreadable.{unreadable_line}
 use Rattle.ras_events.specs.declared.made.Piece.{Piece}
 use Rattle.ras_events.specs.declared.made.Piece.TheVariants.{Counted, Unread}
 use Rattle.ras_events.specs.Making.{entries_in, entry_in}
-use Rattle.ras_events.specs.Preparing.{orders_along_entries, text_along}
+use Rattle.ras_events.specs.Preparing.{event_text_in, orders_along_entries, text_along}
 use Rattle.ras_events.proofs.BesideLemmas.{after_if}
 use Rattle.ras_events.specs.Texts.{event_text, orders_of_entries, piece_text, pieces_text}
 
@@ -108,12 +108,14 @@ orders_by_history h es = orders_from h [] es
 pub account_by_history : (h : History) (es : List Entry) → account_after_all (account_of h) es ≡ account_of (with_entries h es)
 account_by_history h es = sym (account_of-entries h es)
 
--- the whole text of an event, with the orders of its news
-pub event_by_history : (h : History) (made : List Piece)
-    → text_along (account_of h) made
-    ++ order_lines (account_after_all (account_of h) (fresh_entries_in (account_of h) (entries_in made))).modules (orders_along_entries (account_of h) (fresh_entries_in (account_of h) (entries_in made)))
-    ≡ event_text h made
+-- the whole text of an event, with the orders of its news or of all its entries
+pub event_by_news : (a : State) (made : List Piece)
+    → text_along a made ++ order_lines (account_after_all a (fresh_entries_in a (entries_in made))).modules (orders_along_entries a (fresh_entries_in a (entries_in made))) ≡ event_text_in a made
+event_by_news a made =
+    let es : List Entry = entries_in made in
+    λ i. text_along a made ++ order_lines (news_account a es i).modules (news_orders a es i)
+
+pub event_by_history : (h : History) (made : List Piece) → event_text_in (account_of h) made ≡ event_text h made
 event_by_history h made =
     let es : List Entry = entries_in made in
-    λ i. text_by_history h made i
-    ++ order_lines ((news_account (account_of h) es ∙ account_by_history h es) i).modules ((news_orders (account_of h) es ∙ orders_by_history h es) i)
+    λ i. text_by_history h made i ++ order_lines (account_by_history h es i).modules (orders_by_history h es i)

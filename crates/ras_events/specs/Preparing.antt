@@ -5,12 +5,13 @@ use Rattle.page_policy.specs.declared.rows.Order.{Order}
 use Rattle.ras_facts.specs.declared.entry.Entry.{Entry}
 use Rattle.ras_facts.specs.Entries.{IsValidEntry, most_orders}
 use Rattle.ras_account.specs.Account.{State}
-use Rattle.ras_account.specs.Continued.{account_after, is_fresh_in}
+use Rattle.ras_account.specs.Continued.{account_after, account_after_all, is_fresh_in}
 use Rattle.ras_account.specs.Numbers.{StaysWithin, fresh_entries_in}
 use Rattle.ras_account.specs.Orders.{orders_at}
 use Rattle.ras_account.specs.View.{View, IsReservedFor}
 use Rattle.journal_format.specs.Links.{link_bytes}
 use Rattle.ras_texts.specs.OrderRoom.{HasOrderRoom}
+use Rattle.ras_texts.specs.Orders.{order_lines}
 use Rattle.ras_texts.specs.Reports.{entry_lines}
 use Rattle.ras_texts.specs.Text.{done_line, repeat_line}
 use Rattle.ras_texts.specs.Unreadable.{unreadable_line}
@@ -33,6 +34,14 @@ abbrev pub orders_along_entries : State → List Entry → List Order
 orders_along_entries account [] = []
 orders_along_entries account (entry ∷ entries) =
     orders_at account entry ++ orders_along_entries (account_after account entry) entries
+
+-- the whole text of an event by an account: the lines of its pieces, and then those of the orders
+-- that its entries give
+abbrev pub event_text_in : State → List Piece → List ℕ
+event_text_in account made =
+    text_along account made
+    ++ order_lines (account_after_all account (entries_in made)).modules
+    (orders_along_entries account (entries_in made))
 
 -- the entries of an event that are news, or none
 abbrev pub news_entries : Option News → List Entry

@@ -27,7 +27,7 @@ ghost use Rattle.ras_events.specs.Reports.{NumberedLine, entries_at, reports, se
 ghost use Rattle.ras_events.specs.declared.made.Piece.{Piece};
 ghost use Rattle.ras_events.specs.Making.{entries_in, made_by_report, polled};
 ghost use Rattle.ras_events.specs.Stores.{found_after, laid, last_laid, unreadable};
-ghost use Rattle.ras_events.specs.Preparing.{orders_along_entries, text_along};
+ghost use Rattle.ras_events.specs.Preparing.{event_text_in, orders_along_entries, text_along};
 ghost use Rattle.ras_events.specs.Texts.{event_text, orders_of_entries, pieces_text};
 
 /// The laws of events. The function does nothing: its clauses are what it is for.
@@ -55,14 +55,14 @@ pub fn event_laws()
         → orders_along_entries (account_of history) entries ≡ orders_of_entries history entries }
 
     // What is prepared of an event, and the lines of the orders that its news give when they are
-    // counted, are the event's text.
+    // counted, are the event's text; and that of a history is the one by its account.
+    ensures prepared { (a : State) (made : List Piece)
+        → text_along a made
+        ++ order_lines (account_after_all a (fresh_entries_in a (entries_in made))).modules
+        (orders_along_entries a (fresh_entries_in a (entries_in made)))
+        ≡ event_text_in a made }
     ensures event { (history : History) (made : List Piece)
-        → text_along (account_of history) made
-        ++ order_lines (account_after_all (account_of history)
-        (fresh_entries_in (account_of history) (entries_in made))).modules
-        (orders_along_entries (account_of history)
-        (fresh_entries_in (account_of history) (entries_in made)))
-        ≡ event_text history made }
+        → event_text_in (account_of history) made ≡ event_text history made }
 {}
 
 /// The laws of what the lines of a script tell and report. The function does nothing: its clauses

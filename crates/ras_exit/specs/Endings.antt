@@ -1,10 +1,10 @@
 -- How a call ends, by what its exit says of how far it came.
-use Rattle.std.specs.Prelude.{◌≡◌, ℕ, Bool, true, false, ⊤}
-use Rattle.board_core.specs.Cause.{Kind, disk_call, print_call}
+use Rattle.std.specs.Prelude.{◌≡◌, ◌≢◌, ℕ, Bool, true, false, ⊤}
+use Rattle.board_core.specs.Cause.{Kind, device_call, disk_call, print_call}
 use Rattle.ras_script.specs.declared.line.LineRefused.{LineRefused}
 use Rattle.ras_script.specs.declared.line.LineRefused.TheVariants as refused
 use Rattle.ras_exit.specs.declared.exit.Exit.{Exit}
-use Rattle.ras_exit.specs.declared.exit.Exit.TheVariants.{Done, Usage, BadLine, SourceFault, DiskFault, PrintFault, NoMemory}
+use Rattle.ras_exit.specs.declared.exit.Exit.TheVariants.{Done, Usage, BadLine, SourceFault, DiskFault, RegisterFault, PrintFault, ErstStatus, NoMemory}
 use Rattle.ras_exit.specs.declared.reason.Reason.TheVariants.{Line}
 
 -- A call answers: it came to its end, or to a refusal. Or it was cut short: a call of the board
@@ -18,6 +18,7 @@ pub data CallEnding : Type 0 where
 abbrev pub ending_of : Exit → CallEnding
 ending_of SourceFault = source_failed
 ending_of DiskFault = faulted disk_call
+ending_of RegisterFault = faulted device_call
 ending_of PrintFault = faulted print_call
 ending_of NoMemory = starved
 ending_of exit = answered
@@ -37,17 +38,19 @@ IsAnswer exit = is_answer exit ≡ true
 abbrev pub IsCut : Exit → Type 0
 IsCut exit = is_answer exit ≡ false
 
--- an exit that ends a run among its lines, and one that ends it at a line, where the source isn't
--- read
+-- An exit that ends a run among its lines, and one that ends it at a line, where the source isn't
+-- read. A status that the device answers is told only if it isn't 0.
 abbrev pub IsLineExit : Exit → Type 0
 IsLineExit Done = ⊥
 IsLineExit Usage = ⊥
+IsLineExit (ErstStatus code) = code ≢ 0
 IsLineExit exit = ⊤
 
 abbrev pub IsStop : Exit → Type 0
 IsStop Done = ⊥
 IsStop Usage = ⊥
 IsStop SourceFault = ⊥
+IsStop (ErstStatus code) = code ≢ 0
 IsStop exit = ⊤
 
 -- P holds if the ending is an answer

@@ -3,7 +3,7 @@ use Rattle.std.specs.Prelude.{ℕ, List, [], ◌++◌, codes, decimal}
 use Rattle.ras_texts.specs.Text.{line_with}
 use Rattle.ras_exit.specs.Reasons.{reason_text}
 use Rattle.ras_exit.specs.declared.exit.Exit.{Exit}
-use Rattle.ras_exit.specs.declared.exit.Exit.TheVariants.{Done, Usage, BadLine, SourceFault, DiskFault, PrintFault, Damaged, Full, NoMemory, TooLong}
+use Rattle.ras_exit.specs.declared.exit.Exit.TheVariants.{Done, Usage, BadLine, SourceFault, DiskFault, RegisterFault, PrintFault, Damaged, Full, ErstRefused, ErstBusy, ErstStatus, NoMemory, TooLong}
 
 -- the line that a refused run ends with; an exit that is no refusal has none
 abbrev pub stop_line : Exit → List ℕ
@@ -13,9 +13,13 @@ stop_line (BadLine line why) =
     line_with (codes "stop 2 line=" ++ decimal line ++ codes " reason=" ++ reason_text why)
 stop_line SourceFault = []
 stop_line DiskFault = []
+stop_line RegisterFault = []
 stop_line PrintFault = []
 stop_line (Damaged file place) =
     line_with (codes "stop 7 file=" ++ decimal file ++ codes " place=" ++ decimal place)
 stop_line Full = codes "stop 8 full\n"
+stop_line (ErstRefused line) = line_with (codes "stop 9 line=" ++ decimal line)
+stop_line ErstBusy = codes "stop 10 busy\n"
+stop_line (ErstStatus code) = line_with (codes "stop 11 code=" ++ decimal code)
 stop_line NoMemory = []
 stop_line TooLong = codes "stop 13 too-long\n"

@@ -19,12 +19,21 @@ pub enum Exit {
     SourceFault,
     /// A disk call failed.
     DiskFault,
+    /// A call of the record store's device failed.
+    RegisterFault,
     /// Printing failed.
     PrintFault,
     /// A file isn't as it should be: which file, and from which place in bytes.
     Damaged { file: u8, place: u64 },
     /// There is no room in the account.
     Full,
+    /// A line wants a table that drives the record store, and none that is admitted was read; or it
+    /// is itself a table that isn't admitted: its number, from 1.
+    ErstRefused { line: u64 },
+    /// The record store's device was busy for too long.
+    ErstBusy,
+    /// The record store's device ended an operation with this status, which isn't 0.
+    ErstStatus(u64),
     /// Memory ran out.
     NoMemory,
     /// The script is too long.
@@ -55,9 +64,13 @@ impl Exit {
             Exit::BadLine { .. } => 2,
             Exit::SourceFault => 3,
             Exit::DiskFault => 4,
+            Exit::RegisterFault => 5,
             Exit::PrintFault => 6,
             Exit::Damaged { .. } => 7,
             Exit::Full => 8,
+            Exit::ErstRefused { .. } => 9,
+            Exit::ErstBusy => 10,
+            Exit::ErstStatus(_) => 11,
             Exit::NoMemory => 12,
             Exit::TooLong => 13,
         }
@@ -70,7 +83,11 @@ impl Exit {
     {
         !matches!(
             self,
-            Exit::SourceFault | Exit::DiskFault | Exit::PrintFault | Exit::NoMemory
+            Exit::SourceFault
+                | Exit::DiskFault
+                | Exit::RegisterFault
+                | Exit::PrintFault
+                | Exit::NoMemory
         )
     }
 

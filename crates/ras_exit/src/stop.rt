@@ -35,8 +35,24 @@ pub fn stop_line(alloc: Global, exit: Exit) -> Result<Vec<u8>, NoMemory>
             text.extend_from_slice(b"\n")?;
         }
         Exit::Full => text.extend_from_slice(b"stop 8 full\n")?,
+        Exit::ErstRefused { line } => {
+            text.extend_from_slice(b"stop 9 line=")?;
+            push_number(&mut text, line)?;
+            text.extend_from_slice(b"\n")?;
+        }
+        Exit::ErstBusy => text.extend_from_slice(b"stop 10 busy\n")?,
+        Exit::ErstStatus(code) => {
+            text.extend_from_slice(b"stop 11 code=")?;
+            push_number(&mut text, code)?;
+            text.extend_from_slice(b"\n")?;
+        }
         Exit::TooLong => text.extend_from_slice(b"stop 13 too-long\n")?,
-        Exit::Done | Exit::SourceFault | Exit::DiskFault | Exit::PrintFault | Exit::NoMemory => {}
+        Exit::Done
+        | Exit::SourceFault
+        | Exit::DiskFault
+        | Exit::RegisterFault
+        | Exit::PrintFault
+        | Exit::NoMemory => {}
     }
     Ok(text)
 }

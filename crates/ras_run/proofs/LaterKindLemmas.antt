@@ -17,7 +17,7 @@ use Rattle.ras_script.specs.declared.line.Line.TheVariants as asks
 use Rattle.ras_script.specs.declared.line.LineRefused.{LineRefused}
 use Rattle.ras_script.specs.declared.reader.TheConstants.{LONGEST_LINE}
 use Rattle.ras_script.specs.Fields.{hex_bytes_of, hex_u64_of, read_label, read_limit, read_number, read_report, u16_of, u64_of, u8_of}
-use Rattle.ras_script.specs.Kinds.{bank_asks, cpu_asks, module_asks, range_asks, place_asks, limit_asks, module_limit_asks, hest_asks, bert_asks, ghes_asks, retire_asks, restart_asks}
+use Rattle.ras_script.specs.Kinds.{bank_asks, cpu_asks, module_asks, range_asks, place_asks, limit_asks, module_limit_asks, hest_asks, erst_asks, bert_asks, ghes_asks, put_asks, retire_asks, restart_asks}
 use Rattle.ras_script.specs.Line.{Gives, ReadsLine, kinds, line_named, line_of, line_of_words}
 use Rattle.ras_script.specs.Splitting.{AreHeldWords, words_of}
 use Rattle.ras_script.specs.declared.splitting.TheConstants.{HELD_WORDS}
@@ -140,6 +140,17 @@ module _ (most : ℕ) where
   hest-good (bytes ∷ []) = then_any (hex_bytes_of bytes) _ (λ bytes. (tt, tt))
   hest-good words = tt
 
+  erst-good : (words : List (List ℕ)) → IfOk (erst_asks words) (IsGood most)
+  erst-good (bytes ∷ []) = then_any (hex_bytes_of bytes) _ (λ bytes. (tt, tt))
+  erst-good words = tt
+
+  put-good : (words : List (List ℕ)) → IfOk (put_asks words) (IsGood most)
+  put-good (id ∷ bytes ∷ []) =
+      then_any (hex_u64_of id) _ (λ id.
+      then_any (hex_bytes_of bytes) _ (λ bytes.
+      (tt, tt)))
+  put-good words = tt
+
   bert-good : (words : List (List ℕ)) → AreShort most words → IfOk (bert_asks words) (IsGood most)
   bert-good (boot ∷ seconds ∷ table ∷ region ∷ []) short =
       then_any (u64_of boot) _ (λ boot.
@@ -183,9 +194,7 @@ module _ (most : ℕ) where
 
   named-good : (kind : List ℕ) (words : List (List ℕ)) → AreShort most words → list_any (bytes_eq kind) later_kinds ≡ false → IfOk (line_named kinds kind words) (IsGood most)
   named-good kind words short other =
-      let erst = none_of (bytes_eq kind (codes "erst")) (list_any (bytes_eq kind) (codes "put" ∷ codes "poll" ∷ codes "panic" ∷ [])) other in
-      let put = none_of (bytes_eq kind (codes "put")) (list_any (bytes_eq kind) (codes "poll" ∷ codes "panic" ∷ [])) erst.1 in
-      let poll = none_of (bytes_eq kind (codes "poll")) (list_any (bytes_eq kind) (codes "panic" ∷ [])) put.1 in
+      let poll = none_of (bytes_eq kind (codes "poll")) (list_any (bytes_eq kind) (codes "panic" ∷ [])) other in
       let panic = none_of (bytes_eq kind (codes "panic")) (list_any (bytes_eq kind) []) poll.1 in
       taken-kind (bytes_eq kind (codes "bank")) _ _ (bank-good words) (
       taken-kind (bytes_eq kind (codes "cpu")) _ _ (cpu-good words) (
@@ -195,10 +204,10 @@ module _ (most : ℕ) where
       taken-kind (bytes_eq kind (codes "limit")) _ _ (limit-good words) (
       taken-kind (bytes_eq kind (codes "module-limit")) _ _ (module_limit-good words) (
       taken-kind (bytes_eq kind (codes "hest")) _ _ (hest-good words) (
-      later-kind (bytes_eq kind (codes "erst")) _ _ erst.0 (
+      taken-kind (bytes_eq kind (codes "erst")) _ _ (erst-good words) (
       taken-kind (bytes_eq kind (codes "bert")) _ _ (bert-good words short) (
       taken-kind (bytes_eq kind (codes "ghes")) _ _ (ghes-good words short) (
-      later-kind (bytes_eq kind (codes "put")) _ _ put.0 (
+      taken-kind (bytes_eq kind (codes "put")) _ _ (put-good words) (
       later-kind (bytes_eq kind (codes "poll")) _ _ poll.0 (
       taken-kind (bytes_eq kind (codes "retire")) _ _ (retire-good words) (
       later-kind (bytes_eq kind (codes "panic")) _ _ panic.0 (

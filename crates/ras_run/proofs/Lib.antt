@@ -1,3 +1,4 @@
+pub mod StoreLemmas
 pub mod PlaceLemmas
 pub mod LaterKindLemmas
 pub mod StandsLemmas
@@ -5,7 +6,8 @@ pub mod NewsLemmas
 pub mod CountLemmas
 pub mod OpenLemmas
 pub mod ReopenLemmas
+pub mod PutLemmas
 pub mod LineLemmas
 pub mod PrintActLemmas
 pub mod LineLawLemmas
-pub mod DeviceLemmas
+pub mod LineFewLemmas

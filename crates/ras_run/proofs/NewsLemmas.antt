@@ -15,9 +15,9 @@ use Rattle.ras_journal.specs.Appending.{Links}
 use Rattle.ras_ledger.specs.Keeping.{keeping_acts}
 use Rattle.ras_events.specs.declared.preparing.News.{News}
 use Rattle.ras_events.specs.declared.made.Piece.{Piece}
+use Rattle.ras_events.specs.Making.{entries_in}
 use Rattle.ras_events.specs.Preparing.{news_entries}
 use Rattle.ras_events.specs.Sizes.{IsFit}
-use Rattle.ras_events.specs.Making.{entries_in}
 use Rattle.ras_events.proofs.NewsLemmas.{few_news, short_news, valid_news}
 use Rattle.ras_run.specs.LineActs.{news_acts}
 use Rattle.ras_run.specs.Taking.{CanBeKept}

@@ -1,13 +1,12 @@
 -- The acts of a line, one sort after another: what they leave, and which calls they are.
-use Rattle.std.proofs.Common.{◌≡◌, ℕ, ◌+◌, ◌≤◌, Bool, true, false, ◌&&◌, List, [], ◌∷◌, ◌++◌, length, map, IsTrue, refl, sym, ap, subst, ◌∙◌, inl, inr, append_assoc, append-nil, length-append, arith}
+use Rattle.std.proofs.Common.{◌≡◌, ℕ, ◌+◌, ◌≤◌, Bool, true, false, ◌&&◌, List, [], ◌∷◌, ◌++◌, length, map, IsTrue, refl, sym, ap, ◌∙◌, append_assoc, append-nil, length-append, arith}
 use Rattle.std.proofs.lemmas.Bool.Decides.{nat_tests}
 use Rattle.std.specs.List.{flat_map}
 use Rattle.board_core.specs.declared.board.DiskCall.{DiskCall}
-use Rattle.board_core.specs.Stop.{Begins, InOut, Left}
 use Rattle.board_core.specs.Told.{Told, after_print}
-use Rattle.board_core.specs.Doing.{Act, AreOffDevice, Moment, after_acts, calls, calls_of, disk_calls_by}
+use Rattle.board_core.specs.Doing.{Act, AreOffDevice, after_acts, calls, calls_of, disk_calls_by}
 use Rattle.board_core.proofs.ActLemmas.{acts_out, on_disk_off}
-use Rattle.board_core.proofs.DoingLemmas.{after-append, moment_parts}
+use Rattle.board_core.proofs.DoingLemmas.{after-append}
 use Rattle.dimm_topology.specs.Labels.{Bytes}
 use Rattle.journal_format.specs.Checkpoints.{checkpoint_bytes, module_bytes}
 use Rattle.journal_format.proofs.SizeLemmas.{checkpoint_size}
@@ -26,7 +25,7 @@ use Rattle.ras_ledger.specs.Keeping.{CanMake, lacks_room}
 use Rattle.ras_ledger.proofs.KeepingLemmas.{is_keeping, keeping_on_disk}
 use Rattle.ras_texts.specs.Text.{done_line}
 use Rattle.ras_exit.specs.Acts.{print_acts}
-use Rattle.ras_exit.proofs.PrintLemmas.{after_printed, print_moment}
+use Rattle.ras_exit.proofs.PrintLemmas.{after_printed}
 use Rattle.ras_run.specs.LineActs.{event_prints, news_acts}
 use Rattle.ras_run.specs.LineCalls.{AreNewsCalls}
 use Rattle.ras_recover.proofs.OpeningActsLemmas.{after_reading}
@@ -38,37 +37,6 @@ after_prints one two t =
     after-append (print_acts one) (print_acts two) t
     ∙ (after_printed two (after_acts (print_acts one) t)
     ∙ (ap (after_print two) (after_printed one t) ∙ ap (λ text. record t { here = record t.here { out = text } }) (append_assoc t.here.out one two)))
-
--- a beginning of the first text, and the first text with a beginning of the second
-begins_first : (one two : List ℕ) (here left : Left) → InOut (Begins one) here left → InOut (Begins (one ++ two)) here left
-begins_first one two here left by = record {
-  text = by.text;
-  step = record {
-    part = by.step.part;
-    missing = by.step.missing ++ two;
-    splits = sym (append_assoc by.step.part by.step.missing two) ∙ ap (λ text. text ++ two) by.step.splits;
-    is = by.step.is;
-  };
-  rest = by.rest;
-}
-
-begins_second : (one two : List ℕ) (t : Told) (left : Left) → InOut (Begins two) (after_print one t).here left → InOut (Begins (one ++ two)) t.here left
-begins_second one two t left by = record {
-  text = by.text;
-  step = record {
-    part = one ++ by.step.part;
-    missing = by.step.missing;
-    splits = append_assoc one by.step.part by.step.missing ∙ ap (λ text. one ++ text) by.step.splits;
-    is = by.step.is ∙ append_assoc t.here.out one by.step.part;
-  };
-  rest = by.rest;
-}
-
-pub prints_moment : (one two : List ℕ) (t : Told) (left : Left) → Moment (print_acts one ++ print_acts two) t left → InOut (Begins (one ++ two)) t.here left
-prints_moment one two t left moment = elim (moment_parts (print_acts one) (print_acts two) t left moment) [
-  | inl first ↦ begins_first one two t.here left (print_moment one t left first)
-  | inr second ↦ begins_second one two t left (subst (λ (u : Told). InOut (Begins two) u.here left) (after_printed one t) (print_moment two (after_acts (print_acts one) t) left second))
-]
 
 -- ---- the device is left alone
 

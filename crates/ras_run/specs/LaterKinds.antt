@@ -1,10 +1,9 @@
--- The kinds of lines that a run doesn't take yet: those of the record store.
+-- The kinds of lines that a run doesn't take yet: those that write and poll records of the store.
 use Rattle.std.specs.Prelude.{ℕ, Bool, false, List, [], ◌∷◌, codes, Result, Err, ⊤, if◌then◌else◌}
 use Rattle.std.specs.List.{list_any}
 use Rattle.std.specs.Str.{bytes_eq}
 use Rattle.ras_script.specs.declared.line.Line.{Line}
 use Rattle.ras_script.specs.declared.line.Line.TheVariants as asks
-use Rattle.ras_script.specs.declared.line.Table.TheVariants.{Erst}
 use Rattle.ras_script.specs.declared.line.LineRefused.{LineRefused}
 use Rattle.ras_script.specs.declared.line.LineRefused.TheVariants.{Kind}
 use Rattle.ras_script.specs.Line.{line_of_words}
@@ -12,7 +11,7 @@ use Rattle.ras_script.specs.Splitting.{words_of}
 
 -- the names of these kinds
 abbrev pub later_kinds : List (List ℕ)
-later_kinds = codes "erst" ∷ codes "put" ∷ codes "poll" ∷ codes "panic" ∷ []
+later_kinds = codes "poll" ∷ codes "panic" ∷ []
 
 -- whether a line of these words is of one of them
 abbrev pub is_later : List (List ℕ) → Bool
@@ -29,8 +28,6 @@ taken_line bytes = words_taken (words_of bytes)
 
 -- what a line asks for is of a kind that a run takes
 abbrev pub IsTaken : Line → Type 0
-IsTaken (asks.Table (Erst bytes)) = ⊥
-IsTaken (asks.Put id bytes) = ⊥
 IsTaken (asks.Panic id bank) = ⊥
 IsTaken (asks.Poll seconds) = ⊥
 IsTaken line = ⊤

@@ -1,34 +1,36 @@
--- How far a run has come, and what stops leave of it at every moment.
+-- How far a run has come, and how each part of it ends.
 use Rattle.std.specs.Prelude.{◌≡◌, ℕ, ◌⊎◌, Bool, true, false, List, [], ◌∷◌, ◌++◌, Option, None, Some, Result, Ok, Err, IfOk, ⊤}
-use Rattle.board_core.specs.Cause.{disk_call, print_call}
+use Rattle.board_core.specs.Cause.{Kind, device_call, disk_call, print_call}
 use Rattle.board_core.specs.Clock.{Clock}
-use Rattle.board_core.specs.Stop.{Left, Begins}
+use Rattle.board_core.specs.Stop.{Left}
 use Rattle.board_core.specs.Told.{Told}
-use Rattle.ras_account.specs.Account.{State, account_of}
+use Rattle.erst_store.specs.declared.store.PutRefused.{PutRefused}
+use Rattle.erst_store.specs.Store.{refusal_of}
+use Rattle.ras_account.specs.Account.{State}
 use Rattle.ras_account.specs.Continued.{account_after_all}
-use Rattle.ras_account.specs.History.{History, with_entries}
+use Rattle.ras_account.specs.Numbers.{fresh_entries_in}
 use Rattle.ras_facts.specs.declared.entry.Entry.{Entry}
 use Rattle.entry_format.specs.declared.version.Version.TheVariants.{Two}
 use Rattle.journal_format.specs.Links.{CanLink, link_bytes}
-use Rattle.ras_journal.specs.declared.standing.Standing.{Standing}
-use Rattle.ras_journal.specs.Recovered.{Refusal, Recovers}
+use Rattle.ras_journal.specs.Recovered.{Refusal}
 use Rattle.ras_recover.specs.declared.refused.OpenRefused.{OpenRefused}
 use Rattle.ras_recover.specs.declared.refused.OpenRefused.TheVariants as opening
 use Rattle.ras_ledger.specs.declared.ledger.Ledger.{Ledger}
-use Rattle.ras_ledger.specs.Keeping.{Stands, lacks_room, standing_kept}
+use Rattle.ras_ledger.specs.Keeping.{Stands}
 use Rattle.ras_events.specs.declared.preparing.News.{News}
+use Rattle.ras_events.specs.declared.event.Event.TheVariants.{Put}
 use Rattle.ras_events.specs.declared.made.Piece.{Piece}
+use Rattle.ras_events.specs.Making.{entries_in}
 use Rattle.ras_events.specs.Reports.{NumberedLine, Place, event_at, settings_told}
 use Rattle.ras_events.specs.Sizes.{IsFitEvent}
-use Rattle.ras_events.specs.Making.{entries_in}
 use Rattle.ras_exit.specs.declared.exit.Exit.{Exit}
 use Rattle.ras_exit.specs.declared.exit.Exit.TheVariants.{DiskFault, Damaged, Full, NoMemory, TooLong}
 use Rattle.ras_exit.specs.Endings.{AnyFault, EndsBy, OnlyFault, ending_of}
 use Rattle.ras_run.specs.declared.run.Run.{Run}
 use Rattle.ras_run.specs.Files.{refusal_exit}
-use Rattle.ras_run.specs.Output.{output_at}
-use Rattle.ras_run.specs.Places.{Start, account_at, has_no_room_for, news_after, standing_at, standing_with_news}
-use Rattle.ras_run.specs.Status.{refusal_at}
+use Rattle.ras_run.specs.Moments.{CourseMoment, course_at}
+use Rattle.ras_run.specs.Places.{Start, account_at, has_no_room_for, lacks_room_for, standing_at, standing_with_news, store_at}
+use Rattle.ras_run.specs.Status.{put_refusal, refusal_at}
 
 -- What a run has at hand after these lines: what they told of the machine, and the account of what
 -- was reported with its journal.
@@ -61,25 +63,37 @@ pub record IsAccepted (start : Start) (place : Place) : Type 0 where
   pub taken : refusal_at start place ≡ None
   pub fit : IfOk (event_at place) IsFitEvent
 
+-- it puts a record that the record store refuses
+pub record IsRefusedPut (start : Start) (place : Place) : Type 0 where
+  pub id : ℕ
+  pub bytes : List ℕ
+  pub why : PutRefused
+  pub event : event_at place ≡ Ok (Put id bytes)
+  pub refused : refusal_of id bytes (store_at start place.0) ≡ Some why
+
+-- A call of the board can fail at a line that is accepted. The device can also fail at a put that
+-- the store would refuse.
+abbrev pub MayFail : Start → Place → Kind → Type 0
+MayFail start place kind = IsAccepted start place ⊎ ((kind ≡ device_call) × IsRefusedPut start place)
+
 -- A line was taken at its place, or the run ends there: the line is refused, or memory ran out, or a
--- call of the board failed that an accepted line made.
+-- call of the board failed.
 abbrev pub TakesLine : Start → Place → Result (Unit {0}) Exit → Run → Type 0
 TakesLine start place (Ok done) run = IsAccepted start place × IsRunAfter start (place.0 ++ place.1 ∷ []) run
 TakesLine start place (Err exit) run =
-    EndsBy (refusal_at start place ≡ Some exit) ⊤ (λ kind. IsAccepted start place) (ending_of exit)
+    EndsBy (refusal_at start place ≡ Some exit) ⊤ (MayFail start place) (ending_of exit)
 
--- While a line is taken, a stop leaves what was there before it; or the account with what the line
--- reports, and a beginning of what it prints.
-abbrev pub BeforeLine : Start → Place → Left → Left → Type 0
-BeforeLine start place here left = (left.out ≡ here.out) × Recovers (account_at start place.0) left
-
-abbrev pub AfterLine : Start → Place → Left → Left → Type 0
-AfterLine start place here left =
-    IsAccepted start place × Recovers (account_at start (place.0 ++ place.1 ∷ [])) left
-    × Begins (output_at start place) here.out left.out
-
+-- what a stop leaves while a line is taken over this
 abbrev pub LineMoment : Start → Place → Left → Left → Type 0
-LineMoment start place here left = BeforeLine start place here left ⊎ AfterLine start place here left
+LineMoment start place here left = CourseMoment (IsAccepted start place) (course_at start place) here.out left
+
+-- ---- a put
+
+-- It is taken exactly if the store doesn't refuse the record, and so is its done line printed.
+abbrev pub EndsPut : ℕ → Result (Unit {0}) Exit → Option PutRefused → Type 0
+EndsPut number (Ok done) refusal = refusal ≡ None
+EndsPut number (Err exit) refusal =
+    EndsBy (put_refusal number refusal ≡ Some exit) ⊤ (λ kind. (kind ≡ device_call) ⊎ (refusal ≡ None)) (ending_of exit)
 
 -- ---- the news of an event, kept in the journal and counted
 
@@ -87,15 +101,6 @@ LineMoment start place here left = BeforeLine start place here left ⊎ AfterLin
 pub record CanBeKept (news : News) : Type 0 where
   pub bytes : news.link ≡ link_bytes news.entries.items
   pub can : CanLink Two news.entries.items
-
--- where the journal stands with news after an account, and whether it has no room for them
-abbrev pub standing_behind : Standing → State → List Entry → Standing
-standing_behind standing account [] = standing
-standing_behind standing account (entry ∷ entries) = standing_kept standing account (link_bytes (entry ∷ entries))
-
-abbrev pub has_no_room : Standing → State → List Entry → Bool
-has_no_room standing account [] = false
-has_no_room standing account (entry ∷ entries) = lacks_room standing account (link_bytes (entry ∷ entries))
 
 -- A part of a run ends so, if it finds this lack of room: at Full exactly if there is no room. Memory
 -- runs out anyway, and a call of the board fails only if there is room.
@@ -105,18 +110,19 @@ EndsByRoom lacks exit = EndsBy ((exit ≡ Full) × (lacks ≡ true)) ⊤ (λ kin
 -- What becomes of a ledger: news were counted, if there is room for them.
 abbrev pub CountsNews : List Entry → Result (Unit {0}) Exit → Ledger → Ledger → Type 0
 CountsNews news (Ok done) old new =
-    (has_no_room old.journal.standing old.account.state news ≡ false)
+    (lacks_room_for old.account.state old.journal.standing news ≡ false)
     × (new.account.state ≡ account_after_all old.account.state news)
-    × (new.journal.standing ≡ standing_behind old.journal.standing old.account.state news)
-CountsNews news (Err exit) old new = EndsByRoom (has_no_room old.journal.standing old.account.state news) exit
+    × (new.journal.standing ≡ standing_with_news old.account.state old.journal.standing news)
+CountsNews news (Err exit) old new = EndsByRoom (lacks_room_for old.account.state old.journal.standing news) exit
 
--- The same of what is made of a line, after a history: what is news of it was counted.
-abbrev pub CountsMade : History → List Piece → Result (Unit {0}) Exit → Ledger → Ledger → Type 0
-CountsMade history made (Ok done) old new =
-    (has_no_room_for history old.journal.standing (entries_in made) ≡ false)
-    × (new.account.state ≡ account_of (with_entries history (entries_in made)))
-    × (new.journal.standing ≡ standing_with_news history old.journal.standing (news_after history (entries_in made)))
-CountsMade history made (Err exit) old new = EndsByRoom (has_no_room_for history old.journal.standing (entries_in made)) exit
+-- The same of what is made of a line: what is news of it was counted.
+abbrev pub CountsMade : List Piece → Result (Unit {0}) Exit → Ledger → Ledger → Type 0
+CountsMade made (Ok done) old new =
+    (has_no_room_for old.account.state old.journal.standing (entries_in made) ≡ false)
+    × (new.account.state ≡ account_after_all old.account.state (entries_in made))
+    × (new.journal.standing
+    ≡ standing_with_news old.account.state old.journal.standing (fresh_entries_in old.account.state (entries_in made)))
+CountsMade made (Err exit) old new = EndsByRoom (has_no_room_for old.account.state old.journal.standing (entries_in made)) exit
 
 -- ---- an opening
 

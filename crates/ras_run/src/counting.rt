@@ -1,11 +1,8 @@
 //! An event that counts what was made of its line.
 
 ghost use Rattle.std.specs.Prelude.{◌≡◌, ◌++◌, false, IfErr, IfSome, OnOk};
-ghost use Rattle.board_core.specs.Device.{LeavesDevice};
 ghost use Rattle.board_core.specs.Doing.{Does, looks};
-ghost use Rattle.ras_account.specs.Account.{account_of};
 ghost use Rattle.ras_account.specs.Continued.{account_after_all};
-ghost use Rattle.ras_account.specs.History.{History};
 ghost use Rattle.ras_events.specs.Preparing.{CanTake, news_entries, orders_along_entries};
 ghost use Rattle.ras_events.specs.Sizes.{IsFit};
 ghost use Rattle.ras_exit.specs.Acts.{part_end};
@@ -42,18 +39,13 @@ pub fn take_made<B: Board>(
     requires usable { ledger.old.journal.failed ≡ false }
     requires stands { LedgerStands ledger.old (B.told board.old) (B.clock board.old) }
 
-    ensures counts { (history : History) → ledger.old.account.state ≡ account_of history
-        → CountsMade history made result ledger.old ledger.new }
-    ensures does { (history : History) → ledger.old.account.state ≡ account_of history
-        → Does (looks B.told B.clock B.faults)
-        (made_acts history number ledger.old.journal.standing made) (part_end result)
-        board.old board.new }
+    ensures counts { CountsMade made result ledger.old ledger.new }
+    ensures does { Does (looks B.told B.clock B.faults)
+        (made_acts ledger.old.account.state number ledger.old.journal.standing made)
+        (part_end result) board.old board.new }
     ensures ready { OnOk result (IsReady ledger.new (B.told board.new) (B.clock board.new)) }
     ensures stop { IfErr result IsStop }
     ensures faults { Causes BoardCause result (B.faults board.old) (B.faults board.new) }
-    // Also over an account that no history gives.
-    ensures device { LeavesDevice (B.told board.old) (B.told board.new)
-        (B.clock board.old) (B.clock board.new) }
 {
     let event = match prepare(alloc, number, made, &mut ledger.account) {
         Ok(event) => event,

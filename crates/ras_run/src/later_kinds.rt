@@ -42,8 +42,5 @@ fn is_later(words: &[&[u8]]) -> bool
 fn is_later_kind(kind: &[u8]) -> bool
     ensures { result ≡ list_any (bytes_eq kind.now) later_kinds }
 {
-    kind == b"erst".as_slice()
-        || kind == b"put".as_slice()
-        || kind == b"poll".as_slice()
-        || kind == b"panic".as_slice()
+    kind == b"poll".as_slice() || kind == b"panic".as_slice()
 }

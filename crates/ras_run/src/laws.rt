@@ -1,26 +1,31 @@
 //! What a line comes to.
 
-ghost use Rattle.std.specs.Prelude.{◌≡◌, ◌∷◌, ◌++◌, [], List};
-ghost use Rattle.board_core.specs.Doing.{Act, AreOffDevice, Moment, after_acts, calls_of};
+ghost use Rattle.std.specs.Prelude.{◌≡◌, ◌∷◌, ◌++◌, [], IfOk, List, Some};
+ghost use Rattle.board_core.specs.Doing.{Act, Moment, after_acts, calls_of};
 ghost use Rattle.board_core.specs.Stop.{Left};
 ghost use Rattle.board_core.specs.Told.{Told};
-ghost use Rattle.ras_events.specs.Reports.{Place};
-ghost use Rattle.ras_run.specs.LineActs.{AreLineActs, HoldsAfter};
+ghost use Rattle.ras_events.specs.Reports.{Place, event_at};
+ghost use Rattle.ras_events.specs.Sizes.{IsFitEvent};
+ghost use Rattle.ras_exit.specs.declared.exit.Exit.{Exit};
+ghost use Rattle.ras_run.specs.LineActs.{AreLineActs, AreOffDeviceButPut, HoldsAfter};
 ghost use Rattle.ras_run.specs.LineCalls.{AreCallsAt};
 ghost use Rattle.ras_run.specs.Output.{output_at};
-ghost use Rattle.ras_run.specs.Places.{Start};
+ghost use Rattle.ras_run.specs.Places.{IsBoardAfter, Start};
+ghost use Rattle.ras_run.specs.Status.{refusal_at};
 ghost use Rattle.ras_run.specs.Taking.{IsAccepted, LineMoment};
 
-/// What a line that is accepted at its place comes to: laws of its acts, over files that hold the
-/// account of the lines before it. The function does nothing: its clauses are what it is for.
+/// What a line comes to at its place: laws of its acts, over files that hold the account of the
+/// lines before it, and the record store that they left. The function does nothing: its clauses
+/// are what it is for.
 pub fn line_laws()
-    // A stop at any moment of it leaves the account without what the line reports, or with it.
+    // A stop at any moment of it leaves what its course says; also of a line that is refused.
     ensures moments { (start : Start) (place : Place) (t : Told) (acts : List Act) (left : Left)
-        → IsAccepted start place → HoldsAfter start place.0 t → AreLineActs start place t acts
+        → IfOk (event_at place) IsFitEvent → HoldsAfter start place.0 t
+        → AreLineActs start place t acts
         → Moment acts t left → LineMoment start place t.here left }
 
-    // Once it is done, the files hold the account of the lines with this one, and the text that it
-    // prints is printed.
+    // Once a line that is accepted is done, the files hold the account of the lines with this one,
+    // the store is what they left, and the text that it prints is printed.
     ensures done { (start : Start) (place : Place) (t : Told) (acts : List Act)
         → IsAccepted start place → HoldsAfter start place.0 t → AreLineActs start place t acts
         → HoldsAfter start (place.0 ++ place.1 ∷ []) (after_acts acts t) }
@@ -28,12 +33,17 @@ pub fn line_laws()
         → IsAccepted start place → AreLineActs start place t acts
         → (after_acts acts t).here.out ≡ t.here.out ++ output_at start place }
 
-    // Its disk calls are those of a line there, and it leaves the device alone.
+    // A line that is refused leaves all as it is told.
+    ensures refused { (start : Start) (place : Place) (exit : Exit) (t : Told) (acts : List Act)
+        → refusal_at start place ≡ Some exit → IsBoardAfter start place.0 t
+        → AreLineActs start place t acts → after_acts acts t ≡ t }
+
+    // Its disk calls are those of a line there, and it leaves the device alone but for its put.
     ensures calls { (start : Start) (place : Place) (t : Told) (acts : List Act)
         → IsAccepted start place → AreLineActs start place t acts
         → AreCallsAt start place t.here (calls_of acts) }
     ensures device { (start : Start) (place : Place) (t : Told) (acts : List Act)
-        → AreLineActs start place t acts → AreOffDevice acts }
+        → AreLineActs start place t acts → AreOffDeviceButPut (event_at place) acts }
 
     // A line has acts, over any board that tells.
     ensures some { (start : Start) (place : Place) (t : Told)

@@ -8,6 +8,7 @@ mod laws;
 mod line;
 mod opening;
 mod printing;
+mod putting;
 mod run;
 
 pub use laws::line_laws;

@@ -1,7 +1,6 @@
 //! A line of a script, taken whole.
 
 ghost use Rattle.std.specs.Prelude.{◌≡◌, ◌≤◌, ◌++◌, List, false, length, IfErr, OnOk, Some};
-ghost use Rattle.board_core.specs.Device.{LeavesDevice};
 ghost use Rattle.board_core.specs.Doing.{Does, looks};
 ghost use Rattle.board_core.specs.Told.{Told};
 ghost use Rattle.ras_events.specs.Reports.{NumberedLine};
@@ -11,8 +10,8 @@ ghost use Rattle.ras_exit.specs.Causes.{BoardCause, Causes};
 ghost use Rattle.ras_exit.specs.Endings.{IsStop};
 ghost use Rattle.ras_run.specs.LaterKinds.{taken_line};
 ghost use Rattle.ras_run.specs.LineActs.{DoesLine, DoesReopening, event_prints};
-ghost use Rattle.ras_run.specs.Places.{Start};
-ghost use Rattle.ras_run.specs.Status.{reason_of};
+ghost use Rattle.ras_run.specs.Places.{IsBoardAfter, Start};
+ghost use Rattle.ras_run.specs.Status.{refused_exit};
 ghost use Rattle.ras_run.specs.Taking.{IsPrintExit, IsReady, IsRunAfter, LedgerStands};
 ghost use Rattle.ras_run.specs.Taking.{Reopens, TakesLine};
 ghost use Rattle.ras_texts.specs.Text.{known_line};
@@ -22,29 +21,27 @@ use crate::counting::take_made;
 use crate::later_kinds::read_taken_line;
 use crate::opening::open;
 use crate::printing::print_event;
+use crate::putting::put_record;
 use board_core::Board;
 use ras_account::Account;
 use ras_events::{Event, EventRefused, LineRefusal};
-use ras_exit::{Exit, Reason};
+use ras_exit::Exit;
 use ras_facts::Name;
 use ras_ledger::Ledger;
 use ras_script::LineRefused;
 use ras_texts::{done_line, push_done, push_known, standing_lines};
 use std::alloc::Global;
 
-/// Takes the line of this number: what it tells of the machine from now on, what it reports, or
-/// that the journal is to be opened again. It prints the event's text and its done line; a line
-/// without words and a comment are no event, and print nothing.
-///
-/// What its acts come to, what a stop at any moment leaves of them, and which disk calls they are
-/// stands at [`crate::line_laws`].
+/// Takes the line of this number: what it tells of the machine from now on, what it reports, the
+/// record that it puts into the record store, or that the journal is to be opened again. It prints
+/// the event's text and its done line; a line without words and a comment are no event, and print
+/// nothing.
 ///
 /// # Errors
 ///
-/// `BadLine` comes exactly if the line is refused at its place, and `Full` exactly if there is no
-/// room for what it reports; then nothing was called. `Damaged` and `TooLong` come exactly if the
-/// bytes of a journal that is opened again say so. `DiskFault` and `PrintFault` come only if such a
-/// call failed, and `NoMemory` only if memory runs out.
+/// `BadLine` and `ErstRefused` come exactly if the line is refused at its place, and `Full` exactly
+/// if there is no room for what it reports; then nothing was done. `DiskFault`, `RegisterFault` and
+/// `PrintFault` come only if such a call failed, and `NoMemory` only if memory runs out.
 pub fn take_line<B: Board>(
     alloc: Global,
     number: u64,
@@ -57,19 +54,16 @@ pub fn take_line<B: Board>(
     requires stands { LedgerStands run.old.ledger (B.told board.old) (B.clock board.old) }
 
     ensures takes { (start : Start) (before : List NumberedLine) → IsRunAfter start before run.old
-        → (t : Told) → B.told board.old ≡ Some t
+        → (t : Told) → B.told board.old ≡ Some t → IsBoardAfter start before t
         → TakesLine start (before, (number, taken_line bytes.now)) result run.new }
     ensures does { (start : Start) (before : List NumberedLine) → IsRunAfter start before run.old
-        → (t : Told) → B.told board.old ≡ Some t
+        → (t : Told) → B.told board.old ≡ Some t → IsBoardAfter start before t
         → DoesLine (looks B.told B.clock B.faults) start (before, (number, taken_line bytes.now))
         t result board.old board.new }
     ensures ready { OnOk result
         (IsReady run.new.ledger (B.told board.new) (B.clock board.new)) }
     ensures stop { IfErr result IsStop }
     ensures faults { Causes BoardCause result (B.faults board.old) (B.faults board.new) }
-    // Also over an account that no history gives.
-    ensures device { LeavesDevice (B.told board.old) (B.told board.new)
-        (B.clock board.old) (B.clock board.new) }
 {
     let line = match read_taken_line(alloc, bytes) {
         Ok(line) => line,
@@ -80,34 +74,28 @@ pub fn take_line<B: Board>(
     }
     let event = match run.settings.take(alloc, line) {
         Ok(event) => event,
-        Err(EventRefused::Refused(refusal)) => {
-            return Err(Exit::BadLine {
-                line: number,
-                reason: reason_of(refusal),
-            });
-        }
+        Err(EventRefused::Refused(refusal)) => return Err(refused_exit(number, refusal)),
         Err(EventRefused::NoMemory) => return Err(Exit::NoMemory),
     };
     match event {
         Event::Nothing => Ok(()),
         Event::Settled => end_event(alloc, number, &[], board),
         Event::Counted(made) => take_made(alloc, number, made, &mut run.ledger, board),
+        Event::Put { id, bytes } => put_record(alloc, number, id, bytes.bytes(), board),
         Event::Reopened => reopen(alloc, number, &mut run.ledger, board),
-        Event::Put { .. } | Event::Saved { .. } | Event::Polled { .. } => Err(Exit::BadLine {
-            line: number,
-            reason: reason_of(LineRefusal::NoTable),
-        }),
+        Event::Saved { .. } | Event::Polled { .. } => {
+            Err(Exit::of_unread(number, LineRefused::Kind))
+        }
     }
 }
 
-// The reason for which a refused line is refused. One of the record store is refused as one of no
-// kind.
-fn reason_of(refusal: LineRefusal) -> Reason
-    ensures { result ≡ reason_of refusal }
+// How a run ends at the line of this number, if it is refused by what it asks for.
+fn refused_exit(line: u64, refusal: LineRefusal) -> Exit
+    ensures { result ≡ refused_exit line refusal }
 {
     match refusal {
-        LineRefusal::Bad(reason) => reason,
-        LineRefusal::NoTable => Reason::Line(LineRefused::Kind),
+        LineRefusal::Bad(reason) => Exit::BadLine { line, reason },
+        LineRefusal::NoTable => Exit::ErstRefused { line },
     }
 }
 

@@ -10,7 +10,6 @@ use Rattle.cper_records.specs.declared.refusals.Unreadable.TheVariants.{NoRecord
 use Rattle.dimm_topology.specs.Labels.{Bytes, same_label}
 use Rattle.page_policy.specs.declared.buckets.Limit.{Limit}
 use Rattle.row_tables.specs.Tables.{updated_rows}
-use Rattle.ras_base.specs.Places.{places_behind}
 use Rattle.ras_facts.specs.declared.fact.Fact.{Fact}
 use Rattle.ras_facts.specs.declared.items.Item.{Item}
 use Rattle.ras_facts.specs.declared.entry.Entry.{Entry}
@@ -22,8 +21,7 @@ use Rattle.ras_reports.specs.declared.details.Detail.TheVariants.{Bank, Memory, 
 use Rattle.ras_account.specs.Account.{State, account_of}
 use Rattle.ras_account.specs.Accounts.{IsAccount, IsModuleRow}
 use Rattle.ras_account.specs.Continued.{is_fresh_in, new_module, module_after, account_after_item, account_after_items, account_after_fresh, account_with_count, account_after, account_after_all}
-use Rattle.ras_account.specs.Fresh.{is_fresh_behind}
-use Rattle.ras_account.specs.History.{History, is_retired, with_entries}
+use Rattle.ras_account.specs.History.{History, is_retired}
 use Rattle.ras_account.specs.Modules.{Module}
 use Rattle.ras_account.specs.Sightings.{Sighting, sightings_of}
 use Rattle.ras_texts.specs.Orders.{order_lines}
@@ -34,8 +32,9 @@ use Rattle.ras_events.specs.declared.made.Piece.{Piece}
 use Rattle.ras_events.specs.declared.made.Piece.TheVariants.{Counted, Unread}
 use Rattle.ras_events.specs.Making.{entries_in}
 use Rattle.ras_events.specs.Sizes.{IsFit}
-use Rattle.ras_events.specs.Texts.{event_text, orders_of_entries, piece_text, pieces_text}
-use Rattle.ras_events.proofs.HistoryLemmas.{account_by_history}
+use Rattle.ras_events.specs.Preparing.{event_text_in, orders_along_entries, text_along}
+use Rattle.ras_events.specs.Texts.{event_text}
+use Rattle.ras_events.proofs.HistoryLemmas.{event_by_history}
 use Rattle.text_laws.specs.QuietLines.{AreQuietLines}
 use Rattle.text_laws.proofs.ByteLemmas.{is_unbroken, unbroken-append, decimal_unbroken, hexadecimal_unbroken}
 use Rattle.text_laws.proofs.PieceLemmas.{name_unbroken, bank_unbroken, section_unbroken, processor_unbroken, x64_unbroken, other_unbroken}
@@ -97,27 +96,16 @@ unreadable_quiet id why =
     quiet_line (codes "unreadable record=" ++ encode_lower (to_be_bytes w64 id) ++ codes " reason=" ++ unreadable_word why)
     (simp (unbroken-append, hexadecimal_unbroken, reason_unbroken)) refl
 
-counted_quiet : (h : History) (details : List Detail) (entry : Entry) → IsValidEntry entry → AreQuietLines (piece_text h (Counted entry details))
-counted_quiet h details entry valid =
-    quiet_if (is_fresh_behind h entry) (entry_lines details (account_of h) entry) (repeat_line (account_of h) entry)
-    (entry_quiet details (account_of h) entry valid) (repeat_quiet (account_of h) entry)
-
--- the lines of pieces, each behind the history with the entries of those before it
-abbrev text_behind : History → List Piece → List Piece → List ℕ
-text_behind h before pieces = flat_map (λ p. piece_text (with_entries h (entries_in p.0)) p.1) (places_behind before pieces)
-
-pieces_behind : (h : History) (before pieces : List Piece) → All IsValidEntry (entries_in pieces) → AreQuietLines (text_behind h before pieces)
-pieces_behind h before [] all = quiet_none
-pieces_behind h before (Counted entry details ∷ pieces) all =
-    let piece : Piece = Counted entry details in
-    let here : History = with_entries h (entries_in before) in
-    quiet_both (piece_text here piece) (text_behind h (before ++ piece ∷ []) pieces)
-    (counted_quiet here details entry (All-head IsValidEntry entry (entries_in pieces) all))
-    (pieces_behind h (before ++ piece ∷ []) pieces (All-tail IsValidEntry entry (entries_in pieces) all))
-pieces_behind h before (Unread id why ∷ pieces) all =
-    let piece : Piece = Unread id why in
-    quiet_both (unreadable_line id why) (text_behind h (before ++ piece ∷ []) pieces)
-    (unreadable_quiet id why) (pieces_behind h (before ++ piece ∷ []) pieces all)
+-- the lines of pieces by whose entries an account is continued in turn
+text_quiet : (a : State) (pieces : List Piece) → All IsValidEntry (entries_in pieces) → AreQuietLines (text_along a pieces)
+text_quiet a [] all = quiet_none
+text_quiet a (Counted entry details ∷ pieces) all =
+    let valid : IsValidEntry entry = All-head IsValidEntry entry (entries_in pieces) all in
+    quiet_both (if is_fresh_in a entry then entry_lines details a entry else repeat_line a entry) (text_along (account_after a entry) pieces)
+    (quiet_if (is_fresh_in a entry) (entry_lines details a entry) (repeat_line a entry) (entry_quiet details a entry valid) (repeat_quiet a entry))
+    (text_quiet (account_after a entry) pieces (All-tail IsValidEntry entry (entries_in pieces) all))
+text_quiet a (Unread id why ∷ pieces) all =
+    quiet_both (unreadable_line id why) (text_along a pieces) (unreadable_quiet id why) (text_quiet a pieces all)
 
 -- ---- the labels of modules
 
@@ -161,12 +149,14 @@ labels_with_all a (entry ∷ entries) valid all =
 
 -- ---- an event
 
-pub event_quiet : (h : History) (made : List Piece) → IsAccount (account_of h) → IsFit made → AreQuietLines (event_text h made)
-event_quiet h made account fit =
+pub event_quiet_in : (a : State) (made : List Piece) → IsAccount a → IsFit made → AreQuietLines (event_text_in a made)
+event_quiet_in a made account fit =
     let es : List Entry = entries_in made in
-    let before : All HasLabel (account_of h).modules = All-weaker IsModuleRow HasLabel (λ row is. is.label) (account_of h).modules account.modules in
-    let after : All HasLabel (account_of (with_entries h es)).modules =
-    subst (λ (a : State). All HasLabel a.modules) (account_by_history h es) (labels_with_all (account_of h) es fit.valid before) in
-    quiet_both (pieces_text h made) (order_lines (account_of (with_entries h es)).modules (orders_of_entries h es))
-    (pieces_behind h [] made fit.valid)
-    (orders_quiet (account_of (with_entries h es)).modules (orders_of_entries h es) after)
+    let before : All HasLabel a.modules = All-weaker IsModuleRow HasLabel (λ row is. is.label) a.modules account.modules in
+    let after : All HasLabel (account_after_all a es).modules = labels_with_all a es fit.valid before in
+    quiet_both (text_along a made) (order_lines (account_after_all a es).modules (orders_along_entries a es))
+    (text_quiet a made fit.valid)
+    (orders_quiet (account_after_all a es).modules (orders_along_entries a es) after)
+
+pub event_quiet : (h : History) (made : List Piece) → IsAccount (account_of h) → IsFit made → AreQuietLines (event_text h made)
+event_quiet h made account fit = subst AreQuietLines (event_by_history h made) (event_quiet_in (account_of h) made account fit)

@@ -1,11 +1,12 @@
 use Rattle.std.proofs.Common.{◌≡◌, ℕ, ◌+◌, ◌-◌, ◌≤◌, List, [], Some, IfSome}
-use Rattle.board_core.specs.Device.{LeavesDevice}
 use Rattle.board_core.specs.Doing.{looks}
 use Rattle.board_core.specs.Told.{Told}
 use Rattle.ras_script.specs.declared.reader.TheConstants.{LONGEST_SCRIPT}
 use Rattle.ras_script.specs.Reader.{given_count}
+use Rattle.ras_run.specs.LineActs.{HoldsAfter}
 use Rattle.ras_run.specs.Places.{Start}
 use Rattle.ras_run.specs.Taking.{IsReady, IsRunAfter}
+use Rattle.ras_daemon.proofs.FewLemmas.{TakesOf}
 use Rattle.ras_daemon.proofs.LinesLemmas.{Took}
 use Rattle.ras_daemon.proofs.lines.take_lines.Given as goal
 
@@ -13,14 +14,14 @@ use Rattle.ras_daemon.proofs.lines.take_lines.Given as goal
 -- byte of the script.
 abbrev pub invariant-loop-number : goal.invariant-loop-number
 invariant-loop-number g l = record {
-  took : (start : Start) (script : List ℕ) (t : Told) → IsRunAfter start [] l.fn.run → g.S.Source.left l.fn.source ≡ Some script → g.B.Board.told l.fn.board ≡ Some t
+  took : (start : Start) (script : List ℕ) (t : Told) → IsRunAfter start [] l.fn.run → g.S.Source.left l.fn.source ≡ Some script → g.B.Board.told l.fn.board ≡ Some t → HoldsAfter start [] t
       → Took (looks g.B.Board.told g.B.Board.clock g.B.Board.faults) start script t l.number l.reader (g.S.Source.left l.source) l.run l.fn.board l.board;
   tells : IfSome (g.S.Source.left l.fn.source) (λ script. (now : List ℕ) × (g.S.Source.left l.source ≡ Some now));
+  few : TakesOf l.reader.taken (g.S.Source.left l.fn.source) (g.S.Source.left l.source);
   ready : IsReady l.run.ledger (g.B.Board.told l.board) (g.B.Board.clock l.board);
   counted : l.number ≤ given_count l.reader;
   source : g.S.Source.faults l.source ≡ g.S.Source.faults l.fn.source;
   faults : g.B.Board.faults l.board ≡ g.B.Board.faults l.fn.board;
-  device : LeavesDevice (g.B.Board.told l.fn.board) (g.B.Board.told l.board) (g.B.Board.clock l.fn.board) (g.B.Board.clock l.board);
 }
 
 abbrev pub decreases-loop-number : goal.decreases-loop-number

@@ -1,7 +1,6 @@
 use Rattle.std.proofs.Common.{[], subst, inl, inr, ◌≡◌, Err, sym, ◌∙◌, ap}
-use Rattle.board_core.specs.Doing.{Does, GoesWell, after_acts, looks, went_well}
+use Rattle.board_core.specs.Doing.{Does, GoesWell, after_acts, looks}
 use Rattle.board_core.specs.Cause.{Faults}
-use Rattle.ras_account.specs.Account.{account_of}
 use Rattle.ras_account.specs.Accounts.{IsAccount}
 use Rattle.ras_exit.specs.Acts.{end_of, print_acts}
 use Rattle.ras_exit.specs.Causes.{BoardCause, Causes}
@@ -9,14 +8,13 @@ use Rattle.ras_exit.specs.Endings.{ending_of}
 use Rattle.ras_exit.specs.declared.exit.Exit.TheVariants.{SourceFault}
 use Rattle.ras_run.specs.Taking.{IsRunAfter}
 use Rattle.ras_texts.specs.Orders.{standing_lines}
-use Rattle.ras_run.proofs.DeviceLemmas.{does_off}
-use Rattle.ras_run.proofs.PrintActLemmas.{print_off}
 use Rattle.ras_daemon.specs.RunActs.{orders_acts}
 use Rattle.ras_daemon.specs.Running.{EndsAhead, lines_from}
-use Rattle.ras_exit.proofs.DeviceLemmas.{device_goes_on}
 use Rattle.ras_daemon.proofs.AheadLemmas.{ahead_end, fault_before}
-use Rattle.ras_daemon.proofs.SaidLemmas.{ends_causes, ends_listed, ends_printed, orders_causes}
-use Rattle.ras_daemon.proofs.ScriptLemmas.{printed_out, told_after}
+use Rattle.ras_daemon.proofs.SaidLemmas.{before_at, ends_causes, ends_coded, ends_listed, ends_printed, orders_causes, print_coded}
+use Rattle.ras_daemon.proofs.FewLemmas.{few_none}
+use Rattle.ras_daemon.proofs.RunLemmas.{ledger_holds}
+use Rattle.ras_daemon.proofs.ScriptLemmas.{printed_holds, printed_out, told_after}
 use Rattle.ras_daemon.proofs.TakenLemmas.{EndsAs, lines_taken, no_orders}
 use Rattle.ras_daemon.proofs.running.take_script.Goals as goal
 use Rattle.ras_daemon.proofs.running.take_script.Goals.{in-Ok, in-Err-take_lines}
@@ -28,10 +26,6 @@ returns-in-Err-clause-does g c = λ start script t is_start left is.
 
 pub returns-in-Err-clause-ahead : goal.returns-in-Err-clause-ahead
 returns-in-Err-clause-ahead g c = λ start script t is_start left is. inl left
-
-pub returns-in-Err-clause-device : goal.returns-in-Err-clause-device
-returns-in-Err-clause-device g c =
-    does_off (looks g.B.Board.told g.B.Board.clock g.B.Board.faults) _ _ c.args.board.now c.print_standing.new.board c.requires.ready.stands _ (end_of (ending_of c.in-Err.exit)) (print_off (standing_lines c.args.ledger.account.state)) c.in-Err.ensures.does
 
 pub returns-in-Err-clause-causes : goal.returns-in-Err-clause-causes
 returns-in-Err-clause-causes g c =
@@ -49,8 +43,9 @@ returns-clause-does g c = λ start script t is_start left is.
       | in-Ok w ↦ rw w.in-Ok.is w.exit-is
       | in-Err-take_lines w ↦ rw w.in-Err-take_lines.is (w.exit-is, w.in-Err-take_lines.ensures.stop)
     ]) in
+    let holds = printed_holds start [] (standing_lines start.account) t (ledger_holds start c.args.ledger t _ _ is_start c.requires.account (before_at _ _ _ _ t c.requires.ready.stands is)) in
     lines_taken see start script t c.args.board.now c.print_standing.new.board c.take_lines.new.board c.end_run.new.board c.take_lines.result c.take_lines.new.run c.match-take_lines.exit c.end_run.result orders
-    (c.take_lines.ensures.does start script u after left told) ends_as c.end_run.ensures.ends
+    (c.take_lines.ensures.does start script u after left told holds) ends_as c.end_run.ensures.ends
 
 pub returns-clause-ahead : goal.returns-clause-ahead
 returns-clause-ahead g c = λ start script t is_start left is.
@@ -60,6 +55,7 @@ returns-clause-ahead g c = λ start script t is_start left is.
     let u = after_acts (orders_acts start) t in
     let told = told_after (orders_acts start) t _ _ is orders.told in
     let after : IsRunAfter start [] (record { settings = c.new.result; ledger = c.args.ledger; text = c.new-2.result }) = record { settings = c.new.ensures; account = is_start.account; standing = is_start.standing } in
+    let holds = printed_holds start [] (standing_lines start.account) t (ledger_holds start c.args.ledger t _ _ is_start c.requires.account (before_at _ _ _ _ t c.requires.ready.stands is)) in
     let lines_fault : c.match-take_lines.exit ≡ SourceFault → c.take_lines.result ≡ Err SourceFault = (λ fault. elim c.match-take_lines.branch [
       | in-Ok w ↦ (let e = sym w.exit-is ∙ fault in absurd cc)
       | in-Err-take_lines w ↦ w.in-Err-take_lines.is ∙ ap Err (sym w.exit-is ∙ fault)
@@ -69,8 +65,8 @@ returns-clause-ahead g c = λ start script t is_start left is.
       ahead_end (c.take_lines.result ≡ Err SourceFault) (c.end_run.result ≡ SourceFault)
           (λ fault. lines_fault (fault_before see _ _ _ c.take_lines.new.board c.end_run.new.board c.end_run.ensures.ends fault))
           start script (lines_from start t.here.out) _ _ c.end_run.result _ _ _ (ends_printed see _ _ _ c.take_lines.new.board c.end_run.new.board c.end_run.ensures.ends)
-          (subst (λ out. EndsAhead (c.take_lines.result ≡ Err SourceFault) start script out (g.S.Source.left c.take_lines.new.source) (g.B.Board.told c.take_lines.new.board)) (printed_out (standing_lines (account_of start.history)) t)
-          (c.take_lines.ensures.ahead start script u after left told)),
+          (subst (λ out. EndsAhead (c.take_lines.result ≡ Err SourceFault) start script out (g.S.Source.left c.take_lines.new.source) (g.B.Board.told c.take_lines.new.board)) (printed_out (standing_lines start.account) t)
+          (c.take_lines.ensures.ahead start script u after left told holds)),
     )
 
 pub returns-clause-causes : goal.returns-clause-causes
@@ -83,12 +79,6 @@ returns-clause-causes g c =
     ends_causes see c.take_lines.result c.match-take_lines.exit c.end_run.result _ c.take_lines.new.board c.end_run.new.board _ _ _ ends_as c.take_lines.ensures.causes.0
     (subst (λ f. Causes {C = Faults} BoardCause c.take_lines.result f (g.B.Board.faults c.take_lines.new.board)) c.in_default.ensures.does.faults c.take_lines.ensures.causes.1) c.end_run.ensures.ends
 
-pub returns-clause-device : goal.returns-clause-device
-returns-clause-device g c =
-    device_goes_on _ _ _ _ _ _
-    (does_off (looks g.B.Board.told g.B.Board.clock g.B.Board.faults) _ _ c.args.board.now c.print_standing.new.board c.requires.ready.stands _ went_well (print_off (standing_lines c.args.ledger.account.state)) c.in_default.ensures.does)
-    (device_goes_on _ _ _ _ _ _ c.take_lines.ensures.device c.end_run.ensures.device)
-
 pub returns-clause-listed : goal.returns-clause-listed
 returns-clause-listed g c =
     let ends_as : EndsAs c.take_lines.result c.match-take_lines.exit = (elim c.match-take_lines.branch [
@@ -96,3 +86,17 @@ returns-clause-listed g c =
       | in-Err-take_lines w ↦ rw w.in-Err-take_lines.is (w.exit-is, w.in-Err-take_lines.ensures.stop)
     ]) in
     ends_listed (looks g.B.Board.told g.B.Board.clock g.B.Board.faults) c.take_lines.result c.match-take_lines.exit c.end_run.result _ c.take_lines.new.board c.end_run.new.board ends_as c.end_run.ensures.ends
+
+pub returns-in-Err-clause-few : goal.returns-in-Err-clause-few
+returns-in-Err-clause-few g c = few_none (g.S.Source.left c.args.source.now)
+
+pub returns-clause-coded : goal.returns-clause-coded
+returns-clause-coded g c =
+    let ends_as : EndsAs c.take_lines.result c.match-take_lines.exit = (elim c.match-take_lines.branch [
+      | in-Ok w ↦ rw w.in-Ok.is w.exit-is
+      | in-Err-take_lines w ↦ rw w.in-Err-take_lines.is (w.exit-is, w.in-Err-take_lines.ensures.stop)
+    ]) in
+    ends_coded (looks g.B.Board.told g.B.Board.clock g.B.Board.faults) c.take_lines.result c.match-take_lines.exit c.end_run.result _ c.take_lines.new.board c.end_run.new.board ends_as c.end_run.ensures.ends
+
+pub returns-in-Err-clause-coded : goal.returns-in-Err-clause-coded
+returns-in-Err-clause-coded g c = λ code is. print_coded c.in-Err.exit c.in-Err.ensures.exit code is

@@ -1,4 +1,4 @@
-use Rattle.ras_events.proofs.HistoryLemmas.{account_by_history, event_by_history, news_account, news_behind, news_orders, orders_by_history, text_by_history}
+use Rattle.ras_events.proofs.HistoryLemmas.{account_by_history, event_by_history, event_by_news, news_account, news_behind, news_orders, orders_by_history, text_by_history}
 use Rattle.ras_events.proofs.laws.event_laws.Goals as goal
 
 pub returns-clause-news : goal.returns-clause-news
@@ -18,6 +18,9 @@ returns-clause-text c = text_by_history
 
 pub returns-clause-orders : goal.returns-clause-orders
 returns-clause-orders c = orders_by_history
+
+pub returns-clause-prepared : goal.returns-clause-prepared
+returns-clause-prepared c = event_by_news
 
 pub returns-clause-event : goal.returns-clause-event
 returns-clause-event c = event_by_history

@@ -1,4 +1,4 @@
-use Rattle.ras_run.proofs.LineLawLemmas.{line_calls, line_holds, line_moment, line_off, line_out}
+use Rattle.ras_run.proofs.LineLawLemmas.{line_calls, line_holds, line_moment, line_off, line_out, line_still}
 use Rattle.ras_run.proofs.LineLemmas.{some_acts}
 use Rattle.ras_run.proofs.laws.line_laws.Goals as goal
 
@@ -8,6 +8,9 @@ returns-clause-prints c = line_out
 pub returns-clause-calls : goal.returns-clause-calls
 returns-clause-calls c = line_calls
 
+pub returns-clause-refused : goal.returns-clause-refused
+returns-clause-refused c = line_still
+
 pub returns-clause-device : goal.returns-clause-device
 returns-clause-device c = line_off
 
@@ -15,7 +18,7 @@ pub returns-clause-some : goal.returns-clause-some
 returns-clause-some c = some_acts
 
 pub returns-clause-moments : goal.returns-clause-moments
-returns-clause-moments c = λ start place t acts left accepted holds are moment. line_moment start place.0 place.1.0 place.1.1 t holds acts accepted are left moment
+returns-clause-moments c = λ start place t acts left fit holds are moment. line_moment start place.0 place.1.0 place.1.1 t holds acts are fit left moment
 
 pub returns-clause-done : goal.returns-clause-done
-returns-clause-done c = λ start place t acts accepted holds are. line_holds start place.0 place.1.0 place.1.1 t holds acts accepted are
+returns-clause-done c = λ start place t acts accepted holds are. line_holds start place.0 place.1.0 place.1.1 t holds acts are accepted

@@ -1,0 +1,111 @@
+-- What a put does to the record store, and what a line does.
+use Rattle.std.proofs.Common.{◌≡◌, ℕ, Bool, true, false, if◌then◌else◌, List, Option, None, Some, Result, Ok, Err, IfOk, refl, ap, subst}
+use Rattle.std.specs.Option.{option_map_or}
+use Rattle.ras_base.specs.Chaining.{◌>>=◌}
+use Rattle.erst_store.specs.Device.{with_put}
+use Rattle.erst_store.specs.Store.{Stored, refusal_of, with_record}
+use Rattle.erst_store.specs.declared.store.PutRefused.{PutRefused}
+use Rattle.board_core.specs.Told.{Told, after_put, device_of, unless_refused, with_device}
+use Rattle.board_core.specs.Doing.{after_device, put}
+use Rattle.apei_sources.specs.Bert.{bert_of}
+use Rattle.apei_sources.specs.Blocks.{block_of}
+use Rattle.apei_sources.specs.Hest.{hest_of}
+use Rattle.dimm_topology.specs.Refusals.{row_refusal}
+use Rattle.dimm_topology.specs.declared.row.Row.{Row}
+use Rattle.erst_interp.specs.Table.{erst_of}
+use Rattle.erst_interp.specs.Walk.{is_admitted}
+use Rattle.ras_script.specs.declared.line.ErrorReport.{ErrorReport}
+use Rattle.ras_script.specs.declared.line.ErrorReport.TheVariants.{Bank, Block, Boot}
+use Rattle.ras_script.specs.declared.line.Line.{Line}
+use Rattle.ras_script.specs.declared.line.Line.TheVariants as asks
+use Rattle.ras_script.specs.declared.line.Table.TheVariants.{Hest, Erst}
+use Rattle.ras_exit.specs.declared.reason.Reason.{Reason}
+use Rattle.ras_exit.specs.declared.reason.Reason.TheVariants as reason
+use Rattle.ras_facts.specs.declared.name.Name.{Name}
+use Rattle.ras_panic.specs.Panics.{panic_bytes}
+use Rattle.ras_events.specs.declared.event.Event.{Event}
+use Rattle.ras_events.specs.declared.event.Event.TheVariants.{Settled, Saved, Polled}
+use Rattle.ras_events.specs.declared.event.LineRefusal.{LineRefusal}
+use Rattle.ras_events.specs.declared.event.LineRefusal.TheVariants.{Bad, NoTable}
+use Rattle.ras_events.specs.declared.settings.Settings.{Settings}
+use Rattle.ras_events.specs.Events.{Lists, block_event, event_of, has_source, or_reason, panic_refusal, report_event, with_table}
+use Rattle.ras_events.specs.Stores.{store_by, store_with, unreadable}
+use Rattle.ras_run.specs.Moments.{stored_by}
+
+-- ---- a put, by the store's refusal
+
+module _ (id : ℕ) (bytes : List ℕ) (t : Told) where
+  abbrev by_refusal : Option PutRefused → Told
+  by_refusal r = with_device (unless_refused r (with_put id bytes (device_of t)) (device_of t)) t
+
+  pub put_still : (why : PutRefused) → refusal_of id bytes t.here.store ≡ Some why → after_device (put id bytes) t ≡ t
+  put_still why is = ap by_refusal is
+
+  pub put_store : (after_put id bytes (device_of t)).store ≡ store_with id bytes t.here.store
+  unfolding with_put
+  put_store = by (refusal_of id bytes t.here.store)
+    where
+      by : (r : Option PutRefused) → (unless_refused r (with_put id bytes (device_of t)) (device_of t)).store ≡ option_map_or (λ why. t.here.store) r (with_record id bytes t.here.store)
+      by None = refl
+      by (Some why) = refl
+
+  pub put_slow : (after_device (put id bytes) t).volatile.slow ≡ t.volatile.slow
+  unfolding with_put
+  put_slow = by (refusal_of id bytes t.here.store)
+    where
+      by : (r : Option PutRefused) → (by_refusal r).volatile.slow ≡ t.volatile.slow
+      by None = refl
+      by (Some why) = refl
+
+-- ---- a line, by the event that it asks for
+
+-- the store that an event leaves
+abbrev pub left_by : Event → List Stored → List Stored
+left_by (Polled seconds) store = unreadable store
+left_by event store = stored_by (Ok event) store
+
+module _ (store : List Stored) where
+  -- an event after which the store is this one
+  abbrev Leaves : List Stored → Event → Type 0
+  Leaves after event = after ≡ left_by event store
+
+  each : {A E : Type 0} (why : E → Reason) (read : Result A E) (f : A → Result Event LineRefusal) (P : Event → Type 0) → ((x : A) → IfOk (f x) P) → IfOk (or_reason why read >>= f) P
+  each why (Ok x) f P holds = holds x
+  each why (Err refused) f P holds = tt
+
+  chosen : (b : Bool) (one other : Result Event LineRefusal) (P : Event → Type 0) → IfOk one P → IfOk other P → IfOk (if b then one else other) P
+  chosen true one other P holds h = holds
+  chosen false one other P h holds = holds
+
+  unless : {E : Type 0} (refusal : Option E) (f : E → LineRefusal) (read : Result Event LineRefusal) (P : Event → Type 0) → IfOk read P → IfOk (option_map_or (λ why. Err (f why)) refusal read) P
+  unless None f read P holds = holds
+  unless (Some why) f read P holds = tt
+
+  tabled : (driver : Option Lists) (event : Event) (P : Event → Type 0) → P event → IfOk (with_table driver event) P
+  tabled None event P holds = tt
+  tabled (Some lists) event P holds = holds
+
+  block_leaves : (rows : List Row) (name : Name) (seconds : ℕ) (bytes : List ℕ) → IfOk (block_event rows name seconds bytes) (Leaves store)
+  block_leaves rows name seconds bytes = each reason.Block (block_of bytes) _ (Leaves store) (λ block. refl)
+
+  report_leaves : (settings : Settings) (report : ErrorReport) → IfOk (report_event settings report) (Leaves store)
+  report_leaves settings (Bank bank) = refl
+  report_leaves settings (Block boot seconds source number bytes) =
+      chosen (has_source settings.sources source) _ (Err (Bad reason.Source)) (Leaves store) (block_leaves settings.topology _ seconds bytes) tt
+  report_leaves settings (Boot boot seconds table region) = each reason.Bert (bert_of table) _ (Leaves store) (λ bert. block_leaves settings.topology _ seconds _)
+
+  line_leaves : (settings : Settings) (line : Line) → IfOk (event_of settings line) (Leaves (store_by store line))
+  line_leaves settings (asks.Row row) = unless (row_refusal settings.topology row) (λ why. Bad (reason.Topology why)) (Ok Settled) (Leaves store) refl
+  line_leaves settings (asks.Table (Hest bytes)) = each reason.Hest (hest_of bytes) _ (Leaves store) (λ sources. refl)
+  line_leaves settings (asks.Table (Erst bytes)) = each reason.Erst (erst_of bytes) _ (Leaves store) (λ lists. chosen (is_admitted lists) (Ok Settled) (Err NoTable) (Leaves store) refl tt)
+  line_leaves settings (asks.Report report) = report_leaves settings report
+  line_leaves settings (asks.Entry entry) = refl
+  line_leaves settings (asks.Put id bytes) = refl
+  line_leaves settings (asks.Panic id bank) =
+      unless (panic_refusal id bank) (λ why. Bad (reason.Panic why)) _ (Leaves (store_with id (panic_bytes id bank) store)) (tabled settings.driver (Saved id (panic_bytes id bank)) (Leaves (store_with id (panic_bytes id bank) store)) refl)
+  line_leaves settings (asks.Poll seconds) = tabled settings.driver (Polled seconds) (Leaves (unreadable store)) refl
+  line_leaves settings asks.Restart = refl
+  line_leaves settings asks.Nothing = refl
+
+  pub line_store : (settings : Settings) (line : Line) (event : Event) → event_of settings line ≡ Ok event → store_by store line ≡ left_by event store
+  line_store settings line event is = subst (λ (e : Result Event LineRefusal). IfOk e (Leaves (store_by store line))) is (line_leaves settings line)

@@ -1,0 +1,83 @@
+-- How a line goes, and what stops leave of it: one relation for every kind of line.
+use Rattle.std.specs.Prelude.{◌≡◌, ℕ, ◌⊎◌, Bool, true, false, List, [], ◌∷◌, ◌++◌, Result, Ok, if◌then◌else◌}
+use Rattle.board_core.specs.Stop.{Becomes, Begins, Left}
+use Rattle.erst_store.specs.Store.{Stored}
+use Rattle.ras_account.specs.Account.{State}
+use Rattle.ras_journal.specs.Recovered.{Recovers}
+use Rattle.ras_events.specs.declared.event.Event.{Event}
+use Rattle.ras_events.specs.declared.event.Event.TheVariants.{Put, Saved, Polled}
+use Rattle.ras_events.specs.declared.event.LineRefusal.{LineRefusal}
+use Rattle.ras_events.specs.Reports.{Place, event_at}
+use Rattle.ras_events.specs.Stores.{store_with, unreadable, without_first}
+use Rattle.ras_run.specs.Output.{done_at, text_at}
+use Rattle.ras_run.specs.Places.{Start, account_at, store_at}
+
+-- The account before a line, and with what it reports; the store before it, and once its record is
+-- put; whether it clears the records that can be read then; its text, and its done line.
+pub record Course : Type 0 where
+  pub before : State
+  pub after : State
+  pub store : List Stored
+  pub stored : List Stored
+  pub clears : Bool
+  pub text : List ℕ
+  pub done : List ℕ
+
+-- the store once the first so many records are cleared, and once all are
+abbrev pub store_cleared : Course → ℕ → List Stored
+store_cleared c count = if c.clears then without_first count c.stored else c.stored
+
+abbrev pub store_left : Course → List Stored
+store_left c = if c.clears then unreadable c.stored else c.stored
+
+-- The line's news aren't kept. Its record is put, or isn't.
+pub record IsBegun (c : Course) (out : List ℕ) (left : Left) : Type 0 where
+  pub recovers : Recovers c.before left
+  pub store : Becomes c.stored c.store left.store
+  pub text : left.out ≡ out
+
+-- They are kept, and a beginning of its text is printed.
+pub record IsKept (c : Course) (out : List ℕ) (left : Left) : Type 0 where
+  pub recovers : Recovers c.after left
+  pub store : left.store ≡ c.stored
+  pub text : Begins c.text out left.out
+
+-- Its text is printed, and the first of its records are cleared.
+pub record IsClearing (c : Course) (out : List ℕ) (left : Left) : Type 0 where
+  pub recovers : Recovers c.after left
+  pub count : ℕ
+  pub store : left.store ≡ store_cleared c count
+  pub text : left.out ≡ out ++ c.text
+
+-- All are cleared, and a beginning of its done line is printed.
+pub record IsEnding (c : Course) (out : List ℕ) (left : Left) : Type 0 where
+  pub recovers : Recovers c.after left
+  pub store : left.store ≡ store_left c
+  pub text : Begins c.done (out ++ c.text) left.out
+
+-- Only a line that is accepted comes so far that its news are kept.
+abbrev pub CourseMoment : Type 0 → Course → List ℕ → Left → Type 0
+CourseMoment Accepted c out left =
+    IsBegun c out left ⊎ (Accepted × (IsKept c out left ⊎ (IsClearing c out left ⊎ IsEnding c out left)))
+
+-- the store once the record of an event is put; and whether an event clears records
+abbrev pub stored_by : Result Event LineRefusal → List Stored → List Stored
+stored_by (Ok (Put id bytes)) store = store_with id bytes store
+stored_by (Ok (Saved id bytes)) store = store_with id bytes store
+stored_by event store = store
+
+abbrev pub clears_store : Result Event LineRefusal → Bool
+clears_store (Ok (Polled seconds)) = true
+clears_store event = false
+
+-- how a line goes at its place
+abbrev pub course_at : Start → Place → Course
+course_at start place = record {
+  before = account_at start place.0;
+  after = account_at start (place.0 ++ place.1 ∷ []);
+  store = store_at start place.0;
+  stored = stored_by (event_at place) (store_at start place.0);
+  clears = clears_store (event_at place);
+  text = text_at start place;
+  done = done_at place;
+}
