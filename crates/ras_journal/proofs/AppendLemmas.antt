@@ -109,15 +109,21 @@ appending_of standing account entries here left bytes is recovers =
 
 -- ---- the two moments
 
+-- at the first one the file is read as before
+pub first_reads : (standing : Standing) (account : State) (entries : List Entry) (link : List ℕ) (here left : Left) (r : Ready standing account entries link here) (by : InFile standing.file (Torn (standing.length + 1) (length link + 1)) here left)
+    → front_of r.here.counts.taken by.bytes ≡ Ok (Some r.here.front)
+first_reads standing account entries link here left r by =
+    torn_link r.here.counts.taken (file_in standing.file here) by.bytes r.here.front (length link + 1) r.here.counts.reads
+    (subst (λ (n : ℕ). Torn (n + 1) (length link + 1) (file_in standing.file here) by.bytes) (sym r.gate) by.step)
+
 pub first_moment : (standing : Standing) (account : State) (entries : List Entry) (link : List ℕ) (here left : Left) → Ready standing account entries link here
     → InFile standing.file (Torn (standing.length + 1) (length link + 1)) here left → Appending standing account entries here left
 first_moment standing account entries link here left r by =
-    let torn = subst (λ (n : ℕ). Torn (n + 1) (length link + 1) (file_in standing.file here) by.bytes) (sym r.gate) by.step in
     let within : length by.bytes ≤ max (length (file_in standing.file here)) (standing.length + 1 + (length link + 1)) = by.step.within in
     let room : length_with standing link ≤ LONGEST_FILE = r.room in
     let short : length (file_in standing.file here) ≤ LONGEST_FILE = r.here.counts.short in
     appending_of standing account entries here left by.bytes by.rest
-    (inl (without_link standing account entries link here r by.bytes (omega arith) (torn_link r.here.counts.taken (file_in standing.file here) by.bytes r.here.front (length link + 1) r.here.counts.reads torn)))
+    (inl (without_link standing account entries link here r by.bytes (omega arith) (first_reads standing account entries link here left r by)))
 
 -- the file with the link on the disk
 abbrev pub linked_file : Standing → List ℕ → Left → List ℕ
@@ -133,26 +139,36 @@ gate_lies standing account entries link here r =
     let within : r.here.front.gate < length (file_in standing.file here) = r.lies.within in
     let gate : r.here.front.gate ≡ standing.length = r.gate in omega arith
 
-pub second_moment : (standing : Standing) (account : State) (entries : List Entry) (link : List ℕ) (here there left : Left) → Ready standing account entries link here → there ≡ with_file_in standing.file (linked_file standing link here) here
-    → InFile standing.file (Torn standing.length 1) there left → Appending standing account entries here left
-second_moment standing account entries link here there left r is by =
-    let base = file_in standing.file here in
-    let file : file_in standing.file there ≡ linked_file standing link here = ap (λ (l : Left). file_in standing.file l) is ∙ file_in-with standing.file (linked_file standing link here) here in
-    let left_is : left ≡ with_file_in standing.file by.bytes here =
-    by.rest ∙ (ap (λ (l : Left). with_file_in standing.file by.bytes l) is ∙ file_twice standing.file (linked_file standing link here) by.bytes here) in
-    let torn_here : Torn standing.length 1 (linked_file standing link here) by.bytes = subst (λ (b : List ℕ). Torn standing.length 1 b by.bytes) file by.step in
-    let torn_gate_there : Torn r.here.front.gate 1 (linked_file standing link here) by.bytes = subst (λ (n : ℕ). Torn n 1 (linked_file standing link here) by.bytes) (sym r.gate) torn_here in
-    let torn : Torn r.here.front.gate 1 (linked base r.here.front.gate (link_bytes entries)) by.bytes = subst (λ (b : List ℕ). Torn r.here.front.gate 1 b by.bytes) (linked_as standing account entries link here r) torn_gate_there in
-    let w = linked_parts base standing.length link (gate_lies standing account entries link here r) in
-    let within : length by.bytes ≤ max (length (linked_file standing link here)) (standing.length + 1) = torn_here.within in
-    let longest : length (linked_file standing link here) ≤ max (length base) (standing.length + 1 + length link + 1) = w.within in
-    let room : length_with standing link ≤ LONGEST_FILE = r.room in
-    let short : length base ≤ LONGEST_FILE = r.here.counts.short in
-    let size : length by.bytes ≤ LONGEST_FILE = omega arith in
-    appending_of standing account entries here left by.bytes left_is (elim (torn_gate r.here.counts.taken base by.bytes r.here.front entries r.here.counts.reads r.can torn) [
-      | inl before ↦ inl (without_link standing account entries link here r by.bytes size before)
-      | inr behind ↦ inr (with_the_link standing account entries link here r by.bytes size behind)
-    ])
+-- at the second one its gate may be torn, and it is read without the link or with it
+module _ (standing : Standing) (account : State) (entries : List Entry) (link : List ℕ) (here there left : Left) (r : Ready standing account entries link here) (is : there ≡ with_file_in standing.file (linked_file standing link here) here)
+    (by : InFile standing.file (Torn standing.length 1) there left) where
+  pub second_left : left ≡ with_file_in standing.file by.bytes here
+  second_left = by.rest ∙ (ap (λ (l : Left). with_file_in standing.file by.bytes l) is ∙ file_twice standing.file (linked_file standing link here) by.bytes here)
+
+  gate_torn : Torn standing.length 1 (linked_file standing link here) by.bytes
+  gate_torn =
+      let file : file_in standing.file there ≡ linked_file standing link here = ap (λ (l : Left). file_in standing.file l) is ∙ file_in-with standing.file (linked_file standing link here) here in
+      subst (λ (b : List ℕ). Torn standing.length 1 b by.bytes) file by.step
+
+  pub second_reads : (front_of r.here.counts.taken by.bytes ≡ Ok (Some r.here.front)) ⊎ (front_of r.here.counts.taken by.bytes ≡ Ok (Some (followed r.here.front entries)))
+  second_reads =
+      let torn_there : Torn r.here.front.gate 1 (linked_file standing link here) by.bytes = subst (λ (n : ℕ). Torn n 1 (linked_file standing link here) by.bytes) (sym r.gate) gate_torn in
+      torn_gate r.here.counts.taken (file_in standing.file here) by.bytes r.here.front entries r.here.counts.reads r.can
+      (subst (λ (b : List ℕ). Torn r.here.front.gate 1 b by.bytes) (linked_as standing account entries link here r) torn_there)
+
+  pub second_moment : Appending standing account entries here left
+  second_moment =
+      let base = file_in standing.file here in
+      let w = linked_parts base standing.length link (gate_lies standing account entries link here r) in
+      let within : length by.bytes ≤ max (length (linked_file standing link here)) (standing.length + 1) = gate_torn.within in
+      let longest : length (linked_file standing link here) ≤ max (length base) (standing.length + 1 + length link + 1) = w.within in
+      let room : length_with standing link ≤ LONGEST_FILE = r.room in
+      let short : length base ≤ LONGEST_FILE = r.here.counts.short in
+      let size : length by.bytes ≤ LONGEST_FILE = omega arith in
+      appending_of standing account entries here left by.bytes second_left (elim second_reads [
+        | inl before ↦ inl (without_link standing account entries link here r by.bytes size before)
+        | inr behind ↦ inr (with_the_link standing account entries link here r by.bytes size behind)
+      ])
 
 -- ---- what stands after it
 
@@ -194,6 +210,12 @@ standing_follows standing account entries link here r bytes =
     same_standing _ _ refl (ap (λ (s : Standing). s.version) is) (ap (λ (s : Standing). s.generation) is) length_is links_are
     (ap is_shut (other_stays standing.file bytes here) ∙ ap (λ (s : Standing). s.shut) is)
 
+pub behind_reads : (standing : Standing) (account : State) (entries : List Entry) (link : List ℕ) (here : Left) (r : Ready standing account entries link here)
+    → front_of r.here.counts.taken (opened_file standing link here) ≡ Ok (Some (followed r.here.front entries))
+behind_reads standing account entries link here r =
+    ap (λ (b : List ℕ). front_of r.here.counts.taken b) (opened_as standing account entries link here r)
+    ∙ gate_written r.here.counts.taken (file_in standing.file here) r.here.front entries r.here.counts.reads r.can
+
 pub at_behind : (standing : Standing) (account : State) (entries : List Entry) (link : List ℕ) (here : Left) → Ready standing account entries link here
     → IsAt (standing_with standing link) (account_after_all account entries) (with_file_in standing.file (opened_file standing link here) here)
 at_behind standing account entries link here r =
@@ -205,10 +227,8 @@ at_behind standing account entries link here r =
     let room : length_with standing link ≤ LONGEST_FILE = r.room in
     let short : length base ≤ LONGEST_FILE = r.here.counts.short in
     let next = followed r.here.front entries in
-    let reads : front_of r.here.counts.taken bytes ≡ Ok (Some next) =
-    ap (λ (b : List ℕ). front_of r.here.counts.taken b) (opened_as standing account entries link here r) ∙ gate_written r.here.counts.taken base r.here.front entries r.here.counts.reads r.can in
     at_of (with_file_in standing.file bytes here) (record { file = standing.file; front = next }) (standing_with standing link) (account_after_all account entries)
-    (r.here.counts.changed bytes next (omega arith) reads refl) (standing_follows standing account entries link here r bytes)
+    (r.here.counts.changed bytes next (omega arith) (behind_reads standing account entries link here r) refl) (standing_follows standing account entries link here r bytes)
     (account_two next r.version ∙ ap (λ (a : State). account_after_all a entries) r.account_is)
 
 -- ---- as acts

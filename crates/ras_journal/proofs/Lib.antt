@@ -7,3 +7,4 @@ pub mod LawLemmas
 pub mod PairLemmas
 pub mod FormattingLemmas
 pub mod SwitchLemmas
+pub mod FewLemmas

@@ -11,7 +11,7 @@
 --         p        gate (1)                               open or closed
 --         p + 1    number of the payload's bytes (4)      only after an open gate
 --         p + 5    payload                                it is one, and the account can take it
-use Rattle.std.specs.Prelude.{ℕ, zero, suc, ◌+◌, Bool, nat_lt, nat_eq, ◌&&◌, if◌then◌else◌, List, length, slice_index, Option, None, Some, Result, Ok, Err}
+use Rattle.std.specs.Prelude.{◌≡◌, ℕ, zero, suc, ◌+◌, ◌≤◌, Bool, nat_lt, nat_eq, ◌&&◌, if◌then◌else◌, List, length, slice_index, Option, None, Some, Result, Ok, Err}
 use Rattle.ras_base.specs.Chaining.{◌>>=◌}
 use Rattle.ras_account.specs.Account.{State}
 use Rattle.ras_account.specs.Continued.{account_after_all, account_after_mark}
@@ -86,3 +86,8 @@ front_of taken file =
 abbrev pub account_by : Version → State → State
 account_by One account = account_after_mark account
 account_by Two account = account
+
+-- A file, if it stands, has at most 256 links, whatever generation the other file has taken.
+abbrev pub AreLinksFew : List ℕ → Type 0
+AreLinksFew file =
+    (taken : Option ℕ) (front : FileFront) → front_of taken file ≡ Ok (Some front) → front.links ≤ 256

@@ -9,7 +9,7 @@ use Rattle.ras_account.specs.History.{empty}
 use Rattle.ras_account.specs.Account.{State, account_of}
 use Rattle.ras_journal.specs.declared.limits.TheConstants.{LONGEST_FILE, OPEN_GATE}
 use Rattle.ras_journal.specs.declared.standing.Standing.{Standing}
-use Rattle.ras_journal.specs.File.{FileFront, front_of, account_by}
+use Rattle.ras_journal.specs.File.{AreLinksFew, FileFront, front_of, account_by}
 
 -- why nothing is recovered: a file is too long, or a file is damaged at a place
 pub data Refusal : Type 0 where
@@ -102,3 +102,8 @@ pub record Recovers (account : State) (left : Left) : Type 0 where
 pub record IsAt (standing : Standing) (account : State) (left : Left) : Type 0 where
   pub recovers : recovered left.file0 left.file1 ≡ Ok account
   pub position : position_of left.file0 left.file1 ≡ Some standing
+
+-- neither of the two files, if it stands, has more than 256 links
+pub record HasFewLinks (left : Left) : Type 0 where
+  pub zero : AreLinksFew left.file0
+  pub one : AreLinksFew left.file1
