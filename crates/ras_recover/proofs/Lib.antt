@@ -1,9 +1,11 @@
 pub mod FormattingLemmas
 pub mod SwitchingLemmas
+pub mod FewLemmas
 pub mod ReadingLemmas
 pub mod PairLemmas
 pub mod KeepingLemmas
 pub mod OpeningLemmas
+pub mod OpeningFewLemmas
 pub mod LifeLemmas
 pub mod LiveLemmas
 pub mod CountingLemmas

@@ -19,9 +19,10 @@ use Rattle.entry_format.specs.Spelling.{limit_bytes}
 use Rattle.ras_journal.specs.declared.limits.TheConstants.{LONGEST_FILE}
 use Rattle.ras_journal.specs.declared.standing.Standing.{Standing}
 use Rattle.ras_journal.specs.File.{FileFront, has_open_gate, first_front, whole_front, front_of}
-use Rattle.ras_journal.specs.Recovered.{Refusal, JournalFile, greater, generation_in, journal_of, account_of_journal, recovered, standing_of, standing_in, position_of, is_shut, Recovers, IsAt}
+use Rattle.ras_journal.specs.Recovered.{HasFewLinks, Refusal, JournalFile, greater, generation_in, journal_of, account_of_journal, recovered, standing_of, standing_in, position_of, is_shut, Recovers, IsAt}
 use Rattle.ras_journal.specs.Laws.{CanBegin, begun_front}
 use Rattle.ras_journal.proofs.PartLemmas.{bind_ok, same_ok}
+use Rattle.ras_journal.proofs.FewLemmas.{few_absent}
 use Rattle.ras_journal.proofs.FormattingLemmas.{absent}
 use Rattle.ras_journal.proofs.JournalLemmas.{both_whole, both_parts, recovers_of, at_of}
 use Rattle.ras_journal.proofs.PairLemmas.{none_stands}
@@ -29,6 +30,7 @@ use Rattle.ras_recover.specs.Formatting.{behind_gate, formatting_acts}
 use Rattle.ras_recover.specs.Looking.{standing_begun}
 use Rattle.ras_recover.specs.Opening.{FormatsFirst, Opening, HoldsNone, IsOpened, acts_behind, first_standing, opening_acts, standing_opened}
 use Rattle.ras_recover.specs.Recovering.{Keeps, RestsHere}
+use Rattle.ras_recover.proofs.FewLemmas.{formatting_few}
 use Rattle.ras_recover.proofs.KeepingLemmas.{still}
 use Rattle.ras_recover.proofs.FormattingLemmas.{formatted, formatted_reads, formatted_short, formatted_told, formatting_reads, formatting_short, moment_formats}
 
@@ -90,7 +92,7 @@ pub record CanFormat (account : State) (checkpoint : List ℕ) : Type 0 where
   pub room : 26 + length checkpoint ≤ LONGEST_FILE
   pub is : IsCheckpoint Two account checkpoint
 
-begins : (account : State) (checkpoint : List ℕ) → CanFormat account checkpoint → CanBegin None Two 1 checkpoint account
+pub begins : (account : State) (checkpoint : List ℕ) → CanFormat account checkpoint → CanBegin None Two 1 checkpoint account
 begins account checkpoint can = record { first = omega arith; last = omega arith; free = refl; size = (let room : 26 + length checkpoint ≤ LONGEST_FILE = can.room in omega arith); is = can.is }
 
 first_counts : (account : State) (checkpoint : List ℕ) (here : Left) → NoneStands account here → (bytes : List ℕ) → length bytes ≤ LONGEST_FILE → front_of None bytes ≡ Ok (Some (begun_front Two 1 checkpoint account))
@@ -114,7 +116,7 @@ first_recovers account checkpoint here none bytes short (inr (inl nothing)) =
 first_recovers account checkpoint here none bytes short (inr (inr reads)) =
     recovers_of (with_file_in Zero bytes here) (record { file = Zero; front = begun_front Two 1 checkpoint account }) account (first_counts account checkpoint here none bytes short reads) refl
 
-empty_length : length (checkpoint_bytes Two (account_of empty)) ≡ 72
+pub empty_length : length (checkpoint_bytes Two (account_of empty)) ≡ 72
 unfolding checkpoint_bytes front_bytes end_bytes limit_bytes u64_bytes
 empty_length = refl
 
@@ -134,7 +136,7 @@ bytes_length account =
 abbrev pub first_acts : Bool → State → List Act
 first_acts shut account = formatting_acts Zero shut (behind_gate 1 (checkpoint_bytes Two account))
 
-first_moment : (account : State) (shut : Bool) (t : Told) (left : Left) → HoldsNone account t.here → IsCheckpoint Two account (checkpoint_bytes Two account) → shut ≡ is_shut t.here.file0 → Moment (first_acts shut account) t left → FormatsFirst t.here left
+pub first_moment : (account : State) (shut : Bool) (t : Told) (left : Left) → HoldsNone account t.here → IsCheckpoint Two account (checkpoint_bytes Two account) → shut ≡ is_shut t.here.file0 → Moment (first_acts shut account) t left → FormatsFirst t.here left
 first_moment account shut t left holds is shut_is moment =
     let here = t.here in
     let by = moment_formats Zero shut (behind_gate 1 (checkpoint_bytes Two account)) t left moment in
@@ -147,6 +149,10 @@ first_moment account shut t left holds is shut_is moment =
     record {
       none = holds.none;
       recovers = subst (λ (a : State). Recovers a left) none.account_is (subst (λ (l : Left). Recovers account l) (sym by.rest) recovers);
+      few = subst HasFewLinks (sym by.rest) (record {
+        zero = formatting_few shut here.file0 by.bytes 1 (checkpoint_bytes Two account) account shut_is (begins account (checkpoint_bytes Two account) can) by.step (few_absent here.file0 (absent None here.file0 none.zero));
+        one = few_absent here.file1 (absent None here.file1 none.one);
+      });
       rest = by.rest ∙ ap (λ (b : List ℕ). with_file_in Zero b here) (sym (ap (λ (l : Left). l.file0) by.rest));
     }
 

@@ -201,7 +201,7 @@ switching_moment standing account here left r room by =
 
 -- ---- once it is switched
 
-switched_told : (standing : Standing) (account : State) (t : Told)
+pub switched_told : (standing : Standing) (account : State) (t : Told)
     → (after_switch standing account t).here ≡ with_file_in (other standing.file) (formatted standing.shut (next_bytes standing account) (file_in (other standing.file) t.here)) t.here
 switched_told standing account t = formatted_told (other standing.file) standing.shut (next_bytes standing account) t
 

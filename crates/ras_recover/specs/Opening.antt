@@ -10,15 +10,16 @@ use Rattle.ras_account.specs.Account.{State, account_of}
 use Rattle.entry_format.specs.declared.version.Version.TheVariants.{Two}
 use Rattle.journal_format.specs.Checkpoints.{checkpoint_bytes}
 use Rattle.ras_journal.specs.declared.standing.Standing.{Standing}
-use Rattle.ras_journal.specs.Recovered.{JournalFile, Refusal, journal_of, recovered, position_of, is_shut, Recovers}
+use Rattle.ras_journal.specs.Recovered.{HasFewLinks, JournalFile, Refusal, journal_of, recovered, position_of, is_shut, Recovers}
 use Rattle.ras_journal.specs.Appending.{Before}
 use Rattle.ras_recover.specs.Formatting.{behind_gate, formatting_acts}
 
--- While file 0 is formatted, whatever a stop leaves recovers the empty account. All but file 0 is
--- as it was.
+-- While file 0 is formatted, whatever a stop leaves recovers the empty account, and neither file, if
+-- it stands, has more than 256 links. All but file 0 is as it was.
 pub record FormatsFirst (here left : Left) : Type 0 where
   pub none : position_of here.file0 here.file1 ≡ None
   pub recovers : Recovers (account_of empty) left
+  pub few : HasFewLinks left
   pub rest : left ≡ with_file_in Zero left.file0 here
 
 -- While a journal is opened, a stop leaves what a stop before may have left, or file 0 is being

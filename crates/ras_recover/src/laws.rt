@@ -1,7 +1,7 @@
 //! What a stop leaves of a journal, whatever happened to it.
 ghost use Rattle.std.specs.Prelude.{◌≡◌, ℕ, List, None, Some, Ok};
 ghost use Rattle.board_core.specs.declared.board.DiskCall.{DiskCall};
-ghost use Rattle.board_core.specs.Clock.{LeftNow};
+ghost use Rattle.board_core.specs.Clock.{Adds, Always, LeftNow};
 ghost use Rattle.board_core.specs.Doing.{Moment, looks};
 ghost use Rattle.board_core.specs.Stop.{Left};
 ghost use Rattle.board_core.specs.Told.{Told};
@@ -12,10 +12,12 @@ ghost use Rattle.ras_account.specs.History.{History};
 ghost use Rattle.entry_format.specs.declared.version.Version.TheVariants.{One};
 ghost use Rattle.ras_journal.specs.File.{FileFront, front_of};
 ghost use Rattle.ras_journal.specs.Laws.{IsRead, IsShort};
-ghost use Rattle.ras_journal.specs.Recovered.{IsAt, recovered};
+ghost use Rattle.ras_journal.specs.Recovered.{HasFewLinks, IsAt, recovered};
 ghost use Rattle.ras_recover.specs.Life.{JournalCall, Life, account_after_links, cut, Continues, RecoversBehind, with_links, Site, Works, Opens, BeginsWith, Lives};
 ghost use Rattle.ras_journal.specs.declared.standing.Standing.{Standing};
-ghost use Rattle.ras_recover.specs.OpeningCalls.{IsRecoveryOf, ReadsTo};
+ghost use Rattle.ras_recover.specs.Opening.{FormatsFirst, Opening, opening_acts};
+ghost use Rattle.ras_recover.specs.OpeningCalls.{IsRecoveryOf, MakesOpening, ReadsTo};
+ghost use Rattle.ras_recover.specs.Recovering.{Keeps};
 ghost use Rattle.ras_recover.specs.Switching.{CanSwitch, Switching, after_switch, switch_acts, switched};
 
 use board_core::Board;
@@ -39,6 +41,32 @@ pub fn recovery_laws()
     ensures reads { (standing : Standing) (account : State) (here : Left) (calls : List DiskCall)
         → IsAt standing account here → IsRecoveryOf here calls
         → ReadsTo standing.file standing.length calls }
+{}
+
+/// What the writes of an opening come to, and how many links the files of a journal have while it is
+/// recovered and opened, and once it is open: no file that stands has more than 256, if none had at
+/// the start.
+pub fn opening_laws<B: Board>()
+    // An opening writes only if no file stands. Whatever a stop leaves at any moment of it recovers
+    // the empty account, and has few links.
+    ensures moments { (t : Told) (left : Left)
+        → Moment (opening_acts t.here) t left → FormatsFirst t.here left }
+
+    // If all that a stop at the start of an opening may leave has few links, so has all that a stop
+    // may leave from there on. The same holds of a recovery.
+    ensures few { (old new : B) (here : Left)
+        → Always (B.clock old) (B.clock old).now HasFewLinks
+        → Adds (Opening (B.clock old) here) (B.clock old) (B.clock new)
+        → Always (B.clock new) (B.clock old).now HasFewLinks }
+    ensures few_recovering { (old new : B)
+        → Always (B.clock old) (B.clock old).now HasFewLinks
+        → Keeps (B.told old) (B.clock old) (B.told new) (B.clock new)
+        → Always (B.clock new) (B.clock old).now HasFewLinks }
+
+    // If the files that are told have few links, so have those that are told once the journal is
+    // open.
+    ensures few_done { (old new : Told) → HasFewLinks old.here → MakesOpening old new
+        → HasFewLinks new.here }
 {}
 
 /// Over any appends, switches and openings of a journal, and any stops of the machine in them and

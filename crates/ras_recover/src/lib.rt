@@ -18,7 +18,7 @@ mod switching;
 mod walking;
 mod window;
 
-pub use laws::{life_laws, recovery_laws, switch_laws};
+pub use laws::{life_laws, opening_laws, recovery_laws, switch_laws};
 pub use life::{live_append, live_opening, live_switch};
 pub use opening::open_journal;
 pub use pair::Recovered;

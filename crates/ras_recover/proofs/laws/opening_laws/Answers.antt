@@ -1,0 +1,14 @@
+use Rattle.ras_recover.proofs.OpeningFewLemmas.{opened_few, opening_leaves, openings_few, recovery_few}
+use Rattle.ras_recover.proofs.laws.opening_laws.Goals as goal
+
+pub returns-clause-moments : goal.returns-clause-moments
+returns-clause-moments g c = opening_leaves
+
+pub returns-clause-few : goal.returns-clause-few
+returns-clause-few g c = λ old new here few adds. openings_few (g.B.Board.clock old) (g.B.Board.clock new) here few adds
+
+pub returns-clause-few_recovering : goal.returns-clause-few_recovering
+returns-clause-few_recovering g c = λ old new few keeps. recovery_few (g.B.Board.told old) (g.B.Board.told new) (g.B.Board.clock old) (g.B.Board.clock new) few keeps
+
+pub returns-clause-few_done : goal.returns-clause-few_done
+returns-clause-few_done g c = opened_few
