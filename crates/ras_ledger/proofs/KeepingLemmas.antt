@@ -16,13 +16,15 @@ use Rattle.ras_account.specs.Continued.{account_after_all}
 use Rattle.ras_facts.specs.declared.entry.Entry.{Entry}
 use Rattle.ras_journal.specs.View.{JournalView}
 use Rattle.ras_journal.specs.declared.standing.Standing.{Standing}
-use Rattle.ras_journal.specs.Recovered.{IsAt, Recovers, is_shut, other, other_of}
+use Rattle.ras_journal.specs.Recovered.{HasFewLinks, IsAt, Recovers, is_shut, other, other_of}
 use Rattle.ras_journal.specs.Appending.{HasRoom, Links, append_acts, is_first_version, needs_switch, standing_with}
 use Rattle.ras_journal.proofs.AppendLemmas.{append_ends, append_leaves}
+use Rattle.ras_journal.proofs.FewLemmas.{append_few, append_few_done}
 use Rattle.ras_journal.proofs.FileLemmas.{lies}
 use Rattle.ras_journal.proofs.JournalLemmas.{here_of}
 use Rattle.ras_recover.specs.Formatting.{formatting_acts}
 use Rattle.ras_recover.specs.Switching.{CanSwitch, has_no_room, next_bytes, switch_acts, switched}
+use Rattle.ras_recover.proofs.FewLemmas.{switch_few, switch_few_done}
 use Rattle.ras_recover.proofs.SwitchingLemmas.{switch_ends, switch_leaves}
 use Rattle.ras_ledger.specs.declared.ledger.Ledger.{Ledger}
 use Rattle.ras_ledger.specs.declared.refused.KeepRefused.{KeepRefused}
@@ -120,6 +122,44 @@ keeping_ends standing account entries link t can not links at =
     let room = room_acts standing account link in
     subst (λ (u : Told). IsAt (standing_with s link) (account_after_all account entries) u.here) (sym (after-append room (append_acts s link) t))
     (append_ends s account entries link (after_acts room t) (roomy standing account link not) links (roomy_at standing account link t can at))
+
+-- ---- how many links the files have then
+
+roomy_links : (due : Bool) (standing : Standing) (account : State) (link : List ℕ) → needs_switch standing link ≡ due → (if due then switched standing account else standing).links < 256
+roomy_links true standing account link is = omega arith
+roomy_links false standing account link is = grind (arith, nat_tests)
+
+room_few : (due : Bool) (standing : Standing) (account : State) (t : Told) (left : Left) → (IsTrue due → CanSwitch standing account) → IsAt standing account t.here → HasFewLinks t.here
+    → Moment (if due then switch_acts standing account else []) t left → HasFewLinks left
+room_few true standing account t left can at few switching = switch_few standing account t (can refl) at few left switching
+room_few false standing account t left can at few never = absurd never
+
+roomy_few : (due : Bool) (standing : Standing) (account : State) (t : Told) → (IsTrue due → CanSwitch standing account) → IsAt standing account t.here → HasFewLinks t.here
+    → HasFewLinks (after_acts (if due then switch_acts standing account else []) t).here
+roomy_few true standing account t can at few = switch_few_done standing account t (can refl) at few
+roomy_few false standing account t can at few = few
+
+module _ (standing : Standing) (account : State) (entries : List Entry) (link : List ℕ) (t : Told) (can : CanMake standing account link) (not : ¬ IsTrue (lacks_room standing account link)) (links : Links account entries link)
+    (at : IsAt standing account t.here) (few : HasFewLinks t.here) where
+  abbrev due : Bool
+  due = needs_switch standing link
+
+  abbrev roomy_told : Told
+  roomy_told = after_acts (room_acts standing account link) t
+
+  pub keeping_few : (left : Left) → Moment (keeping_acts standing account link) t left → HasFewLinks left
+  keeping_few left moment = elim (moment_parts (room_acts standing account link) (append_acts (standing_roomy standing account link) link) t left moment) [
+    | inl switching ↦ room_few due standing account t left can at few switching
+    | inr appending ↦
+        append_few (standing_roomy standing account link) account entries link roomy_told (roomy standing account link not) links (roomy_at standing account link t can at) (roomy_links due standing account link refl)
+        (roomy_few due standing account t can at few) left appending
+  ]
+
+  pub keeping_few_done : HasFewLinks (after_keeping standing account link t).here
+  keeping_few_done =
+      let s = standing_roomy standing account link in
+      subst (λ (u : Told). HasFewLinks u.here) (sym (after-append (room_acts standing account link) (append_acts s link) t))
+      (append_few_done s account entries link roomy_told (roomy standing account link not) links (roomy_at standing account link t can at) (roomy_links due standing account link refl) (roomy_few due standing account t can at few))
 
 -- ---- the disk calls
 

@@ -7,7 +7,7 @@ ghost use Rattle.ras_account.specs.Account.{State};
 ghost use Rattle.ras_account.specs.Continued.{account_after_all};
 ghost use Rattle.ras_facts.specs.declared.entry.Entry.{Entry};
 ghost use Rattle.ras_journal.specs.Appending.{Links};
-ghost use Rattle.ras_journal.specs.Recovered.{IsAt};
+ghost use Rattle.ras_journal.specs.Recovered.{HasFewLinks, IsAt};
 ghost use Rattle.ras_journal.specs.declared.standing.Standing.{Standing};
 ghost use Rattle.ras_ledger.specs.Keeping.{CanMake, Keeping, after_keeping};
 ghost use Rattle.ras_ledger.specs.Keeping.{keeping_acts, lacks_room, standing_kept};
@@ -32,6 +32,19 @@ pub fn keeping_laws()
         → Links account entries link → IsAt standing account t.here
         → IsAt (standing_kept standing account link) (account_after_all account entries)
         (after_keeping standing account link t).here }
+
+    // If no file that stands had more than 256 links before, none has at any moment of it, and none
+    // once it is done.
+    ensures few { (standing : Standing) (account : State) (entries : List Entry)
+        (link : List ℕ) (t : Told) (left : Left)
+        → CanMake standing account link → ¬ IsTrue (lacks_room standing account link)
+        → Links account entries link → IsAt standing account t.here → HasFewLinks t.here
+        → Moment (keeping_acts standing account link) t left → HasFewLinks left }
+    ensures few_done { (standing : Standing) (account : State) (entries : List Entry)
+        (link : List ℕ) (t : Told)
+        → CanMake standing account link → ¬ IsTrue (lacks_room standing account link)
+        → Links account entries link → IsAt standing account t.here → HasFewLinks t.here
+        → HasFewLinks (after_keeping standing account link t).here }
 
     // It is at most one switch, and then the append, all WriteAt and Sync calls.
     ensures calls { (standing : Standing) (account : State) (link : List ℕ)
