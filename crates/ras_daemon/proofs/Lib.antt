@@ -5,6 +5,7 @@ pub mod RunLemmas
 pub mod DidLemmas
 pub mod ListLemmas
 pub mod FewLemmas
+pub mod FewLinksLemmas
 pub mod StopLemmas
 pub mod FirstLinesLemmas
 pub mod EventLemmas

@@ -53,7 +53,7 @@ pub called_here : (made : List DiskCall) (t : Told) → (after_acts (map calls m
 called_here [] t = refl
 called_here (call ∷ made) t = called_here made (record t { disk_calls = t.disk_calls ++ call ∷ [] })
 
-called_moment : (made : List DiskCall) (t : Told) (left : Left) → Moment (map calls made) t left → left ≡ t.here
+pub called_moment : (made : List DiskCall) (t : Told) (left : Left) → Moment (map calls made) t left → left ≡ t.here
 called_moment [] t left never = absurd never
 called_moment (call ∷ made) t left (inl same) = same
 called_moment (call ∷ made) t left (inr later) = called_moment made (record t { disk_calls = t.disk_calls ++ call ∷ [] }) left later
@@ -89,7 +89,7 @@ module _ (start : Start) (script : List ℕ) (before : List NumberedLine) (first
   asked_are : (t : Told) → AreLineActs start (before, asks.read) t asked
   asked_are t = subst (λ (r : Option Exit). AreActsUnless r (refused_acts (event_at (before, asks.read))) (AreEventActs start (before, asks.read) t (event_at (before, asks.read))) asked) (sym refused_by.1) asks.is
 
-  asked_none : (t : Told) → HoldsAfter start before t → after_acts asked t ≡ t
+  pub asked_none : (t : Told) → HoldsAfter start before t → after_acts asked t ≡ t
   asked_none t holds = line_still start (before, asks.read) refused_by.0 t asked refused_by.1 holds.board (asked_are t)
 
   asked_fit : (t : Told) (left : Left) → Moment asked t left → IfOk (event_at (before, asks.read)) IsFitEvent

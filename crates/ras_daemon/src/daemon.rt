@@ -6,6 +6,7 @@ ghost use Rattle.board_core.specs.Device.{LeavesDevice};
 ghost use Rattle.board_core.specs.Doing.{looks};
 ghost use Rattle.board_core.specs.Told.{Relates, Steps, after_print};
 ghost use Rattle.ras_recover.specs.DiskCalls.{IsBeginning, Makes};
+ghost use Rattle.ras_journal.specs.Recovered.{HasFewLinks};
 ghost use Rattle.ras_exit.specs.Causes.{BoardCause, SourceCause};
 ghost use Rattle.ras_exit.specs.Endings.{OnAnswer, OnWhole, ending_of};
 ghost use Rattle.ras_exit.specs.StopLine.{stop_line};
@@ -52,6 +53,13 @@ pub fn rasd<S: Source, B: Board>(
     // journal was open.
     ensures settled { OverRun (λ start script told. (source.new ≡ source.old)
         ⊎ Settles start script told.here (B.clock board.old) (B.clock board.new))
+        (task_of words.now) (S.left source.old) (B.told board.old) }
+
+    // If no file that a stop at the start may leave has more than 256 links, none has that a stop may
+    // leave of a run.
+    ensures few_links { OverRun (λ start script told.
+        Always (B.clock board.old) (B.clock board.old).now HasFewLinks
+        → Always (B.clock board.new) (B.clock board.old).now HasFewLinks)
         (task_of words.now) (S.left source.old) (B.told board.old) }
 
     // The exit and what was printed are the stated functions of the script, the account and the record

@@ -10,3 +10,4 @@ pub mod PutLemmas
 pub mod LineLemmas
 pub mod PrintActLemmas
 pub mod LineLawLemmas
+pub mod LineFewLemmas

@@ -61,7 +61,7 @@ use Rattle.ras_run.proofs.StandsLemmas.{prints_at}
 
 -- ---- by the event of the line
 
-event_off : (start : Start) (place : Place) (t : Told) (event : Result Event Refusal) (acts : List Act) → AreEventActs start place t event acts → AreOffDeviceButPut event acts
+pub event_off : (start : Start) (place : Place) (t : Told) (event : Result Event Refusal) (acts : List Act) → AreEventActs start place t event acts → AreOffDeviceButPut event acts
 event_off start (before, (number, line)) t (Ok Nothing) acts are = rw are tt
 event_off start (before, (number, line)) t (Ok Settled) acts are = subst AreOffDevice (sym are) (prints_off [] number)
 event_off start (before, (number, line)) t (Ok (Counted made)) acts are =
@@ -185,10 +185,10 @@ neither : (a b : Bool) → (a || b) ≡ false → (a ≡ false) × (b ≡ false)
 neither true b is = absurd cc
 neither false b is = (refl, is)
 
-is_not : (b : Bool) → b ≡ false → ¬ IsTrue b
+pub is_not : (b : Bool) → b ≡ false → ¬ IsTrue b
 is_not b is holds = cc
 
-none_if : (b : Bool) → (if b then Some Full else None) ≡ None → b ≡ false
+pub none_if : (b : Bool) → (if b then Some Full else None) ≡ None → b ≡ false
 none_if true is = absurd cc
 none_if false is = refl
 
@@ -315,7 +315,7 @@ module _ (start : Start) (before : List NumberedLine) (number : ℕ) (line : Res
     abbrev news : List Entry
     news = fresh_entries_in a (entries_in made)
 
-    parts : (are_past (numbers_with a (entries_in made)) ≡ false) × (lacks_room_for a s news ≡ false)
+    pub parts : (are_past (numbers_with a (entries_in made)) ≡ false) × (lacks_room_for a s news ≡ false)
     parts = neither (are_past (numbers_with a (entries_in made))) (lacks_room_for a s news) room
 
     stays : StaysWithin a news
@@ -324,7 +324,7 @@ module _ (start : Start) (before : List NumberedLine) (number : ℕ) (line : Res
     account_is : account_after_all a news ≡ account_after_all a (entries_in made)
     account_is = news_account a (entries_in made)
 
-    links : (entry : Entry) (entries : List Entry) → news ≡ entry ∷ entries → Links a (entry ∷ entries) (link_bytes (entry ∷ entries))
+    pub links : (entry : Entry) (entries : List Entry) → news ≡ entry ∷ entries → Links a (entry ∷ entries) (link_bytes (entry ∷ entries))
     links entry entries is = record {
       can = fit_news a made (entry ∷ entries) (sym is) (omega arith) fit;
       bytes = refl;
@@ -438,7 +438,7 @@ module _ (start : Start) (before : List NumberedLine) (number : ℕ) (line : Res
   account_then = sym (account-snoc start before (number, line))
 
   module _ (acts : List Act) (are : AreLineActs start place t acts) where
-    event_acts : refusal_at start place ≡ None → AreEventActs start place t (event_at place) acts
+    pub event_acts : refusal_at start place ≡ None → AreEventActs start place t (event_at place) acts
     event_acts none = subst (λ (r : Option Exit). AreActsUnless r (refused_acts (event_at place)) (AreEventActs start place t (event_at place)) acts) none are
 
     pub line_holds : IsAccepted start place → HoldsAfter start (before ++ (number, line) ∷ []) (after_acts acts t)

@@ -10,13 +10,15 @@ use Rattle.ras_daemon.specs.Headline.{Headline, IsWhole, StopsRecover, laid_with
 use Rattle.ras_daemon.specs.Runs.{event_count}
 use Rattle.ras_daemon.specs.RunActs.{DidRun}
 use Rattle.ras_daemon.specs.RunOutput.{run_output}
-use Rattle.ras_daemon.specs.RunStatus.{run_exit}
+use Rattle.ras_daemon.specs.RunStatus.{run_exit, start_of}
 use Rattle.ras_daemon.specs.Script.{events_of}
 use Rattle.ras_daemon.specs.Task.{task_of}
 use Rattle.ras_daemon.proofs.AheadLemmas.{run-ahead}
 use Rattle.ras_daemon.proofs.CallLemmas.{over-run, run-begun, run-counted, run-headline, run-printed, run-status, run-stored, run-whole, some-weaker}
 use Rattle.ras_daemon.proofs.CompleteLemmas.{run-complete}
 use Rattle.ras_daemon.proofs.DidLemmas.{MakesRun, did_access, did_calls, run_did}
+use Rattle.ras_journal.specs.Recovered.{HasFewLinks}
+use Rattle.ras_daemon.proofs.FewLinksLemmas.{run-few}
 use Rattle.ras_daemon.proofs.RunLemmas.{over_does}
 use Rattle.ras_daemon.proofs.daemon.rasd.Goals as goal
 
@@ -99,3 +101,11 @@ returns-clause-stored g c =
     (λ start script told. c.call.result ≡ Done → IsSomeAnd (g.B.Board.told c.call.new.board) (λ now. now.here.store ≡ laid_with start script (event_count start script)))
     (task_of c.args.words.now) (g.S.Source.left c.args.source.now) (g.B.Board.told c.args.board.now) c.call.result c.args.board.now c.call.new.board
     (λ account script t is recovers does. run-stored (looks g.B.Board.told g.B.Board.clock g.B.Board.faults) account script c.call.result t c.args.board.now c.call.new.board recovers does) c.call.ensures.does
+
+pub returns-clause-few_links : goal.returns-clause-few_links
+returns-clause-few_links g c =
+    over_does (looks g.B.Board.told g.B.Board.clock g.B.Board.faults)
+    (λ start script told. Always (g.B.Board.clock c.args.board.now) (g.B.Board.clock c.args.board.now).now HasFewLinks → Always (g.B.Board.clock c.call.new.board) (g.B.Board.clock c.args.board.now).now HasFewLinks)
+    (task_of c.args.words.now) (g.S.Source.left c.args.source.now) (g.B.Board.told c.args.board.now) c.call.result c.args.board.now c.call.new.board
+    (λ account script t is recovers does. run-few (looks g.B.Board.told g.B.Board.clock g.B.Board.faults) (start_of account t) script c.call.result t c.args.board.now c.call.new.board
+    (g.met.B.Board.told_may_be_left c.args.board.now t is) does) c.call.ensures.does
