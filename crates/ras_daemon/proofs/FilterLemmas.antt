@@ -5,7 +5,7 @@ use Rattle.ras_exit.specs.declared.exit.Exit.TheVariants.{Done}
 use Rattle.board_core.specs.Told.{Told}
 use Rattle.line_filters.specs.Filter.{Filter}
 use Rattle.line_filters.specs.Filters.{Filters, OfBoth, TakesOf}
-use Rattle.ras_daemon.specs.Ahead.{TakesFew, TakesFewOf}
+use Rattle.ras_daemon.specs.Ahead.{TakesFewOf}
 
 -- one that is done has read its source to the end
 read_whole : (exit : Exit) (script : List ℕ) (left : Option (List ℕ)) → exit ≡ Done → IsSomeAnd left (TakesOf exit script) → left ≡ Some []

@@ -1,7 +1,6 @@
 -- The account of a run over a script that is made up, which begins over empty files.
-use Rattle.std.proofs.Common.{◌≡◌, ℕ, List, [], Ok, IfOk, refl, sym, ap, ◌∙◌, subst}
+use Rattle.std.proofs.Common.{◌≡◌, ℕ, List, Ok, IfOk, refl, sym, ap, ◌∙◌, subst}
 use Rattle.std.specs.List.{flat_map}
-use Rattle.board_core.specs.Stop.{Left}
 use Rattle.board_core.specs.Told.{Told}
 use Rattle.ras_account.specs.Account.{State, account_of}
 use Rattle.ras_account.specs.Continued.{account_after_all}
