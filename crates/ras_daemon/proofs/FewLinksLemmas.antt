@@ -1,23 +1,20 @@
 -- No file that stands has more than 256 links at a moment of a run.
-use Rattle.std.proofs.Common.{◌≡◌, ℕ, List, [], ◌∷◌, ◌++◌, map, Option, Some, None, Result, Ok, Err, refl, sym, ap, subst, ◌∙◌, inl, inr, append_assoc, append-nil, arith}
-use Rattle.std.specs.Prelude.{◌⊎◌}
+use Rattle.std.proofs.Common.{◌≡◌, ℕ, List, [], ◌∷◌, ◌++◌, map, Result, Ok, Err, sym, ap, subst, ◌∙◌, inl, inr}
 use Rattle.std.specs.List.{AllByRecursion}
 use Rattle.board_core.specs.declared.board.DiskCall.{DiskCall}
-use Rattle.board_core.specs.Clock.{Adds, Always, Clock, LeftNow, Rests}
+use Rattle.board_core.specs.Clock.{Adds, Always, LeftNow, Rests}
 use Rattle.board_core.specs.ClockLemmas.{adds_none, adds_weaker, always_goes_on}
 use Rattle.board_core.specs.Doing.{Act, Moment, Seen, after_acts, calls}
 use Rattle.board_core.specs.Stop.{Left}
 use Rattle.board_core.specs.Told.{Told}
 use Rattle.board_core.proofs.DoingLemmas.{after-append, moment_parts}
 use Rattle.ras_base.specs.Places.{places, places_behind}
-use Rattle.ras_account.specs.Account.{State}
-use Rattle.ras_journal.specs.Recovered.{HasFewLinks, Recovers}
+use Rattle.ras_journal.specs.Recovered.{HasFewLinks}
 use Rattle.ras_recover.proofs.OpeningFewLemmas.{opened_few, openings_few}
 use Rattle.ras_events.specs.declared.event.Event.{Event}
 use Rattle.ras_events.specs.declared.event.Event.TheVariants.{Put}
 use Rattle.ras_events.specs.declared.event.Refusal.{Refusal}
-use Rattle.ras_events.specs.Reports.{NumberedLine, Place, event_at}
-use Rattle.ras_exit.specs.Acts.{print_acts}
+use Rattle.ras_events.specs.Reports.{NumberedLine, event_at}
 use Rattle.ras_exit.specs.Endings.{CallEnding, answered, ending_of, faulted}
 use Rattle.ras_exit.specs.declared.exit.Exit.{Exit}
 use Rattle.ras_run.specs.LineActs.{HoldsAfter, refused_acts}
@@ -26,10 +23,9 @@ use Rattle.ras_run.specs.Taking.{IsAccepted}
 use Rattle.ras_run.proofs.LineFewLemmas.{line_few, line_few_done, print_few, printed_few, putting_few}
 use Rattle.ras_run.proofs.LineLawLemmas.{line_holds}
 use Rattle.ras_texts.specs.Orders.{standing_lines}
-use Rattle.ras_daemon.specs.Doing.{DoesFirst, DoesRun, DoesScript, IsAsked, IsLastBy, MayAsk, TakesScript}
+use Rattle.ras_daemon.specs.Doing.{DoesFirst, DoesRun, DoesScript, IsLastBy, MayAsk, TakesScript}
 use Rattle.ras_daemon.specs.RunActs.{AreActsAlong, AreScriptActs, orders_acts}
 use Rattle.ras_daemon.specs.RunOutput.{closing_line}
-use Rattle.ras_daemon.specs.RunStatus.{start_of}
 use Rattle.ras_daemon.specs.Running.{AreFirst}
 use Rattle.ras_daemon.proofs.AlongActLemmas.{along_done}
 use Rattle.ras_daemon.proofs.ScriptLemmas.{IsLast, asked_none, called_moment, printed_holds}

@@ -1,6 +1,6 @@
 -- No file that stands has more than 256 links at a moment of a line, or once it is done.
-use Rattle.std.proofs.Common.{◌≡◌, ℕ, false, List, [], ◌∷◌, ◌++◌, map, Option, None, Some, Result, Ok, Err, IfOk, refl, sym, ap, subst, ◌∙◌, inl, inr}
-use Rattle.board_core.specs.Doing.{Act, Moment, after_act, after_acts, after_device, calls, device, put}
+use Rattle.std.proofs.Common.{◌≡◌, ℕ, false, List, [], ◌∷◌, map, None, Result, Ok, Err, IfOk, refl, sym, ap, subst, inl, inr}
+use Rattle.board_core.specs.Doing.{Act, Moment, after_acts, after_device, calls, device, put}
 use Rattle.board_core.specs.Stop.{Begins, InOut, Left}
 use Rattle.board_core.specs.Told.{Told, after_print}
 use Rattle.board_core.proofs.DoingLemmas.{after-append, moment_parts}
@@ -27,7 +27,7 @@ use Rattle.ras_script.specs.declared.line.Line.{Line}
 use Rattle.ras_script.specs.declared.line.LineRefused.{LineRefused}
 use Rattle.ras_exit.specs.Acts.{print_acts}
 use Rattle.ras_exit.proofs.PrintLemmas.{after_printed, print_moment}
-use Rattle.ras_run.specs.LineActs.{AreEventActs, AreLineActs, HoldsAfter, event_prints, made_acts, news_acts, putting_acts}
+use Rattle.ras_run.specs.LineActs.{AreEventActs, AreLineActs, HoldsAfter, event_prints, made_acts, news_acts}
 use Rattle.ras_run.specs.Places.{Start, account_at, has_no_room_for, lacks_room_for, standing_at}
 use Rattle.ras_run.specs.Status.{event_refusal}
 use Rattle.ras_run.specs.Taking.{IsAccepted}
