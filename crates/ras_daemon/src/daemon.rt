@@ -63,7 +63,7 @@ pub fn rasd<S: Source, B: Board>(
         (task_of words.now) (S.left source.old) (B.told board.old) }
 
     // The exit and what was printed are the stated functions of the script, the account and the
-    // record store at the start, and where the journal stands; its done lines number its events.
+    // record store at the start and where the journal stands, and its done lines number its events.
     // What is printed is cut short by a fault, or if memory runs out; but for a fault of the board
     // whole events were done.
     ensures status { OverRun (λ start script told. OnAnswer result (result ≡ run_exit start script))
@@ -91,9 +91,10 @@ pub fn rasd<S: Source, B: Board>(
     ensures few { TakesFewOf (S.left source.old) (S.left source.new) }
 
     // A run does its acts in order: the opening's, the print of the orders that stand, those of each
-    // line before the first refused one, and the print of the last line. At an answer all of them
-    // are done. If a call of the board failed it is the last that was begun of them. Else some first
-    // ones are done. The disk calls are theirs, or at any exit a beginning of them.
+    // line before the first refused one, the put that the record store refuses, if that is why the
+    // line is refused, and the print of the last line. At an answer all of them are done. If a call
+    // of the board failed it is the last that was begun of them. Else some first ones are done. The
+    // disk calls are theirs, or at any exit a beginning of them.
     ensures acts { OverRun (λ start script told. IsSomeAnd (B.told board.new)
         (DidRun start script (ending_of result) told))
         (task_of words.now) (S.left source.old) (B.told board.old) }
