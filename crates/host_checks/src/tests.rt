@@ -46,8 +46,8 @@ fn write(board: &mut FileBoard, bytes: &[u8]) -> (bool, bool) {
     (is_written, board.sync(FileNo::One).is_ok())
 }
 
-// A board that only reads finds a missing file empty, makes none, writes to none, and reads beside
-// one that writes.
+// A board that only reads finds a missing file empty, makes none, writes to none, and has what stood
+// at its first use beside one that writes.
 #[test]
 fn reading_board_changes_nothing(rt: HostRuntime) -> Result<(), Fail> {
     enter(&rt, "reading")?;
@@ -57,9 +57,11 @@ fn reading_board_changes_nothing(rt: HostRuntime) -> Result<(), Fail> {
     assert!(rt; is_missing(&rt, "rasd.0") && is_missing(&rt, "rasd.1"));
     let mut writer = board(rt, Use::Alone);
     assert!(rt; write(&mut writer, b"abcdef") == (true, true));
-    assert!(rt; reader.size(FileNo::One) == Ok(6) && read(&mut reader, 1) == (Ok(4), *b"bcde"));
-    assert!(rt; read(&mut reader, 4) == (Ok(2), *b"ef\0\0"));
-    assert!(rt; read(&mut reader, 7) == (Ok(0), [0; 4]));
-    assert!(rt; write(&mut reader, b"x") == (false, true) && holds(&rt, "rasd.1", b"abcdef"));
+    assert!(rt; reader.size(FileNo::One) == Ok(0) && read(&mut reader, 0) == (Ok(0), [0; 4]));
+    let mut later = board(rt, Use::Reading);
+    assert!(rt; later.size(FileNo::One) == Ok(6) && read(&mut later, 1) == (Ok(4), *b"bcde"));
+    assert!(rt; read(&mut later, 4) == (Ok(2), *b"ef\0\0"));
+    assert!(rt; read(&mut later, 7) == (Ok(0), [0; 4]));
+    assert!(rt; write(&mut later, b"x") == (false, true) && holds(&rt, "rasd.1", b"abcdef"));
     leave(&rt, "reading")
 }
