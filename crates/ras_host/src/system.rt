@@ -2,7 +2,7 @@
 //!
 //! The library's calls on a whole file, `read_exact_at` and `write_all_at` go on after a short read
 //! or write, and make a call again that a signal interrupted.
-ghost use Rattle.std.specs.Prelude.{IfOk, IsSome, IsTrue};
+ghost use Rattle.std.specs.Prelude.{◌≤◌, ◌+◌, length, IfOk, IfSome, IsSome, IsTrue};
 ghost use Rattle.std.specs.Io.{ReadsAtMost};
 
 use std::fs::{
@@ -71,7 +71,10 @@ pub fn read_journal(
     rt: &HostRuntime,
     names: [&str; 2],
     longest: u64,
-) -> io::Result<(Vec<u8>, Vec<u8>)> {
+) -> io::Result<(Vec<u8>, Vec<u8>)>
+    ensures { IfOk result (λ files. (length files.0.items ≤ longest + 1)
+        × (length files.1.items ≤ longest + 1)) }
+{
     for _ in 0..MOST_READINGS {
         let zero = read_first(rt, names[0], longest.saturating_add(1))?;
         let one = read_first(rt, names[1], longest.saturating_add(1))?;
@@ -85,27 +88,43 @@ pub fn read_journal(
 }
 
 // The first bytes of a file, from the first on; none if it is missing.
-fn read_first(rt: &HostRuntime, name: &str, most: u64) -> io::Result<Vec<u8>> {
+fn read_first(rt: &HostRuntime, name: &str, most: u64) -> io::Result<Vec<u8>>
+    ensures { IfOk result (λ bytes. length bytes.items ≤ most) }
+{
     let mut bytes = Vec::new(rt.alloc());
     if if_regular(metadata(rt, name))?.is_some() {
         File::open(rt, name)?.take(most).read_to_end(&mut bytes)?;
     }
+    // The library's clauses don't say that `take` gives no more.
+    if bytes.len() as u64 > most {
+        return Err(io::Error::from(ErrorKind::InvalidData));
+    }
     Ok(bytes)
 }
 
-/// The bytes of the record store's file, or none if it is missing. Its length is compared before
-/// memory is taken for it.
-pub fn read_store(rt: &HostRuntime, longest: u64) -> io::Result<Option<Vec<u8>>> {
+/// The bytes of the record store's file, or none if it is missing. A file of more than `longest`
+/// bytes is an error, before memory is taken for it.
+pub fn read_store(rt: &HostRuntime, longest: u64) -> io::Result<Option<Vec<u8>>>
+    ensures { IfOk result (λ found. IfSome found (λ bytes. length bytes.items ≤ longest)) }
+{
     match if_regular(symlink_metadata(rt, STORE))? {
         Some(found) if found.len() > longest => Err(io::Error::from(ErrorKind::InvalidData)),
-        Some(_) => Ok(Some(read(rt, STORE)?)),
+        Some(_) => {
+            let bytes = read(rt, STORE)?;
+            // It may have grown since its length was told.
+            if bytes.len() as u64 > longest {
+                return Err(io::Error::from(ErrorKind::InvalidData));
+            }
+            Ok(Some(bytes))
+        }
         None => Ok(None),
     }
 }
 
 /// Puts a new file of these bytes in the place of the record store's, durably and with its owner
-/// and its mode. A stop leaves the old file or the new one.
-pub fn replace_store(rt: &HostRuntime, bytes: &[u8]) -> io::Result<()> {
+/// and its mode. A stop leaves the old file or the new one. No clause says so, since none can speak
+/// of what a file holds: host_checks and the program's cases show it.
+pub(crate) fn replace_store(rt: &HostRuntime, bytes: &[u8]) -> io::Result<()> {
     let old = if_regular(symlink_metadata(rt, STORE))?;
     // What a stop left. If it can't be removed, the new file can't be made.
     let _ = remove_file(rt, NEW_STORE);
