@@ -14,7 +14,7 @@ use Rattle.erst_interp.specs.declared.refusals.RunRefused.{RunRefused}
 use Rattle.erst_interp.specs.declared.refusals.RunRefused.TheVariants.{Register, Fuel, BadInstruction, BadRegister, BadRange}
 use Rattle.erst_interp.specs.Admission.{takes_input, IsAdmitted, IsAdmittedTable}
 use Rattle.erst_interp.specs.Faithful.{input_limit, with_input, device_after, answer_after, ActsOn, DoesRun, IsRegisterAlone}
-use Rattle.erst_interp.specs.Machine.{end_of}
+use Rattle.erst_interp.specs.Machine.{machine_end}
 use Rattle.erst_interp.specs.Run.{IsRun, Keeps, RunCause}
 use Rattle.board_core.specs.Doing.{Seen}
 use Rattle.erst_interp.specs.Steps.{GoesWell}
@@ -67,7 +67,7 @@ module _ (lists : List (List InstructionEntry)) (s : Step) (a b : Seen) (kept : 
 
   -- a refusal: an admitted list comes to Register alone
   pub failed : (why : RunRefused) → IsRegisterAlone (Err why) → RunCause (Err why) a.faults b.faults
-      → IfSome a.told (λ t. IsRun (Err why) (end_of (list_of s.action lists) s.input (device_of t)) t b.told) → FailsIn lists (λ d. s ∷ []) a b
+      → IfSome a.told (λ t. IsRun (Err why) (machine_end (list_of s.action lists) s.input (device_of t)) t b.told) → FailsIn lists (λ d. s ∷ []) a b
   unfolding device_calls
   failed Register alone raises runs = record {
     fails = fails_more (StoreBy (device_after s.action s.input) a.told) (StoreIn (λ d. s ∷ []) a.told) store_in a b
@@ -75,7 +75,7 @@ module _ (lists : List (List InstructionEntry)) (s : Step) (a b : Seen) (kept : 
     cut = cut a.told runs;
   }
     where
-      cut : (o : Option Told) → IfSome o (λ t. IsRun (Err Register) (end_of (list_of s.action lists) s.input (device_of t)) t b.told) → CutIn lists (λ d. s ∷ []) o b.told
+      cut : (o : Option Told) → IfSome o (λ t. IsRun (Err Register) (machine_end (list_of s.action lists) s.input (device_of t)) t b.told) → CutIn lists (λ d. s ∷ []) o b.told
       cut None runs = tt
       cut (Some t) runs = λ device. off_more (end_by lists s (device_of t)).state.calls [] t b.told runs
   failed Fuel alone raises runs = absurd alone
@@ -83,7 +83,7 @@ module _ (lists : List (List InstructionEntry)) (s : Step) (a b : Seen) (kept : 
   failed BadRegister alone raises runs = absurd alone
   failed BadRange alone raises runs = absurd alone
 
-  tells_one : (value : ℕ) (t : Told) → Inside s → IsRun (Ok value) (end_of (list_of s.action lists) s.input (device_of t)) t b.told → IsDevice (device_of t)
+  tells_one : (value : ℕ) (t : Told) → Inside s → IsRun (Ok value) (machine_end (list_of s.action lists) s.input (device_of t)) t b.told → IsDevice (device_of t)
       → ActsOn s.action s.input value t b.told → Tells lists (s ∷ []) t b.told
   unfolding device_calls after_steps
   tells_one value t inside runs device acts = record {
@@ -93,7 +93,7 @@ module _ (lists : List (List InstructionEntry)) (s : Step) (a b : Seen) (kept : 
   }
 
   pub acted : (value : ℕ) → Inside s → IsAdmittedTable lists → b.faults ≡ a.faults
-      → IfSome a.told (λ t. IsRun (Ok value) (end_of (list_of s.action lists) s.input (device_of t)) t b.told)
+      → IfSome a.told (λ t. IsRun (Ok value) (machine_end (list_of s.action lists) s.input (device_of t)) t b.told)
       → (IsAdmitted s.action (list_of s.action lists) → s.input < input_limit s.action
       → IfSome a.told (λ t. DoesRun s.action s.input (Ok value) t b.told))
       → Acted lists s value a b
@@ -105,7 +105,7 @@ module _ (lists : List (List InstructionEntry)) (s : Step) (a b : Seen) (kept : 
       acts : IfSome a.told (λ t. ActsOn s.action s.input value t b.told)
       acts = does (admitted s.action inside.action) inside.input
 
-      by : (o : Option Told) → IfSome o (λ t. IsRun (Ok value) (end_of (list_of s.action lists) s.input (device_of t)) t b.told)
+      by : (o : Option Told) → IfSome o (λ t. IsRun (Ok value) (machine_end (list_of s.action lists) s.input (device_of t)) t b.told)
           → IfSome o (λ t. ActsOn s.action s.input value t b.told) → Over (λ t. Tells lists (s ∷ []) t b.told) o
       by None runs acts = tt
       by (Some t) runs acts = λ device. tells_one value t inside runs device acts

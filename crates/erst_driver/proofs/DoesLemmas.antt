@@ -23,7 +23,7 @@ use Rattle.erst_driver.specs.declared.refusals.DriverRefused.TheVariants.{Regist
 use Rattle.erst_driver.specs.declared.step.Step.{Step}
 use Rattle.erst_driver.specs.Steps.{HasCall, Stays, Leaves}
 use Rattle.erst_driver.specs.Answers.{DoesListing, HasCauseIn, IsMemoryOnly, IsAnswered, refusal_end}
-use Rattle.erst_driver.specs.Operations.{AreInside, Inside, checks, device_calls, end_by, ends, finishes, is_free_in_time, asks, most_checks, plain}
+use Rattle.erst_driver.specs.Operations.{AreInside, Inside, checks, device_calls, end_by, ends, finishes, is_free_in_time, asks, most_checks, without_input}
 
 -- ---- lists of calls
 
@@ -145,7 +145,7 @@ finishes_inside busy = inside_both (asks busy) (ends busy) (asked (is_free_in_ti
     asked true = checks_inside (busy + 1)
     asked false = checks_inside most_checks
 
-    ended : (b : Bool) → AreInside (if b then plain get_command_status ∷ plain end_operation ∷ [] else [])
+    ended : (b : Bool) → AreInside (if b then without_input get_command_status ∷ without_input end_operation ∷ [] else [])
     ended true = (record { action = omega arith; input = omega arith }, (record { action = omega arith; input = omega arith }, tt))
     ended false = tt
 

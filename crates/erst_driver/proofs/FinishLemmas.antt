@@ -12,17 +12,17 @@ use Rattle.board_core.specs.Doing.{Seen}
 use Rattle.erst_driver.specs.declared.refusals.DriverRefused.{DriverRefused}
 use Rattle.erst_driver.specs.declared.refusals.DriverRefused.TheVariants.{Register, Busy, Status as EndedWith, NoMemory}
 use Rattle.erst_driver.specs.declared.step.Step.{Step}
-use Rattle.erst_driver.specs.Operations.{plain, checks, is_free_in_time, asks, ends, finishes, actions_of, after_steps, most_checks}
+use Rattle.erst_driver.specs.Operations.{without_input, checks, is_free_in_time, asks, ends, finishes, actions_of, after_steps, most_checks}
 use Rattle.erst_driver.specs.Answers.{by_status, answer_within, answer_at, answer_of}
 use Rattle.erst_driver.specs.Steps.{Over, IsBeginning, Done, Acted, Acts, Runs, Operates, Answered}
 use Rattle.erst_driver.proofs.PlanLemmas.{done_then, fails_then, fails_as, done_as, refused_in_operation, over_both, over_more, over_after, everywhere}
 use Rattle.erst_driver.proofs.WaitLemmas.{checked}
 
 abbrev ask : Step
-ask = plain get_command_status
+ask = without_input get_command_status
 
 abbrev end : Step
-end = plain end_operation
+end = without_input end_operation
 
 -- two answers are the same
 abbrev Is : Result (Unit {0}) DriverRefused → Result (Unit {0}) DriverRefused → Type 0
@@ -114,15 +114,15 @@ module _ (lists : List (List InstructionEntry)) (a b : Seen) (waited : Operates 
   free : Over (λ t. is_free_in_time (device_of t).busy ≡ true) a.told
   free = over_more _ _ a.told waited.answers (λ t is. free_by _ is)
 
-  pub ask_refused : (c : Seen) (e : DriverRefused) → Acts lists (plain get_command_status) (Err e) b c → Operates lists (λ d. finishes d.busy) answer_at (Err e) a c
+  pub ask_refused : (c : Seen) (e : DriverRefused) → Acts lists (without_input get_command_status) (Err e) b c → Operates lists (λ d. finishes d.busy) answer_at (Err e) a c
   ask_refused c e acts = refused_in_operation lists (λ d. asks d.busy) (λ d. finishes d.busy) ask a b c waited.done
       (over_more _ _ a.told free (λ t is. (end ∷ [], finishes_free (device_of t).busy is))) answer_at e acts
 
-  module _ (c : Seen) (value : ℕ) (asked : Acted lists (plain get_command_status) value b c) where
+  module _ (c : Seen) (value : ℕ) (asked : Acted lists (without_input get_command_status) value b c) where
     two : Done lists (λ d. asks d.busy ++ ask ∷ []) a c
     two = done_then lists (λ d. asks d.busy) (λ d. ask ∷ []) a b c waited.done asked.done
 
-    pub end_refused : (n : Seen) (e : DriverRefused) → Acts lists (plain end_operation) (Err e) c n → Operates lists (λ d. finishes d.busy) answer_at (Err e) a n
+    pub end_refused : (n : Seen) (e : DriverRefused) → Acts lists (without_input end_operation) (Err e) c n → Operates lists (λ d. finishes d.busy) answer_at (Err e) a n
     end_refused n e acts = refused_in_operation lists (λ d. asks d.busy ++ ask ∷ []) (λ d. finishes d.busy) end a c n two
         (over_more _ _ a.told free (λ t is. ([], append-nil ((asks (device_of t).busy ++ ask ∷ []) ++ end ∷ []) ∙ finishes_free (device_of t).busy is))) answer_at e acts
 
@@ -130,7 +130,7 @@ module _ (lists : List (List InstructionEntry)) (a b : Seen) (waited : Operates 
     value_is = over_more _ _ a.told (over_after lists (λ d. asks d.busy) a b waited.done (λ d. value ≡ answer_after get_command_status 0 d) asked.gives)
         (λ t is. is ∙ status_answer (after_steps (asks (device_of t).busy) (device_of t)) ∙ ap status_number (asked_status (device_of t).busy (device_of t)))
 
-    module _ (n : Seen) (last : ℕ) (ended : Acted lists (plain end_operation) last c n) where
+    module _ (n : Seen) (last : ℕ) (ended : Acted lists (without_input end_operation) last c n) where
       all_done : Done lists (λ d. finishes d.busy) a n
       all_done = done_as lists (λ d. (asks d.busy ++ ask ∷ []) ++ end ∷ []) (λ d. finishes d.busy) a n
           (over_more _ _ a.told free (λ t is. finishes_free (device_of t).busy is))

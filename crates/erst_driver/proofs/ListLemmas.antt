@@ -21,7 +21,7 @@ use Rattle.erst_interp.proofs.TouchLemmas.{well_more, fails_more, well_both, wel
 use Rattle.erst_driver.specs.declared.refusals.DriverRefused.{DriverRefused}
 use Rattle.erst_driver.specs.declared.refusals.DriverRefused.TheVariants.{Register, Busy, Status, NoMemory}
 use Rattle.erst_driver.specs.declared.step.Step.{Step}
-use Rattle.erst_driver.specs.Operations.{plain, listings, ids_steps, after_step, after_steps, device_calls, list_calls, told_by}
+use Rattle.erst_driver.specs.Operations.{without_input, listings, ids_steps, after_step, after_steps, device_calls, list_calls, told_by}
 use Rattle.erst_driver.specs.Answers.{IsMemoryOnly, HasCauseIn}
 use Rattle.erst_driver.specs.Steps.{Begins, HasCall, Leaves, Stays, Over, HasDevice, Starves, Plan, ComesThrough, StoreIn, Done, CutIn, FailsIn, IsBeginning, Acted, Acts, Quietly, FailsQuietly, EndsListing, ListsOut, Collected, Collects, ListsAll, Tells}
 use Rattle.erst_interp.specs.Admission.{IsAdmittedTable}
@@ -31,7 +31,7 @@ use Rattle.erst_driver.proofs.OperationLemmas.{passes_at}
 use Rattle.erst_driver.proofs.PlanLemmas.{begun_of, begun_then, both_plans, after_both, done_then, done_as, fails_then, fails_as, cut_then, cut_as, over_device, over_both_device, over_both, over_more, over_after, everywhere}
 
 abbrev list : Step
-list = plain get_record_identifier
+list = without_input get_record_identifier
 
 -- ---- one listing
 
@@ -68,7 +68,7 @@ listed_by d None device is = record {
   );
 }
 
-pub listed : (d : Device) → IsDevice d → Listed d (after_step (plain get_record_identifier) d) (answer_after get_record_identifier 0 d)
+pub listed : (d : Device) → IsDevice d → Listed d (after_step (without_input get_record_identifier) d) (answer_after get_record_identifier 0 d)
 unfolding act
 listed d device = listed_by d (slice_get (ids d.store) d.cursor) device refl
 
@@ -99,7 +99,7 @@ begins_listings count all fits =
     let sums : count + left ≡ all = omega (arith, fits) in
     (listings left, listings_both count left ∙ ap listings sums)
 
-one_store : (d : Device) → (after_step (plain get_record_identifier) d).store ≡ d.store
+one_store : (d : Device) → (after_step (without_input get_record_identifier) d).store ≡ d.store
 unfolding act
 one_store d = by (slice_get (ids d.store) d.cursor)
   where
@@ -111,7 +111,7 @@ pub through_listings : (count : ℕ) (d : Device) (store : List Stored) → Come
 unfolding ComesThrough
 through_listings zero d store is = is
 through_listings (suc count) d store is =
-    elim is [ inl here ↦ here | inr later ↦ through_listings count (after_step (plain get_record_identifier) d) store later ∙ one_store d ]
+    elim is [ inl here ↦ here | inr later ↦ through_listings count (after_step (without_input get_record_identifier) d) store later ∙ one_store d ]
 
 quiet : (count : ℕ) (told : Option Told) (x y : List Stored) → StoreIn (λ d. listings count) told x y → Quietly told x y
 quiet count None x y is = tt
@@ -192,13 +192,13 @@ module _ (lists : List (List InstructionEntry)) (count : ℕ) (a b c : Seen) (li
   to_most inside = over_more _ _ a.told listing.at (λ t at.
       (let fits = at_left count (device_of t) at in begins_listings (count + 1) (min (left_to_list (device_of t)) most_records) (omega (arith, fits, inside))))
 
-  pub list_refused : (e : DriverRefused) → Acts lists (plain get_record_identifier) (Err e) b c → ListsOut lists (Err e) a c
+  pub list_refused : (e : DriverRefused) → Acts lists (without_input get_record_identifier) (Err e) b c → ListsOut lists (Err e) a c
   list_refused Register acts = list_fails (λ d. listings (left_to_list d)) to_end acts
   list_refused Busy acts = absurd acts
   list_refused (Status code) acts = absurd acts
   list_refused NoMemory acts = absurd acts
 
-  module _ (value : ℕ) (acted : Acted lists (plain get_record_identifier) value b c) where
+  module _ (value : ℕ) (acted : Acted lists (without_input get_record_identifier) value b c) where
     listed_here : Over (λ t. Listed (after_steps (listings count) (device_of t)) (after_step list (after_steps (listings count) (device_of t))) value) a.told
     listed_here = over_both _ _ _ a.told listing.done.tells (over_after lists (λ d. listings count) a b listing.done (λ d. value ≡ answer_after get_record_identifier 0 d) acted.gives)
         (λ t tells is. subst (λ (n : ℕ). Listed (after_steps (listings count) (device_of t)) (after_step list (after_steps (listings count) (device_of t))) n) (sym is)
@@ -263,7 +263,7 @@ take_next count (suc start) x (y ∷ xs) is =
     take_next count start x xs (let e : suc start + count ≡ suc (start + count) = omega arith in subst (λ (n : ℕ). slice_get (y ∷ xs) n ≡ Some x) e is)
 
 module _ (lists : List (List InstructionEntry)) (count : ℕ) (found : List ℕ) (a b c : Seen) (collecting : Collecting lists count found a b) where
-  pub collect_refused : {X : Type 0} (view : X → List ℕ) (inside : count < most_records) (e : DriverRefused) → Acts lists (plain get_record_identifier) (Err e) b c
+  pub collect_refused : {X : Type 0} (view : X → List ℕ) (inside : count < most_records) (e : DriverRefused) → Acts lists (without_input get_record_identifier) (Err e) b c
       → Collects {X = X} view lists (Err e) a c
   collect_refused view inside Register acts =
       list_fails lists count a b c collecting.listing (λ d. listings (min (left_to_list d) most_records)) (to_most lists count a b c collecting.listing inside) acts
@@ -271,7 +271,7 @@ module _ (lists : List (List InstructionEntry)) (count : ℕ) (found : List ℕ)
   collect_refused view inside (Status code) acts = absurd acts
   collect_refused view inside NoMemory acts = absurd acts
 
-  module _ (value : ℕ) (acted : Acted lists (plain get_record_identifier) value b c) where
+  module _ (value : ℕ) (acted : Acted lists (without_input get_record_identifier) value b c) where
     here : Over (λ t. Listed (after_steps (listings count) (device_of t)) (after_step list (after_steps (listings count) (device_of t))) value) a.told
     here = listed_here lists count a b c collecting.listing value acted
 

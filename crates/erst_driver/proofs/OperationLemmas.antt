@@ -13,7 +13,7 @@ use Rattle.erst_interp.specs.Run.{Keeps}
 use Rattle.board_core.specs.Doing.{Seen}
 use Rattle.erst_driver.specs.declared.refusals.DriverRefused.TheVariants.{Register, Busy, Status as EndedWith, NoMemory}
 use Rattle.erst_driver.specs.declared.step.Step.{Step}
-use Rattle.erst_driver.specs.Operations.{plain, checks, is_free_in_time, asks, ends, finishes, actions_of, after_step, after_steps, device_calls, told_by, most_checks}
+use Rattle.erst_driver.specs.Operations.{without_input, checks, is_free_in_time, asks, ends, finishes, actions_of, after_step, after_steps, device_calls, told_by, most_checks}
 use Rattle.erst_driver.specs.Answers.{Answer, by_status, answer_of, Gives, HasCauseIn}
 use Rattle.erst_driver.specs.Steps.{Leaves, Over, Plan, ComesThrough, StoreIn, Done, Operates}
 use Rattle.erst_driver.proofs.PlanLemmas.{everywhere, over_more, after_both}
@@ -112,11 +112,11 @@ ended_store : (busy : ℕ) (d : Device) → (after_steps (ends busy) d).store �
 unfolding act after_steps
 ended_store busy d = by (is_free_in_time busy)
   where
-    by : (b : Bool) → (after_steps (if b then plain get_command_status ∷ plain end_operation ∷ [] else []) d).store ≡ d.store
+    by : (b : Bool) → (after_steps (if b then without_input get_command_status ∷ without_input end_operation ∷ [] else []) d).store ≡ d.store
     by true = refl
     by false = refl
 
-one_check : (d : Device) → (after_step (plain check_busy_status) d).store ≡ d.store
+one_check : (d : Device) → (after_step (without_input check_busy_status) d).store ≡ d.store
 unfolding after_steps
 one_check d = (checked 1 d).store
 
@@ -126,7 +126,7 @@ through_asks busy d store is = by (is_free_in_time busy) is
   where
     count : (n : ℕ) (e : Device) → ComesThrough (checks n) e store → store ≡ e.store
     count zero e is = is
-    count (suc n) e is = elim is [ inl here ↦ here | inr later ↦ count n (after_step (plain check_busy_status) e) later ∙ one_check e ]
+    count (suc n) e is = elim is [ inl here ↦ here | inr later ↦ count n (after_step (without_input check_busy_status) e) later ∙ one_check e ]
 
     by : (b : Bool) → ComesThrough (if b then checks (busy + 1) else checks most_checks) d store → store ≡ d.store
     by true is = count (busy + 1) d is
@@ -136,7 +136,7 @@ through_ends : (busy : ℕ) (d : Device) (store : List Stored) → ComesThrough 
 unfolding act ComesThrough
 through_ends busy d store is = by (is_free_in_time busy) is
   where
-    by : (b : Bool) → ComesThrough (if b then plain get_command_status ∷ plain end_operation ∷ [] else []) d store → store ≡ d.store
+    by : (b : Bool) → ComesThrough (if b then without_input get_command_status ∷ without_input end_operation ∷ [] else []) d store → store ≡ d.store
     by true is = elim is [ inl here ↦ here | inr later ↦ elim later [ inl here ↦ here | inr last ↦ last ] ]
     by false is = is
 
@@ -158,7 +158,7 @@ ended_range : (busy : ℕ) (d : Device) → (after_steps (ends busy) d).range �
 unfolding act after_steps
 ended_range busy d = by (is_free_in_time busy)
   where
-    by : (b : Bool) → (after_steps (if b then plain get_command_status ∷ plain end_operation ∷ [] else []) d).range ≡ d.range
+    by : (b : Bool) → (after_steps (if b then without_input get_command_status ∷ without_input end_operation ∷ [] else []) d).range ≡ d.range
     by true = refl
     by false = refl
 

@@ -11,12 +11,12 @@ use Rattle.board_core.specs.Doing.{Seen}
 use Rattle.erst_driver.specs.declared.refusals.DriverRefused.{DriverRefused}
 use Rattle.erst_driver.specs.declared.refusals.DriverRefused.TheVariants.{Busy}
 use Rattle.erst_driver.specs.declared.step.Step.{Step}
-use Rattle.erst_driver.specs.Operations.{plain, checks, after_step, after_steps}
+use Rattle.erst_driver.specs.Operations.{without_input, checks, after_step, after_steps}
 use Rattle.erst_driver.specs.Steps.{Over, asks_within, answers_within, IsBeginning, Done, Acted, Acts, Operates}
 use Rattle.erst_driver.proofs.PlanLemmas.{done_then, done_as, refused_in_operation, over_both, over_more, over_after, everywhere}
 
 abbrev check : Step
-check = plain check_busy_status
+check = without_input check_busy_status
 
 -- a device after so many checks
 pub record Checked (count : ℕ) (d e : Device) : Type 0 where
@@ -27,7 +27,7 @@ pub record Checked (count : ℕ) (d e : Device) : Type 0 where
   pub command : e.command ≡ d.command
   pub range : e.range ≡ d.range
 
-checked_one : (d : Device) → Checked 1 d (after_step (plain check_busy_status) d)
+checked_one : (d : Device) → Checked 1 d (after_step (without_input check_busy_status) d)
 unfolding act
 checked_one d = by (nat_lt 0 d.busy) refl
   where
@@ -41,7 +41,7 @@ unfolding after_steps
 checked zero d = record { busy = omega arith; status = refl; store = refl; slow = refl; command = refl; range = refl }
 checked (suc count) d =
     let one = checked_one d in
-    let rest = checked count (after_step (plain check_busy_status) d) in
+    let rest = checked count (after_step (without_input check_busy_status) d) in
     record {
       busy = omega (arith, rest.busy, one.busy);
       status = rest.status ∙ one.status;
@@ -113,10 +113,10 @@ module _ (most : ℕ) (lists : List (List InstructionEntry)) (count : ℕ) (a b 
   more : Over (λ t. IsBeginning (checks count ++ check ∷ []) (asks_within most (device_of t).busy)) a.told
   more = over_more (λ t. count ≤ (device_of t).busy) _ a.told waiting.busy (λ t within. begins_asks most (device_of t).busy count within inside)
 
-  pub wait_refused : (e : DriverRefused) → Acts lists (plain check_busy_status) (Err e) b c → Operates lists (λ d. asks_within most d.busy) (λ d. answers_within most d.busy) (Err e) a c
+  pub wait_refused : (e : DriverRefused) → Acts lists (without_input check_busy_status) (Err e) b c → Operates lists (λ d. asks_within most d.busy) (λ d. answers_within most d.busy) (Err e) a c
   wait_refused e acts = refused_in_operation lists (λ d. checks count) (λ d. asks_within most d.busy) check a b c waiting.done more (λ d. answers_within most d.busy) e acts
 
-  module _ (value : ℕ) (acted : Acted lists (plain check_busy_status) value b c) where
+  module _ (value : ℕ) (acted : Acted lists (without_input check_busy_status) value b c) where
     answer_here : Over (λ t. value ≡ answer_after check_busy_status 0 (after_steps (checks count) (device_of t))) a.told
     answer_here = over_after lists (λ d. checks count) a b waiting.done (λ d. value ≡ answer_after check_busy_status 0 d) acted.gives
 

@@ -10,7 +10,7 @@ use Rattle.board_core.specs.Doing.{DeviceCall, after_acts, range_read, range_wri
 use Rattle.board_core.specs.Told.{Told, device_of, after_range_write}
 use Rattle.erst_interp.specs.declared.entries.InstructionEntry.{InstructionEntry}
 use Rattle.erst_interp.specs.Faithful.{device_after, input_limit}
-use Rattle.erst_interp.specs.Machine.{End, end_of}
+use Rattle.erst_interp.specs.Machine.{End, machine_end}
 use Rattle.erst_interp.specs.Run.{acts_of, told_after}
 use Rattle.erst_interp.specs.Table.{list_of}
 use Rattle.erst_driver.specs.declared.refusals.DriverRefused.{DriverRefused}
@@ -29,27 +29,27 @@ AreInside steps = AllByRecursion Inside steps
 abbrev pub step : ℕ → ℕ → Step
 step action input = record { action = action; input = input }
 
-abbrev pub plain : ℕ → Step
-plain action = step action 0
+abbrev pub without_input : ℕ → Step
+without_input action = step action 0
 
 -- how each operation goes until it is carried out
 abbrev pub clear_steps : ℕ → List Step
 clear_steps id =
-    plain begin_clear_operation ∷ step set_record_identifier id ∷ plain execute_operation ∷ []
+    without_input begin_clear_operation ∷ step set_record_identifier id ∷ without_input execute_operation ∷ []
 
 abbrev pub read_steps : ℕ → List Step
 read_steps id =
-    plain begin_read_operation ∷ step set_record_offset 0 ∷ step set_record_identifier id
-    ∷ plain execute_operation ∷ []
+    without_input begin_read_operation ∷ step set_record_offset 0 ∷ step set_record_identifier id
+    ∷ without_input execute_operation ∷ []
 
 abbrev pub write_steps : List Step
 write_steps =
-    plain begin_write_operation ∷ step set_record_offset 0 ∷ plain execute_operation ∷ []
+    without_input begin_write_operation ∷ step set_record_offset 0 ∷ without_input execute_operation ∷ []
 
 -- A device that is busy for so many answers is asked once more than that, until it answers 0. After
 -- 1,000 checks it isn't asked on.
 abbrev pub checks : ℕ → List Step
-checks count = replicate count (plain check_busy_status)
+checks count = replicate count (without_input check_busy_status)
 
 abbrev pub most_checks : ℕ
 most_checks = 1000
@@ -63,7 +63,7 @@ asks busy = if is_free_in_time busy then checks (busy + 1) else checks most_chec
 -- One that is free is asked for its status, and the operation is ended.
 abbrev pub ends : ℕ → List Step
 ends busy =
-    if is_free_in_time busy then plain get_command_status ∷ plain end_operation ∷ [] else []
+    if is_free_in_time busy then without_input get_command_status ∷ without_input end_operation ∷ [] else []
 
 abbrev pub finishes : ℕ → List Step
 finishes busy = asks busy ++ ends busy
@@ -71,7 +71,7 @@ finishes busy = asks busy ++ ends busy
 -- Identifiers are listed to the end of the list, and then again from the first one on, until the
 -- end is told or there are as many as a store can hold.
 abbrev pub listings : ℕ → List Step
-listings count = replicate count (plain get_record_identifier)
+listings count = replicate count (without_input get_record_identifier)
 
 abbrev pub ids_steps : Device → List Step
 ids_steps d = listings (left_to_list d) ++ listings (min (length d.store + 1) most_records)
@@ -88,7 +88,7 @@ after_steps (s ∷ steps) d = after_steps steps (after_step s d)
 
 -- the run of an action's list by the machine
 abbrev pub end_by : List (List InstructionEntry) → Step → Device → End
-end_by lists s d = end_of (list_of s.action lists) s.input d
+end_by lists s d = machine_end (list_of s.action lists) s.input d
 
 -- the calls of the device that these runs make, one run after another
 unfoldable pub device_calls : List (List InstructionEntry) → List Step → Device → List DeviceCall

@@ -1,7 +1,7 @@
 //! The steps of operations.
 
 ghost use Rattle.std.specs.Prelude.{◌≡◌};
-ghost use Rattle.erst_driver.specs.Operations.{clear_steps, plain, read_steps, step, write_steps};
+ghost use Rattle.erst_driver.specs.Operations.{clear_steps, without_input, read_steps, step, write_steps};
 
 use erst_store::actions::{
     BEGIN_CLEAR_OPERATION, BEGIN_READ_OPERATION, BEGIN_WRITE_OPERATION, EXECUTE_OPERATION,
@@ -24,8 +24,8 @@ impl Step {
     }
 
     // An action that takes no input.
-    pub(crate) fn plain(action: u64) -> Step
-        ensures { result ≡ plain action }
+    pub(crate) fn without_input(action: u64) -> Step
+        ensures { result ≡ without_input action }
     {
         Step::new(action, 0)
     }
@@ -35,26 +35,26 @@ impl Step {
 pub(crate) fn clear_steps(id: u64) -> [Step; 3]
     ensures { result ≡ clear_steps id }
 {
-    let begin = Step::plain(BEGIN_CLEAR_OPERATION);
+    let begin = Step::without_input(BEGIN_CLEAR_OPERATION);
     let cleared = Step::new(SET_RECORD_IDENTIFIER, id);
-    [begin, cleared, Step::plain(EXECUTE_OPERATION)]
+    [begin, cleared, Step::without_input(EXECUTE_OPERATION)]
 }
 
 // The actions of a reading, until it is carried out.
 pub(crate) fn read_steps(id: u64) -> [Step; 4]
     ensures { result ≡ read_steps id }
 {
-    let begin = Step::plain(BEGIN_READ_OPERATION);
+    let begin = Step::without_input(BEGIN_READ_OPERATION);
     let offset = Step::new(SET_RECORD_OFFSET, 0);
     let read = Step::new(SET_RECORD_IDENTIFIER, id);
-    [begin, offset, read, Step::plain(EXECUTE_OPERATION)]
+    [begin, offset, read, Step::without_input(EXECUTE_OPERATION)]
 }
 
 // The actions of a writing, until it is carried out.
 pub(crate) fn write_steps() -> [Step; 3]
     ensures { result ≡ write_steps }
 {
-    let begin = Step::plain(BEGIN_WRITE_OPERATION);
+    let begin = Step::without_input(BEGIN_WRITE_OPERATION);
     let offset = Step::new(SET_RECORD_OFFSET, 0);
-    [begin, offset, Step::plain(EXECUTE_OPERATION)]
+    [begin, offset, Step::without_input(EXECUTE_OPERATION)]
 }

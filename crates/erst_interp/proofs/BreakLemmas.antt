@@ -16,7 +16,7 @@ use Rattle.erst_interp.specs.declared.entries.Instruction.{Instruction}
 use Rattle.erst_interp.specs.declared.machine.Variables.{Variables}
 use Rattle.erst_interp.specs.declared.machine.Use.TheVariants.{Writes, Changes, Moves}
 use Rattle.erst_interp.specs.declared.refusals.RunRefused.TheVariants.{Register, BadRange}
-use Rattle.erst_interp.specs.Machine.{State, goes, stops, new_variables, with_variables, next, after_register_read, after_register_write, after_field, after_move, with_field, alone, field_in, field_of, moved, is_inside}
+use Rattle.erst_interp.specs.Machine.{MachineState, goes, stops, new_variables, with_variables, next, after_register_read, after_register_write, after_field, after_move, with_field, alone, field_in, field_of, moved, is_inside}
 use Rattle.erst_interp.specs.Parts.{given, changed, used_by}
 use Rattle.erst_interp.specs.Run.{IsCutShort, acts_of}
 use Rattle.erst_interp.specs.Steps.{BreaksIn, Turns, IsRead, IsFieldRead, IsPlace, state_in, state_of}
@@ -66,7 +66,7 @@ write_fails reg n old new failed = one_fails (reg_write reg n) old new failed
 field_made : InstructionEntry → Reg → ℕ → Device → List DeviceCall
 field_made e reg x d = if e.preserves then reg_read reg ∷ reg_write reg (with_field e x (register_in reg d)) ∷ [] else reg_write reg (alone e x) ∷ []
 
-field_calls : (e : InstructionEntry) (reg : Reg) (x : ℕ) (s : State) → (after_field e reg x s).calls ≡ s.calls ++ field_made e reg x s.device
+field_calls : (e : InstructionEntry) (reg : Reg) (x : ℕ) (s : MachineState) → (after_field e reg x s).calls ≡ s.calls ++ field_made e reg x s.device
 unfolding field_made
 field_calls e reg x s = by e.preserves
   where
@@ -76,7 +76,7 @@ field_calls e reg x s = by e.preserves
     by false = refl
 
 -- whatever the variables
-same_calls : (e : InstructionEntry) (reg : Reg) (x y : ℕ) (s t : State) → x ≡ y → s.device ≡ t.device → s.calls ≡ t.calls → (after_field e reg x s).calls ≡ (after_field e reg y t).calls
+same_calls : (e : InstructionEntry) (reg : Reg) (x y : ℕ) (s t : MachineState) → x ≡ y → s.device ≡ t.device → s.calls ≡ t.calls → (after_field e reg x s).calls ≡ (after_field e reg y t).calls
 same_calls e reg x y s t number device made =
     field_calls e reg x s
     ∙ ap (λ (l : List DeviceCall). l ++ field_made e reg x s.device) made
@@ -91,7 +91,7 @@ field_plain e reg x (Some t) new plain breaks =
     off_as (after_register_write reg (alone e x) s).calls (after_field e reg x s).calls t new
     (sym (ap (λ b. (if b then after_register_write reg (with_field e x (register_in reg s.device)) (after_register_read reg s) else after_register_write reg (alone e x) s).calls) plain)) breaks
 
-kept_field : (e : InstructionEntry) (reg : Reg) (x : ℕ) (s : State) → e.preserves ≡ true
+kept_field : (e : InstructionEntry) (reg : Reg) (x : ℕ) (s : MachineState) → e.preserves ≡ true
     → (after_field e reg x s).calls ≡ (after_register_read reg s).calls ++ reg_write reg (with_field e x (register_in reg s.device)) ∷ []
 kept_field e reg x s keeps =
     ap (λ b. (if b then after_register_write reg (with_field e x (register_in reg s.device)) (after_register_read reg s) else after_register_write reg (alone e x) s).calls) keeps
@@ -148,7 +148,7 @@ change_unwritten e reg i v n x (Some t) mid new (n_is, mid_is) is breaks =
 
 -- ---- moves
 
-moved_calls : (offset : ℕ) (s : State) → (more : List DeviceCall) × ((state_of (moved offset s)).calls ≡ s.calls ++ more)
+moved_calls : (offset : ℕ) (s : MachineState) → (more : List DeviceCall) × ((state_of (moved offset s)).calls ≡ s.calls ++ more)
 moved_calls offset s = by (is_inside (s.variables.src + offset) s.variables.var2 && is_inside (s.variables.dst + offset) s.variables.var2)
   where
     from : ℕ

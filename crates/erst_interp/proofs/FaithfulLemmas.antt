@@ -10,7 +10,7 @@ use Rattle.erst_store.specs.ActionLemmas.{forgets, busy_answer, status_answer, i
 use Rattle.ras_base.specs.ExactLemmas.{nat_exact}
 use Rattle.board_core.specs.declared.board.Reg.TheVariants.{Action, Value}
 use Rattle.erst_interp.specs.declared.entries.InstructionEntry.{InstructionEntry}
-use Rattle.erst_interp.specs.Machine.{State, turn, end_from, most_turns, alone}
+use Rattle.erst_interp.specs.Machine.{MachineState, turn, end_from, most_turns, alone}
 use Rattle.erst_interp.specs.Run.{PassesStore}
 use Rattle.erst_interp.specs.Admission.{takes_input, gives_answer, input_bits, answer_bits, is_idle, is_free, is_input, AreIdle, HoldsOne, BeginsBy, EndsWithAnswer, EndsBy, IsAdmitted}
 use Rattle.erst_interp.specs.Faithful.{input_limit, with_input, device_after, answer_after}
@@ -24,15 +24,15 @@ soon less = omega (arith, less)
 -- ---- before the action's write
 
 -- entries that lead to a device which the action can't tell from this one
-pub record Led (list : List InstructionEntry) (used action : ℕ) (s : State) (d : Device) : Type 0 where
-  pub after : State
+pub record Led (list : List InstructionEntry) (used action : ℕ) (s : MachineState) (d : Device) : Type 0 where
+  pub after : MachineState
   pub leads : Leads list used s after
   pub value : after.variables.value ≡ s.variables.value
   pub device : act action after.device ≡ act action d
   pub store : after.device.store ≡ s.device.store
 
 -- one more entry before such
-led_more : (list : List InstructionEntry) (n action : ℕ) (s t : State) → Leads list 1 s t → t.variables.value ≡ s.variables.value → act action t.device ≡ act action s.device → t.device.store ≡ s.device.store
+led_more : (list : List InstructionEntry) (n action : ℕ) (s t : MachineState) → Leads list 1 s t → t.variables.value ≡ s.variables.value → act action t.device ≡ act action s.device → t.device.store ≡ s.device.store
     → Led list n action t t.device → Led list (suc n) action s s.device
 led_more list n action s t first value device store others =
     let count : 1 + n ≡ suc n = omega arith in
@@ -44,7 +44,7 @@ led_more list n action s t first value device store others =
       store = others.store ∙ store;
     }
 
-begins_plainly : (entries list front rest : List InstructionEntry) (action : ℕ) (s : State) → list ≡ front ++ (entries ++ rest) → s.variables.index ≡ length front
+begins_plainly : (entries list front rest : List InstructionEntry) (action : ℕ) (s : MachineState) → list ≡ front ++ (entries ++ rest) → s.variables.index ≡ length front
     → list_all (λ e. is_idle e || is_free action e) entries ≡ true → Led list (length entries) action s s.device
 begins_plainly [] list front rest action s laid place are = record { after = s; leads = leads_none list s; value = refl; device = refl; store = refl }
 begins_plainly (e ∷ entries) list front rest action s laid place are =
@@ -58,7 +58,7 @@ begins_plainly (e ∷ entries) list front rest action s laid place are =
     next_is : slice_get list s.variables.index ≡ Some e
     next_is = next_at list front e (entries ++ rest) s laid place
 
-    by : (b : Bool) → is_idle e ≡ b → ((t : State) → t.variables.index ≡ s.variables.index + 1 → Led list (length entries) action t t.device) → Led list (suc (length entries)) action s s.device
+    by : (b : Bool) → is_idle e ≡ b → ((t : MachineState) → t.variables.index ≡ s.variables.index + 1 → Led list (length entries) action t t.device) → Led list (suc (length entries)) action s s.device
     by true is others =
         let one : Idles s (turn e s) = idles e s is in
         led_more list (length entries) action s one.after (leads_one list s one.after e next_is one.goes_is one.index one.calls) one.value
@@ -84,7 +84,7 @@ input_small action input inside = by (nat_eq action set_record_offset) inside
     by false small = (64, refl, small, small)
 
 -- the input's write among idle entries
-begins_with_input : (entries list rest : List InstructionEntry) (action : ℕ) (s : State) → list ≡ entries ++ rest → s.variables.index ≡ 0 → s.variables.value < input_limit action
+begins_with_input : (entries list rest : List InstructionEntry) (action : ℕ) (s : MachineState) → list ≡ entries ++ rest → s.variables.index ≡ 0 → s.variables.value < input_limit action
     → HoldsOne (is_input action) entries → Led list (length entries) action s (record s.device { value = s.variables.value })
 begins_with_input entries list rest action s laid place inside holds =
     let one_on = holds.one ∷ holds.after in
@@ -118,7 +118,7 @@ begins_with_input entries list rest action s laid place inside holds =
     }
 
 -- either of the two
-begins_by : (b : Bool) (entries list rest : List InstructionEntry) (action : ℕ) (s : State) → list ≡ entries ++ rest → s.variables.index ≡ 0 → s.variables.value < input_limit action
+begins_by : (b : Bool) (entries list rest : List InstructionEntry) (action : ℕ) (s : MachineState) → list ≡ entries ++ rest → s.variables.index ≡ 0 → s.variables.value < input_limit action
     → BeginsBy b action entries → Led list (length entries) action s (if b then record s.device { value = s.variables.value } else s.device)
 begins_by true entries list rest action s laid place inside begins = begins_with_input entries list rest action s laid place inside begins
 begins_by false entries list rest action s laid place inside begins = begins_plainly entries list [] rest action s laid place begins
@@ -126,8 +126,8 @@ begins_by false entries list rest action s laid place inside begins = begins_pla
 -- ---- the whole
 
 -- a run that came to the list's end with its action done
-pub record Done (action : ℕ) (list : List InstructionEntry) (s : State) : Type 0 where
-  pub after : State
+pub record Done (action : ℕ) (list : List InstructionEntry) (s : MachineState) : Type 0 where
+  pub after : MachineState
   pub ends : end_from most_turns list s ≡ record { answer = Ok after.variables.value; state = after }
   pub device : after.device ≡ device_after action s.variables.value s.device
   pub calls : length s.calls < length after.calls
@@ -137,8 +137,8 @@ pub record Done (action : ℕ) (list : List InstructionEntry) (s : State) : Type
       → after.variables.value ≡ (device_after action s.variables.value s.device).value
 
 -- what is known once the action's write was made
-record Acted (action : ℕ) (list : List InstructionEntry) (used : ℕ) (s : State) : Type 0 where
-  after : State
+record Acted (action : ℕ) (list : List InstructionEntry) (used : ℕ) (s : MachineState) : Type 0 where
+  after : MachineState
   index : after.variables.index ≡ used
   ends : (turns : ℕ) → most_turns ≡ used + turns → end_from most_turns list s ≡ end_from turns list after
   device : after.device ≡ device_after action s.variables.value s.device
@@ -146,7 +146,7 @@ record Acted (action : ℕ) (list : List InstructionEntry) (used : ℕ) (s : Sta
   calls : length s.calls < length after.calls
   stores : (store : List Stored) (turns : ℕ) → most_turns ≡ used + turns → PassesStore most_turns list s store → (store ≡ s.device.store) ⊎ PassesStore turns list after store
 
-acted : (action : ℕ) (list : List InstructionEntry) (s : State) → action < 2 ^ 64 → s.variables.index ≡ 0 → s.variables.value < input_limit action → (is : IsAdmitted action list) → Acted action list (length is.before + 1) s
+acted : (action : ℕ) (list : List InstructionEntry) (s : MachineState) → action < 2 ^ 64 → s.variables.index ≡ 0 → s.variables.value < input_limit action → (is : IsAdmitted action list) → Acted action list (length is.before + 1) s
 acted action list s fits place inside is =
     let led : Led list (length is.before) action s (with_input action s.variables.value s.device) =
     begins_by (takes_input action) is.before list (is.act ∷ is.after) action s is.laid place inside is.begins in
@@ -164,14 +164,14 @@ acted action list s fits place inside is =
       stores = λ store turns is_sum passes. whole.stores store turns most_turns is_sum passes;
     }
 
-none_next : (list : List InstructionEntry) (s : State) → s.variables.index ≡ length list → slice_get list s.variables.index ≡ None
+none_next : (list : List InstructionEntry) (s : MachineState) → s.variables.index ≡ length list → slice_get list s.variables.index ≡ None
 none_next list s place = ap (λ (i : ℕ). slice_get list i) place ∙ at_end list
 
 length_of : (action : ℕ) (list : List InstructionEntry) (is : IsAdmitted action list) → length list ≡ length is.before + 1 + length is.after
 length_of action list is = omega (arith, ap length is.laid, length-append is.before (is.act ∷ is.after))
 
 -- idle entries to the end
-ends_idly : (action : ℕ) (list : List InstructionEntry) (s : State) (is : IsAdmitted action list) → Acted action list (length is.before + 1) s → AreIdle is.after → gives_answer action ≡ false → Done action list s
+ends_idly : (action : ℕ) (list : List InstructionEntry) (s : MachineState) (is : IsAdmitted action list) → Acted action list (length is.before + 1) s → AreIdle is.after → gives_answer action ≡ false → Done action list s
 ends_idly action list s is t idle silent =
     let count = length_of action list is in
     let n : ℕ = length is.after in
@@ -201,7 +201,7 @@ ends_idly action list s is t idle silent =
     }
 
 -- idle entries, and last the answer's read
-ends_with_answer : (action : ℕ) (list : List InstructionEntry) (s : State) (is : IsAdmitted action list) → Acted action list (length is.before + 1) s → EndsWithAnswer action is.after → gives_answer action ≡ true → Done action list s
+ends_with_answer : (action : ℕ) (list : List InstructionEntry) (s : MachineState) (is : IsAdmitted action list) → Acted action list (length is.before + 1) s → EndsWithAnswer action is.after → gives_answer action ≡ true → Done action list s
 ends_with_answer action list s is t end gives =
     let count = length_of action list is in
     let n : ℕ = length end.idle in
@@ -243,11 +243,11 @@ ends_with_answer action list s is t end gives =
           r.value k bits (subst (λ (v : ℕ). v < 2 ^ k) (sym value) small) ∙ value);
     }
 
-ends_by : (action : ℕ) (list : List InstructionEntry) (s : State) (is : IsAdmitted action list) → Acted action list (length is.before + 1) s → (b : Bool) → gives_answer action ≡ b → EndsBy b action is.after → Done action list s
+ends_by : (action : ℕ) (list : List InstructionEntry) (s : MachineState) (is : IsAdmitted action list) → Acted action list (length is.before + 1) s → (b : Bool) → gives_answer action ≡ b → EndsBy b action is.after → Done action list s
 ends_by action list s is t true gives ends = ends_with_answer action list s is t ends gives
 ends_by action list s is t false gives ends = ends_idly action list s is t ends gives
 
-pub done : (action : ℕ) (list : List InstructionEntry) (s : State) → action < 2 ^ 64 → s.variables.index ≡ 0 → s.variables.value < input_limit action → IsAdmitted action list → Done action list s
+pub done : (action : ℕ) (list : List InstructionEntry) (s : MachineState) → action < 2 ^ 64 → s.variables.index ≡ 0 → s.variables.value < input_limit action → IsAdmitted action list → Done action list s
 done action list s fits place inside is = ends_by action list s is (acted action list s fits place inside is) (gives_answer action) refl is.ends
 
 -- ---- what is answered
@@ -302,7 +302,7 @@ answer_small action d kept gives = busy (nat_eq action check_busy_status) refl
         (1, refl, subst (λ (a : ℕ). (act a d).value < 2 ^ 1) (sym (nat_exact action check_busy_status is)) (busy_answer d))
     busy false is = status is (nat_eq action get_command_status) refl
 
-pub done-answer : (action : ℕ) (list : List InstructionEntry) (s : State) → s.variables.value < input_limit action → IsDevice s.device → (end : Done action list s)
+pub done-answer : (action : ℕ) (list : List InstructionEntry) (s : MachineState) → s.variables.value < input_limit action → IsDevice s.device → (end : Done action list s)
     → end.after.variables.value ≡ answer_after action s.variables.value s.device
 done-answer action list s inside kept end = by (gives_answer action) refl
   where

@@ -12,7 +12,7 @@ use Rattle.erst_interp.specs.declared.machine.Use.TheVariants.{Writes, Changes}
 use Rattle.erst_interp.specs.declared.refusals.RunRefused.{RunRefused}
 use Rattle.erst_interp.specs.declared.refusals.RunRefused.TheVariants.{Register, Fuel, BadInstruction, BadRegister, BadRange}
 use Rattle.std.specs.Prelude.{Err}
-use Rattle.erst_interp.specs.Machine.{State, Outcome, new_variables, with_field, alone, after_field, after_register_write, after_register_read, field_of}
+use Rattle.erst_interp.specs.Machine.{MachineState, Outcome, new_variables, with_field, alone, after_field, after_register_write, after_register_read, field_of}
 use Rattle.erst_interp.specs.Parts.{given, changed, used_by}
 use Rattle.board_core.specs.Doing.{Seen}
 use Rattle.erst_interp.specs.Steps.{GoesWell, TouchesAs, Stays, IsRead, IsFieldRead, StoreIn, StoreInTurn, state_in}
@@ -26,15 +26,15 @@ stays_by step (Some t) x = inl refl
 pub stays_more : (step : Device → Device) (told : Option Told) (x y : List Stored) → Stays x y → StoreBy step told x y
 stays_more step told x y is = subst (λ (z : List Stored). StoreBy step told x z) (sym is) (stays_by step told x)
 
-pub stays_in : (part : State → State) (told : Option Told) (x : List Stored) → StoreIn part told x x
+pub stays_in : (part : MachineState → MachineState) (told : Option Told) (x : List Stored) → StoreIn part told x x
 stays_in part None x = tt
 stays_in part (Some t) x = inl refl
 
-pub stays_in_turn : (turn : State → Outcome) (v : Variables) (told : Option Told) (x : List Stored) → StoreInTurn turn v told x x
+pub stays_in_turn : (turn : MachineState → Outcome) (v : Variables) (told : Option Told) (x : List Stored) → StoreInTurn turn v told x x
 stays_in_turn turn v None x = tt
 stays_in_turn turn v (Some t) x = inl refl
 
-pub more_in_turn : (turn : State → Outcome) (v : Variables) (told : Option Told) (x y : List Stored) → Stays x y → StoreInTurn turn v told x y
+pub more_in_turn : (turn : MachineState → Outcome) (v : Variables) (told : Option Told) (x y : List Stored) → Stays x y → StoreInTurn turn v told x y
 more_in_turn turn v None x y is = tt
 more_in_turn turn v (Some t) x y is = inl is
 
@@ -42,7 +42,7 @@ more_in_turn turn v (Some t) x y is = inl is
 written : InstructionEntry → ℕ → ℕ → ℕ
 written e x number = if e.preserves then with_field e x number else alone e x
 
-after_field-device : (e : InstructionEntry) (reg : Reg) (x : ℕ) (s : State) → (after_field e reg x s).device ≡ after_reg_write reg (written e x (register_in reg s.device)) s.device
+after_field-device : (e : InstructionEntry) (reg : Reg) (x : ℕ) (s : MachineState) → (after_field e reg x s).device ≡ after_reg_write reg (written e x (register_in reg s.device)) s.device
 unfolding written
 after_field-device e reg x s = by e.preserves
   where
@@ -52,14 +52,14 @@ after_field-device e reg x s = by e.preserves
     by false = refl
 
 -- whatever the variables and the calls
-same_device : (e : InstructionEntry) (reg : Reg) (x y : ℕ) (s t : State) → x ≡ y → s.device ≡ t.device → (after_field e reg x s).device ≡ (after_field e reg y t).device
+same_device : (e : InstructionEntry) (reg : Reg) (x y : ℕ) (s t : MachineState) → x ≡ y → s.device ≡ t.device → (after_field e reg x s).device ≡ (after_field e reg y t).device
 same_device e reg x y s t number device =
     after_field-device e reg x s
     ∙ ap (λ (z : ℕ). after_reg_write reg (written e z (register_in reg s.device)) s.device) number
     ∙ ap (λ (d : Device). after_reg_write reg (written e y (register_in reg d)) d) device
     ∙ sym (after_field-device e reg y t)
 
-abbrev over : Variables → Device → State
+abbrev over : Variables → Device → MachineState
 over v d = record { variables = v; device = d; calls = [] }
 
 pub field_by : (e : InstructionEntry) (reg : Reg) (i : Instruction) (v : Variables) (x : ℕ) (told : Option Told) → x ≡ given i e v

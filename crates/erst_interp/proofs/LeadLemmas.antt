@@ -9,19 +9,19 @@ use Rattle.board_core.specs.declared.board.Reg.{Reg}
 use Rattle.erst_interp.specs.declared.entries.Instruction.{Instruction}
 use Rattle.erst_interp.specs.declared.entries.Instruction.TheVariants.{ReadRegister, ReadRegisterValue, WriteRegister, WriteRegisterValue, Noop, LoadVar1, LoadVar2, StoreVar1, Add, Subtract, AddValue, SubtractValue, Stall, StallWhileTrue, SkipNextInstructionIfTrue, Goto, SetSrcAddressBase, SetDstAddressBase, MoveData, Unknown}
 use Rattle.erst_interp.specs.declared.entries.InstructionEntry.{InstructionEntry}
-use Rattle.erst_interp.specs.Machine.{State, Outcome, goes, turn, turn_of, end_from}
+use Rattle.erst_interp.specs.Machine.{MachineState, Outcome, goes, turn, turn_of, end_from}
 use Rattle.erst_interp.specs.Run.{PassesStore, AtNext, AfterTurn}
 use Rattle.erst_interp.specs.Admission.{is_idle, is_idle_by}
 use Rattle.erst_interp.proofs.RunLemmas.{goes_on}
 
 -- So many turns lead from one state to another, with no store in between but the first one's.
-pub record Leads (list : List InstructionEntry) (used : ℕ) (s t : State) : Type 0 where
+pub record Leads (list : List InstructionEntry) (used : ℕ) (s t : MachineState) : Type 0 where
   pub index : t.variables.index ≡ s.variables.index + used
   pub calls : length s.calls ≤ length t.calls
   pub ends : (turns total : ℕ) → total ≡ used + turns → end_from total list s ≡ end_from turns list t
   pub stores : (store : List Stored) (turns total : ℕ) → total ≡ used + turns → PassesStore total list s store → (store ≡ s.device.store) ⊎ PassesStore turns list t store
 
-pub leads_none : (list : List InstructionEntry) (s : State) → Leads list 0 s s
+pub leads_none : (list : List InstructionEntry) (s : MachineState) → Leads list 0 s s
 leads_none list s = record {
   index = omega arith;
   calls = omega arith;
@@ -29,7 +29,7 @@ leads_none list s = record {
   stores = λ store turns total is passes. (let same : total ≡ turns = omega arith in inr (subst (λ (n : ℕ). PassesStore n list s store) same passes));
 }
 
-pub leads_both : (list : List InstructionEntry) (n m : ℕ) (s t u : State) → Leads list n s t → Leads list m t u → t.device.store ≡ s.device.store → Leads list (n + m) s u
+pub leads_both : (list : List InstructionEntry) (n m : ℕ) (s t u : MachineState) → Leads list n s t → Leads list m t u → t.device.store ≡ s.device.store → Leads list (n + m) s u
 leads_both list n m s t u first second same = record {
   index = omega (arith, first.index, second.index);
   calls = omega (arith, first.calls, second.calls);
@@ -41,7 +41,7 @@ leads_both list n m s t u first second same = record {
       ];
 }
 
-passes_next : (list : List InstructionEntry) (turns : ℕ) (s t : State) (e : InstructionEntry) → slice_get list s.variables.index ≡ Some e → turn e s ≡ goes t
+passes_next : (list : List InstructionEntry) (turns : ℕ) (s t : MachineState) (e : InstructionEntry) → slice_get list s.variables.index ≡ Some e → turn e s ≡ goes t
     → (store : List Stored) → PassesStore (suc turns) list s store → (store ≡ s.device.store) ⊎ PassesStore turns list t store
 unfolding PassesStore
 passes_next list turns s t e next goes_is store passes =
@@ -51,7 +51,7 @@ passes_next list turns s t e next goes_is store passes =
           (subst (λ (o : Option InstructionEntry). AtNext (λ x. AfterTurn (λ u. PassesStore turns list u store) (λ u. store ≡ u.device.store) (turn x s)) o) next later))
     ]
 
-pub leads_one : (list : List InstructionEntry) (s t : State) (e : InstructionEntry) → slice_get list s.variables.index ≡ Some e → turn e s ≡ goes t → t.variables.index ≡ s.variables.index + 1
+pub leads_one : (list : List InstructionEntry) (s t : MachineState) (e : InstructionEntry) → slice_get list s.variables.index ≡ Some e → turn e s ≡ goes t → t.variables.index ≡ s.variables.index + 1
     → length s.calls ≤ length t.calls → Leads list 1 s t
 leads_one list s t e next goes_is index calls = record {
   index = index;
@@ -62,7 +62,7 @@ leads_one list s t e next goes_is index calls = record {
 }
 
 -- a run that is at the list's end came through no other store
-pub passes_end : (list : List InstructionEntry) (turns : ℕ) (s : State) → slice_get list s.variables.index ≡ None → (store : List Stored) → PassesStore turns list s store → store ≡ s.device.store
+pub passes_end : (list : List InstructionEntry) (turns : ℕ) (s : MachineState) → slice_get list s.variables.index ≡ None → (store : List Stored) → PassesStore turns list s store → store ≡ s.device.store
 unfolding PassesStore
 passes_end list zero s none store passes = passes
 passes_end list (suc turns) s none store passes =
@@ -81,7 +81,7 @@ pub at_end : (list : List InstructionEntry) → slice_get list (length list) ≡
 at_end [] = refl
 at_end (x ∷ xs) = at_end xs
 
-pub next_at : (list front : List InstructionEntry) (e : InstructionEntry) (rest : List InstructionEntry) (s : State) → list ≡ front ++ e ∷ rest → s.variables.index ≡ length front → slice_get list s.variables.index ≡ Some e
+pub next_at : (list front : List InstructionEntry) (e : InstructionEntry) (rest : List InstructionEntry) (s : MachineState) → list ≡ front ++ e ∷ rest → s.variables.index ≡ length front → slice_get list s.variables.index ≡ Some e
 next_at list front e rest s laid place =
     ap (λ (i : ℕ). slice_get list i) place ∙ ap (λ (es : List InstructionEntry). slice_get es (length front)) laid ∙ at_front front e rest
 
@@ -103,15 +103,15 @@ pub at_least : (xs : List DeviceCall) (x : DeviceCall) → length xs ≤ length 
 at_least xs x = omega (arith, length-append xs (x ∷ []))
 
 -- a turn after which the device and the value are as they were
-pub record Idles (s : State) (o : Outcome) : Type 0 where
-  pub after : State
+pub record Idles (s : MachineState) (o : Outcome) : Type 0 where
+  pub after : MachineState
   pub goes_is : o ≡ goes after
   pub index : after.variables.index ≡ s.variables.index + 1
   pub value : after.variables.value ≡ s.variables.value
   pub device : after.device ≡ s.device
   pub calls : length s.calls ≤ length after.calls
 
-idles_by : (i : Instruction) (e : InstructionEntry) (s : State) → (r : Option Reg) → e.register ≡ r → is_idle_by i r ≡ true → Idles s (turn_of i e s.variables s)
+idles_by : (i : Instruction) (e : InstructionEntry) (s : MachineState) → (r : Option Reg) → e.register ≡ r → is_idle_by i r ≡ true → Idles s (turn_of i e s.variables s)
 idles_by Noop e s r is idle = record { after = _; goes_is = refl; index = refl; value = refl; device = refl; calls = as_many s.calls }
 idles_by Stall e s r is idle = record { after = _; goes_is = refl; index = refl; value = refl; device = refl; calls = as_many s.calls }
 idles_by Add e s r is idle = record { after = _; goes_is = refl; index = refl; value = refl; device = refl; calls = as_many s.calls }
@@ -135,7 +135,7 @@ idles_by SetDstAddressBase e s r is idle = absurd (true≢false (sym idle))
 idles_by MoveData e s r is idle = absurd (true≢false (sym idle))
 idles_by Unknown e s r is idle = absurd (true≢false (sym idle))
 
-pub idles : (e : InstructionEntry) (s : State) → is_idle e ≡ true → Idles s (turn e s)
+pub idles : (e : InstructionEntry) (s : MachineState) → is_idle e ≡ true → Idles s (turn e s)
 idles e s idle = idles_by e.instruction e s e.register refl idle
 
 pub both_true : (a b : Bool) → (a && b) ≡ true → (a ≡ true) × (b ≡ true)
@@ -143,13 +143,13 @@ both_true true b is = (refl, is)
 both_true false b is = absurd (true≢false (sym is))
 
 -- where idle entries lead
-pub record LedIdly (list : List InstructionEntry) (used : ℕ) (s : State) : Type 0 where
-  pub after : State
+pub record LedIdly (list : List InstructionEntry) (used : ℕ) (s : MachineState) : Type 0 where
+  pub after : MachineState
   pub leads : Leads list used s after
   pub value : after.variables.value ≡ s.variables.value
   pub device : after.device ≡ s.device
 
-pub led_idly : (idle list front rest : List InstructionEntry) (s : State) → list ≡ front ++ (idle ++ rest) → s.variables.index ≡ length front → list_all is_idle idle ≡ true → LedIdly list (length idle) s
+pub led_idly : (idle list front rest : List InstructionEntry) (s : MachineState) → list ≡ front ++ (idle ++ rest) → s.variables.index ≡ length front → list_all is_idle idle ≡ true → LedIdly list (length idle) s
 led_idly [] list front rest s laid place are = record { after = s; leads = leads_none list s; value = refl; device = refl }
 led_idly (e ∷ idle) list front rest s laid place are =
     let parts = both_true (is_idle e) (list_all is_idle idle) are in

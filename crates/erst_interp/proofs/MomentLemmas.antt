@@ -19,7 +19,7 @@ use Rattle.erst_interp.specs.declared.machine.Work as Work
 use Rattle.erst_interp.specs.declared.refusals.RunRefused.TheVariants.{Fuel, BadRange}
 use Rattle.erst_interp.specs.Admission.{IsAdmitted}
 use Rattle.erst_interp.specs.Faithful.{device_after, input_limit}
-use Rattle.erst_interp.specs.Machine.{State, Outcome, goes, stops, turn, end_from, end_of, most_turns, at_entry, after_turn, new_variables, start, after_field, after_move, after_register_read, after_register_write, alone, field_in, is_inside, moved, next, with_field, with_register, with_variables}
+use Rattle.erst_interp.specs.Machine.{MachineState, Outcome, goes, stops, turn, end_from, machine_end, most_turns, at_entry, after_turn, new_variables, start, after_field, after_move, after_register_read, after_register_write, alone, field_in, is_inside, moved, next, with_field, with_register, with_variables}
 use Rattle.erst_interp.specs.Parts.{changed, given, turn_by, used_by, work_of}
 use Rattle.erst_interp.specs.Run.{PassesStore, acts_of, told_after}
 use Rattle.erst_interp.specs.Steps.{state_in, state_of}
@@ -72,10 +72,10 @@ field_moment : (e : InstructionEntry) (reg : Reg) (x : ℕ) (v : Variables) (t :
     → LeavesStore (after_field e reg x (state_in v t)).device.store t left
 field_moment e reg x v t left m = by e.preserves m
   where
-    s : State
+    s : MachineState
     s = state_in v t
 
-    written : Bool → State
+    written : Bool → MachineState
     written b = if b then after_register_write reg (with_field e x (register_in reg s.device)) (after_register_read reg s) else after_register_write reg (alone e x) s
 
     by : (b : Bool) → Moment (acts_of (written b).calls) t left → LeavesStore (written b).device.store t left
@@ -89,10 +89,10 @@ changed_moment : (e : InstructionEntry) (reg : Reg) (x : ℕ) (v : Variables) (t
     → LeavesStore (after_field e reg x (after_register_read reg (state_in v t))).device.store t left
 changed_moment e reg x v t left m = by e.preserves m
   where
-    s : State
+    s : MachineState
     s = after_register_read reg (state_in v t)
 
-    written : Bool → State
+    written : Bool → MachineState
     written b = if b then after_register_write reg (with_field e x (register_in reg s.device)) (after_register_read reg s) else after_register_write reg (alone e x) s
 
     by : (b : Bool) → Moment (acts_of (written b).calls) t left → LeavesStore (written b).device.store t left
@@ -108,7 +108,7 @@ moved_moment : (offset : ℕ) (v : Variables) (reg : Reg) (t : Told) (left : Lef
     → LeavesBy (moved offset (after_register_read reg (state_in v t))) t left
 moved_moment offset v reg t left m = by (is_inside (v.src + offset) v.var2 && is_inside (v.dst + offset) v.var2) m
   where
-    s : State
+    s : MachineState
     s = after_register_read reg (state_in v t)
 
     gone : Bool → Outcome
@@ -174,7 +174,7 @@ module _ (turns : ℕ) (list : List InstructionEntry) (v : Variables) (now old :
         ];
       }
 
-  later_left : (t : State) → turn e (state_in v now) ≡ goes t → LeavesRun turns list t.variables (told_after t now) left → LeavesRun (suc turns) list v now left
+  later_left : (t : MachineState) → turn e (state_in v now) ≡ goes t → LeavesRun turns list t.variables (told_after t now) left → LeavesRun (suc turns) list v now left
   later_left t goes_is leaves =
       let u = told_after t now in
       let device : device_of u ≡ t.device = subst (λ (o : Outcome). ToldBy o now) goes_is (turn_device e v now) in
@@ -224,7 +224,7 @@ run_moment (suc turns) list v now old calls is left m = by (slice_get list v.ind
 
 -- a stop during the run of an admitted list leaves the store as before the action or as after it
 pub action_moment : (action : ℕ) (list : List InstructionEntry) (input : ℕ) (t : Told) (left : Left) → action < 2 ^ 64 → input < input_limit action → IsAdmitted action list
-    → Moment (acts_of (end_of list input (device_of t)).state.calls) t left → LeavesStore (device_after action input (device_of t)).store t left
+    → Moment (acts_of (machine_end list input (device_of t)).state.calls) t left → LeavesStore (device_after action input (device_of t)).store t left
 action_moment action list input t left fits inside is m = elim (run_moment most_turns list (new_variables input) t t [] refl left m) [
   | inl never ↦ absurd never
   | inr leaves ↦ record { rest = leaves.rest; store_is = (done action list (start input (device_of t)) fits refl inside is).stores left.store leaves.passes }

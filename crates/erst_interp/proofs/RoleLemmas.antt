@@ -11,7 +11,7 @@ use Rattle.board_core.specs.Told.{after_reg_write, register_in}
 use Rattle.erst_interp.specs.declared.entries.Instruction.{Instruction}
 use Rattle.erst_interp.specs.declared.entries.Instruction.TheVariants.{ReadRegister, ReadRegisterValue, WriteRegister, WriteRegisterValue}
 use Rattle.erst_interp.specs.declared.entries.InstructionEntry.{InstructionEntry}
-use Rattle.erst_interp.specs.Machine.{State, Outcome, goes, turn, turn_of, writes, with_register, with_variables, next, after_field, after_register_write, after_register_read, alone, with_field, field_of, truth}
+use Rattle.erst_interp.specs.Machine.{MachineState, Outcome, goes, turn, turn_of, writes, with_register, with_variables, next, after_field, after_register_write, after_register_read, alone, with_field, field_of, truth}
 use Rattle.erst_interp.specs.Admission.{is_constant, is_write, is_read, is_action, is_value, is_whole, is_act, is_input, is_free, is_answer, holds_bits, input_bits, answer_bits}
 use Rattle.erst_interp.proofs.LeadLemmas.{both_true, one_call, at_least}
 
@@ -66,15 +66,15 @@ field_whole e n k bits offset holds is small =
 
 -- ---- a write to a whole register
 
-pub record Writes (reg : Reg) (number : ℕ) (s : State) (o : Outcome) : Type 0 where
-  pub after : State
+pub record Writes (reg : Reg) (number : ℕ) (s : MachineState) (o : Outcome) : Type 0 where
+  pub after : MachineState
   pub goes_is : o ≡ goes after
   pub index : after.variables.index ≡ s.variables.index + 1
   pub value : after.variables.value ≡ s.variables.value
   pub device : after.device ≡ after_reg_write reg number s.device
   pub calls : length s.calls < length after.calls
 
-written : (e : InstructionEntry) (s : State) (x number : ℕ) (reg : Reg) → e.register ≡ Some reg → e.preserves ≡ false → alone e x ≡ number → Writes reg number s (writes e x s)
+written : (e : InstructionEntry) (s : MachineState) (x number : ℕ) (reg : Reg) → e.register ≡ Some reg → e.preserves ≡ false → alone e x ≡ number → Writes reg number s (writes e x s)
 written e s x number reg register plain is = record {
   after = with_variables (next s.variables) (after_register_write reg (alone e x) s);
   goes_is =
@@ -86,7 +86,7 @@ written e s x number reg register plain is = record {
   calls = one_call s.calls (reg_write reg (alone e x));
 }
 
-pub acts : (action : ℕ) (e : InstructionEntry) (s : State) → is_act action e ≡ true → action < 2 ^ 64 → Writes Action action s (turn e s)
+pub acts : (action : ℕ) (e : InstructionEntry) (s : MachineState) → is_act action e ≡ true → action < 2 ^ 64 → Writes Action action s (turn e s)
 acts action e s is small =
     let masked = both_true (is_constant e.instruction && is_action e.register && is_whole e) (nat_eq (bit_and e.value e.mask) action) is in
     let whole = both_true (is_constant e.instruction && is_action e.register) (is_whole e) masked.0 in
@@ -96,7 +96,7 @@ acts action e s is small =
     (written e s e.value action Action (action_is e.register kind.1) (not_true e.preserves plain.1)
     (alone_whole e e.value action (nat_exact e.offset 0 plain.0) (nat_exact (bit_and e.value e.mask) action masked.1) small))
 
-pub takes : (action k : ℕ) (e : InstructionEntry) (s : State) → is_input action e ≡ true → input_bits action ≡ 2 ^ k - 1 → s.variables.value < 2 ^ k → s.variables.value < 2 ^ 64 → Writes Value s.variables.value s (turn e s)
+pub takes : (action k : ℕ) (e : InstructionEntry) (s : MachineState) → is_input action e ≡ true → input_bits action ≡ 2 ^ k - 1 → s.variables.value < 2 ^ k → s.variables.value < 2 ^ 64 → Writes Value s.variables.value s (turn e s)
 takes action k e s is bits small fits =
     let masked = both_true (is_write e.instruction && is_value e.register && is_whole e) (holds_bits (input_bits action) e.mask) is in
     let whole = both_true (is_write e.instruction && is_value e.register) (is_whole e) masked.0 in
@@ -106,7 +106,7 @@ takes action k e s is bits small fits =
     (written e s s.variables.value s.variables.value Value (value_is e.register kind.1) (not_true e.preserves plain.1)
     (alone_whole e s.variables.value s.variables.value (nat_exact e.offset 0 plain.0) (kept_by s.variables.value e.mask k (input_bits action) masked.1 bits small) fits))
 
-pub frees : (action : ℕ) (e : InstructionEntry) (s : State) → is_free action e ≡ true → (action ≡ execute_operation) × Writes Value (alone e e.value) s (turn e s)
+pub frees : (action : ℕ) (e : InstructionEntry) (s : MachineState) → is_free action e ≡ true → (action ≡ execute_operation) × Writes Value (alone e e.value) s (turn e s)
 frees action e s is =
     let plain = both_true (nat_eq action execute_operation && is_constant e.instruction && is_value e.register) (not e.preserves) is in
     let register = both_true (nat_eq action execute_operation && is_constant e.instruction) (is_value e.register) plain.0 in
@@ -118,8 +118,8 @@ frees action e s is =
 
 -- ---- the read of an answer
 
-pub record Answers (action : ℕ) (s : State) (o : Outcome) : Type 0 where
-  pub after : State
+pub record Answers (action : ℕ) (s : MachineState) (o : Outcome) : Type 0 where
+  pub after : MachineState
   pub goes_is : o ≡ goes after
   pub index : after.variables.index ≡ s.variables.index + 1
   pub device : after.device ≡ s.device
@@ -131,7 +131,7 @@ truth_is zero small = refl
 truth_is (suc zero) small = refl
 truth_is (suc (suc n)) small = absurd (omega (arith, small))
 
-answers_by : (action : ℕ) (i : Instruction) (e : InstructionEntry) (s : State) → is_read action e.value i ≡ true → e.register ≡ Some Value → e.offset ≡ 0 → holds_bits (answer_bits action) e.mask ≡ true
+answers_by : (action : ℕ) (i : Instruction) (e : InstructionEntry) (s : MachineState) → is_read action e.value i ≡ true → e.register ≡ Some Value → e.offset ≡ 0 → holds_bits (answer_bits action) e.mask ≡ true
     → Answers action s (turn_of i e s.variables s)
 answers_by action ReadRegister e s is register offset holds = record {
   after = with_variables (next (record s.variables { value = field_of e s.device.value })) (after_register_read Value s);
@@ -160,7 +160,7 @@ answers_by action ReadRegisterValue e s is register offset holds =
     }
 answers_by action _ e s is register offset holds = absurd (true≢false (sym is))
 
-pub answers : (action : ℕ) (e : InstructionEntry) (s : State) → is_answer action e ≡ true → Answers action s (turn e s)
+pub answers : (action : ℕ) (e : InstructionEntry) (s : MachineState) → is_answer action e ≡ true → Answers action s (turn e s)
 answers action e s is =
     let masked = both_true (is_read action e.value e.instruction && is_value e.register && nat_eq e.offset 0) (holds_bits (answer_bits action) e.mask) is in
     let place = both_true (is_read action e.value e.instruction && is_value e.register) (nat_eq e.offset 0) masked.0 in

@@ -9,7 +9,7 @@ use Rattle.erst_interp.specs.declared.entries.InstructionEntry.{InstructionEntry
 use Rattle.erst_interp.specs.declared.machine.Variables.{Variables}
 use Rattle.erst_interp.specs.declared.refusals.RunRefused.{RunRefused}
 use Rattle.erst_interp.specs.declared.refusals.RunRefused.TheVariants.{Register, Fuel, BadInstruction, BadRegister, BadRange}
-use Rattle.erst_interp.specs.Machine.{State, Outcome, goes, stops, turn, End, end_from, end_of, most_turns, at_entry, after_turn, new_variables, after_field, after_move, after_register_read, after_register_write, alone, field_in, is_inside, moved, next, with_field, with_register, with_variables}
+use Rattle.erst_interp.specs.Machine.{MachineState, Outcome, goes, stops, turn, End, end_from, machine_end, most_turns, at_entry, after_turn, new_variables, after_field, after_move, after_register_read, after_register_write, alone, field_in, is_inside, moved, next, with_field, with_register, with_variables}
 use Rattle.erst_interp.specs.Parts.{changed, given, turn_by, used_by, work_of}
 use Rattle.erst_interp.specs.declared.entries.Instruction.{Instruction}
 use Rattle.erst_interp.specs.declared.machine.Use.{Use}
@@ -27,11 +27,11 @@ use Rattle.erst_interp.proofs.TurnLemmas.{by_kind}
 use Rattle.erst_interp.proofs.TouchLemmas.{well_both, well_fails}
 
 -- a state of a run over a board that tells this now, after these calls
-abbrev pub state_at : Variables → Told → List DeviceCall → State
+abbrev pub state_at : Variables → Told → List DeviceCall → MachineState
 state_at v now calls = record { variables = v; device = device_of now; calls = calls }
 
 -- So many turns are left, over a board that told this when the run began and now tells that.
-pub record OnWay (total : ℕ) (list : List InstructionEntry) (turns : ℕ) (first : State) (v : Variables) (old now : Told) : Type 0 where
+pub record OnWay (total : ℕ) (list : List InstructionEntry) (turns : ℕ) (first : MachineState) (v : Variables) (old now : Told) : Type 0 where
   pub calls : List DeviceCall
   pub told : now ≡ after_acts (acts_of calls) old
   pub ends : end_from turns list (state_at v now calls) ≡ end_from total list first
@@ -46,44 +46,44 @@ way_begins total list input (Some t) = record { calls = []; told = refl; ends = 
 
 -- ---- one turn of the machine
 
-pub goes_on : (list : List InstructionEntry) (turns : ℕ) (s t : State) (e : InstructionEntry) → slice_get list s.variables.index ≡ Some e → turn e s ≡ goes t → end_from (suc turns) list s ≡ end_from turns list t
+pub goes_on : (list : List InstructionEntry) (turns : ℕ) (s t : MachineState) (e : InstructionEntry) → slice_get list s.variables.index ≡ Some e → turn e s ≡ goes t → end_from (suc turns) list s ≡ end_from turns list t
 unfolding end_from
 goes_on list turns s t e next goes_is =
     ap (λ (o : Option InstructionEntry). at_entry (λ x. after_turn (λ u. end_from turns list u) (turn x s)) s o) next
     ∙ ap (λ (o : Outcome). after_turn (λ u. end_from turns list u) o) goes_is
 
-stops_at : (list : List InstructionEntry) (turns : ℕ) (s t : State) (e : InstructionEntry) (why : RunRefused) → slice_get list s.variables.index ≡ Some e → turn e s ≡ stops why t
+stops_at : (list : List InstructionEntry) (turns : ℕ) (s t : MachineState) (e : InstructionEntry) (why : RunRefused) → slice_get list s.variables.index ≡ Some e → turn e s ≡ stops why t
     → end_from (suc turns) list s ≡ record { answer = Err why; state = t }
 unfolding end_from
 stops_at list turns s t e why next stops_is =
     ap (λ (o : Option InstructionEntry). at_entry (λ x. after_turn (λ u. end_from turns list u) (turn x s)) s o) next
     ∙ ap (λ (o : Outcome). after_turn (λ u. end_from turns list u) o) stops_is
 
-pub ends_at : (list : List InstructionEntry) (turns : ℕ) (s : State) → slice_get list s.variables.index ≡ None → end_from turns list s ≡ record { answer = Ok s.variables.value; state = s }
+pub ends_at : (list : List InstructionEntry) (turns : ℕ) (s : MachineState) → slice_get list s.variables.index ≡ None → end_from turns list s ≡ record { answer = Ok s.variables.value; state = s }
 unfolding end_from
 ends_at list zero s none = ap (λ (o : Option InstructionEntry). at_entry (λ x. record { answer = Err Fuel; state = s }) s o) none
 ends_at list (suc turns) s none = ap (λ (o : Option InstructionEntry). at_entry (λ x. after_turn (λ u. end_from turns list u) (turn x s)) s o) none
 
-runs_out : (list : List InstructionEntry) (s : State) (e : InstructionEntry) → slice_get list s.variables.index ≡ Some e → end_from zero list s ≡ record { answer = Err Fuel; state = s }
+runs_out : (list : List InstructionEntry) (s : MachineState) (e : InstructionEntry) → slice_get list s.variables.index ≡ Some e → end_from zero list s ≡ record { answer = Err Fuel; state = s }
 unfolding end_from
 runs_out list s e next = ap (λ (o : Option InstructionEntry). at_entry (λ x. record { answer = Err Fuel; state = s }) s o) next
 
 -- ---- the stores
 
-pub comes_through : (list : List InstructionEntry) (turns : ℕ) (s t : State) (e : InstructionEntry) → slice_get list s.variables.index ≡ Some e → turn e s ≡ goes t
+pub comes_through : (list : List InstructionEntry) (turns : ℕ) (s t : MachineState) (e : InstructionEntry) → slice_get list s.variables.index ≡ Some e → turn e s ≡ goes t
     → (store : List Stored) → PassesStore turns list t store → PassesStore (suc turns) list s store
 unfolding PassesStore
 comes_through list turns s t e next goes_is store is =
     inr (subst (λ (o : Option InstructionEntry). AtNext (λ x. AfterTurn (λ u. PassesStore turns list u store) (λ u. store ≡ u.device.store) (turn x s)) o) (sym next)
     (subst (λ (o : Outcome). AfterTurn (λ u. PassesStore turns list u store) (λ u. store ≡ u.device.store) o) (sym goes_is) is))
 
-pub here : (list : List InstructionEntry) (turns : ℕ) (s : State) (store : List Stored) → store ≡ s.device.store → PassesStore turns list s store
+pub here : (list : List InstructionEntry) (turns : ℕ) (s : MachineState) (store : List Stored) → store ≡ s.device.store → PassesStore turns list s store
 unfolding PassesStore
 here list zero s store is = is
 here list (suc turns) s store is = inl is
 
 -- whatever the turn comes to
-pub in_turn : (list : List InstructionEntry) (turns : ℕ) (s : State) (e : InstructionEntry) → slice_get list s.variables.index ≡ Some e
+pub in_turn : (list : List InstructionEntry) (turns : ℕ) (s : MachineState) (e : InstructionEntry) → slice_get list s.variables.index ≡ Some e
     → (store : List Stored) → store ≡ (state_of (turn e s)).device.store → PassesStore (suc turns) list s store
 unfolding PassesStore
 in_turn list turns s e next store is =
@@ -97,7 +97,7 @@ in_turn list turns s e next store is =
 -- ---- a turn of the run
 
 -- the device that is told after a turn is the machine's
-field_device : (e : InstructionEntry) (reg : Reg) (x : ℕ) (s : State) (t : Told) → device_of (after_acts (acts_of s.calls) t) ≡ s.device
+field_device : (e : InstructionEntry) (reg : Reg) (x : ℕ) (s : MachineState) (t : Told) → device_of (after_acts (acts_of s.calls) t) ≡ s.device
     → device_of (told_after (after_field e reg x s) t) ≡ (after_field e reg x s).device
 field_device e reg x s t is = by e.preserves
   where
@@ -121,7 +121,7 @@ ToldBy o t = device_of (told_after (state_of o) t) ≡ (state_of o).device
 moved_device : (offset : ℕ) (v : Variables) (reg : Reg) (t : Told) → ToldBy (moved offset (after_register_read reg (state_in v t))) t
 moved_device offset v reg t = by (is_inside (v.src + offset) v.var2 && is_inside (v.dst + offset) v.var2)
   where
-    s : State
+    s : MachineState
     s = after_register_read reg (state_in v t)
 
     by : (b : Bool) → ToldBy (if b then goes (with_variables (next v) (after_move (v.src + offset - range_address) (v.dst + offset - range_address) v.var2 s)) else stops BadRange s) t
@@ -185,7 +185,7 @@ ends_device (suc turns) list v now old calls is = by (slice_get list v.index) (�
     by None later = ap (λ (u : Told). device_of u) (sym is)
     by (Some e) later = subst (λ (o : Outcome). Told_in (after_turn (λ t. end_from turns list t) o)) (sym (turn_at e v now calls)) (turned e (turn e (state_in v now)) refl later)
 
-pub end_device : (list : List InstructionEntry) (input : ℕ) (t : Told) → device_of (told_after (end_of list input (device_of t)).state t) ≡ (end_of list input (device_of t)).state.device
+pub end_device : (list : List InstructionEntry) (input : ℕ) (t : Told) → device_of (told_after (machine_end list input (device_of t)).state t) ≡ (machine_end list input (device_of t)).state.device
 end_device list input t = ends_device most_turns list (new_variables input) t t [] refl
 
 way_on-told : (total : ℕ) (list : List InstructionEntry) (turns input : ℕ) (e : InstructionEntry) (v w : Variables) (old now : Told) (new : Option Told) → slice_get list v.index ≡ Some e
@@ -270,7 +270,7 @@ run_out total list input e v (Some old) (Some now) next way =
 -- the turn is refused
 module _ (total : ℕ) (list : List InstructionEntry) (turns input : ℕ) (e : InstructionEntry) (v : Variables) (old now : Told) (new : Option Told) (next : slice_get list v.index ≡ Some e)
     (way : OnWay total list (suc turns) (start_over input old) v old now) where
-  stopped : (why cause : RunRefused) (s : State) → turn e (state_at v now way.calls) ≡ stops cause s → (cause ≡ why) × (new ≡ Some (told_after s old))
+  stopped : (why cause : RunRefused) (s : MachineState) → turn e (state_at v now way.calls) ≡ stops cause s → (cause ≡ why) × (new ≡ Some (told_after s old))
       → (Err why ≡ (end_within total list input old).answer) × (new ≡ Some (told_after (end_within total list input old).state old))
   stopped why cause s stops_is (same, new_is) =
       let end : end_within total list input old ≡ record { answer = Err cause; state = s } = sym way.ends ∙ stops_at list turns (state_at v now way.calls) s e cause next stops_is in (

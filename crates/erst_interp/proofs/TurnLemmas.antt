@@ -15,13 +15,13 @@ use Rattle.erst_interp.specs.declared.machine.Work.{Work}
 use Rattle.erst_interp.specs.declared.machine.Work as Work
 use Rattle.erst_interp.specs.declared.refusals.RunRefused.{RunRefused}
 use Rattle.erst_interp.specs.declared.refusals.RunRefused.TheVariants.{Register, Fuel, BadInstruction, BadRegister, BadRange}
-use Rattle.erst_interp.specs.Machine.{State, Outcome, turn, turn_of, with_register}
+use Rattle.erst_interp.specs.Machine.{MachineState, Outcome, turn, turn_of, with_register}
 use Rattle.erst_interp.specs.Parts.{work_of, turn_by, used_by}
 use Rattle.board_core.specs.Doing.{Seen}
 use Rattle.erst_interp.specs.Steps.{TouchesAs, StoreInTurn, state_in, state_of}
 use Rattle.erst_interp.proofs.TouchLemmas.{well_more, fails_more}
 
-pub by_kind : (i : Instruction) (e : InstructionEntry) (s : State) → turn_of i e s.variables s ≡ turn_by (work_of i) i e s.variables s
+pub by_kind : (i : Instruction) (e : InstructionEntry) (s : MachineState) → turn_of i e s.variables s ≡ turn_by (work_of i) i e s.variables s
 by_kind ReadRegister e s = refl
 by_kind ReadRegisterValue e s = refl
 by_kind WriteRegister e s = refl
@@ -45,14 +45,14 @@ by_kind Unknown e s = refl
 
 -- an entry that uses its register
 pub turn_uses : (e : InstructionEntry) (how : Use) (reg : Reg) → Work.TheVariants.Uses how ≡ work_of e.instruction → e.register ≡ Some reg
-    → (s : State) → used_by how e.instruction e s.variables reg s ≡ turn e s
+    → (s : MachineState) → used_by how e.instruction e s.variables reg s ≡ turn e s
 turn_uses e how reg kind there s =
     sym (by_kind e.instruction e s
     ∙ ap (λ (work : Work). turn_by work e.instruction e s.variables s) (sym kind)
     ∙ ap (λ (r : Option Reg). with_register r s (λ q. used_by how e.instruction e s.variables q s)) there)
 
 -- the store that a turn may leave, said in two ways
-pub turn_same : (f g : State → Outcome) (v : Variables) → ((t : Told) → f (state_in v t) ≡ g (state_in v t)) → (told : Option Told) (x y : List Stored) → StoreInTurn f v told x y → StoreInTurn g v told x y
+pub turn_same : (f g : MachineState → Outcome) (v : Variables) → ((t : Told) → f (state_in v t) ≡ g (state_in v t)) → (told : Option Told) (x y : List Stored) → StoreInTurn f v told x y → StoreInTurn g v told x y
 turn_same f g v same None x y is = tt
 turn_same f g v same (Some t) x y is = subst (λ (o : Outcome). Becomes (state_of o).device.store x y) (same t) is
 

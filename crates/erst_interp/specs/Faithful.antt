@@ -7,7 +7,7 @@ use Rattle.board_core.specs.Told.{Told, device_of}
 use Rattle.erst_interp.specs.declared.entries.InstructionEntry.{InstructionEntry}
 use Rattle.erst_interp.specs.declared.refusals.RunRefused.{RunRefused}
 use Rattle.erst_interp.specs.declared.refusals.RunRefused.TheVariants.{Register}
-use Rattle.erst_interp.specs.Machine.{End, end_of}
+use Rattle.erst_interp.specs.Machine.{End, machine_end}
 use Rattle.erst_interp.specs.Admission.{takes_input, gives_answer}
 
 -- the inputs of an action: an offset has 32 bits, and any other 64
@@ -33,7 +33,7 @@ pub record DoesAction (action input : ℕ) (d : Device) (end : End) : Type 0 whe
 
 -- A list is faithful to an action where its run does the action, on every device and every input.
 abbrev pub IsFaithful : ℕ → List InstructionEntry → Type 0
-IsFaithful action list = (input : ℕ) (d : Device) → IsDevice d → input < input_limit action → DoesAction action input d (end_of list input d)
+IsFaithful action list = (input : ℕ) (d : Device) → IsDevice d → input < input_limit action → DoesAction action input d (machine_end list input d)
 
 -- What a run of an admitted list does to a board: it answers as the action does, and the board
 -- tells the device after the action. It is refused only where a call of the board failed.

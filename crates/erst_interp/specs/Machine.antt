@@ -17,7 +17,7 @@ use Rattle.erst_interp.specs.declared.refusals.RunRefused.TheVariants.{Fuel, Bad
 -- The state of a run: the variables, which are the index of the next entry in the list, the value,
 -- var1, var2, and the source and destination bases; the device; and the calls of the device made so
 -- far.
-pub record State : Type 0 where
+pub record MachineState : Type 0 where
   pub variables : Variables
   pub device : Device
   pub calls : List DeviceCall
@@ -28,8 +28,8 @@ new_variables input = record { index = 0; value = input; var1 = 0; var2 = 0; src
 
 -- what a turn comes to: the run goes on in a state, or is refused in one
 pub data Outcome : Type 0 where
-  goes : State → Outcome
-  stops : RunRefused → State → Outcome
+  goes : MachineState → Outcome
+  stops : RunRefused → MachineState → Outcome
 
 -- ---- numbers of 64 bits
 
@@ -71,37 +71,37 @@ alone e x = in_place e (bit_and x e.mask)
 
 -- ---- calls of the device
 
-abbrev pub after_register_read : Reg → State → State
+abbrev pub after_register_read : Reg → MachineState → MachineState
 after_register_read reg s = record s { calls = s.calls ++ reg_read reg ∷ [] }
 
-abbrev pub after_register_write : Reg → ℕ → State → State
+abbrev pub after_register_write : Reg → ℕ → MachineState → MachineState
 after_register_write reg number s = record s {
   device = after_reg_write reg number s.device;
   calls = s.calls ++ reg_write reg number ∷ [];
 }
 
-abbrev pub after_range_read : ℕ → ℕ → State → State
+abbrev pub after_range_read : ℕ → ℕ → MachineState → MachineState
 after_range_read place count s = record s { calls = s.calls ++ range_read place count ∷ [] }
 
-abbrev pub after_range_write_at : ℕ → List ℕ → State → State
+abbrev pub after_range_write_at : ℕ → List ℕ → MachineState → MachineState
 after_range_write_at place bytes s = record s {
   device = after_range_write place bytes s.device;
   calls = s.calls ++ range_write place bytes ∷ [];
 }
 
 -- the number in an entry's field of a register
-abbrev pub field_in : InstructionEntry → Reg → State → ℕ
+abbrev pub field_in : InstructionEntry → Reg → MachineState → ℕ
 field_in e reg s = field_of e (register_in reg s.device)
 
 -- a number is written into an entry's field of a register, which is read first where the other bits
 -- are kept
-abbrev pub after_field : InstructionEntry → Reg → ℕ → State → State
+abbrev pub after_field : InstructionEntry → Reg → ℕ → MachineState → MachineState
 after_field e reg x s =
     if e.preserves then after_register_write reg (with_field e x (register_in reg s.device)) (after_register_read reg s)
     else after_register_write reg (alone e x) s
 
 -- so many bytes of the range, from one place to another, as if read whole first
-abbrev pub after_move : ℕ → ℕ → ℕ → State → State
+abbrev pub after_move : ℕ → ℕ → ℕ → MachineState → MachineState
 after_move from to count s = after_range_write_at to (take count (drop from s.device.range)) (after_range_read from count s)
 
 -- whether so many bytes from an address on are inside the range
@@ -114,48 +114,48 @@ abbrev pub next : Variables → Variables
 next v = record v { index = v.index + 1 }
 
 -- a state with other variables
-abbrev pub with_variables : Variables → State → State
+abbrev pub with_variables : Variables → MachineState → MachineState
 with_variables v s = record s { variables = v }
 
 -- an instruction that uses no register
-abbrev pub computes : Variables → State → Outcome
+abbrev pub computes : Variables → MachineState → Outcome
 computes v s = goes (with_variables v s)
 
 -- an instruction that uses the entry's register
-abbrev pub with_register : Option Reg → State → (Reg → Outcome) → Outcome
+abbrev pub with_register : Option Reg → MachineState → (Reg → Outcome) → Outcome
 with_register None s go_on = stops BadRegister s
 with_register (Some reg) s go_on = go_on reg
 
-abbrev pub uses : InstructionEntry → State → (Reg → Outcome) → Outcome
+abbrev pub uses : InstructionEntry → MachineState → (Reg → Outcome) → Outcome
 uses e s go_on = with_register e.register s go_on
 
 -- one that reads the entry's field, and one that writes it
-abbrev pub reads : InstructionEntry → State → (ℕ → Variables) → Outcome
+abbrev pub reads : InstructionEntry → MachineState → (ℕ → Variables) → Outcome
 reads e s after = uses e s (λ reg. goes (with_variables (after (field_in e reg s)) (after_register_read reg s)))
 
-abbrev pub writes : InstructionEntry → ℕ → State → Outcome
+abbrev pub writes : InstructionEntry → ℕ → MachineState → Outcome
 writes e x s = uses e s (λ reg. goes (with_variables (next s.variables) (after_field e reg x s)))
 
 -- one that reads the field and writes another number into it
-abbrev pub changes : InstructionEntry → State → (ℕ → ℕ) → Outcome
+abbrev pub changes : InstructionEntry → MachineState → (ℕ → ℕ) → Outcome
 changes e s change = uses e s (λ reg. goes (with_variables (next s.variables)
     (after_field e reg (change (field_in e reg s)) (after_register_read reg s))))
 
 -- Bytes are moved in the range: var2 of them, from an offset after the source base to the same
 -- offset after the destination base. Both stretches have to be inside the range.
-abbrev pub moved : ℕ → State → Outcome
+abbrev pub moved : ℕ → MachineState → Outcome
 moved offset s =
     if is_inside (s.variables.src + offset) s.variables.var2 && is_inside (s.variables.dst + offset) s.variables.var2
     then goes (with_variables (next s.variables) (after_move (s.variables.src + offset - range_address)
     (s.variables.dst + offset - range_address) s.variables.var2 s))
     else stops BadRange s
 
-abbrev pub moves : InstructionEntry → State → Outcome
+abbrev pub moves : InstructionEntry → MachineState → Outcome
 moves e s = uses e s (λ reg. moved (field_in e reg s) (after_register_read reg s))
 
 -- What an instruction does. Where the test of SKIP_NEXT_INSTRUCTION_IF_TRUE holds the index rises
 -- by 2, and where that of STALL_WHILE_TRUE holds it stays.
-abbrev pub turn_of : Instruction → InstructionEntry → Variables → State → Outcome
+abbrev pub turn_of : Instruction → InstructionEntry → Variables → MachineState → Outcome
 turn_of ReadRegister e v s = reads e s (λ x. next (record v { value = x }))
 turn_of ReadRegisterValue e v s = reads e s (λ x. next (record v { value = truth (nat_eq x e.value) }))
 turn_of WriteRegister e v s = writes e v.value s
@@ -178,7 +178,7 @@ turn_of MoveData e v s = moves e s
 turn_of Unknown e v s = stops BadInstruction s
 
 -- one turn with this entry
-abbrev pub turn : InstructionEntry → State → Outcome
+abbrev pub turn : InstructionEntry → MachineState → Outcome
 turn e s = turn_of e.instruction e s.variables s
 
 -- ---- runs
@@ -186,20 +186,20 @@ turn e s = turn_of e.instruction e s.variables s
 -- how a run ends: with its value or a refusal, in a state
 pub record End : Type 0 where
   pub answer : Result ℕ RunRefused
-  pub state : State
+  pub state : MachineState
 
 -- what comes of the entry that is next: where there is none, the run ends with its value
-abbrev pub at_entry : (InstructionEntry → End) → State → Option InstructionEntry → End
+abbrev pub at_entry : (InstructionEntry → End) → MachineState → Option InstructionEntry → End
 at_entry go_on s None = record { answer = Ok s.variables.value; state = s }
 at_entry go_on s (Some e) = go_on e
 
-abbrev pub after_turn : (State → End) → Outcome → End
+abbrev pub after_turn : (MachineState → End) → Outcome → End
 after_turn go_on (goes s) = go_on s
 after_turn go_on (stops why s) = record { answer = Err why; state = s }
 
 -- The end of a run that has so many turns left. Where none is left and there is a next entry, it is
 -- refused before that entry is looked at.
-unfoldable pub end_from : ℕ → List InstructionEntry → State → End
+unfoldable pub end_from : ℕ → List InstructionEntry → MachineState → End
 end_from zero list s =
     at_entry (λ e. record { answer = Err Fuel; state = s }) s (slice_get list s.variables.index)
 end_from (suc turns) list s =
@@ -210,9 +210,9 @@ abbrev pub most_turns : ℕ
 most_turns = 4096
 
 -- the state of a run that begins with this input over a device
-abbrev pub start : ℕ → Device → State
+abbrev pub start : ℕ → Device → MachineState
 start input device = record { variables = new_variables input; device = device; calls = [] }
 
 -- the end of the run of a list
-abbrev pub end_of : List InstructionEntry → ℕ → Device → End
-end_of list input device = end_from most_turns list (start input device)
+abbrev pub machine_end : List InstructionEntry → ℕ → Device → End
+machine_end list input device = end_from most_turns list (start input device)

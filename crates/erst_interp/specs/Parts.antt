@@ -11,7 +11,7 @@ use Rattle.erst_interp.specs.declared.machine.Use.{Use}
 use Rattle.erst_interp.specs.declared.machine.Use.TheVariants.{Reads, Writes, Changes, Moves}
 use Rattle.erst_interp.specs.declared.refusals.RunRefused.{RunRefused}
 use Rattle.erst_interp.specs.declared.refusals.RunRefused.TheVariants.{BadInstruction, Register}
-use Rattle.erst_interp.specs.Machine.{State, Outcome, goes, stops, next, truth, wrapped_sum, wrapped_difference, computes, uses, with_variables, field_in, after_register_read, after_field, moved}
+use Rattle.erst_interp.specs.Machine.{MachineState, Outcome, goes, stops, next, truth, wrapped_sum, wrapped_difference, computes, uses, with_variables, field_in, after_register_read, after_field, moved}
 
 abbrev pub work_of : Instruction → Work
 work_of Unknown = Work.TheVariants.Unknown
@@ -55,17 +55,17 @@ changed SubtractValue e x = wrapped_difference x e.value
 changed _ e x = wrapped_sum x e.value
 
 -- what an instruction that uses the register does
-abbrev pub used_by : Use → Instruction → InstructionEntry → Variables → Reg → State → Outcome
+abbrev pub used_by : Use → Instruction → InstructionEntry → Variables → Reg → MachineState → Outcome
 used_by Reads i e v reg s = goes (with_variables (taken i e (field_in e reg s) v) (after_register_read reg s))
 used_by Writes i e v reg s = goes (with_variables (next s.variables) (after_field e reg (given i e v) s))
 used_by Changes i e v reg s = goes (with_variables (next s.variables)
     (after_field e reg (changed i e (field_in e reg s)) (after_register_read reg s)))
 used_by Moves i e v reg s = moved (field_in e reg s) (after_register_read reg s)
 
-abbrev pub use_of : Use → InstructionEntry → Variables → Reg → State → Outcome
+abbrev pub use_of : Use → InstructionEntry → Variables → Reg → MachineState → Outcome
 use_of how e v reg s = used_by how e.instruction e v reg s
 
-abbrev pub turn_by : Work → Instruction → InstructionEntry → Variables → State → Outcome
+abbrev pub turn_by : Work → Instruction → InstructionEntry → Variables → MachineState → Outcome
 turn_by Work.TheVariants.Unknown i e v s = stops BadInstruction s
 turn_by Work.TheVariants.Computes i e v s = computes (computed i e v) s
 turn_by (Work.TheVariants.Uses how) i e v s = uses e s (λ reg. used_by how i e v reg s)

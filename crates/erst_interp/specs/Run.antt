@@ -7,14 +7,14 @@ use Rattle.board_core.specs.Told.{Told, device_of}
 use Rattle.erst_interp.specs.declared.entries.InstructionEntry.{InstructionEntry}
 use Rattle.erst_interp.specs.declared.refusals.RunRefused.{RunRefused}
 use Rattle.erst_interp.specs.declared.refusals.RunRefused.TheVariants.{Register}
-use Rattle.erst_interp.specs.Machine.{State, Outcome, goes, stops, turn, End, start, most_turns}
+use Rattle.erst_interp.specs.Machine.{MachineState, Outcome, goes, stops, turn, End, start, most_turns}
 
 -- calls of the device one after another
 abbrev pub acts_of : List DeviceCall → List Act
 acts_of calls = map (λ call. device call) calls
 
 -- what is told after a run that ended in a state
-abbrev pub told_after : State → Told → Told
+abbrev pub told_after : MachineState → Told → Told
 told_after s t = after_acts (acts_of s.calls) t
 
 -- Of these calls one failed and was the last, and those before it are done.
@@ -46,12 +46,12 @@ abbrev pub AtNext : (InstructionEntry → Type 0) → Option InstructionEntry �
 AtNext Holds None = ⊥
 AtNext Holds (Some e) = Holds e
 
-abbrev pub AfterTurn : (State → Type 0) → (State → Type 0) → Outcome → Type 0
+abbrev pub AfterTurn : (MachineState → Type 0) → (MachineState → Type 0) → Outcome → Type 0
 AfterTurn Goes Stops (goes s) = Goes s
 AfterTurn Goes Stops (stops why s) = Stops s
 
 -- A run of so many turns comes through a device with this record store.
-unfoldable pub PassesStore : ℕ → List InstructionEntry → State → List Stored → Type 0
+unfoldable pub PassesStore : ℕ → List InstructionEntry → MachineState → List Stored → Type 0
 PassesStore zero list s store = store ≡ s.device.store
 PassesStore (suc turns) list s store =
     (store ≡ s.device.store)

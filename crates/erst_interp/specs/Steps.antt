@@ -14,7 +14,7 @@ use Rattle.erst_interp.specs.declared.entries.InstructionEntry.{InstructionEntry
 use Rattle.erst_interp.specs.declared.machine.Variables.{Variables}
 use Rattle.erst_interp.specs.declared.refusals.RunRefused.{RunRefused}
 use Rattle.erst_interp.specs.declared.refusals.RunRefused.TheVariants.{Register}
-use Rattle.erst_interp.specs.Machine.{State, Outcome, goes, stops, new_variables, field_of, is_inside, End, end_from, most_turns}
+use Rattle.erst_interp.specs.Machine.{MachineState, Outcome, goes, stops, new_variables, field_of, is_inside, End, end_from, most_turns}
 use Rattle.erst_interp.specs.Run.{Keeps, PassesStore, IsCutShort, told_after}
 
 -- Calls went well, or the last of them failed. The record store may have changed so.
@@ -42,7 +42,7 @@ abbrev pub Stays : List Stored → List Stored → Type 0
 Stays old new = new ≡ old
 
 -- the state that variables and what is told make
-abbrev pub state_in : Variables → Told → State
+abbrev pub state_in : Variables → Told → MachineState
 state_in v t = record { variables = v; device = device_of t; calls = [] }
 
 -- a number was read from a register
@@ -58,7 +58,7 @@ IsFieldRead e reg x (Some t) new =
     × (new ≡ Some (with_access (Read reg (register_in reg (device_of t))) t))
 
 -- the state of a run that begins over what is told, and its end
-abbrev pub start_over : ℕ → Told → State
+abbrev pub start_over : ℕ → Told → MachineState
 start_over input t = state_in (new_variables input) t
 
 abbrev pub end_within : ℕ → List InstructionEntry → ℕ → Told → End
@@ -68,7 +68,7 @@ abbrev pub end_over : List InstructionEntry → ℕ → Told → End
 end_over list input t = end_within most_turns list input t
 
 -- a part of a turn in which a call failed
-abbrev pub BreaksIn : (State → State) → Option Told → Option Told → Type 0
+abbrev pub BreaksIn : (MachineState → MachineState) → Option Told → Option Told → Type 0
 BreaksIn part old new = IfSome old (λ t. IsCutShort (part (state_in (new_variables 0) t)).calls t new)
 
 abbrev pub StoreWithin : ℕ → List InstructionEntry → ℕ → Option Told → List Stored → List Stored → Type 0
@@ -79,17 +79,17 @@ abbrev pub StoreOver : List InstructionEntry → ℕ → Option Told → List St
 StoreOver list input told = StoreWithin most_turns list input told
 
 -- what is told goes on by a part of a turn
-abbrev pub told_by : (State → State) → Told → Told
+abbrev pub told_by : (MachineState → MachineState) → Told → Told
 told_by part t = told_after (part (state_in (new_variables 0) t)) t
 
-abbrev pub Does : (State → State) → Option Told → Option Told → Type 0
+abbrev pub Does : (MachineState → MachineState) → Option Told → Option Told → Type 0
 Does part old new = new ≡ option_map (told_by part) old
 
 -- a part of a turn is all that the record store may have gone through
-abbrev pub StoreIn : (State → State) → Option Told → List Stored → List Stored → Type 0
+abbrev pub StoreIn : (MachineState → MachineState) → Option Told → List Stored → List Stored → Type 0
 StoreIn part = StoreBy (λ d. (part (record { variables = new_variables 0; device = d; calls = [] })).device)
 
-abbrev pub state_of : Outcome → State
+abbrev pub state_of : Outcome → MachineState
 state_of (goes s) = s
 state_of (stops why s) = s
 
@@ -115,6 +115,6 @@ abbrev pub IsPlace : ℕ → ℕ → Option ℕ → Type 0
 IsPlace address count None = is_inside address count ≡ false
 IsPlace address count (Some place) = (is_inside address count ≡ true) × (place ≡ address - range_address) × (place + count ≤ range_length)
 
-abbrev pub StoreInTurn : (State → Outcome) → Variables → Option Told → List Stored → List Stored → Type 0
+abbrev pub StoreInTurn : (MachineState → Outcome) → Variables → Option Told → List Stored → List Stored → Type 0
 StoreInTurn turn v None old new = Unit {0}
 StoreInTurn turn v (Some t) old new = Becomes (state_of (turn (state_in v t))).device.store old new

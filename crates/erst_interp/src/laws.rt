@@ -6,7 +6,7 @@ ghost use Rattle.erst_store.specs.DeviceLaws.{IsDevice};
 ghost use Rattle.erst_interp.specs.declared.entries.InstructionEntry.{InstructionEntry};
 ghost use Rattle.erst_interp.specs.Admission.{IsAdmitted};
 ghost use Rattle.erst_interp.specs.Faithful.{IsFaithful, input_limit};
-ghost use Rattle.erst_interp.specs.Machine.{end_of};
+ghost use Rattle.erst_interp.specs.Machine.{machine_end};
 ghost use Rattle.erst_interp.specs.Table.{list_of, lists_of, entries_for};
 ghost use Rattle.erst_interp.specs.declared.entries.TheConstants.{ENTRY_LENGTH};
 ghost use Rattle.erst_interp.specs.declared.run.TheConstants.{MOST_TURNS};
@@ -22,11 +22,11 @@ pub fn admitted_lists_are_faithful()
     ensures one_answer { (action input : ℕ) (one other : List InstructionEntry) (d : Device)
         → action < 2 ^ 64 → IsAdmitted action one → IsAdmitted action other
         → IsDevice d → input < input_limit action
-        → (end_of one input d).answer ≡ (end_of other input d).answer }
+        → (machine_end one input d).answer ≡ (machine_end other input d).answer }
     ensures one_device { (action input : ℕ) (one other : List InstructionEntry) (d : Device)
         → action < 2 ^ 64 → IsAdmitted action one → IsAdmitted action other
         → IsDevice d → input < input_limit action
-        → (end_of one input d).state.device ≡ (end_of other input d).state.device }
+        → (machine_end one input d).state.device ≡ (machine_end other input d).state.device }
 {}
 
 /// Of a table that was read, the list of an action has the entries of this action, in the order of

@@ -9,7 +9,7 @@ ghost use Rattle.board_core.specs.Told.{Relates, StoreBy, device_of};
 ghost use Rattle.erst_store.specs.DeviceLaws.{IsDevice};
 ghost use Rattle.erst_interp.specs.Admission.{IsAdmitted};
 ghost use Rattle.erst_interp.specs.Faithful.{input_limit, device_after, DoesRun, IsRegisterAlone};
-ghost use Rattle.erst_interp.specs.Machine.{turn, end_of};
+ghost use Rattle.erst_interp.specs.Machine.{turn, machine_end};
 ghost use Rattle.erst_interp.specs.Parts.{use_of, is_straight, is_straight_use, GoesOn, uses_register};
 ghost use Rattle.erst_interp.specs.Run.{IsRun, Keeps, RunCause, StoreInRun};
 ghost use Rattle.erst_interp.specs.Steps.{end_over, end_within, StoreOver, StoreWithin, Turns, TouchesAs, StoreInTurn, state_in};
@@ -39,7 +39,7 @@ impl Table {
     /// The list of an admitted table does its action, and is refused with `Register` alone.
     pub fn run<B: Board>(&self, action: u8, input: u64, board: &mut B) -> Result<u64, RunRefused>
         ensures runs { IfSome (B.told board.old)
-            (λ t. IsRun result (end_of (list_of action self.now) input (device_of t)) t
+            (λ t. IsRun result (machine_end (list_of action self.now) input (device_of t)) t
             (B.told board.new)) }
         ensures kept { Relates Keeps (B.told board.old) (B.told board.new) }
         ensures stops { Passes

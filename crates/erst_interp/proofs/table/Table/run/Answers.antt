@@ -5,7 +5,7 @@ use Rattle.board_core.specs.Stop.{InStore}
 use Rattle.board_core.specs.Told.{device_of}
 use Rattle.erst_interp.specs.declared.entries.InstructionEntry.{InstructionEntry}
 use Rattle.erst_interp.specs.Admission.{IsAdmitted}
-use Rattle.erst_interp.specs.Machine.{end_of}
+use Rattle.erst_interp.specs.Machine.{machine_end}
 use Rattle.erst_interp.specs.Run.{StoreInRun, IsRun}
 use Rattle.erst_interp.specs.Steps.{StoreOver}
 use Rattle.erst_interp.proofs.AdmittedRunLemmas.{does_run, store_alone, stores_run}
@@ -19,7 +19,7 @@ pub returns-clause-runs : goal.returns-clause-runs
 returns-clause-runs g c =
     let told = g.B.Board.told c.args.board.now in
     let new = g.B.Board.told c.run_list.new.board in
-    subst (λ (list : List InstructionEntry). IfSome told (λ t. IsRun c.run_list.result (end_of list c.args.input (device_of t)) t new)) c.list.ensures c.run_list.ensures.runs
+    subst (λ (list : List InstructionEntry). IfSome told (λ t. IsRun c.run_list.result (machine_end list c.args.input (device_of t)) t new)) c.list.ensures c.run_list.ensures.runs
 
 pub returns-clause-stops : goal.returns-clause-stops
 returns-clause-stops g c =
