@@ -9,3 +9,4 @@ pub mod ReportLemmas
 pub mod RepeatLemmas
 pub mod PollLemmas
 pub mod StoreLemmas
+pub mod SavingLemmas

@@ -1,5 +1,7 @@
--- Which lines are short, and which events can be counted: what they make can be one link.
-use Rattle.std.specs.Prelude.{◌≤◌, ◌⊎◌, List, length, All, ⊤}
+-- Which lines are short, and which events can be done: what they make can be one link.
+use Rattle.std.specs.Prelude.{◌≡◌, ◌<◌, ◌≤◌, ◌⊎◌, ℕ, List, false, length, slice_index, All, ⊤}
+use Rattle.cper_records.specs.Header.{record_id, record_length}
+use Rattle.erst_store.specs.Store.{is_reserved}
 use Rattle.ras_facts.specs.declared.entry.Entry.{Entry}
 use Rattle.ras_facts.specs.declared.entry.Entry.TheVariants.{Fact}
 use Rattle.ras_facts.specs.Entries.{IsValidEntry}
@@ -11,7 +13,7 @@ use Rattle.ras_script.specs.declared.line.ErrorReport.TheVariants.{Bank, Block, 
 use Rattle.ras_script.specs.declared.line.Line.{Line}
 use Rattle.ras_script.specs.declared.line.Line.TheVariants as asks
 use Rattle.ras_events.specs.declared.event.Event.{Event}
-use Rattle.ras_events.specs.declared.event.Event.TheVariants.{Counted}
+use Rattle.ras_events.specs.declared.event.Event.TheVariants.{Counted, Saved}
 use Rattle.ras_events.specs.declared.made.Piece.{Piece}
 use Rattle.ras_events.specs.Making.{entries_in}
 
@@ -38,6 +40,17 @@ pub record IsFit (made : List Piece) : Type 0 where
   pub short : length (payload_bytes (entries_in made)) ≤ MOST_PAYLOAD
   pub alike : All IsFact (entries_in made) ⊎ (length (entries_in made) ≤ 1)
 
+-- Bytes can be saved as a record under an identifier: they are as long as a panic record and tell so,
+-- and the identifier that they tell is this one, which a record may have.
+pub record CanBeSaved (id : ℕ) (bytes : List ℕ) : Type 0 where
+  pub size : length bytes ≡ 456
+  pub told : record_length bytes ≡ 456
+  pub named : record_id bytes ≡ id
+  pub free : is_reserved id ≡ false
+  pub each : (i : ℕ) → slice_index bytes i < 256
+
+-- an event whose pieces can be one link, or whose record can be saved
 abbrev pub IsFitEvent : Event → Type 0
 IsFitEvent (Counted made) = IsFit made
+IsFitEvent (Saved id bytes) = CanBeSaved id bytes
 IsFitEvent event = ⊤

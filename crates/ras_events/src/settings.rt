@@ -1,6 +1,6 @@
 //! What the lines of a run tell of the machine.
 
-ghost use Rattle.std.specs.Prelude.{◌≡◌, ℕ, List, [], ◌∷◌, ◌++◌, IfOk, OnErr, OnOk};
+ghost use Rattle.std.specs.Prelude.{◌≡◌, false, ℕ, List, [], ◌∷◌, ◌++◌, IfOk, OnErr, OnOk};
 ghost use Rattle.dimm_topology.specs.declared.row.Row.{Row};
 ghost use Rattle.ras_facts.specs.Valid.{IsValidName};
 ghost use Rattle.ras_script.specs.LineLaws.{IsInRange, IsReportInRange, IsRowInRange};
@@ -8,6 +8,9 @@ ghost use Rattle.ras_script.specs.declared.reader.TheConstants.{LONGEST_LINE};
 ghost use Rattle.apei_sources.specs.Hest.{hest_of};
 ghost use Rattle.std.specs.Prelude.{length, ◌≤◌, ◌<◌, ◌^◌};
 ghost use Rattle.erst_interp.specs.Table.{erst_of};
+ghost use Rattle.cper_records.specs.Header.{record_id, record_length};
+ghost use Rattle.erst_store.specs.Store.{is_reserved};
+ghost use Rattle.ras_events.specs.declared.event.Event.TheVariants.{Saved};
 ghost use Rattle.ras_events.specs.Events.{AnswersEvent, admitted_in, block_event, erst_event};
 ghost use Rattle.ras_events.specs.Events.{event_of, has_source, panic_event, with_driver};
 ghost use Rattle.ras_events.specs.Events.{with_table};
@@ -141,9 +144,20 @@ impl Settings {
         ensures fit { IfOk result IsFitEvent }
     {
         match panic_record(id, bank) {
-            Ok(bytes) => self.event_by_driver(Event::Saved { id, bytes }),
+            Ok(bytes) => self.event_of_record(id, &bytes),
             Err(refused) => Err(Reason::Panic(refused).into()),
         }
+    }
+
+    // The event of a panic record that is to be saved under its identifier.
+    fn event_of_record(&self, id: u64, bytes: &[u8; 456]) -> Result<Event, EventRefused>
+        requires told { record_length bytes.now ≡ 456 }
+        requires named { record_id bytes.now ≡ id }
+        requires free { is_reserved id ≡ false }
+        ensures event { AnswersEvent result (with_table self.now.driver (Saved id bytes.now)) }
+        ensures fit { IfOk result IsFitEvent }
+    {
+        self.event_by_driver(Event::Saved { id, bytes: *bytes })
     }
 
     // An event that wants a driver of the record store.

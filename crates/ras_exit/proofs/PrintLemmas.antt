@@ -8,7 +8,7 @@ use Rattle.board_core.specs.Stop.{Begins, InOut, Left}
 use Rattle.board_core.specs.Told.{FailsPrint, Relates, Steps, Told, after_print}
 use Rattle.board_core.specs.Doing.{Act, Does, FailsActs, Moment, Seen, after_acts, one_end, prints, went_well, GoesWell}
 use Rattle.board_core.proofs.DoingLemmas.{does_nothing, does_stops, steps_as}
-use Rattle.ras_exit.specs.Acts.{DoesBy, end_of, ended_with, part_end, print_acts}
+use Rattle.ras_exit.specs.Acts.{AreStill, DoesBy, end_of, ended_with, part_end, print_acts}
 use Rattle.ras_exit.specs.Causes.{BoardCause, BoardCauseBy, Causes}
 use Rattle.ras_exit.specs.Endings.{CallEnding, answered, ending_of, faulted, source_failed, starved}
 use Rattle.ras_exit.specs.declared.exit.Exit.{Exit}
@@ -85,6 +85,10 @@ part_causes see acts (Err exit) a b does = by (ending_of exit) does
     by source_failed same = ap (λ x. (see x).faults) same
     by (faulted kind) d = d.faults
 
+-- no acts leave all as it is
+pub none_still : (t : Told) → AreStill [] t
+none_still t = record { here = refl; moments = λ left never. absurd never }
+
 -- a part that is refused only if it has no acts
 pub part_does : {X T : Type 0} (see : X → Seen) (acts : List Act) (result : Result T Exit) (a b : X) → IfErr result (λ exit. ending_of exit ≡ answered → acts ≡ [])
     → Does see acts (part_end result) a b → DoesBy see acts (ended_with result) a b
@@ -96,6 +100,6 @@ part_does see acts (Err exit) a b none does = by (ending_of exit) none does
 
     by : (ending : CallEnding) → (ending ≡ answered → acts ≡ []) → Does see acts (end_of ending) a b → DoesBy see acts ending a b
     by answered empty same = subst (λ (some : List Act). GoesWell some (see a) (see b)) (sym (empty refl)) (nothing same)
-    by starved empty same = record { made = []; later = acts; splits = refl; does = nothing same }
-    by source_failed empty same = record { made = []; later = acts; splits = refl; does = nothing same }
+    by starved empty same = record { done = []; later = acts; splits = refl; still = λ t is. none_still t; does = nothing same }
+    by source_failed empty same = record { done = []; later = acts; splits = refl; still = λ t is. none_still t; does = nothing same }
     by (faulted kind) empty d = d

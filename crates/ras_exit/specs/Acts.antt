@@ -1,7 +1,8 @@
 -- What a part of a run does to a board, by how it ends.
-use Rattle.std.specs.Prelude.{◌≡◌, ℕ, List, [], ◌∷◌, ◌++◌, Result, Ok, Err, map}
-use Rattle.board_core.specs.declared.board.DiskCall.{DiskCall}
-use Rattle.board_core.specs.Doing.{Act, Breaks, Ended, GoesWell, Seen, broke, calls, ended_by, gave_up, prints}
+use Rattle.std.specs.Prelude.{◌≡◌, ℕ, List, [], ◌∷◌, ◌++◌, Result, Some, Ok, Err}
+use Rattle.board_core.specs.Doing.{Act, Breaks, Ended, GoesWell, Moment, Seen, after_acts, broke, ended_by, gave_up, prints}
+use Rattle.board_core.specs.Stop.{Left}
+use Rattle.board_core.specs.Told.{Told}
 use Rattle.ras_exit.specs.declared.exit.Exit.{Exit}
 use Rattle.ras_exit.specs.Endings.{CallEnding, answered, ending_of, faulted}
 
@@ -21,12 +22,18 @@ part_end result = ended_by (λ exit. end_of (ending_of exit)) result
 
 -- ---- any part
 
--- The first of these acts were done, disk calls that write nothing, and then memory ran out.
+-- Acts leave the files, the record store and the text as they are, and so does a stop meanwhile.
+pub record AreStill (acts : List Act) (t : Told) : Type 0 where
+  pub here : (after_acts acts t).here ≡ t.here
+  pub moments : (left : Left) → Moment acts t left → left ≡ t.here
+
+-- The first of these acts were done, which only read, and then memory ran out.
 pub record DoesSome {X : Type 0} (see : X → Seen) (acts : List Act) (old new : X) : Type 0 where
-  pub made : List DiskCall
+  pub done : List Act
   pub later : List Act
-  pub splits : map calls made ++ later ≡ acts
-  pub does : GoesWell (map calls made) (see old) (see new)
+  pub splits : done ++ later ≡ acts
+  pub still : (t : Told) → (see old).told ≡ Some t → AreStill done t
+  pub does : GoesWell done (see old) (see new)
 
 -- how a part of a run ended
 abbrev pub ended_with : {T : Type 0} → Result T Exit → CallEnding

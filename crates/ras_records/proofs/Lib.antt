@@ -1,3 +1,4 @@
+pub mod KeptLemmas
 pub mod EachLemmas
 pub mod FirstLemmas
 pub mod ClearingLemmas

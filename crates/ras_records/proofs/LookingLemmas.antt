@@ -68,7 +68,7 @@ pub is_device_listed : (lists : List (List InstructionEntry)) (t : Told) → IsA
 is_device_listed lists t admitted device = is_device_told lists (ids_steps (device_of t)) t admitted (list_inside t) device
 
 module _ (rows : List Row) (seconds : ℕ) (u t : Told) (store : u.here.store ≡ t.here.store) (slow : u.volatile.slow ≡ t.volatile.slow) where
-  same_busy : is_busy_for_reads u ≡ is_busy_for_reads t
+  same_busy : is_busy_for_reads u.volatile.slow u.here.store ≡ is_busy_for_reads t.volatile.slow t.here.store
   same_busy = ap (λ (s : List Stored). not (is_free_in_time u.volatile.slow) && not (nat_eq (length s) 0)) store
       ∙ ap (λ n. not (is_free_in_time n) && not (nat_eq (length t.here.store) 0)) slow
 

@@ -231,7 +231,7 @@ module _ (rows : List Row) (seconds : ℕ) where
     looks_refused NoMemory gives answered = absurd answered
     looks_refused Busy gives answered = by (is_free_in_time u.volatile.slow) refl (gives ∙ answer_there)
       where
-        by : (b : Bool) → is_free_in_time u.volatile.slow ≡ b → Err Busy ≡ answered_if b → IsTrue (is_busy_for_reads u)
+        by : (b : Bool) → is_free_in_time u.volatile.slow ≡ b → Err Busy ≡ answered_if b → IsTrue (is_busy_for_reads u.volatile.slow u.here.store)
         by true free never = cc
         by false free given = ap (λ b. not b && not (nat_eq (length u.here.store) 0)) free ∙ ap not some_there
     looks_refused (EndedWith code) gives answered = by (is_free_in_time u.volatile.slow) (gives ∙ answer_there)

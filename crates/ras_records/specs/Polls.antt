@@ -27,20 +27,21 @@ look_calls lists t =
 abbrev pub readable_ids : List Stored → List ℕ
 readable_ids store = ids (readable store)
 
--- A device is too slow to be read. One of a store with no record isn't asked.
-abbrev pub is_busy_for_reads : Told → Bool
-is_busy_for_reads t = not (is_free_in_time t.volatile.slow) && not (nat_eq (length t.here.store) 0)
+-- A device that is so slow is too slow for its store to be read. One of a store with no record isn't
+-- asked.
+abbrev pub is_busy_for_reads : ℕ → List Stored → Bool
+is_busy_for_reads slow store = not (is_free_in_time slow) && not (nat_eq (length store) 0)
 
 -- all records are told of, and those that can be read are named
 pub record HasLooked (rows : List Row) (seconds : ℕ) (t : Told) (looked : Looked) : Type 0 where
   pub made : looked.made ≡ polled rows seconds t.here.store
   pub readable : looked.readable.items ≡ readable_ids t.here.store
-  pub free : is_busy_for_reads t ≡ false
+  pub free : is_busy_for_reads t.volatile.slow t.here.store ≡ false
 
 -- How a look ends over a device with this store: each record that is listed is there.
 abbrev pub Looks : List Row → ℕ → Result Looked DriverRefused → Told → Type 0
 Looks rows seconds (Ok looked) t = HasLooked rows seconds t looked
-Looks rows seconds (Err Busy) t = IsTrue (is_busy_for_reads t)
+Looks rows seconds (Err Busy) t = IsTrue (is_busy_for_reads t.volatile.slow t.here.store)
 Looks rows seconds (Err (EndedWith status)) t = ⊥
 Looks rows seconds (Err why) t = Unit {0}
 

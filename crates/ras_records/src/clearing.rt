@@ -2,9 +2,9 @@
 
 ghost use Rattle.std.specs.Prelude.{◌≢◌, [], IfSome};
 ghost use Rattle.board_core.specs.Doing.{Does, ended_by, looks};
-ghost use Rattle.board_core.specs.Told.{device_of};
+ghost use Rattle.board_core.specs.Told.{Relates, device_of};
 ghost use Rattle.erst_store.specs.DeviceLaws.{IsDevice};
-ghost use Rattle.erst_interp.specs.Run.{acts_of};
+ghost use Rattle.erst_interp.specs.Run.{Keeps, acts_of};
 ghost use Rattle.erst_driver.specs.Answers.{Gives, HasCauseIn, IsAnswered, refusal_end};
 ghost use Rattle.erst_driver.specs.Operations.{clear_calls};
 ghost use Rattle.ras_records.specs.Each.{each_answer, each_calls};
@@ -26,6 +26,7 @@ pub fn clear_all<B: Board>(driver: &Driver, ids: &[u64], board: &mut B) -> Resul
         board.old board.new) }
     ensures answers { IfSome (B.told board.old)
         (λ t. Gives result (each_answer (clear_calls driver.now) ids.now t)) }
+    ensures kept { Relates Keeps (B.told board.old) (B.told board.new) }
     ensures cause { HasCauseIn result (B.faults board.old) (B.faults board.new) }
     ensures refused { IsAnswered result }
     ensures device { ids.now ≢ [] → IfSome (B.told board.old) (λ t. IsDevice (device_of t)) }

@@ -2,10 +2,10 @@
 
 ghost use Rattle.std.specs.Prelude.{◌≡◌, IfSome};
 ghost use Rattle.board_core.specs.Doing.{Does, ended_by, looks};
-ghost use Rattle.board_core.specs.Told.{device_of};
+ghost use Rattle.board_core.specs.Told.{Relates, device_of};
 ghost use Rattle.erst_store.specs.Device.{length_place};
 ghost use Rattle.erst_store.specs.DeviceLaws.{IsDevice};
-ghost use Rattle.erst_interp.specs.Run.{acts_of};
+ghost use Rattle.erst_interp.specs.Run.{Keeps, acts_of};
 ghost use Rattle.erst_driver.specs.Answers.{Gives, HasCauseIn, IsAnswered, answer_on_put, refusal_end, written_id};
 ghost use Rattle.erst_driver.specs.Operations.{write_calls};
 ghost use Rattle.ras_base.specs.LittleEndian.{number_at};
@@ -32,6 +32,7 @@ pub fn save<B: Board>(
         board.old board.new) }
     ensures answers { IfSome (B.told board.old)
         (λ t. Gives result (answer_on_put (written_id bytes.now) (device_of t))) }
+    ensures kept { Relates Keeps (B.told board.old) (B.told board.new) }
     ensures cause { HasCauseIn result (B.faults board.old) (B.faults board.new) }
     ensures refused { IsAnswered result }
     ensures device { IfSome (B.told board.old) (λ t. IsDevice (device_of t)) }

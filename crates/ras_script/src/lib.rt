@@ -16,7 +16,7 @@ pub use fields::BANK_WORDS;
 pub use kinds::{LAST_CHANNEL, MOST_WORDS};
 pub use laws::numbers_in_digits;
 pub use line::{
-    ErrorReport, Line, LineRefused, Table, line_of_words, numbers_are_in_range, read_line,
+    ErrorReport, Line, LineRefused, Table, numbers_are_in_range, read_line,
     refused_lines_have_words, written_lines_are_read,
 };
 pub use number::{
@@ -26,4 +26,4 @@ pub use reader::{
     LONGEST_LINE, LONGEST_SCRIPT, LineReader, NextRefused, line_feeds_cut_scripts,
     lines_within_limits_are_the_script,
 };
-pub use splitting::{HELD_WORDS, lines_are_the_script, spaces_separate_words, words};
+pub use splitting::{lines_are_the_script, spaces_separate_words};

@@ -115,7 +115,11 @@ impl LineRefused {
 ///
 /// # Errors
 ///
-/// As `line_of_words` gives them.
+/// The first that applies: `Kind` if the first word is no kind of line, `Words` if the number of
+/// words isn't the kind's; then from left to right `Number` if a word that has to be a number is
+/// none or is out of its range, `Hex` if a word that has to be bytes is no even number of
+/// hexadecimal digits, and `Label` if a word that has to be a label is none. `NoMemory` comes only
+/// if memory runs out.
 pub fn read_line(alloc: Global, bytes: &[u8]) -> Result<Line, LineRefused>
     ensures read { ReadsLine result bytes.now }
     ensures range { IfOk result IsInRange }
@@ -123,16 +127,8 @@ pub fn read_line(alloc: Global, bytes: &[u8]) -> Result<Line, LineRefused>
     line_of_words(alloc, &words(bytes))
 }
 
-/// What a line asks for, whose words `words` gave.
-///
-/// # Errors
-///
-/// The first that applies: `Kind` if the first word is no kind of line, `Words` if the number of
-/// words isn't the kind's; then from left to right `Number` if a word that has to be a number is
-/// none or is out of its range, `Hex` if a word that has to be bytes is no even number of
-/// hexadecimal digits, and `Label` if a word that has to be a label is none. `NoMemory` comes only
-/// if memory runs out.
-pub fn line_of_words(alloc: Global, words: &[&[u8]]) -> Result<Line, LineRefused>
+// What a line asks for, whose words `words` gave.
+fn line_of_words(alloc: Global, words: &[&[u8]]) -> Result<Line, LineRefused>
     ensures read { Gives result (line_of_words (map (λ word. word.now) words.now)) }
     ensures line { (bytes : List ℕ) → AreHeldWords (map (λ word. word.now) words.now) bytes
         → ReadsLine result bytes }

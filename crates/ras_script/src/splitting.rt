@@ -10,10 +10,10 @@ use arrayvec::ArrayVec;
 
 /// The words of a line that are held: one more than a line of any kind has, so that a line of too
 /// many words is known as one.
-pub const HELD_WORDS: usize = MOST_WORDS + 1;
+pub(crate) const HELD_WORDS: usize = MOST_WORDS + 1;
 
 /// The words of a line, which spaces separate, up to the first `HELD_WORDS`. They take no memory.
-pub fn words(line: &[u8]) -> ArrayVec<&[u8], HELD_WORDS>
+pub(crate) fn words(line: &[u8]) -> ArrayVec<&[u8], HELD_WORDS>
     ensures { AreHeldWords (map (λ word. word.now) result.items) line.now }
 {
     let mut words = ArrayVec::new();

@@ -1,5 +1,6 @@
 use Rattle.std.proofs.lemmas.Result.{err_from_is_err_and}
 use Rattle.board_core.specs.Doing.{looks}
+use Rattle.ras_records.proofs.KeptLemmas.{kept_both}
 use Rattle.ras_records.proofs.LookingLemmas.{list_refused, look_does, look_looks}
 use Rattle.ras_records.proofs.looking.look.Goals as goal
 
@@ -7,6 +8,9 @@ pub returns-in_err-ids-clause-does : goal.returns-in_err-ids-clause-does
 returns-in_err-ids-clause-does g c =
     let p = err_from_is_err_and c.from_residual.result c.from_residual.ensures.1 in
     rw (p.1, p.2) (list_refused (looks g.B.Board.told g.B.Board.clock g.B.Board.faults) c.args.driver.now _ _ c.in_err-ids.field-0.0 c.in_err-ids.ensures.refused c.in_err-ids.ensures.does)
+
+pub returns-clause-kept : goal.returns-clause-kept
+returns-clause-kept g c = kept_both _ _ _ c.in_ok-ids.ensures.kept c.read_all.ensures.kept
 
 pub returns-clause-does : goal.returns-clause-does
 returns-clause-does g c =

@@ -1,6 +1,7 @@
 use Rattle.std.proofs.Common.{◌∙◌, arith, refl}
 use Rattle.std.proofs.lemmas.Result.{err_from_is_err_and}
 use Rattle.board_core.specs.Doing.{looks}
+use Rattle.ras_records.proofs.KeptLemmas.{kept_both, kept_none}
 use Rattle.ras_records.proofs.ReadingLemmas.{done_looks, read_more, read_none, read_refused, read_starved, refused_looks}
 use Rattle.ras_records.proofs.ReachLemmas.{reaches_fits, reaches_none}
 use Rattle.ras_records.proofs.looking.read_all.Goals as goal
@@ -8,6 +9,7 @@ use Rattle.ras_records.proofs.looking.read_all.Goals as goal
 pub loop-id-init : goal.loop-id-init
 loop-id-init g c = record {
   read = read_none (looks g.B.Board.told g.B.Board.clock g.B.Board.faults) c.args.driver.now c.args.topology.now c.args.seconds c.args.ids.now 0 _ _ c.new-looked.ensures.made c.new-looked.ensures.readable;
+  kept = kept_none _;
   faults = refl;
   reaches = reaches_none _ c.new-looked.ensures.made c.new-looked.ensures.readable;
 }
@@ -24,6 +26,12 @@ returns-in_err-read-clause-looked g c =
     rw (p.1, p.2) (refused_looks (looks g.B.Board.told g.B.Board.clock g.B.Board.faults) c.args.driver.now c.args.topology.now c.args.seconds c.args.ids.now c.loop-id.id-index c.loop-id-test.true _ _ c.read.new.board _ c.loop-id.invariant.read
     c.in_err-read.field-0.0 c.in_err-read.ensures.answers c.in_err-read.ensures.refused)
 
+pub returns-in_err-read-clause-kept : goal.returns-in_err-read-clause-kept
+returns-in_err-read-clause-kept g c = kept_both _ _ _ c.loop-id.invariant.kept c.in_err-read.ensures.kept
+
+pub returns-in-Err-clause-kept : goal.returns-in-Err-clause-kept
+returns-in-Err-clause-kept g c = kept_both _ _ _ c.loop-id.invariant.kept c.in_ok-read.ensures.kept
+
 pub returns-in-Err-clause-does : goal.returns-in-Err-clause-does
 returns-in-Err-clause-does g c =
     read_starved (looks g.B.Board.told g.B.Board.clock g.B.Board.faults) c.args.driver.now c.args.topology.now c.args.seconds c.args.ids.now c.loop-id.id-index c.loop-id-test.true _ _ _ _ c.loop-id.invariant.read
@@ -33,6 +41,7 @@ pub loop-id-preserved : goal.loop-id-preserved
 loop-id-preserved g c = record {
   read = read_more (looks g.B.Board.told g.B.Board.clock g.B.Board.faults) c.args.driver.now c.args.topology.now c.args.seconds c.args.ids.now c.loop-id.id-index c.loop-id-test.true _ _ _ _ c.loop-id.invariant.read _ c.read.new.buf
       c.in_ok-read.ensures.does c.in_ok-read.ensures.answers c.in_ok-read.ensures.record_read c.in_ok-read.ensures.device c.in-Ok.ensures.made c.in-Ok.ensures.readable;
+  kept = kept_both _ _ _ c.loop-id.invariant.kept c.in_ok-read.ensures.kept;
   faults = c.in_ok-read.ensures.cause ∙ c.loop-id.invariant.faults;
   reaches = c.in-Ok.ensures.reaches c.loop-id.id-index c.loop-id.invariant.reaches;
 }
