@@ -2,7 +2,7 @@
 use Rattle.std.proofs.Common.{◌≡◌, ℕ, Bool, true, false, ◌||◌, List, [], ◌++◌, Result, Ok, Err, OnErr, IfErr, refl, sym, ap, subst, ◌∙◌, append-nil, arith}
 use Rattle.std.proofs.lemmas.Bool.Decides.{nat_tests}
 use Rattle.board_core.specs.Cause.{print_call}
-use Rattle.board_core.specs.Doing.{Act, Does, IsBad, Seen, one_end, went_well}
+use Rattle.board_core.specs.Doing.{Act, Does, GoesWell, IsBad, Seen, one_end, went_well}
 use Rattle.board_core.proofs.DoingLemmas.{does_first, does_then, made_one}
 use Rattle.ras_account.specs.Account.{State}
 use Rattle.ras_account.specs.Continued.{account_after_all}
@@ -20,7 +20,7 @@ use Rattle.ras_events.specs.declared.settings.Settings.{Settings}
 use Rattle.ras_script.specs.declared.line.Line.{Line}
 use Rattle.ras_events.proofs.HistoryLemmas.{event_by_news, news_account}
 use Rattle.ras_exit.specs.Acts.{end_of, part_end, print_acts}
-use Rattle.ras_exit.specs.Endings.{CallEnding, OnlyFault, answered, ending_of, faulted, source_failed, starved}
+use Rattle.ras_exit.specs.Endings.{AnyFault, CallEnding, EndsBy, OnlyFault, answered, ending_of, faulted, source_failed, starved}
 use Rattle.ras_exit.specs.declared.exit.Exit.{Exit}
 use Rattle.ras_exit.specs.declared.exit.Exit.TheVariants.{Full, PrintFault}
 use Rattle.ras_exit.proofs.EndingLemmas.{ends_weaker}
@@ -52,6 +52,14 @@ pub print_exit : {T : Type 0} (result : Result T Exit) → OnErr result (result 
 print_exit (Ok done) is = tt
 print_exit {T} (Err why) is = subst (λ (r : Result T Exit). IfErr r IsPrintExit) (sym is) refl
 
+-- what comes once the news are counted was cut short
+abbrev pub IsCutShort : Exit → Type 0
+IsCutShort exit = EndsBy ⊥ (Unit {0}) AnyFault (ending_of exit)
+
+pub cut_short : (result : Result (Unit {0}) Exit) → IfErr result IsPrintExit → IfErr result IsCutShort
+cut_short (Ok done) ends = tt
+cut_short (Err exit) ends = ends_weaker ⊥ ⊥ (Unit {0}) (Unit {0}) (OnlyFault print_call) AnyFault exit (λ never. never) (λ memory over. over) (λ kind is. tt) ends
+
 pub end_is_bad : (ending : CallEnding) → IsBad (end_of ending)
 end_is_bad answered = tt
 end_is_bad starved = tt
@@ -72,27 +80,35 @@ module _ (made : List Piece) (news : List Entry) (before now after : Ledger) (sa
   is_not_full : lacks_room_for now.account.state now.journal.standing news ≡ false → has_no_room_for a s (entries_in made) ≡ false
   is_not_full room = no_or _ _ (within_past (numbers_with a (entries_in made)) within) (sym room_is ∙ room)
 
-  pub made_counted : (printed : Result (Unit {0}) Exit) → CountsNews news (Ok tt) now after → IfErr printed IsPrintExit → CountsMade made printed before after
+  pub made_counted : (printed : Result (Unit {0}) Exit) → CountsNews news (Ok tt) now after → IfErr printed IsCutShort → CountsMade made printed before after
   made_counted (Ok done) counts ends = (
     is_not_full counts.0,
     counts.1 ∙ (ap (λ (b : State). account_after_all b news) same ∙ (ap (account_after_all a) news_are ∙ news_account a (entries_in made))),
     counts.2 ∙ (rw (same, still) (ap (standing_with_news a s) news_are)),
   )
   made_counted (Err exit) counts ends =
-      ends_weaker ⊥ ((exit ≡ Full) × (has_no_room_for a s (entries_in made) ≡ true)) (Unit {0}) (Unit {0}) (OnlyFault print_call) (λ kind. has_no_room_for a s (entries_in made) ≡ false) exit
-      (λ never. absurd never) (λ memory over. over) (λ kind is. is_not_full counts.0) ends
+      ends_weaker ⊥ ((exit ≡ Full) × (has_no_room_for a s (entries_in made) ≡ true)) (Unit {0}) (Unit {0}) AnyFault (λ kind. has_no_room_for a s (entries_in made) ≡ false) exit
+      (λ never. absurd never) (λ memory over. over) (λ kind any. is_not_full counts.0) ends
 
   -- ---- what is done
 
   list_is : news_acts now.journal.standing now.account.state news ≡ news_acts s a (fresh_entries_in a (entries_in made))
   list_is = rw (same, still) (ap (news_acts s a) news_are)
 
+  -- the news are kept
+  pub news_kept : {X : Type 0} (see : X → Seen) (x y : X) → Does see (news_acts now.journal.standing now.account.state news) went_well x y → GoesWell (news_acts s a (fresh_entries_in a (entries_in made))) (see x) (see y)
+  news_kept see x y does = subst (λ (acts : List Act). Does see acts went_well x y) list_is does
+
+  pub news_kept_not : {X : Type 0} (see : X → Seen) (exit : Exit) (x y : X) → Does see (news_acts now.journal.standing now.account.state news) (end_of (ending_of exit)) x y
+      → Does see (news_acts s a (fresh_entries_in a (entries_in made))) (end_of (ending_of exit)) x y
+  news_kept_not see exit x y does = subst (λ (acts : List Act). Does see acts (end_of (ending_of exit)) x y) list_is does
+
   module _ {X : Type 0} (see : X → Seen) (number : ℕ) where
     pub news_not_kept : (exit : Exit) (x y : X) → Does see (news_acts now.journal.standing now.account.state news) (end_of (ending_of exit)) x y
         → Does see (made_acts a number s made) (end_of (ending_of exit)) x y
     news_not_kept exit x y does =
         does_first see (news_acts s a (fresh_entries_in a (entries_in made))) (event_prints (event_text_in a made) number) (end_of (ending_of exit)) x y (end_is_bad (ending_of exit))
-        (subst (λ (acts : List Act). Does see acts (end_of (ending_of exit)) x y) list_is does)
+        (news_kept_not see exit x y does)
 
     pub made_printed : (text done : List ℕ) (printed : Result (Unit {0}) Exit) (x y z : X) → text ≡ event_text_in a made → done ≡ done_line number
         → Does see (news_acts now.journal.standing now.account.state news) went_well x y → Does see (print_acts text ++ print_acts done) (one_end print_call printed) y z
@@ -102,14 +118,14 @@ module _ (made : List Piece) (news : List Entry) (before now after : Ledger) (sa
         ap (λ bytes. print_acts bytes ++ print_acts done) text_is ∙ ap (λ bytes. print_acts (event_text_in a made) ++ print_acts bytes) done_is in
         as_part see (made_acts a number s made) printed x z fault
         (does_then see (news_acts s a (fresh_entries_in a (entries_in made))) (event_prints (event_text_in a made) number) (one_end print_call printed) x y z
-        (subst (λ (acts : List Act). Does see acts went_well x y) list_is first) (made_one print_call printed)
+        (news_kept see x y first) (made_one print_call printed)
         (subst (λ (acts : List Act). Does see acts (one_end print_call printed) y z) out second))
 
 -- ---- a line that reports no news
 
 module _ (number : ℕ) (settings : Settings) (line : Line) (text : List ℕ) (before : Ledger) (repeat : IsRepeat before.account.state settings line text) where
   pub repeat_counted : (result : Result (Unit {0}) Exit) → IfErr result IsPrintExit → CountsMade repeat.made result before before
-  repeat_counted result ends = made_counted repeat.made [] before before before refl refl (sym repeat.none) repeat.room result (refl, refl, refl) ends
+  repeat_counted result ends = made_counted repeat.made [] before before before refl refl (sym repeat.none) repeat.room result (refl, refl, refl) (cut_short result ends)
 
   pub repeat_acts : event_prints text number ≡ made_acts before.account.state number before.journal.standing repeat.made
   repeat_acts =

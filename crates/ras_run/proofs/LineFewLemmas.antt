@@ -1,16 +1,20 @@
 -- No file that stands has more than 256 links at a moment of a line, or once it is done.
-use Rattle.std.proofs.Common.{◌≡◌, ℕ, false, List, [], ◌∷◌, map, None, Result, Ok, Err, IfOk, refl, sym, ap, subst, inl, inr}
-use Rattle.board_core.specs.Doing.{Act, Moment, after_acts, after_device, calls, device, put}
+use Rattle.std.proofs.Common.{◌≡◌, ℕ, false, List, [], ◌∷◌, ◌++◌, map, None, Result, Ok, Err, refl, sym, ap, subst, inl, inr}
+use Rattle.board_core.specs.Doing.{Act, DeviceCall, Moment, after_acts, calls}
 use Rattle.board_core.specs.Stop.{Begins, InOut, Left}
 use Rattle.board_core.specs.Told.{Told, after_print}
 use Rattle.board_core.proofs.DoingLemmas.{after-append, moment_parts}
+use Rattle.erst_interp.specs.declared.entries.InstructionEntry.{InstructionEntry}
+use Rattle.erst_interp.specs.Run.{Keeps, acts_of}
+use Rattle.erst_driver.specs.Operations.{clear_calls}
 use Rattle.ras_account.specs.Account.{State}
+use Rattle.ras_account.specs.Accounts.{IsAccount}
 use Rattle.ras_account.specs.Numbers.{fresh_entries_in}
 use Rattle.ras_facts.specs.declared.entry.Entry.{Entry}
 use Rattle.journal_format.specs.Links.{link_bytes}
 use Rattle.ras_journal.specs.declared.standing.Standing.{Standing}
 use Rattle.ras_journal.specs.File.{AreLinksFew}
-use Rattle.ras_journal.specs.Recovered.{HasFewLinks}
+use Rattle.ras_journal.specs.Recovered.{HasFewLinks, IsAt}
 use Rattle.ras_ledger.specs.Keeping.{lacks_room}
 use Rattle.ras_ledger.proofs.KeepingLemmas.{keeping_few, keeping_few_done}
 use Rattle.ras_texts.specs.Orders.{standing_lines}
@@ -21,18 +25,25 @@ use Rattle.ras_events.specs.declared.event.LineRefusal.{LineRefusal}
 use Rattle.ras_events.specs.declared.made.Piece.{Piece}
 use Rattle.ras_events.specs.Making.{entries_in}
 use Rattle.ras_events.specs.Preparing.{event_text_in}
-use Rattle.ras_events.specs.Reports.{NumberedLine, Place, event_at}
-use Rattle.ras_events.specs.Sizes.{IsFit, IsFitEvent}
+use Rattle.ras_events.specs.Reports.{NumberedLine, Place, event_at, made_in, settings_told}
+use Rattle.ras_events.specs.Sizes.{IsFit}
+use Rattle.ras_records.specs.Each.{each_calls}
+use Rattle.ras_records.specs.Polls.{readable_ids}
+use Rattle.ras_records.proofs.ClearingLemmas.{calls_keep}
 use Rattle.ras_script.specs.declared.line.Line.{Line}
 use Rattle.ras_script.specs.declared.line.LineRefused.{LineRefused}
 use Rattle.ras_exit.specs.Acts.{print_acts}
 use Rattle.ras_exit.proofs.PrintLemmas.{after_printed, print_moment}
-use Rattle.ras_run.specs.LineActs.{AreEventActs, AreLineActs, HoldsAfter, event_prints, made_acts, news_acts}
-use Rattle.ras_run.specs.Places.{Start, account_at, has_no_room_for, lacks_room_for, standing_at}
+use Rattle.ras_run.specs.LineActs.{AreFollowing, AreLineActs, CanAsk, HoldsAfter, asking_acts, event_prints, lists_after, made_acts, news_acts, polled_acts, told_acts}
+use Rattle.ras_run.specs.Places.{Start, account_at, has_no_room_for, lacks_room_for, polled_at, standing_at, store_at}
 use Rattle.ras_run.specs.Status.{event_refusal}
 use Rattle.ras_run.specs.Taking.{IsAccepted}
-use Rattle.ras_run.proofs.LineLawLemmas.{event_acts, is_not, links, none_if, parts}
-use Rattle.ras_run.proofs.PrintActLemmas.{can_make, reading_here}
+use Rattle.ras_run.proofs.AskedLemmas.{HasAsked, asking_keeps, asking_leaves}
+use Rattle.ras_run.proofs.DeviceActLemmas.{calls_leave}
+use Rattle.ras_run.proofs.LineLawLemmas.{acts_then, after_asked, event_acts, line_asked}
+use Rattle.ras_run.proofs.MadeLemmas.{is_not, links, none_if, parts}
+use Rattle.ras_run.proofs.PollLemmas.{after_clears, after_polled, poll_parts}
+use Rattle.ras_run.proofs.PrintActLemmas.{can_make, reading_here, told_is}
 use Rattle.ras_run.proofs.ReopenLemmas.{reading_moment}
 
 -- the same files
@@ -60,15 +71,98 @@ both_done text number t few =
     subst (λ (u : Told). HasFewLinks u.here) (sym (after-append (print_acts text) (print_acts (done_line number)) t))
     (printed_few (done_line number) (after_acts (print_acts text) t) (printed_few text t few))
 
--- over a put
-pub put_few : (id : ℕ) (bytes : List ℕ) (t : Told) → HasFewLinks t.here → HasFewLinks (after_device (put id bytes) t).here
-put_few id bytes t few = few_same t.here (after_device (put id bytes) t).here refl refl few
+-- over calls of the device
+stored_few : (here left : Left) → left ≡ record here { store = left.store } → HasFewLinks here → HasFewLinks left
+stored_few here left is few = few_same here left (ap (λ (l : Left). l.file0) is) (ap (λ (l : Left). l.file1) is) few
 
-pub putting_few : (id : ℕ) (bytes : List ℕ) (rest : List Act) (t : Told) (left : Left) → HasFewLinks t.here → ((l : Left) → Moment rest (after_device (put id bytes) t) l → HasFewLinks l) → Moment (device (put id bytes) ∷ rest) t left → HasFewLinks left
-putting_few id bytes rest t left few later (inl torn) = few_same t.here left (ap (λ (l : Left). l.file0) torn.rest) (ap (λ (l : Left). l.file1) torn.rest) few
-putting_few id bytes rest t left few later (inr moment) = later left moment
+device_few : (made : List DeviceCall) (t : Told) (left : Left) → HasFewLinks t.here → Moment (acts_of made) t left → HasFewLinks left
+device_few made t left few moment = stored_few t.here left (calls_leave made t left moment) few
 
-module _ (start : Start) (before : List NumberedLine) (number : ℕ) (line : Result Line LineRefused) (t : Told) (holds : HoldsAfter start before t) (few : HasFewLinks t.here) where
+kept_few : (t u : Told) → Keeps t u → HasFewLinks t.here → HasFewLinks u.here
+kept_few t u keeps few = stored_few t.here u.here keeps.here few
+
+-- over what a line asks
+pub asking_few : (before : List NumberedLine) (event : Result Event LineRefusal) (t : Told) → HasFewLinks t.here → (left : Left) → Moment (asking_acts before event t) t left → HasFewLinks left
+asking_few before event t few left moment = stored_few t.here left (asking_leaves before event t left moment) few
+
+pub asked_few : (before : List NumberedLine) (event : Result Event LineRefusal) (t : Told) → HasFewLinks t.here → HasFewLinks (after_acts (asking_acts before event t) t).here
+asked_few before event t few = kept_few t (after_acts (asking_acts before event t) t) (asking_keeps before event t) few
+
+-- ---- over what is made of a line
+
+module _ (a : State) (s : Standing) (u : Told) (account : IsAccount a) (at : IsAt s a u.here) (few : HasFewLinks u.here) (made : List Piece) (room : has_no_room_for a s (entries_in made) ≡ false) (fit : IsFit made) where
+  abbrev news : List Entry
+  news = fresh_entries_in a (entries_in made)
+
+  link_few : (left : Left) (list : List Entry) → news ≡ list → lacks_room_for a s list ≡ false → Moment (news_acts s a list) u left → HasFewLinks left
+  link_few left [] is lacks never = absurd never
+  link_few left (entry ∷ entries) is lacks moment =
+      let link : List ℕ = link_bytes (entry ∷ entries) in
+      keeping_few s a (entry ∷ entries) link u (can_make s a link account (is_not (lacks_room s a link) lacks)) (is_not (lacks_room s a link) lacks)
+      (links a s u account at made room fit entry entries is) at few left moment
+
+  link_done : (list : List Entry) → news ≡ list → lacks_room_for a s list ≡ false → HasFewLinks (after_acts (news_acts s a list) u).here
+  link_done [] is lacks = few
+  link_done (entry ∷ entries) is lacks =
+      let link : List ℕ = link_bytes (entry ∷ entries) in
+      keeping_few_done s a (entry ∷ entries) link u (can_make s a link account (is_not (lacks_room s a link) lacks)) (is_not (lacks_room s a link) lacks)
+      (links a s u account at made room fit entry entries is) at few
+
+  lacks_not : lacks_room_for a s news ≡ false
+  lacks_not = (parts a s u account at made room fit).1
+
+  news_few : (left : Left) → Moment (news_acts s a news) u left → HasFewLinks left
+  news_few left moment = link_few left news refl lacks_not moment
+
+  news_done : HasFewLinks (after_acts (news_acts s a news) u).here
+  news_done = link_done news refl lacks_not
+
+  made_few : (number : ℕ) (left : Left) → Moment (made_acts a number s made) u left → HasFewLinks left
+  made_few number left moment = elim (moment_parts (news_acts s a news) (event_prints (event_text_in a made) number) u left moment) [
+    | inl keeping ↦ news_few left keeping
+    | inr printing ↦ both_few (event_text_in a made) number (after_acts (news_acts s a news) u) left news_done printing
+  ]
+
+  made_done : (number : ℕ) → HasFewLinks (after_acts (made_acts a number s made) u).here
+  made_done number =
+      subst (λ (v : Told). HasFewLinks v.here) (sym (after-append (news_acts s a news) (event_prints (event_text_in a made) number) u))
+      (both_done (event_text_in a made) number (after_acts (news_acts s a news) u) news_done)
+
+  told_few : (left : Left) → Moment (told_acts a s made) u left → HasFewLinks left
+  told_few left moment = elim (moment_parts (news_acts s a news) (print_acts (event_text_in a made)) u left moment) [
+    | inl keeping ↦ news_few left keeping
+    | inr printing ↦ print_few (event_text_in a made) (after_acts (news_acts s a news) u) left news_done printing
+  ]
+
+  told_done : HasFewLinks (after_acts (told_acts a s made) u).here
+  told_done = subst (λ (v : Told). HasFewLinks v.here) (sym (told_is s a made u)) (printed_few (event_text_in a made) (after_acts (news_acts s a news) u) news_done)
+
+  -- a poll, whatever it clears
+  module _ (lists : List (List InstructionEntry)) (ids : List ℕ) (number : ℕ) where
+    abbrev v : Told
+    v = after_acts (told_acts a s made) u
+
+    abbrev cleared : List DeviceCall
+    cleared = each_calls (clear_calls lists) ids v
+
+    clears_done : HasFewLinks (after_clears lists ids v).here
+    clears_done = kept_few v (after_clears lists ids v) (calls_keep cleared v) told_done
+
+    polled_few : (left : Left) → Moment (polled_acts lists a number s made ids u) u left → HasFewLinks left
+    polled_few left moment = elim (moment_parts (told_acts a s made) (acts_of cleared ++ print_acts (done_line number)) u left moment) [
+      | inl telling ↦ told_few left telling
+      | inr later ↦ elim (moment_parts (acts_of cleared) (print_acts (done_line number)) v left later) [
+        | inl clears ↦ device_few cleared v left told_done clears
+        | inr printing ↦ print_few (done_line number) (after_clears lists ids v) left clears_done printing
+      ]
+    ]
+
+    polled_done : HasFewLinks (after_acts (polled_acts lists a number s made ids u) u).here
+    polled_done = subst (λ (x : Told). HasFewLinks x.here) (sym (after_polled lists a number s made ids u)) (printed_few (done_line number) (after_clears lists ids v) clears_done)
+
+-- ---- over a line that is accepted, once it has asked
+
+module _ (start : Start) (before : List NumberedLine) (number : ℕ) (line : Result Line LineRefused) where
   abbrev place : Place
   place = (before, (number, line))
 
@@ -78,76 +172,57 @@ module _ (start : Start) (before : List NumberedLine) (number : ℕ) (line : Res
   abbrev s : Standing
   s = standing_at start before
 
-  module _ (made : List Piece) (room : has_no_room_for a s (entries_in made) ≡ false) (fit : IsFit made) where
-    abbrev news : List Entry
-    news = fresh_entries_in a (entries_in made)
+  abbrev pieces : Result Event LineRefusal → List Piece
+  pieces event = made_in (settings_told before).topology (store_at start before) event
 
-    kept_few : (left : Left) (list : List Entry) → news ≡ list → lacks_room_for a s list ≡ false → Moment (news_acts s a list) t left → HasFewLinks left
-    kept_few left [] is lacks never = absurd never
-    kept_few left (entry ∷ entries) is lacks moment =
-        let link : List ℕ = link_bytes (entry ∷ entries) in
-        keeping_few s a (entry ∷ entries) link t (can_make s a link holds.account (is_not (lacks_room s a link) lacks)) (is_not (lacks_room s a link) lacks)
-        (links start before number line t holds made room fit entry entries is) holds.at few left moment
-
-    kept_done : (list : List Entry) → news ≡ list → lacks_room_for a s list ≡ false → HasFewLinks (after_acts (news_acts s a list) t).here
-    kept_done [] is lacks = few
-    kept_done (entry ∷ entries) is lacks =
-        let link : List ℕ = link_bytes (entry ∷ entries) in
-        keeping_few_done s a (entry ∷ entries) link t (can_make s a link holds.account (is_not (lacks_room s a link) lacks)) (is_not (lacks_room s a link) lacks)
-        (links start before number line t holds made room fit entry entries is) holds.at few
-
-    lacks_not : lacks_room_for a s news ≡ false
-    lacks_not = (parts start before number line t holds made room fit).1
-
-    news_few : HasFewLinks (after_acts (news_acts s a news) t).here
-    news_few = kept_done news refl lacks_not
-
-    made_few : (left : Left) → Moment (made_acts a number s made) t left → HasFewLinks left
-    made_few left moment = elim (moment_parts (news_acts s a news) (event_prints (event_text_in a made) number) t left moment) [
-      | inl keeping ↦ kept_few left news refl lacks_not keeping
-      | inr printing ↦ both_few (event_text_in a made) number (after_acts (news_acts s a news) t) left news_few printing
-    ]
-
-    made_done : HasFewLinks (after_acts (made_acts a number s made) t).here
-    made_done =
-        subst (λ (u : Told). HasFewLinks u.here) (sym (after-append (news_acts s a news) (event_prints (event_text_in a made) number) t))
-        (both_done (event_text_in a made) number (after_acts (news_acts s a news) t) news_few)
-
-  event_few : (event : Result Event LineRefusal) (acts : List Act) (left : Left) → event_refusal start place event ≡ None → IfOk event IsFitEvent → AreEventActs start place t event acts → Moment acts t left → HasFewLinks left
-  event_few (Ok Nothing) acts left none fit are moment = absurd (subst (λ (l : List Act). Moment l t left) are moment)
-  event_few (Ok Settled) acts left none fit are moment = both_few [] number t left few (subst (λ (l : List Act). Moment l t left) are moment)
-  event_few (Ok (Counted made)) acts left none fit are moment = made_few made (none_if (has_no_room_for a s (entries_in made)) none) fit left (subst (λ (l : List Act). Moment l t left) are moment)
-  event_few (Ok (Put id bytes)) acts left none fit are moment =
-      putting_few id bytes (print_acts (done_line number)) t left few (λ l later. print_few (done_line number) (after_device (put id bytes) t) l (put_few id bytes t few) later)
-      (subst (λ (l : List Act). Moment l t left) are moment)
-  event_few (Ok (Saved id bytes)) acts left none fit are moment = absurd cc
-  event_few (Ok (Polled seconds)) acts left none fit are moment = absurd cc
-  event_few (Ok Reopened) acts left none fit are moment = elim (moment_parts (map calls are.0) (event_prints (standing_lines a) number) t left (subst (λ (l : List Act). Moment l t left) are.2 moment)) [
-    | inl reading ↦ subst HasFewLinks (sym (reading_moment are.0 t left reading)) few
-    | inr printing ↦ both_few (standing_lines a) number (after_acts (map calls are.0) t) left (subst HasFewLinks (sym (reading_here are.0 t)) few) printing
+  event_few : (event : Result Event LineRefusal) (u : Told) (acts : List Act) (left : Left) → HasAsked start before event u → HasFewLinks u.here → event_refusal start place event ≡ None → IsFit (pieces event) → AreFollowing start place event u acts
+      → Moment acts u left → HasFewLinks left
+  event_few (Ok Nothing) u acts left asked few none fit are moment = absurd (subst (λ (l : List Act). Moment l u left) are moment)
+  event_few (Ok Settled) u acts left asked few none fit are moment = both_few [] number u left few (subst (λ (l : List Act). Moment l u left) are moment)
+  event_few (Ok (Counted made)) u acts left asked few none fit are moment =
+      made_few a s u asked.account asked.at few made (none_if (has_no_room_for a s (entries_in made)) none) fit number left (subst (λ (l : List Act). Moment l u left) are moment)
+  event_few (Ok (Put id bytes)) u acts left asked few none fit are moment = print_few (done_line number) u left few (subst (λ (l : List Act). Moment l u left) are moment)
+  event_few (Ok (Saved id bytes)) u acts left asked few none fit are moment = print_few (done_line number) u left few (subst (λ (l : List Act). Moment l u left) are moment)
+  event_few (Ok (Polled seconds)) u acts left asked few none fit are moment =
+      polled_few a s u asked.account asked.at few (polled_at start before seconds) (poll_parts start before seconds none).1 fit (lists_after before) (readable_ids (store_at start before)) number left
+      (subst (λ (l : List Act). Moment l u left) are moment)
+  event_few (Ok Reopened) u acts left asked few none fit are moment = elim (moment_parts (map calls are.0) (event_prints (standing_lines a) number) u left (subst (λ (l : List Act). Moment l u left) are.2 moment)) [
+    | inl reading ↦ subst HasFewLinks (sym (reading_moment are.0 u left reading)) few
+    | inr printing ↦ both_few (standing_lines a) number (after_acts (map calls are.0) u) left (subst HasFewLinks (sym (reading_here are.0 u)) few) printing
   ]
-  event_few (Err why) acts left none fit are moment = absurd cc
+  event_few (Err why) u acts left asked few none fit are moment = absurd cc
 
-  event_done : (event : Result Event LineRefusal) (acts : List Act) → event_refusal start place event ≡ None → IfOk event IsFitEvent → AreEventActs start place t event acts → HasFewLinks (after_acts acts t).here
-  event_done (Ok Nothing) acts none fit are = subst (λ (l : List Act). HasFewLinks (after_acts l t).here) (sym are) few
-  event_done (Ok Settled) acts none fit are = subst (λ (l : List Act). HasFewLinks (after_acts l t).here) (sym are) (both_done [] number t few)
-  event_done (Ok (Counted made)) acts none fit are = subst (λ (l : List Act). HasFewLinks (after_acts l t).here) (sym are) (made_done made (none_if (has_no_room_for a s (entries_in made)) none) fit)
-  event_done (Ok (Put id bytes)) acts none fit are =
-      subst (λ (l : List Act). HasFewLinks (after_acts l t).here) (sym are) (printed_few (done_line number) (after_device (put id bytes) t) (put_few id bytes t few))
-  event_done (Ok (Saved id bytes)) acts none fit are = absurd cc
-  event_done (Ok (Polled seconds)) acts none fit are = absurd cc
-  event_done (Ok Reopened) acts none fit are =
-      subst (λ (l : List Act). HasFewLinks (after_acts l t).here) (sym are.2)
-      (subst (λ (u : Told). HasFewLinks u.here) (sym (after-append (map calls are.0) (event_prints (standing_lines a) number) t))
-      (both_done (standing_lines a) number (after_acts (map calls are.0) t) (subst HasFewLinks (sym (reading_here are.0 t)) few)))
-  event_done (Err why) acts none fit are = absurd cc
+  event_done : (event : Result Event LineRefusal) (u : Told) (acts : List Act) → HasAsked start before event u → HasFewLinks u.here → event_refusal start place event ≡ None → IsFit (pieces event) → AreFollowing start place event u acts
+      → HasFewLinks (after_acts acts u).here
+  event_done (Ok Nothing) u acts asked few none fit are = subst (λ (l : List Act). HasFewLinks (after_acts l u).here) (sym are) few
+  event_done (Ok Settled) u acts asked few none fit are = subst (λ (l : List Act). HasFewLinks (after_acts l u).here) (sym are) (both_done [] number u few)
+  event_done (Ok (Counted made)) u acts asked few none fit are =
+      subst (λ (l : List Act). HasFewLinks (after_acts l u).here) (sym are) (made_done a s u asked.account asked.at few made (none_if (has_no_room_for a s (entries_in made)) none) fit number)
+  event_done (Ok (Put id bytes)) u acts asked few none fit are = subst (λ (l : List Act). HasFewLinks (after_acts l u).here) (sym are) (printed_few (done_line number) u few)
+  event_done (Ok (Saved id bytes)) u acts asked few none fit are = subst (λ (l : List Act). HasFewLinks (after_acts l u).here) (sym are) (printed_few (done_line number) u few)
+  event_done (Ok (Polled seconds)) u acts asked few none fit are =
+      subst (λ (l : List Act). HasFewLinks (after_acts l u).here) (sym are)
+      (polled_done a s u asked.account asked.at few (polled_at start before seconds) (poll_parts start before seconds none).1 fit (lists_after before) (readable_ids (store_at start before)) number)
+  event_done (Ok Reopened) u acts asked few none fit are =
+      subst (λ (l : List Act). HasFewLinks (after_acts l u).here) (sym are.2)
+      (subst (λ (v : Told). HasFewLinks v.here) (sym (after-append (map calls are.0) (event_prints (standing_lines a) number) u))
+      (both_done (standing_lines a) number (after_acts (map calls are.0) u) (subst HasFewLinks (sym (reading_here are.0 u)) few)))
+  event_done (Err why) u acts asked few none fit are = absurd cc
 
-  module _ (acts : List Act) (are : AreLineActs start place t acts) (accepted : IsAccepted start place) where
-    taken_acts : AreEventActs start place t (event_at place) acts
-    taken_acts = event_acts start before number line t holds acts are accepted.taken
+  module _ (t : Told) (holds : HoldsAfter start before t) (can : CanAsk (event_at place) t) (few : HasFewLinks t.here) (acts : List Act) (are : AreLineActs start place t acts) (accepted : IsAccepted start place) where
+    abbrev now : Told
+    now = after_asked before (event_at place) t
+
+    now_few : HasFewLinks now.here
+    now_few = asked_few before (event_at place) t few
 
     pub line_few : (left : Left) → Moment acts t left → HasFewLinks left
-    line_few left moment = event_few (event_at place) acts left accepted.taken accepted.fit taken_acts moment
+    line_few left moment = elim (moment_parts (asking_acts before (event_at place) t) are.rest t left (subst (λ (l : List Act). Moment l t left) are.is moment)) [
+      | inl asking ↦ asking_few before (event_at place) t few left asking
+      | inr later ↦ event_few (event_at place) now are.rest left (line_asked start before number line t holds can) now_few accepted.taken accepted.fit (event_acts start place t acts are accepted.taken) later
+    ]
 
     pub line_few_done : HasFewLinks (after_acts acts t).here
-    line_few_done = event_done (event_at place) acts accepted.taken accepted.fit taken_acts
+    line_few_done =
+        subst (λ (u : Told). HasFewLinks u.here) (sym (acts_then start place t acts are))
+        (event_done (event_at place) now are.rest (line_asked start before number line t holds can) now_few accepted.taken accepted.fit (event_acts start place t acts are accepted.taken))

@@ -26,7 +26,11 @@ use Rattle.ras_ledger.proofs.KeepingLemmas.{is_keeping, keeping_on_disk}
 use Rattle.ras_texts.specs.Text.{done_line}
 use Rattle.ras_exit.specs.Acts.{print_acts}
 use Rattle.ras_exit.proofs.PrintLemmas.{after_printed}
-use Rattle.ras_run.specs.LineActs.{event_prints, news_acts}
+use Rattle.ras_account.specs.Numbers.{fresh_entries_in}
+use Rattle.ras_events.specs.declared.made.Piece.{Piece}
+use Rattle.ras_events.specs.Making.{entries_in}
+use Rattle.ras_events.specs.Preparing.{event_text_in}
+use Rattle.ras_run.specs.LineActs.{event_prints, news_acts, told_acts}
 use Rattle.ras_run.specs.LineCalls.{AreNewsCalls}
 use Rattle.ras_recover.proofs.OpeningActsLemmas.{after_reading}
 
@@ -62,16 +66,19 @@ prints_off text number = off_both (print_acts text) (print_acts (done_line numbe
 pub news_prints_off : (s : Standing) (a : State) (news : List Entry) (text : List ℕ) (number : ℕ) → AreOffDevice (news_acts s a news ++ event_prints text number)
 news_prints_off s a news text number = off_both (news_acts s a news) (event_prints text number) (news_off s a news) (prints_off text number)
 
+pub told_off : (s : Standing) (a : State) (made : List Piece) → AreOffDevice (told_acts a s made)
+told_off s a made = off_both (news_acts s a (fresh_entries_in a (entries_in made))) (print_acts (event_text_in a made)) (news_off s a (fresh_entries_in a (entries_in made))) (print_off (event_text_in a made))
+
 pub reading_prints_off : (made : List DiskCall) (text : List ℕ) (number : ℕ) → AreOffDevice (map calls made ++ event_prints text number)
 reading_prints_off made text number = off_both (map calls made) (event_prints text number) (reading_off made) (prints_off text number)
 
 -- ---- the disk calls
 
-calls_both : (xs ys : List Act) → calls_of (xs ++ ys) ≡ calls_of xs ++ calls_of ys
+pub calls_both : (xs ys : List Act) → calls_of (xs ++ ys) ≡ calls_of xs ++ calls_of ys
 calls_both [] ys = refl
 calls_both (x ∷ xs) ys = ap (λ (l : List DiskCall). disk_calls_by x ++ l) (calls_both xs ys) ∙ sym (append_assoc (disk_calls_by x) (calls_of xs) (calls_of ys))
 
-print_calls : (text : List ℕ) → calls_of (print_acts text) ≡ []
+pub print_calls : (text : List ℕ) → calls_of (print_acts text) ≡ []
 print_calls [] = refl
 print_calls (b ∷ text) = refl
 
@@ -103,6 +110,17 @@ reading_here made t = ap (λ (u : Told). u.here) (after_reading made t)
 pub out_before : (xs : List Act) (one two : List ℕ) (t : Told) → (after_acts xs t).here.out ≡ t.here.out → (after_acts (xs ++ (print_acts one ++ print_acts two)) t).here.out ≡ t.here.out ++ (one ++ two)
 out_before xs one two t same =
     ap (λ (u : Told). u.here.out) (after-append xs (print_acts one ++ print_acts two) t ∙ after_prints one two (after_acts xs t)) ∙ ap (λ out. out ++ (one ++ two)) same
+
+-- ---- the news and the text of what is made
+
+pub told_is : (s : Standing) (a : State) (made : List Piece) (t : Told)
+    → after_acts (told_acts a s made) t ≡ after_acts (print_acts (event_text_in a made)) (after_acts (news_acts s a (fresh_entries_in a (entries_in made))) t)
+told_is s a made t = after-append (news_acts s a (fresh_entries_in a (entries_in made))) (print_acts (event_text_in a made)) t
+
+pub told_out : (s : Standing) (a : State) (made : List Piece) (t : Told) → (after_acts (told_acts a s made) t).here.out ≡ t.here.out ++ event_text_in a made
+told_out s a made t =
+    let news : List Entry = fresh_entries_in a (entries_in made) in
+    ap (λ (u : Told). u.here.out) (told_is s a made t ∙ after_printed (event_text_in a made) (after_acts (news_acts s a news) t)) ∙ ap (λ out. out ++ event_text_in a made) (news_out s a news t)
 
 -- ---- a switch that is due can be made, if the account is one
 

@@ -23,7 +23,7 @@ use Rattle.ras_texts.specs.Orders.{standing_lines}
 use Rattle.ras_texts.specs.Text.{done_line}
 use Rattle.ras_exit.specs.declared.exit.Exit.{Exit}
 use Rattle.ras_exit.specs.declared.exit.Exit.TheVariants.{NoMemory, PrintFault}
-use Rattle.ras_exit.specs.Acts.{DoesBy, DoesSome, print_acts}
+use Rattle.ras_exit.specs.Acts.{AreStill, DoesBy, DoesSome, print_acts}
 use Rattle.ras_exit.specs.Causes.{BoardCause, BoardCauseBy}
 use Rattle.ras_exit.specs.Endings.{CallEnding, EndsBy, OnlyFault, answered, ending_of, faulted, source_failed, starved}
 use Rattle.ras_exit.proofs.PrintLemmas.{as_part, part_does}
@@ -38,6 +38,9 @@ pub reading_moment : (made : List DiskCall) (t : Told) (left : Left) → Moment 
 reading_moment [] t left never = absurd never
 reading_moment (call ∷ made) t left (inl same) = same
 reading_moment (call ∷ made) t left (inr later) = reading_moment made (with_call call t) left later
+
+reading_still : (made : List DiskCall) (t : Told) → AreStill (map calls made) t
+reading_still made t = record { here = ap (λ (u : Told). u.here) (after_reading made t); moments = reading_moment made t }
 
 -- ---- what is told of an opening over a journal that stands
 
@@ -108,10 +111,11 @@ module _ {X : Type 0} (see : X → Seen) (x y : X) (s : Standing) (a : State) (t
     -- memory ran out: a beginning was read
     pub read_some : (see y).faults ≡ (see x).faults → DoesSome see (map calls begun.whole ++ prints) x y
     read_some same = record {
-      made = opened.calls.made;
+      done = map calls opened.calls.made;
       later = map calls begun.begins.0 ++ prints;
       splits = sym (append_assoc (map calls opened.calls.made) (map calls begun.begins.0) prints)
           ∙ ap (λ (l : List Act). l ++ prints) (sym (map-append calls opened.calls.made begun.begins.0) ∙ ap (map calls) begun.begins.1);
+      still = λ v is. reading_still opened.calls.made v;
       does = read_well opened.calls.made opened.calls.listed same;
     }
 

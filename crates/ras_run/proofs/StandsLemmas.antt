@@ -1,10 +1,13 @@
 -- Where a ledger stands over acts that went well.
-use Rattle.std.proofs.Common.{◌≡◌, ℕ, List, [], ◌∷◌, ◌++◌, Option, None, Some, Result, Ok, Err, OnOk, refl, sym, subst}
+use Rattle.std.proofs.Common.{◌≡◌, ℕ, List, [], ◌∷◌, ◌++◌, Option, None, Some, IfSome, Result, Ok, Err, OnOk, refl, sym, subst}
+use Rattle.board_core.specs.Cause.{print_call}
 use Rattle.board_core.specs.Clock.{Clock}
 use Rattle.board_core.specs.ClockLemmas.{not_told}
-use Rattle.board_core.specs.Told.{Told, Steps}
-use Rattle.board_core.specs.Doing.{Act, Does, GoesWell, Seen, after_acts}
+use Rattle.board_core.specs.Stop.{Left}
+use Rattle.board_core.specs.Told.{Relates, Told, Steps}
+use Rattle.board_core.specs.Doing.{Act, DeviceCall, Does, GoesWell, Seen, after_acts, one_end}
 use Rattle.board_core.proofs.DoingLemmas.{after-append}
+use Rattle.erst_interp.specs.Run.{Keeps, acts_of}
 use Rattle.ras_account.specs.Account.{State}
 use Rattle.ras_journal.specs.declared.standing.Standing.{Standing}
 use Rattle.ras_journal.specs.Appending.{Before}
@@ -13,6 +16,7 @@ use Rattle.ras_ledger.specs.Keeping.{Stands}
 use Rattle.ras_exit.specs.Acts.{part_end, print_acts}
 use Rattle.ras_exit.specs.declared.exit.Exit.{Exit}
 use Rattle.ras_ledger.specs.declared.ledger.Ledger.{Ledger}
+use Rattle.ras_records.proofs.ClearingLemmas.{calls_keep}
 use Rattle.ras_run.specs.Taking.{IsReady}
 
 same_told : (u t : Told) → Some u ≡ Some t → u ≡ t
@@ -61,3 +65,43 @@ ready_printed see one two ledger (Ok over) x y ready does = record {
       (prints_at one two ledger.journal.standing ledger.account.state) ready.stands does;
 }
 ready_printed see one two ledger (Err exit) x y ready does = tt
+
+pub ready_print : {X : Type 0} (see : X → Seen) (text : List ℕ) (ledger : Ledger) (result : Result (Unit {0}) Exit) (x y : X) → IsReady ledger (see x).told (see x).clock → Does see (print_acts text) (one_end print_call result) x y
+    → OnOk result (IsReady ledger (see y).told (see y).clock)
+ready_print see text ledger (Ok over) x y ready does = record {
+  usable = ready.usable;
+  stands = stands_on (print_acts text) ledger.journal.standing ledger.journal.standing ledger.account.state ledger.account.state (see x) (see y)
+      (print_at text ledger.journal.standing ledger.account.state) ready.stands does;
+}
+ready_print see text ledger (Err exit) x y ready does = tt
+
+-- ---- over calls of the device
+
+same_files : (s : Standing) (a : State) (old new : Told) → Keeps old new → IsAt s a old.here → IsAt s a new.here
+same_files s a old new keeps at = subst (λ (l : Left). IsAt s a l) (sym keeps.here) (record { recovers = at.recovers; position = at.position })
+
+pub calls_at : (calls : List DeviceCall) (s : Standing) (a : State) (t : Told) → IsAt s a t.here → IsAt s a (after_acts (acts_of calls) t).here
+calls_at calls s a t at = same_files s a t (after_acts (acts_of calls) t) (calls_keep calls t) at
+
+pub stands_called : {X : Type 0} (see : X → Seen) (calls : Told → List DeviceCall) (s : Standing) (a : State) (x y : X) → Relates Keeps (see x).told (see y).told → IfSome (see x).told (λ t. GoesWell (acts_of (calls t)) (see x) (see y))
+    → Stands s a (see x).told (see x).clock → Stands s a (see y).told (see y).clock
+stands_called see calls s a x y kept does stands = by (see x).told refl kept does stands
+  where
+    by : (o : Option Told) → (see x).told ≡ o → Relates Keeps o (see y).told → IfSome o (λ t. GoesWell (acts_of (calls t)) (see x) (see y)) → Stands s a o (see x).clock → Stands s a (see y).told (see y).clock
+    by None is kept does st = subst (λ (o : Option Told). Stands s a o (see y).clock) (sym kept) tt
+    by (Some t) is kept does st =
+        stands_on (acts_of (calls t)) s s a a (see x) (see y) (calls_at (calls t) s a) (subst (λ (o : Option Told). Stands s a o (see x).clock) (sym is) st) does
+
+pub ready_called : {X : Type 0} (see : X → Seen) (calls : Told → List DeviceCall) (ledger : Ledger) (x y : X) → Relates Keeps (see x).told (see y).told → IfSome (see x).told (λ t. GoesWell (acts_of (calls t)) (see x) (see y))
+    → IsReady ledger (see x).told (see x).clock → IsReady ledger (see y).told (see y).clock
+ready_called see calls ledger x y kept does ready = record {
+  usable = ready.usable;
+  stands = stands_called see calls ledger.journal.standing ledger.account.state x y kept does ready.stands;
+}
+
+pub ready_put : {X : Type 0} (see : X → Seen) (call : DeviceCall) (ledger : Ledger) (x y : X) → GoesWell (acts_of (call ∷ [])) (see x) (see y) → IsReady ledger (see x).told (see x).clock → IsReady ledger (see y).told (see y).clock
+ready_put see call ledger x y does ready = record {
+  usable = ready.usable;
+  stands = stands_on (acts_of (call ∷ [])) ledger.journal.standing ledger.journal.standing ledger.account.state ledger.account.state (see x) (see y)
+      (calls_at (call ∷ []) ledger.journal.standing ledger.account.state) ready.stands does;
+}

@@ -1,4 +1,3 @@
-pub mod LaterKinds
 pub mod Files
 pub mod Places
 pub mod Status
@@ -7,3 +6,4 @@ pub mod Moments
 pub mod Taking
 pub mod LineCalls
 pub mod LineActs
+pub mod Clearing

@@ -8,22 +8,24 @@ use Rattle.ras_facts.specs.declared.entry.Entry.{Entry}
 use Rattle.ras_recover.specs.OpeningCalls.{IsRecoveryOf}
 use Rattle.ras_ledger.specs.KeepingCalls.{IsKeeping}
 use Rattle.ras_events.specs.declared.event.Event.{Event}
-use Rattle.ras_events.specs.declared.event.Event.TheVariants.{Counted, Reopened}
+use Rattle.ras_events.specs.declared.event.Event.TheVariants.{Counted, Polled, Reopened}
 use Rattle.ras_events.specs.declared.event.LineRefusal.{LineRefusal}
 use Rattle.ras_events.specs.Making.{entries_in}
 use Rattle.ras_events.specs.Reports.{Place, event_at}
-use Rattle.ras_run.specs.Places.{Start, account_at}
+use Rattle.ras_run.specs.Places.{Start, account_at, polled_at}
 
 -- news are kept as one link, and no news need no call
 abbrev pub AreNewsCalls : List Entry → List DiskCall → Type 0
 AreNewsCalls [] calls = calls ≡ []
 AreNewsCalls (entry ∷ entries) calls = IsKeeping (link_bytes (entry ∷ entries)) calls
 
--- Of an event its news are kept. A journal that is opened again is recovered, and all that counts of
+-- Of an event and of a poll the news are kept. A journal that is opened again is recovered, and all that counts of
 -- the files here is read. Any other line makes no disk call.
 abbrev pub AreEventCalls : Start → Place → Left → Result Event LineRefusal → List DiskCall → Type 0
 AreEventCalls start place here (Ok (Counted made)) calls =
     AreNewsCalls (fresh_entries_in (account_at start place.0) (entries_in made)) calls
+AreEventCalls start place here (Ok (Polled seconds)) calls =
+    AreNewsCalls (fresh_entries_in (account_at start place.0) (entries_in (polled_at start place.0 seconds))) calls
 AreEventCalls start place here (Ok Reopened) calls = IsRecoveryOf here calls
 AreEventCalls start place here event calls = calls ≡ []
 

@@ -9,6 +9,8 @@ use Rattle.ras_events.specs.declared.event.Event.TheVariants.{Put, Saved, Polled
 use Rattle.ras_events.specs.declared.event.LineRefusal.{LineRefusal}
 use Rattle.ras_events.specs.Reports.{Place, event_at}
 use Rattle.ras_events.specs.Stores.{store_with, unreadable, without_first}
+use Rattle.ras_exit.specs.declared.exit.Exit.{Exit}
+use Rattle.ras_exit.specs.declared.exit.Exit.TheVariants.{ErstBusy}
 use Rattle.ras_run.specs.Output.{done_at, text_at}
 use Rattle.ras_run.specs.Places.{Start, account_at, store_at}
 
@@ -69,6 +71,12 @@ stored_by event store = store
 abbrev pub clears_store : Result Event LineRefusal → Bool
 clears_store (Ok (Polled seconds)) = true
 clears_store event = false
+
+-- The store that a line leaves if it is refused: a device that was busy for too long has the record that
+-- it was to save even so.
+abbrev pub refused_store : Exit → Result Event LineRefusal → List Stored → List Stored
+refused_store ErstBusy event store = stored_by event store
+refused_store exit event store = store
 
 -- how a line goes at its place
 abbrev pub course_at : Start → Place → Course

@@ -11,7 +11,9 @@ use Rattle.ras_account.specs.Numbers.{are_past, fresh_entries_in, numbers_with}
 use Rattle.journal_format.specs.Links.{link_bytes}
 use Rattle.ras_journal.specs.declared.standing.Standing.{Standing}
 use Rattle.ras_ledger.specs.Keeping.{lacks_room, standing_kept}
-use Rattle.ras_events.specs.Reports.{NumberedLine, Place, entries_at, reports}
+use Rattle.ras_events.specs.declared.made.Piece.{Piece}
+use Rattle.ras_events.specs.Making.{polled}
+use Rattle.ras_events.specs.Reports.{NumberedLine, Place, entries_at, reports, settings_told}
 use Rattle.ras_events.specs.Stores.{laid}
 
 -- where a run begins: the account that its journal holds, and where the journal stands; the record
@@ -28,6 +30,10 @@ account_at start before = account_after_all start.account (reports start.store b
 
 abbrev pub store_at : Start → List NumberedLine → List Stored
 store_at start before = laid start.store before
+
+-- what a poll makes behind lines, at a time in seconds
+abbrev pub polled_at : Start → List NumberedLine → ℕ → List Piece
+polled_at start before seconds = polled (settings_told before).topology seconds (store_at start before)
 
 -- where the journal stands once the news of an event are kept after an account: news are one link,
 -- and no news are none

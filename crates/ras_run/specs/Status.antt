@@ -2,18 +2,24 @@
 use Rattle.std.specs.Prelude.{ℕ, List, [], ◌∷◌, Option, None, Some, Result, Ok, Err, is_some, if◌then◌else◌}
 use Rattle.std.specs.Option.{option_map}
 use Rattle.erst_store.specs.declared.store.PutRefused.{PutRefused}
-use Rattle.erst_store.specs.Store.{refusal_of}
-use Rattle.ras_script.specs.declared.line.LineRefused.TheVariants.{Kind}
+use Rattle.erst_store.specs.Store.{Stored, is_full_for, refusal_of}
+use Rattle.erst_driver.specs.declared.refusals.DriverRefused.{DriverRefused}
+use Rattle.erst_driver.specs.declared.refusals.DriverRefused.TheVariants as driver
+use Rattle.erst_driver.specs.Operations.{is_free_in_time}
+use Rattle.ras_account.specs.Account.{State}
+use Rattle.ras_facts.specs.declared.entry.Entry.{Entry}
+use Rattle.ras_journal.specs.declared.standing.Standing.{Standing}
 use Rattle.ras_events.specs.declared.event.Event.{Event}
 use Rattle.ras_events.specs.declared.event.Event.TheVariants.{Counted, Put, Saved, Polled}
 use Rattle.ras_events.specs.declared.event.LineRefusal.{LineRefusal}
 use Rattle.ras_events.specs.declared.event.LineRefusal.TheVariants.{Bad, NoTable}
 use Rattle.ras_events.specs.Making.{entries_in}
 use Rattle.ras_events.specs.Reports.{Place, event_at}
+use Rattle.ras_records.specs.Polls.{is_busy_for_reads}
 use Rattle.ras_exit.specs.declared.reason.Reason.TheVariants as reason
 use Rattle.ras_exit.specs.declared.exit.Exit.{Exit}
-use Rattle.ras_exit.specs.declared.exit.Exit.TheVariants.{BadLine, Full, ErstRefused}
-use Rattle.ras_run.specs.Places.{Start, account_at, has_no_room_for, standing_at, store_at}
+use Rattle.ras_exit.specs.declared.exit.Exit.TheVariants.{BadLine, RegisterFault, Full, ErstRefused, ErstBusy, ErstStatus, NoMemory}
+use Rattle.ras_run.specs.Places.{Start, account_at, has_no_room_for, polled_at, standing_at, store_at}
 
 -- how a run ends at a line that is refused by what it asks for
 abbrev pub refused_exit : ℕ → LineRefusal → Exit
@@ -24,17 +30,42 @@ refused_exit number NoTable = ErstRefused number
 abbrev pub put_refusal : ℕ → Option PutRefused → Option Exit
 put_refusal number refusal = option_map (λ why. BadLine number (reason.Put why)) refusal
 
+-- How it ends at a record that can't be saved under an identifier: the device is too slow, or the
+-- store is full and has none under it.
+abbrev pub saving_refusal : ℕ → ℕ → List Stored → Option Exit
+saving_refusal slow id store =
+    if is_free_in_time slow then (if is_full_for id store then Some (ErstStatus 1) else None) else Some ErstBusy
+
+-- how it ends at an operation that the driver of the record store refuses
+abbrev pub driver_exit : DriverRefused → Exit
+driver_exit driver.Register = RegisterFault
+driver_exit driver.Busy = ErstBusy
+driver_exit (driver.Status code) = ErstStatus code
+driver_exit driver.NoMemory = NoMemory
+
+-- how it ends at entries for which there is no room
+abbrev pub counting_refusal : State → Standing → List Entry → Option Exit
+counting_refusal account standing entries = if has_no_room_for account standing entries then Some Full else None
+
+-- How it ends at a poll: the device is too slow for the store's records to be read, or there is no
+-- room for what is made of them.
+abbrev pub polling_refusal : ℕ → List Stored → State → Standing → List Entry → Option Exit
+polling_refusal slow store account standing entries =
+    if is_busy_for_reads slow store then Some ErstBusy else counting_refusal account standing entries
+
 -- Why a line is refused at its place, if it is: it can't be read, or what it asks for can't be
--- done; there is no room for what it reports; or the record store refuses the record that it puts.
--- A run doesn't write records or poll them yet: the lines that ask for it are of no kind.
+-- done; there is no room for what it reports; the record store refuses the record that it puts or
+-- saves, or its device is too slow.
 abbrev pub event_refusal : Start → Place → Result Event LineRefusal → Option Exit
 event_refusal start (before, (number, line)) (Err why) = Some (refused_exit number why)
 event_refusal start (before, (number, line)) (Ok (Counted made)) =
-    if has_no_room_for (account_at start before) (standing_at start before) (entries_in made) then Some Full else None
+    counting_refusal (account_at start before) (standing_at start before) (entries_in made)
 event_refusal start (before, (number, line)) (Ok (Put id bytes)) =
     put_refusal number (refusal_of id bytes (store_at start before))
-event_refusal start (before, (number, line)) (Ok (Saved id bytes)) = Some (BadLine number (reason.Line Kind))
-event_refusal start (before, (number, line)) (Ok (Polled seconds)) = Some (BadLine number (reason.Line Kind))
+event_refusal start (before, (number, line)) (Ok (Saved id bytes)) = saving_refusal start.slow id (store_at start before)
+event_refusal start (before, (number, line)) (Ok (Polled seconds)) =
+    polling_refusal start.slow (store_at start before) (account_at start before) (standing_at start before)
+    (entries_in (polled_at start before seconds))
 event_refusal start place (Ok event) = None
 
 abbrev pub refusal_at : Start → Place → Option Exit

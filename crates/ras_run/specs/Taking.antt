@@ -1,11 +1,9 @@
 -- How far a run has come, and how each part of it ends.
-use Rattle.std.specs.Prelude.{◌≡◌, ℕ, ◌⊎◌, Bool, true, false, List, [], ◌∷◌, ◌++◌, Option, None, Some, Result, Ok, Err, IfOk, ⊤}
-use Rattle.board_core.specs.Cause.{Kind, device_call, disk_call, print_call}
+use Rattle.std.specs.Prelude.{◌≡◌, ℕ, Bool, true, false, List, [], ◌∷◌, ◌++◌, Option, None, Some, Result, Ok, Err, ⊤}
+use Rattle.board_core.specs.Cause.{disk_call, print_call}
 use Rattle.board_core.specs.Clock.{Clock}
 use Rattle.board_core.specs.Stop.{Left}
 use Rattle.board_core.specs.Told.{Told}
-use Rattle.erst_store.specs.declared.store.PutRefused.{PutRefused}
-use Rattle.erst_store.specs.Store.{refusal_of}
 use Rattle.ras_account.specs.Account.{State}
 use Rattle.ras_account.specs.Continued.{account_after_all}
 use Rattle.ras_account.specs.Numbers.{fresh_entries_in}
@@ -18,19 +16,18 @@ use Rattle.ras_recover.specs.declared.refused.OpenRefused.TheVariants as opening
 use Rattle.ras_ledger.specs.declared.ledger.Ledger.{Ledger}
 use Rattle.ras_ledger.specs.Keeping.{Stands}
 use Rattle.ras_events.specs.declared.preparing.News.{News}
-use Rattle.ras_events.specs.declared.event.Event.TheVariants.{Put}
 use Rattle.ras_events.specs.declared.made.Piece.{Piece}
 use Rattle.ras_events.specs.Making.{entries_in}
-use Rattle.ras_events.specs.Reports.{NumberedLine, Place, event_at, settings_told}
-use Rattle.ras_events.specs.Sizes.{IsFitEvent}
+use Rattle.ras_events.specs.Reports.{NumberedLine, Place, pieces_at, settings_told}
+use Rattle.ras_events.specs.Sizes.{IsFit}
 use Rattle.ras_exit.specs.declared.exit.Exit.{Exit}
 use Rattle.ras_exit.specs.declared.exit.Exit.TheVariants.{DiskFault, Damaged, Full, NoMemory, TooLong}
 use Rattle.ras_exit.specs.Endings.{AnyFault, EndsBy, OnlyFault, ending_of}
 use Rattle.ras_run.specs.declared.run.Run.{Run}
 use Rattle.ras_run.specs.Files.{refusal_exit}
 use Rattle.ras_run.specs.Moments.{CourseMoment, course_at}
-use Rattle.ras_run.specs.Places.{Start, account_at, has_no_room_for, lacks_room_for, standing_at, standing_with_news, store_at}
-use Rattle.ras_run.specs.Status.{put_refusal, refusal_at}
+use Rattle.ras_run.specs.Places.{Start, account_at, has_no_room_for, lacks_room_for, standing_at, standing_with_news}
+use Rattle.ras_run.specs.Status.{refusal_at}
 
 -- What a run has at hand after these lines: what they told of the machine, and the account of what
 -- was reported with its journal.
@@ -61,39 +58,24 @@ IsPrintExit exit = EndsBy ⊥ ⊤ (OnlyFault print_call) (ending_of exit)
 -- a line is accepted at its place: it isn't refused, and what it makes can be one link
 pub record IsAccepted (start : Start) (place : Place) : Type 0 where
   pub taken : refusal_at start place ≡ None
-  pub fit : IfOk (event_at place) IsFitEvent
-
--- it puts a record that the record store refuses
-pub record IsRefusedPut (start : Start) (place : Place) : Type 0 where
-  pub id : ℕ
-  pub bytes : List ℕ
-  pub why : PutRefused
-  pub event : event_at place ≡ Ok (Put id bytes)
-  pub refused : refusal_of id bytes (store_at start place.0) ≡ Some why
-
--- A call of the board can fail at a line that is accepted. The device can also fail at a put that
--- the store would refuse.
-abbrev pub MayFail : Start → Place → Kind → Type 0
-MayFail start place kind = IsAccepted start place ⊎ ((kind ≡ device_call) × IsRefusedPut start place)
+  pub fit : IsFit (pieces_at start.store place)
 
 -- A line was taken at its place, or the run ends there: the line is refused, or memory ran out, or a
 -- call of the board failed.
 abbrev pub TakesLine : Start → Place → Result (Unit {0}) Exit → Run → Type 0
 TakesLine start place (Ok done) run = IsAccepted start place × IsRunAfter start (place.0 ++ place.1 ∷ []) run
-TakesLine start place (Err exit) run =
-    EndsBy (refusal_at start place ≡ Some exit) ⊤ (MayFail start place) (ending_of exit)
+TakesLine start place (Err exit) run = EndsBy (refusal_at start place ≡ Some exit) ⊤ AnyFault (ending_of exit)
 
 -- what a stop leaves while a line is taken over this
 abbrev pub LineMoment : Start → Place → Left → Left → Type 0
 LineMoment start place here left = CourseMoment (IsAccepted start place) (course_at start place) here.out left
 
--- ---- a put
+-- ---- a record that is put or saved
 
--- It is taken exactly if the store doesn't refuse the record, and so is its done line printed.
-abbrev pub EndsPut : ℕ → Result (Unit {0}) Exit → Option PutRefused → Type 0
-EndsPut number (Ok done) refusal = refusal ≡ None
-EndsPut number (Err exit) refusal =
-    EndsBy (put_refusal number refusal ≡ Some exit) ⊤ (λ kind. (kind ≡ device_call) ⊎ (refusal ≡ None)) (ending_of exit)
+-- A part is done exactly if it isn't refused.
+abbrev pub EndsUnless : Option Exit → Result (Unit {0}) Exit → Type 0
+EndsUnless refusal (Ok done) = refusal ≡ None
+EndsUnless refusal (Err exit) = EndsBy (refusal ≡ Some exit) ⊤ AnyFault (ending_of exit)
 
 -- ---- the news of an event, kept in the journal and counted
 
@@ -123,6 +105,15 @@ CountsMade made (Ok done) old new =
     × (new.journal.standing
     ≡ standing_with_news old.account.state old.journal.standing (fresh_entries_in old.account.state (entries_in made)))
 CountsMade made (Err exit) old new = EndsByRoom (has_no_room_for old.account.state old.journal.standing (entries_in made)) exit
+
+-- The same of what a poll makes, if the poll isn't refused.
+abbrev pub CountsPolled : Option Exit → List Piece → Result (Unit {0}) Exit → Ledger → Ledger → Type 0
+CountsPolled refusal made (Ok done) old new =
+    (refusal ≡ None) × IsFit made
+    × (new.account.state ≡ account_after_all old.account.state (entries_in made))
+    × (new.journal.standing
+    ≡ standing_with_news old.account.state old.journal.standing (fresh_entries_in old.account.state (entries_in made)))
+CountsPolled refusal made (Err exit) old new = EndsBy (refusal ≡ Some exit) ⊤ AnyFault (ending_of exit)
 
 -- ---- an opening
 

@@ -3,10 +3,11 @@
 #![tactic(auto)]
 
 mod counting;
-mod later_kinds;
+mod driving;
 mod laws;
 mod line;
 mod opening;
+mod polling;
 mod printing;
 mod putting;
 mod run;

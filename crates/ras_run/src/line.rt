@@ -1,14 +1,15 @@
 //! A line of a script, taken whole.
 
-ghost use Rattle.std.specs.Prelude.{◌≡◌, ◌≤◌, ◌++◌, List, false, length, IfErr, OnOk, Some};
+ghost use Rattle.std.specs.Prelude.{◌≡◌, ◌≤◌, ◌++◌, List, false, length, None, Some};
+ghost use Rattle.std.specs.Prelude.{IfErr, MatchResult, OnOk};
 ghost use Rattle.board_core.specs.Doing.{Does, looks};
 ghost use Rattle.board_core.specs.Told.{Told};
 ghost use Rattle.ras_events.specs.Reports.{NumberedLine};
+ghost use Rattle.ras_script.specs.Line.{line_of};
 ghost use Rattle.ras_script.specs.declared.reader.TheConstants.{LONGEST_LINE};
 ghost use Rattle.ras_exit.specs.Acts.{part_end};
 ghost use Rattle.ras_exit.specs.Causes.{BoardCause, Causes};
 ghost use Rattle.ras_exit.specs.Endings.{IsStop};
-ghost use Rattle.ras_run.specs.LaterKinds.{taken_line};
 ghost use Rattle.ras_run.specs.LineActs.{DoesLine, DoesReopening, event_prints};
 ghost use Rattle.ras_run.specs.Places.{IsBoardAfter, Start};
 ghost use Rattle.ras_run.specs.Status.{refused_exit};
@@ -18,30 +19,33 @@ ghost use Rattle.ras_texts.specs.Text.{known_line};
 
 use crate::Run;
 use crate::counting::take_made;
-use crate::later_kinds::read_taken_line;
 use crate::opening::open;
+use crate::polling::poll_store;
 use crate::printing::print_event;
-use crate::putting::put_record;
+use crate::putting::{put_record, save_record};
 use board_core::Board;
+use erst_driver::Driver;
 use ras_account::Account;
-use ras_events::{Event, EventRefused, LineRefusal};
+use ras_events::{Event, EventRefused, LineRefusal, Settings};
 use ras_exit::Exit;
 use ras_facts::Name;
 use ras_ledger::Ledger;
-use ras_script::LineRefused;
+use ras_script::read_line;
 use ras_texts::{done_line, push_done, push_known, standing_lines};
 use std::alloc::Global;
 
 /// Takes the line of this number: what it tells of the machine from now on, what it reports, the
-/// record that it puts into the record store, or that the journal is to be opened again. It prints
-/// the event's text and its done line; a line without words and a comment are no event, and print
-/// nothing.
+/// record that it puts into the record store or saves there, that the store is to be polled, or
+/// that the journal is to be opened again. It prints the event's text and its done line; a line
+/// without words and a comment are no event, and print nothing.
 ///
 /// # Errors
 ///
 /// `BadLine` and `ErstRefused` come exactly if the line is refused at its place, and `Full` exactly
-/// if there is no room for what it reports; then nothing was done. `DiskFault`, `RegisterFault` and
-/// `PrintFault` come only if such a call failed, and `NoMemory` only if memory runs out.
+/// if there is no room for what it reports; then nothing was kept. `ErstBusy` and `ErstStatus` come
+/// exactly if the record store's device is too slow, or the store has no room for the record of a
+/// panic. `DiskFault`, `RegisterFault` and `PrintFault` come only if such a call failed, and
+/// `NoMemory` only if memory runs out.
 pub fn take_line<B: Board>(
     alloc: Global,
     number: u64,
@@ -55,17 +59,17 @@ pub fn take_line<B: Board>(
 
     ensures takes { (start : Start) (before : List NumberedLine) → IsRunAfter start before run.old
         → (t : Told) → B.told board.old ≡ Some t → IsBoardAfter start before t
-        → TakesLine start (before, (number, taken_line bytes.now)) result run.new }
+        → TakesLine start (before, (number, line_of bytes.now)) result run.new }
     ensures does { (start : Start) (before : List NumberedLine) → IsRunAfter start before run.old
         → (t : Told) → B.told board.old ≡ Some t → IsBoardAfter start before t
-        → DoesLine (looks B.told B.clock B.faults) start (before, (number, taken_line bytes.now))
+        → DoesLine (looks B.told B.clock B.faults) start (before, (number, line_of bytes.now))
         t result board.old board.new }
     ensures ready { OnOk result
         (IsReady run.new.ledger (B.told board.new) (B.clock board.new)) }
     ensures stop { IfErr result IsStop }
     ensures faults { Causes BoardCause result (B.faults board.old) (B.faults board.new) }
 {
-    let line = match read_taken_line(alloc, bytes) {
+    let line = match read_line(alloc, bytes) {
         Ok(line) => line,
         Err(refused) => return Err(Exit::of_unread(number, refused)),
     };
@@ -82,10 +86,35 @@ pub fn take_line<B: Board>(
         Event::Settled => end_event(alloc, number, &[], board),
         Event::Counted(made) => take_made(alloc, number, made, &mut run.ledger, board),
         Event::Put { id, bytes } => put_record(alloc, number, id, bytes.bytes(), board),
-        Event::Reopened => reopen(alloc, number, &mut run.ledger, board),
-        Event::Saved { .. } | Event::Polled { .. } => {
-            Err(Exit::of_unread(number, LineRefused::Kind))
+        Event::Saved { id, bytes } => {
+            let driver = driver_of(&run.settings, number)?;
+            save_record(alloc, number, id, &bytes, driver, board)
         }
+        Event::Polled { seconds } => {
+            let settings = &run.settings;
+            let driver = driver_of(settings, number)?;
+            poll_store(
+                alloc,
+                number,
+                seconds,
+                driver,
+                &settings.topology,
+                &mut run.ledger,
+                board,
+            )
+        }
+        Event::Reopened => reopen(alloc, number, &mut run.ledger, board),
+    }
+}
+
+// The driver of the record store, for the line of this number.
+fn driver_of(settings: &Settings, line: u64) -> Result<&Driver, Exit>
+    ensures { MatchResult result (λ driver. settings.now.driver ≡ Some driver.now)
+        (λ exit. (exit ≡ Exit.ErstRefused line) × (settings.now.driver ≡ None)) }
+{
+    match &settings.driver {
+        Some(driver) => Ok(driver),
+        None => Err(Exit::ErstRefused { line }),
     }
 }
 

@@ -1,15 +1,28 @@
-//! A record that a line puts into the record store.
+//! A record that a line puts into the record store, or saves there.
 
-ghost use Rattle.std.specs.Prelude.{IfErr, IfSome};
-ghost use Rattle.board_core.specs.Doing.{looks};
+ghost use Rattle.std.specs.Prelude.{◌≡◌, ◌∷◌, [], None, Some, IfErr, IfSome, OnOk};
+ghost use Rattle.board_core.specs.Doing.{device, looks, put};
+ghost use Rattle.board_core.specs.Told.{Told, device_of};
+ghost use Rattle.erst_driver.specs.Operations.{write_calls};
+ghost use Rattle.erst_interp.specs.Run.{acts_of};
+ghost use Rattle.erst_store.specs.DeviceLaws.{IsDevice};
 ghost use Rattle.erst_store.specs.Store.{refusal_of};
+ghost use Rattle.ras_events.specs.Sizes.{CanBeSaved};
+ghost use Rattle.ras_exit.specs.Acts.{print_acts};
+ghost use Rattle.ras_exit.specs.Causes.{BoardCause, Causes};
 ghost use Rattle.ras_exit.specs.Endings.{IsStop};
-ghost use Rattle.ras_run.specs.LineActs.{DoesPut};
-ghost use Rattle.ras_run.specs.Taking.{EndsPut};
+ghost use Rattle.ras_ledger.specs.declared.ledger.Ledger.{Ledger};
+ghost use Rattle.ras_run.specs.LineActs.{DoesAsking};
+ghost use Rattle.ras_run.specs.Status.{put_refusal, saving_refusal};
+ghost use Rattle.ras_run.specs.Taking.{EndsUnless, IsReady};
+ghost use Rattle.ras_texts.specs.Text.{done_line};
 
+use crate::driving::driver_exit;
 use board_core::{Board, BoardPut, put};
+use erst_driver::Driver;
 use erst_store::PutRefused;
 use ras_exit::{Exit, Reason, print};
+use ras_records::save;
 use ras_texts::done_line;
 use std::alloc::Global;
 
@@ -29,10 +42,16 @@ pub(crate) fn put_record<B: Board>(
     board: &mut B,
 ) -> Result<(), Exit>
     ensures ends { IfSome (B.told board.old)
-        (λ t. EndsPut number result (refusal_of id bytes.now t.here.store)) }
-    ensures does { DoesPut (looks B.told B.clock B.faults) number id bytes.now result
+        (λ t. EndsUnless (put_refusal number (refusal_of id bytes.now t.here.store)) result) }
+    ensures does { (t : Told) → B.told board.old ≡ Some t
+        → DoesAsking (looks B.told B.clock B.faults) (Unit {0})
+        (refusal_of id bytes.now t.here.store ≡ None)
+        (device (put id bytes.now) ∷ []) (print_acts (done_line number)) result
         board.old board.new }
+    ensures ready { (ledger : Ledger) → IsReady ledger (B.told board.old) (B.clock board.old)
+        → OnOk result (IsReady ledger (B.told board.new) (B.clock board.new)) }
     ensures stop { IfErr result IsStop }
+    ensures faults { Causes BoardCause result (B.faults board.old) (B.faults board.new) }
 {
     let done = done_line(alloc, number)?;
     match put(id, bytes, board) {
@@ -43,5 +62,43 @@ pub(crate) fn put_record<B: Board>(
             reason: Reason::Put(refused),
         }),
         Err(BoardPut::Failed) => Err(Exit::RegisterFault),
+    }
+}
+
+/// Saves the record of a panic in the record store, by the line of this number and the table that
+/// drives the store, and then prints the done line, whose memory is taken before the first call.
+///
+/// # Errors
+///
+/// `ErstBusy` comes if the device is too slow, and the record is in the store even so; and
+/// `ErstStatus(1)` if the store is full and has no record under its identifier. `NoMemory` comes
+/// only if memory runs out, before the first call. `RegisterFault` comes only if a call of the
+/// device failed; then the record was put or wasn't. `PrintFault` comes only if printing failed,
+/// after the record was saved.
+pub(crate) fn save_record<B: Board>(
+    alloc: Global,
+    number: u64,
+    id: u64,
+    bytes: &[u8; 456],
+    driver: &Driver,
+    board: &mut B,
+) -> Result<(), Exit>
+    requires { CanBeSaved id bytes.now }
+    ensures ends { IfSome (B.told board.old)
+        (λ t. EndsUnless (saving_refusal t.volatile.slow id t.here.store) result) }
+    ensures does { (t : Told) → B.told board.old ≡ Some t
+        → DoesAsking (looks B.told B.clock B.faults) (IsDevice (device_of t))
+        (saving_refusal t.volatile.slow id t.here.store ≡ None)
+        (acts_of (write_calls driver.now bytes.now (device_of t)))
+        (print_acts (done_line number)) result board.old board.new }
+    ensures ready { (ledger : Ledger) → IsReady ledger (B.told board.old) (B.clock board.old)
+        → OnOk result (IsReady ledger (B.told board.new) (B.clock board.new)) }
+    ensures stop { IfErr result IsStop }
+    ensures faults { Causes BoardCause result (B.faults board.old) (B.faults board.new) }
+{
+    let done = done_line(alloc, number)?;
+    match save(driver, bytes, board) {
+        Ok(()) => print(&done, board),
+        Err(refused) => Err(driver_exit(refused)),
     }
 }

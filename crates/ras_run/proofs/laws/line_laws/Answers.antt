@@ -1,5 +1,5 @@
-use Rattle.ras_run.proofs.LineLawLemmas.{line_calls, line_holds, line_moment, line_off, line_out, line_still}
-use Rattle.ras_run.proofs.LineLemmas.{some_acts}
+use Rattle.ras_run.proofs.LineLawLemmas.{asking_moment, line_calls, line_holds, line_moment, line_out, line_still}
+use Rattle.ras_run.proofs.SomeActLemmas.{some_acts}
 use Rattle.ras_run.proofs.laws.line_laws.Goals as goal
 
 pub returns-clause-prints : goal.returns-clause-prints
@@ -11,14 +11,14 @@ returns-clause-calls c = line_calls
 pub returns-clause-refused : goal.returns-clause-refused
 returns-clause-refused c = line_still
 
-pub returns-clause-device : goal.returns-clause-device
-returns-clause-device c = line_off
-
 pub returns-clause-some : goal.returns-clause-some
 returns-clause-some c = some_acts
 
 pub returns-clause-moments : goal.returns-clause-moments
-returns-clause-moments c = λ start place t acts left fit holds are moment. line_moment start place.0 place.1.0 place.1.1 t holds acts are fit left moment
+returns-clause-moments c = λ start place t acts left accepted can holds are moment. line_moment start place.0 place.1.0 place.1.1 t holds can acts are accepted left moment
+
+pub returns-clause-asking : goal.returns-clause-asking
+returns-clause-asking c = λ start place t left can holds moment. asking_moment start place.0 place.1.0 place.1.1 t holds can left moment
 
 pub returns-clause-done : goal.returns-clause-done
-returns-clause-done c = λ start place t acts accepted holds are. line_holds start place.0 place.1.0 place.1.1 t holds acts are accepted
+returns-clause-done c = λ start place t acts accepted can holds are. line_holds start place.0 place.1.0 place.1.1 t holds can acts are accepted

@@ -1,0 +1,107 @@
+-- Records that a poll could read are cleared, between two prints.
+use Rattle.std.proofs.Common.{◌≡◌, ◌∙◌, ℕ, ◌&&◌, Bool, true, false, not, nat_eq, List, [], ◌∷◌, ◌++◌, length, Some, IfSome, Result, Ok, Err, OnErr, IfErr, arith, refl, sym, ap, subst}
+use Rattle.std.specs.Option.{option_map}
+use Rattle.std.proofs.lemmas.Bool.Decides.{nat_tests}
+use Rattle.board_core.specs.Cause.{device_call, print_call}
+use Rattle.board_core.specs.Device.{KeepsDevice}
+use Rattle.board_core.specs.Doing.{Act, Does, GoesWell, Seen, after_acts, broke, one_end, went_well}
+use Rattle.board_core.specs.Told.{Told}
+use Rattle.board_core.proofs.ActLemmas.{acts_device}
+use Rattle.board_core.proofs.DoingLemmas.{does_first, does_then, made_one}
+use Rattle.erst_store.specs.Device.{Device, device_with}
+use Rattle.erst_store.specs.DeviceLaws.{IsDevice}
+use Rattle.erst_store.specs.Store.{Stored}
+use Rattle.erst_interp.specs.Run.{acts_of}
+use Rattle.erst_driver.specs.declared.refusals.DriverRefused.{DriverRefused}
+use Rattle.erst_driver.specs.declared.refusals.DriverRefused.TheVariants.{Busy, NoMemory, Register, Status as EndedWith}
+use Rattle.erst_driver.specs.Answers.{Gives, IsAnswered, refusal_end}
+use Rattle.erst_driver.specs.Operations.{clear_calls, is_free_in_time}
+use Rattle.erst_driver.proofs.DoesLemmas.{at_told}
+use Rattle.ras_events.specs.Events.{Lists}
+use Rattle.ras_exit.specs.declared.exit.Exit.{Exit}
+use Rattle.ras_exit.specs.declared.exit.Exit.TheVariants.{PrintFault}
+use Rattle.ras_exit.specs.Acts.{part_end, print_acts}
+use Rattle.ras_exit.specs.Endings.{AnyFault, EndsBy, ending_of}
+use Rattle.ras_exit.proofs.PrintLemmas.{as_part}
+use Rattle.ras_records.specs.Each.{each_answer, each_calls}
+use Rattle.ras_records.specs.Polls.{is_busy_for_reads, readable_ids}
+use Rattle.ras_records.proofs.ClearingLemmas.{clears_answer}
+use Rattle.ras_run.specs.Clearing.{CanClear, clearing_acts}
+use Rattle.ras_run.specs.Status.{driver_exit}
+use Rattle.ras_run.proofs.PrintActLemmas.{print_off}
+
+none_readable : (store : List Stored) → nat_eq (length store) 0 ≡ true → readable_ids store ≡ []
+none_readable [] is = refl
+none_readable (r ∷ rs) is = absurd (grind (arith, nat_tests))
+
+is_true : (b : Bool) → not b ≡ false → b ≡ true
+is_true true is = refl
+is_true false is = cc
+
+module _ (lists : Lists) (ids : List ℕ) where
+  -- acts that leave the device alone leave what can be cleared
+  pub clear_kept : (t u : Told) → KeepsDevice t u → CanClear lists ids t → CanClear lists ids u
+  clear_kept t u keeps can = record {
+    admitted = can.admitted;
+    device = subst (λ (d : Device). IsDevice d) (λ i. device_with (sym keeps.store i) (sym keeps.volatile i)) can.device;
+    free = (λ i. is_busy_for_reads (keeps.volatile i).slow (keeps.store i)) ∙ can.free;
+    found = can.found ∙ ap (λ (store : List Stored). readable_ids store) (sym keeps.store);
+  }
+
+  pub clear_answer : (t : Told) → CanClear lists ids t → each_answer (clear_calls lists) ids t ≡ Ok tt
+  clear_answer t can = by (is_free_in_time t.volatile.slow) refl
+    where
+      by : (b : Bool) → is_free_in_time t.volatile.slow ≡ b → each_answer (clear_calls lists) ids t ≡ Ok tt
+      by true is = clears_answer lists can.admitted ids t can.device is (sym can.found)
+      by false is =
+          let busy : not (nat_eq (length t.here.store) 0) ≡ false = subst (λ b. (not b && not (nat_eq (length t.here.store) 0)) ≡ false) is can.free in
+          ap (λ (some : List ℕ). each_answer (clear_calls lists) some t) (can.found ∙ none_readable t.here.store (is_true (nat_eq (length t.here.store) 0) busy))
+
+module _ {X : Type 0} (see : X → Seen) (lists : Lists) (text done ids : List ℕ) (t : Told) (x y : X) (at : (see x).told ≡ Some t) (can : CanClear lists ids t) (printed : GoesWell (print_acts text) (see x) (see y)) where
+  abbrev u : Told
+  u = after_acts (print_acts text) t
+
+  abbrev clears : List Act
+  clears = acts_of (each_calls (clear_calls lists) ids u)
+
+  told_then : (see y).told ≡ Some u
+  told_then = printed.told ∙ ap (option_map (after_acts (print_acts text))) at
+
+  answer_then : each_answer (clear_calls lists) ids u ≡ Ok tt
+  answer_then = clear_answer lists ids u (clear_kept lists ids t u (acts_device (print_acts text) (print_off text) t) can)
+
+  pub cleared_does : (result : Result (Unit {0}) Exit) (z w : X) → IfSome (see y).told (λ v. Does see (acts_of (each_calls (clear_calls lists) ids v)) went_well y z)
+      → OnErr result (result ≡ Err PrintFault) → Does see (print_acts done) (one_end print_call result) z w → Does see (clearing_acts lists text done ids t) (part_end result) x w
+  cleared_does result z w cleared fault last =
+      as_part see (clearing_acts lists text done ids t) result x w fault
+      (does_then see (print_acts text) (clears ++ print_acts done) (one_end print_call result) x y w printed (made_one print_call result)
+      (does_then see clears (print_acts done) (one_end print_call result) y z w
+      (at_told (λ v. Does see (acts_of (each_calls (clear_calls lists) ids v)) went_well y z) (see y).told u cleared told_then) (made_one print_call result) last))
+
+  -- the driver refused a clear: then a call of the board failed
+  module _ (why : DriverRefused) (is : IsAnswered {T = Unit {0}} (Err why)) (gives : IfSome (see y).told (λ v. Gives (Err why) (each_answer (clear_calls lists) ids v))) where
+    gives_then : Gives (Err why) (each_answer (clear_calls lists) ids u)
+    gives_then = at_told (λ v. Gives (Err why) (each_answer (clear_calls lists) ids v)) (see y).told u gives told_then
+
+    pub failed_does : (z : X) → IfSome (see y).told (λ v. Does see (acts_of (each_calls (clear_calls lists) ids v)) (refusal_end why) y z) → Does see (clearing_acts lists text done ids t) (part_end {T = Unit {0}} (Err (driver_exit why))) x z
+    failed_does z does = by why is gives_then (at_told (λ v. Does see (acts_of (each_calls (clear_calls lists) ids v)) (refusal_end why) y z) (see y).told u does told_then)
+      where
+        by : (w : DriverRefused) → IsAnswered {T = Unit {0}} (Err w) → Gives (Err w) (each_answer (clear_calls lists) ids u) → Does see clears (refusal_end w) y z → Does see (clearing_acts lists text done ids t) (part_end {T = Unit {0}} (Err (driver_exit w))) x z
+        by Register a g d = does_then see (print_acts text) (clears ++ print_acts done) (broke device_call) x y z printed tt (does_first see clears (print_acts done) (broke device_call) y z tt d)
+        by Busy a g d = absurd (let is : each_answer (clear_calls lists) ids u ≡ Ok tt = answer_then in cc)
+        by (EndedWith code) a g d = absurd (let is : each_answer (clear_calls lists) ids u ≡ Ok tt = answer_then in cc)
+        by NoMemory a g d = absurd a
+
+    pub failed_ends : EndsBy ⊥ ⊥ AnyFault (ending_of (driver_exit why))
+    failed_ends = by why is gives_then
+      where
+        by : (w : DriverRefused) → IsAnswered {T = Unit {0}} (Err w) → Gives (Err w) (each_answer (clear_calls lists) ids u) → EndsBy ⊥ ⊥ AnyFault (ending_of (driver_exit w))
+        by Register a g = tt
+        by Busy a g = absurd (let is : each_answer (clear_calls lists) ids u ≡ Ok tt = answer_then in cc)
+        by (EndedWith code) a g = absurd (let is : each_answer (clear_calls lists) ids u ≡ Ok tt = answer_then in cc)
+        by NoMemory a g = absurd a
+
+-- printing failed
+pub print_fails : (result : Result (Unit {0}) Exit) → OnErr result (result ≡ Err PrintFault) → IfErr result (λ exit. EndsBy ⊥ ⊥ AnyFault (ending_of exit))
+print_fails (Ok over) is = tt
+print_fails (Err exit) is = subst (λ (r : Result (Unit {0}) Exit). IfErr r (λ exit. EndsBy ⊥ ⊥ AnyFault (ending_of exit))) (sym is) tt

@@ -1,0 +1,76 @@
+-- What stops leave of the prints of a line, as the course of the line has it.
+use Rattle.std.proofs.Common.{◌≡◌, ◌∙◌, ℕ, false, List, [], ◌++◌, if◌then◌else◌, refl, sym, ap, subst, inl, inr, append-nil}
+use Rattle.board_core.specs.Doing.{Moment, after_acts}
+use Rattle.board_core.specs.Stop.{Begins, InOut, Left}
+use Rattle.board_core.specs.Told.{Told}
+use Rattle.board_core.proofs.DoingLemmas.{moment_parts}
+use Rattle.ras_account.specs.Account.{State}
+use Rattle.ras_journal.specs.declared.standing.Standing.{Standing}
+use Rattle.ras_journal.specs.Recovered.{IsAt, Recovers, recovered}
+use Rattle.ras_events.specs.Stores.{unreadable}
+use Rattle.ras_exit.specs.Acts.{print_acts}
+use Rattle.ras_exit.proofs.PrintLemmas.{after_printed, print_moment}
+use Rattle.ras_run.specs.Moments.{Course, CourseMoment, store_left}
+use Rattle.ras_run.proofs.StandsLemmas.{print_at}
+
+-- ---- one print
+
+begun : (piece : List ℕ) (here left : Left) → InOut (Begins piece) here left → Begins piece here.out left.out
+begun piece here left by = record {
+  part = by.step.part;
+  missing = by.step.missing;
+  splits = by.step.splits;
+  is = ap (λ (l : Left). l.out) by.rest ∙ by.step.is;
+}
+
+recovers_printed : (s : Standing) (a : State) (piece : List ℕ → List ℕ → Type 0) (here left : Left) → IsAt s a here → InOut piece here left → Recovers a left
+recovers_printed s a piece here left at by = record { is = ap (λ (l : Left). recovered l.file0 l.file1) by.rest ∙ at.recovers }
+
+pub begins_nothing : (piece : List ℕ) (here left : Left) → left.out ≡ here.out → Begins piece here.out left.out
+begins_nothing piece here left same = record { part = []; missing = piece; splits = refl; is = same ∙ sym (append-nil here.out) }
+
+-- ---- the prints of a line, whose news are kept
+
+module _ (Accepted : Type 0) (accepted : Accepted) (c : Course) (out : List ℕ) (u : Told) (s : Standing) (at : IsAt s c.after u.here) where
+  -- of its text
+  pub text_moment : u.here.store ≡ c.stored → u.here.out ≡ out → (left : Left) → Moment (print_acts c.text) u left → CourseMoment Accepted c out left
+  text_moment store text left moment =
+      let by : InOut (Begins c.text) u.here left = print_moment c.text u left moment in
+      inr (
+        accepted,
+        inl (record {
+          recovers = recovers_printed s c.after (Begins c.text) u.here left at by;
+          store = ap (λ (l : Left). l.store) by.rest ∙ store;
+          text = subst (λ before. Begins c.text before left.out) text (begun c.text u.here left by);
+        }),
+      )
+
+  -- and of its done line, once all is cleared
+  pub done_moment : u.here.store ≡ store_left c → u.here.out ≡ out ++ c.text → (left : Left) → Moment (print_acts c.done) u left → CourseMoment Accepted c out left
+  done_moment store text left moment =
+      let by : InOut (Begins c.done) u.here left = print_moment c.done u left moment in
+      inr (
+        accepted,
+        inr (inr (record {
+          recovers = recovers_printed s c.after (Begins c.done) u.here left at by;
+          store = ap (λ (l : Left). l.store) by.rest ∙ store;
+          text = subst (λ before. Begins c.done before left.out) text (begun c.done u.here left by);
+        })),
+      )
+
+-- of both, if it clears none
+module _ (Accepted : Type 0) (accepted : Accepted) (c : Course) (out : List ℕ) (u : Told) (s : Standing) (at : IsAt s c.after u.here) (store : u.here.store ≡ c.stored) (none : c.clears ≡ false) (text : u.here.out ≡ out) where
+  abbrev printed : Told
+  printed = after_acts (print_acts c.text) u
+
+  store_then : printed.here.store ≡ store_left c
+  store_then = ap (λ (v : Told). v.here.store) (after_printed c.text u) ∙ (store ∙ sym (ap (λ b. if b then unreadable c.stored else c.stored) none))
+
+  text_then : printed.here.out ≡ out ++ c.text
+  text_then = ap (λ (v : Told). v.here.out) (after_printed c.text u) ∙ ap (λ before. before ++ c.text) text
+
+  pub course_prints : (left : Left) → Moment (print_acts c.text ++ print_acts c.done) u left → CourseMoment Accepted c out left
+  course_prints left moment = elim (moment_parts (print_acts c.text) (print_acts c.done) u left moment) [
+    | inl first ↦ text_moment Accepted accepted c out u s at store text left first
+    | inr second ↦ done_moment Accepted accepted c out printed s (print_at c.text s c.after u at) store_then text_then left second
+  ]
