@@ -9,13 +9,13 @@ use Rattle.ras_base.specs.Places.{places, places_behind}
 use Rattle.ras_account.specs.Accounts.{IsAccount}
 use Rattle.ras_events.specs.Reports.{NumberedLine}
 use Rattle.ras_script.specs.declared.reader.TheConstants.{LONGEST_LINE}
+use Rattle.ras_script.specs.Line.{line_of}
 use Rattle.ras_script.specs.Splitting.{lines_of}
 use Rattle.ras_script.specs.SplittingLaws.{script_of}
 use Rattle.ras_texts.specs.Orders.{standing_lines}
 use Rattle.text_laws.specs.DoneLines.{done_count}
 use Rattle.ras_exit.specs.declared.exit.Exit.{Exit}
 use Rattle.ras_exit.specs.declared.exit.Exit.TheVariants.{SourceFault}
-use Rattle.ras_run.specs.LaterKinds.{taken_line}
 use Rattle.ras_run.specs.Places.{Start}
 use Rattle.ras_daemon.specs.Ahead.{TakesAhead, end_of_event, events_in, is_event_line}
 use Rattle.ras_exit.specs.Telling.{PrintsPart}
@@ -75,12 +75,12 @@ ahead_opened Fault start script t u left told same (inr ahead) =
 -- ---- which event isn't done
 
 -- how many lines are events, as lines and at their places
-events-places : (before : List NumberedLine) (n : ℕ) (lines : List (List ℕ)) → events_among (places_behind before (enumerate_from n (map taken_line lines))) ≡ events_in lines
+events-places : (before : List NumberedLine) (n : ℕ) (lines : List (List ℕ)) → events_among (places_behind before (enumerate_from n (map line_of lines))) ≡ events_in lines
 events-places before n [] = refl
-events-places before n (line ∷ lines) = by (is_event_line line) refl (events-places (before ++ (n, taken_line line) ∷ []) (n + 1) lines)
+events-places before n (line ∷ lines) = by (is_event_line line) refl (events-places (before ++ (n, line_of line) ∷ []) (n + 1) lines)
   where
-    by : (t : Bool) → is_event_line line ≡ t → events_among (places_behind (before ++ (n, taken_line line) ∷ []) (enumerate_from (n + 1) (map taken_line lines))) ≡ events_in lines
-        → events_among (places_behind before (enumerate_from n (map taken_line (line ∷ lines)))) ≡ events_in (line ∷ lines)
+    by : (t : Bool) → is_event_line line ≡ t → events_among (places_behind (before ++ (n, line_of line) ∷ []) (enumerate_from (n + 1) (map line_of lines))) ≡ events_in lines
+        → events_among (places_behind before (enumerate_from n (map line_of (line ∷ lines)))) ≡ events_in (line ∷ lines)
     by true is rest = rw is (ap suc rest)
     by false is rest = rw is rest
 

@@ -5,10 +5,12 @@ use Rattle.std.specs.List.{flat_map}
 use Rattle.board_core.specs.Clock.{Adds, Always, Clock, LeftNow}
 use Rattle.board_core.specs.Stop.{Left}
 use Rattle.board_core.specs.Told.{Told}
+use Rattle.erst_store.specs.Store.{Stored}
 use Rattle.ras_base.specs.Places.{places}
 use Rattle.ras_account.specs.Account.{State}
 use Rattle.ras_account.specs.Accounts.{IsAccount}
 use Rattle.ras_journal.specs.Recovered.{Recovers}
+use Rattle.ras_script.specs.declared.line.Line.{Line}
 use Rattle.ras_texts.specs.Orders.{standing_lines}
 use Rattle.ras_events.specs.Reports.{NumberedLine, Place}
 use Rattle.text_laws.specs.DoneLines.{done_count}
@@ -23,18 +25,26 @@ use Rattle.ras_daemon.specs.RunStatus.{run_exit, start_of}
 use Rattle.board_core.specs.Doing.{Seen}
 use Rattle.ras_daemon.specs.Doing.{DoesRun, Opens}
 use Rattle.ras_daemon.proofs.RunLemmas.{run_ends, run_stops}
-use Rattle.ras_daemon.specs.Running.{AreAll, AreFirst, EndsIn, EndsSo, OpenMoment, RunEnds, RunMoment, outputs}
-use Rattle.ras_daemon.specs.Script.{events_of}
+use Rattle.ras_daemon.specs.StoreDuring.{store_at_end}
+use Rattle.ras_daemon.specs.Running.{AreAll, AreFirst, EndsEarly, EndsIn, EndsSo, OpenMoment, RunEnds, RunMoment, outputs}
+use Rattle.ras_daemon.specs.Script.{events_of, line_after}
 use Rattle.ras_daemon.specs.declared.word.Task.{Task}
 use Rattle.ras_daemon.specs.declared.word.Task.TheVariants.{Run}
 use Rattle.ras_daemon.proofs.HeadlineLemmas.{closing-quiet, headline, headline-nothing, headline-since, moment-prints}
 use Rattle.ras_daemon.proofs.ScriptLemmas.{takes_stops}
 use Rattle.ras_daemon.proofs.CountLemmas.{account-first, count-first, events_among}
 use Rattle.ras_daemon.proofs.FirstLinesLemmas.{closing-same}
+use Rattle.ras_daemon.proofs.CourseLemmas.{end-store}
 use Rattle.ras_daemon.proofs.StoreLemmas.{store-first}
 use Rattle.ras_daemon.specs.Runs.{event_count}
-use Rattle.ras_exit.specs.declared.exit.Exit.TheVariants.{Done}
+use Rattle.ras_exit.specs.declared.exit.Exit.TheVariants.{Done, ErstBusy}
 use Rattle.text_laws.proofs.DoneLemmas.{none_done}
+
+-- the store is kept, unless the device was busy for too long
+kept-at-end : (exit : Exit) (next : Option Line) (store : List Stored) → (exit ≡ ErstBusy → ⊥) → store_at_end exit next store ≡ store
+kept-at-end ErstBusy None store free = refl
+kept-at-end ErstBusy (Some line) store free = absurd (free refl)
+kept-at-end exit next store free = refl
 
 -- ---- where a run comes to an answer
 
@@ -78,41 +88,47 @@ module _ (start : Start) (script : List ℕ) (old now : Told) where
   ends-counted exit = ends-answer exit (done_count (run_output start script) ≡ length (events_of start script)) (λ ends. counted-so start script exit ends.before ends.all ends.account)
 
   -- whole events, by their number
-  whole-by : (printed : List ℕ) (n : ℕ) → now.here.out ≡ old.here.out ++ printed → done_count printed ≡ n → Recovers (account_with start script n) now.here
-      → now.here.store ≡ laid_with start script n → IsWhole start script old now
-  whole-by printed n text count recovers store = record {
+  abbrev store-with : Exit → ℕ → List Stored
+  store-with exit n = store_at_end exit (line_after start script n) (laid_with start script n)
+
+  whole-by : (exit : Exit) (printed : List ℕ) (n : ℕ) → now.here.out ≡ old.here.out ++ printed → done_count printed ≡ n → Recovers (account_with start script n) now.here
+      → now.here.store ≡ store-with exit n → IsWhole start script exit old now
+  whole-by exit printed n text count recovers store = record {
     printed = printed;
     text = text;
     recovers = subst (λ (k : ℕ). Recovers (account_with start script k) now.here) (sym count) recovers;
-    store = subst (λ (k : ℕ). now.here.store ≡ laid_with start script k) (sym count) store;
+    store = subst (λ (k : ℕ). now.here.store ≡ store-with exit k) (sym count) store;
   }
 
-  whole-lines : (before : List NumberedLine) (last : List ℕ) → AreFirst start script before → IsAccount start.account
-      → Recovers (account_at start before) now.here → now.here.store ≡ store_at start before → done_count last ≡ 0
-      → now.here.out ≡ old.here.out ++ ((standing_lines start.account ++ outputs start before) ++ last) → IsWhole start script old now
-  whole-lines before last first account recovers store none text =
-      whole-by ((standing_lines start.account ++ outputs start before) ++ last) (events_among (places before)) text
+  whole-lines : (exit : Exit) (before : List NumberedLine) (last : List ℕ) → AreFirst start script before → IsAccount start.account
+      → Recovers (account_at start before) now.here → now.here.store ≡ store-with exit (events_among (places before)) → done_count last ≡ 0
+      → now.here.out ≡ old.here.out ++ ((standing_lines start.account ++ outputs start before) ++ last) → IsWhole start script exit old now
+  whole-lines exit before last first account recovers store none text =
+      whole-by exit ((standing_lines start.account ++ outputs start before) ++ last) (events_among (places before)) text
       (count-first start script before first account last ∙ omega (arith, none))
       (subst (λ (a : State). Recovers a now.here) (sym (account-first start script before first account)) recovers)
-      (store ∙ sym (store-first start script before first account))
+      store
 
-  whole-so : (exit : Exit) → EndsSo start script exit old.here.out now → IsWhole start script old now
+  whole-so : (exit : Exit) → EndsSo start script exit old.here.out now → IsWhole start script exit old now
   whole-so exit ends =
       let last : List ℕ = closing_line (account_at start ends.before) exit in
-      whole-lines ends.before last ends.all.first ends.account ends.recovers ends.store
+      whole-lines exit ends.before last ends.all.first ends.account ends.recovers (end-store start script exit ends.before now.here.store ends.all ends.account ends.store)
       (none_done last last [] (closing-quiet (account_at start ends.before) exit) (append-nil last))
       (ends.text ∙ ap (λ (text : List ℕ). old.here.out ++ text) (sym (append_assoc (standing_lines start.account) (outputs start ends.before) last)))
 
-  early-lines : (before : List NumberedLine) → AreFirst start script before → Recovers (account_at start before) now.here → now.here.store ≡ store_at start before
-      → (IsAccount start.account × (now.here.out ≡ old.here.out ++ (standing_lines start.account ++ outputs start before)))
-      ⊎ ((now.here.out ≡ old.here.out) × (before ≡ []))
-      → IsWhole start script old now
-  early-lines before first recovers store (inl (account, text)) =
-      whole-lines before [] first account recovers store refl
-      (text ∙ ap (λ (more : List ℕ). old.here.out ++ more) (sym (append-nil (standing_lines start.account ++ outputs start before))))
-  early-lines before first recovers store (inr (text, none)) =
-      whole-by [] 0 (text ∙ sym (append-nil old.here.out)) refl (subst (λ (reads : List NumberedLine). Recovers (account_at start reads) now.here) none recovers)
-      (store ∙ ap (store_at start) none)
+  early-lines : (exit : Exit) → (exit ≡ ErstBusy → ⊥) → EndsEarly start script old.here.out now → IsWhole start script exit old now
+  early-lines exit free ends = by ends.text
+    where
+      left : (n : ℕ) → store_at start ends.before ≡ laid_with start script n → now.here.store ≡ store-with exit n
+      left n is = ends.store ∙ is ∙ sym (kept-at-end exit (line_after start script n) (laid_with start script n) free)
+
+      by : (IsAccount start.account × (now.here.out ≡ old.here.out ++ (standing_lines start.account ++ outputs start ends.before))) ⊎ ((now.here.out ≡ old.here.out) × (ends.before ≡ [])) → IsWhole start script exit old now
+      by (inl (account, text)) =
+          whole-lines exit ends.before [] ends.first account ends.recovers (left (events_among (places ends.before)) (sym (store-first start script ends.before ends.first account))) refl
+          (text ∙ ap (λ (more : List ℕ). old.here.out ++ more) (sym (append-nil (standing_lines start.account ++ outputs start ends.before))))
+      by (inr (text, none)) =
+          whole-by exit [] 0 (text ∙ sym (append-nil old.here.out)) refl (subst (λ (reads : List NumberedLine). Recovers (account_at start reads) now.here) none ends.recovers)
+          (left 0 (ap (store_at start) none))
 
   -- the store at the end of a script
   pub ends-stored : (exit : Exit) → RunEnds start script exit old.here.out now → exit ≡ Done → now.here.store ≡ laid_with start script (event_count start script)
@@ -120,18 +136,17 @@ module _ (start : Start) (script : List ℕ) (old now : Told) where
     where
       by : EndsSo start script Done old.here.out now → now.here.store ≡ laid_with start script (event_count start script)
       by ends =
-          ends.store
-          ∙ sym (store-first start script ends.before ends.all.first ends.account)
+          end-store start script Done ends.before now.here.store ends.all ends.account ends.store
           ∙ ap (λ (ps : List Place). laid_with start script (events_among ps)) (sym ends.all.all)
 
-  pub ends-whole : (exit : Exit) → RunEnds start script exit old.here.out now → OnWhole exit (IsWhole start script old now)
-  ends-whole exit ends = by (ending_of exit) ends
+  pub ends-whole : (exit : Exit) → RunEnds start script exit old.here.out now → OnWhole exit (IsWhole start script exit old now)
+  ends-whole exit ends = by (ending_of exit) refl ends
     where
-      by : (ending : CallEnding) → EndsIn start script exit ending old.here.out now → UnlessFaulted ending (IsWhole start script old now)
-      by answered ends = whole-so exit ends
-      by (faulted kind) ends = tt
-      by source_failed ends = early-lines ends.before ends.first ends.recovers ends.store ends.text
-      by starved ends = early-lines ends.before ends.first ends.recovers ends.store ends.text
+      by : (ending : CallEnding) → ending_of exit ≡ ending → EndsIn start script exit ending old.here.out now → UnlessFaulted ending (IsWhole start script exit old now)
+      by answered is ends = whole-so exit ends
+      by (faulted kind) is ends = tt
+      by source_failed is ends = early-lines exit (λ busy. let e = sym is ∙ ap ending_of busy in cc) ends
+      by starved is ends = early-lines exit (λ busy. let e = sym is ∙ ap ending_of busy in cc) ends
 
 -- ---- where words ask for a run
 
@@ -206,9 +221,9 @@ module _ {X : Type 0} (see : X → Seen) (account : State) (script : List ℕ) (
   run-printed = on-answer exit (λ now. now.here.out ≡ t.here.out ++ run_output start script) (see new).told
       (some-weaker (RunEnds start script exit t.here.out) (λ now. OnAnswer exit (now.here.out ≡ t.here.out ++ run_output start script)) (see new).told (λ now. ends-output start script t now exit) runs)
 
-  pub run-whole : OnWhole exit (IsSomeAnd (see new).told (IsWhole start script t))
-  run-whole = on-whole exit (IsWhole start script t) (see new).told
-      (some-weaker (RunEnds start script exit t.here.out) (λ now. OnWhole exit (IsWhole start script t now)) (see new).told (λ now. ends-whole start script t now exit) runs)
+  pub run-whole : OnWhole exit (IsSomeAnd (see new).told (IsWhole start script exit t))
+  run-whole = on-whole exit (IsWhole start script exit t) (see new).told
+      (some-weaker (RunEnds start script exit t.here.out) (λ now. OnWhole exit (IsWhole start script exit t now)) (see new).told (λ now. ends-whole start script t now exit) runs)
 
   pub run-stored : exit ≡ Done → IsSomeAnd (see new).told (λ now. now.here.store ≡ laid_with start script (event_count start script))
   run-stored done = some-weaker (RunEnds start script exit t.here.out) (λ now. now.here.store ≡ laid_with start script (event_count start script)) (see new).told (λ now ends. ends-stored start script t now exit ends done) runs

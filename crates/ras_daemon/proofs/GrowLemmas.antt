@@ -1,12 +1,12 @@
 -- The text only grows over acts, also where one of them fails.
-use Rattle.std.proofs.Common.{◌≡◌, ℕ, List, [], ◌∷◌, ◌++◌, length, map, Option, None, Some, IsSomeAnd, refl, ap, sym, ◌∙◌, subst, append_assoc, append-nil, inl, inr}
+use Rattle.std.proofs.Common.{◌≡◌, ℕ, List, [], ◌∷◌, ◌++◌, length, Option, None, Some, IsSomeAnd, refl, ap, sym, ◌∙◌, subst, append_assoc, append-nil, inl, inr}
 use Rattle.std.specs.Option.{option_map}
 use Rattle.board_core.specs.Cause.{Kind}
 use Rattle.board_core.specs.declared.board.FileNo.TheVariants.{Zero, One}
 use Rattle.board_core.specs.declared.board.Access.{Access}
 use Rattle.board_core.specs.declared.board.Access.TheVariants.{Read, Write, RangeRead, RangeWrite}
 use Rattle.board_core.specs.Doing.{Act, DeviceCall, FailsAct, FailsActs, FailsDevice, Seen, after_act, after_acts, after_device, calls, device, prints, put, range_read, range_write, reg_read, reg_write, through}
-use Rattle.board_core.specs.declared.board.DiskCall.{DiskCall}
+use Rattle.board_core.specs.Stop.{Left}
 use Rattle.board_core.specs.Told.{FailsAccess, MayAct, MayListAccess, Relates, Told, after_put, after_range_write, after_reg_write, on_device, with_access}
 use Rattle.erst_store.specs.Device.{Device}
 use Rattle.ras_exit.specs.Acts.{DoesBy}
@@ -81,10 +81,6 @@ fails_grow kind (act ∷ acts) old now (inl failed) = failed_grows act old now f
 fails_grow kind (act ∷ acts) old now (inr later) = grows_then old (after_act act old) now (act_grows act old) (fails_grow kind acts (after_act act old) now later)
 
 -- so it does over a part of a run, however that ends
-called_out : (made : List DiskCall) (t : Told) → (after_acts (map calls made) t).here.out ≡ t.here.out
-called_out [] t = refl
-called_out (call ∷ made) t = called_out made (record t { disk_calls = t.disk_calls ++ call ∷ [] })
-
 pub part_grows : {X : Type 0} (see : X → Seen) (acts : List Act) (ending : CallEnding) (t : Told) (a b : X) → (see a).told ≡ Some t → DoesBy see acts ending a b → IsSomeAnd (see b).told (Grows t)
 part_grows see acts answered t a b is does = rw (does.told ∙ ap (option_map (after_acts acts)) is) (acts_grow acts t)
 part_grows see acts (faulted kind) t a b is does = by (see b).told (subst (λ (o : Option Told). Relates (FailsActs kind acts) o (see b).told) is does.told)
@@ -92,4 +88,4 @@ part_grows see acts (faulted kind) t a b is does = by (see b).told (subst (λ (o
     by : (o : Option Told) → Relates (FailsActs kind acts) (Some t) o → IsSomeAnd o (Grows t)
     by None fails = absurd fails
     by (Some now) fails = fails_grow kind acts t now fails
-part_grows see acts ending t a b is some = rw (some.does.told ∙ ap (option_map (after_acts (map calls some.made))) is) (same t (after_acts (map calls some.made) t) (called_out some.made t))
+part_grows see acts ending t a b is some = rw (some.does.told ∙ ap (option_map (after_acts some.done)) is) (same t (after_acts some.done t) (ap (λ (l : Left). l.out) (some.still t is).here))

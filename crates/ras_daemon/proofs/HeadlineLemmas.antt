@@ -30,13 +30,15 @@ use Rattle.ras_daemon.specs.RunOutput.{closing_line, lines_output, output_upto, 
 use Rattle.ras_daemon.specs.RunStatus.{run_exit}
 use Rattle.ras_daemon.specs.Running.{AreAccepted, AreAll, AreFirst, AtEnd, AtLine, AtOpening, AtStart, BetweenLines, OpenMoment, RunMoment, lines_from, outputs}
 use Rattle.ras_daemon.specs.Script.{events_of, is_event, line_after, reads_of}
-use Rattle.ras_daemon.specs.StoreDuring.{KeepsOthers, KeepsRecords, KnownBy, StoreDuring}
+use Rattle.ras_daemon.specs.StoreDuring.{KeepsOthers, KeepsRecords, KnownBy, KnowsReadable, OnPoll, StoreDuring}
 use Rattle.ras_daemon.proofs.CountLemmas.{account-first, count-first, events_among, output-first, tells-last}
 use Rattle.ras_daemon.proofs.EventLemmas.{PrintsEvent, Tells}
 use Rattle.ras_daemon.proofs.ListLemmas.{take-whole}
 use Rattle.ras_daemon.proofs.FirstLinesLemmas.{closing-same, first-before, first-without}
 use Rattle.ras_daemon.proofs.PlaceLemmas.{first_more, outputs-snoc}
-use Rattle.ras_daemon.proofs.StoreLemmas.{InLine, StoreNow, begun-now, first-kept, kept-during, line-course, none-kept, put-now, store-during, store-first, stored-next, taken-here}
+use Rattle.ras_daemon.proofs.CourseLemmas.{InLine, begun-now, end-now, left-next, line-course, part-now}
+use Rattle.ras_daemon.proofs.KeptLemmas.{StoreNow, cleared-during, first-kept, kept-during, kept-weaker, known-next, none-kept, store-during}
+use Rattle.ras_daemon.proofs.StoreLemmas.{store-first}
 use Rattle.text_laws.proofs.DoneLemmas.{event_begun, none_done}
 use Rattle.text_laws.proofs.LineLemmas.{end_quiet, standing_quiet}
 use Rattle.ras_daemon.proofs.StopLemmas.{stop_quiet}
@@ -110,7 +112,7 @@ moment-prints clock start script here left same (inr (inr (account, inr (inl (in
   between.text ∙ append_assoc here.out (at_start start) (outputs start between.before),
 )
 moment-prints clock start script here left same (inr (inr (account, inr (inl (inr at))))) =
-    by (line-course start at.before at.read (taken-here start script at.before at.rest at.read at.splits at.accepted account) (lines_from start here.out ++ outputs start at.before) left at.course)
+    by (line-course start at.before at.read (lines_from start here.out ++ outputs start at.before) left at.course)
   where
     by : IsBegun (course_at start (at.before, at.read)) (lines_from start here.out ++ outputs start at.before) left ⊎ InLine start at.before at.read (lines_from start here.out ++ outputs start at.before) left
         → PrintsPart (run_output start script) here.out left.out
@@ -144,7 +146,7 @@ module _ (start : Start) (script : List ℕ) (here left : Left) where
       → (account : State) → Recovers account left
       → (account ≡ account_with start script n) ⊎ (account ≡ account_with start script (n + 1))
       → (length (output_upto start script n) < length printed → account ≡ account_with start script (n + 1))
-      → StoreNow (line_after start script n) (laid_with start script n) left.store
+      → StoreNow (line_after start script n) (KnownBy account) (laid_with start script n) left.store
       → KeepsRecords (last_laid_with start script n) (KnownBy account) (laid_with start script n) → Headline start script here left
   headline-by printed n text begins count account recovers whole acknowledged store kept = record {
     printed = printed;
@@ -154,7 +156,9 @@ module _ (start : Start) (script : List ℕ) (here left : Left) where
     recovers = recovers;
     whole = subst (λ (k : ℕ). (account ≡ account_with start script k) ⊎ (account ≡ account_with start script (k + 1))) (sym count) whole;
     acknowledged = subst (λ (k : ℕ). length (output_upto start script k) < length printed → account ≡ account_with start script (k + 1)) (sym count) acknowledged;
-    store = subst (λ (k : ℕ). StoreDuring (line_after start script k) (laid_with start script k) left.store) (sym count) (store-during (line_after start script n) (laid_with start script n) left.store store);
+    store = subst (λ (k : ℕ). StoreDuring (line_after start script k) (laid_with start script k) left.store) (sym count) (store-during (laid_with start script n) left.store (KnownBy account) (line_after start script n) store);
+    cleared = subst (λ (k : ℕ). OnPoll (line_after start script k) ((left.store ≡ laid_with start script k → ⊥) → KnowsReadable (laid_with start script k) (KnownBy account))) (sym count)
+        (cleared-during (laid_with start script n) left.store (KnownBy account) (line_after start script n) store);
     kept = subst (λ (k : ℕ). KeepsOthers (line_after start script k) (last_laid_with start script k) (KnownBy account) left.store) (sym count)
         (kept-during (line_after start script n) (last_laid_with start script n) (KnownBy account) (laid_with start script n) left.store store kept);
   }
@@ -177,7 +181,8 @@ module _ (start : Start) (script : List ℕ) (here left : Left) where
 
     -- behind whole lines, with nothing of the next one printed
     headline-behind : (before : List NumberedLine) → AreFirst start script before → Recovers (account_at start before) left → left.out ≡ lines_from start here.out ++ outputs start before
-        → StoreNow (line_after start script (events_among (places before))) (laid_with start script (events_among (places before))) left.store → Headline start script here left
+        → StoreNow (line_after start script (events_among (places before))) (KnownBy (account_at start before)) (laid_with start script (events_among (places before))) left.store
+        → Headline start script here left
     headline-behind before first recovers text store =
         let n : ℕ = events_among (places before) in
         let printed : List ℕ = at_start start ++ outputs start before in
@@ -187,7 +192,7 @@ module _ (start : Start) (script : List ℕ) (here left : Left) where
         (account_at start before) recovers
         (inl (sym (account-first start script before first account)))
         (λ longer. absurd (omega (arith, longer, ap (λ (text : List ℕ). length text) (output-first start script before first account))))
-        store (first-kept start (KnownBy (account_at start before)) script before first account)
+        store (first-kept start script before first account)
 
     pub headline-between : BetweenLines start script (lines_from start here.out) left → Headline start script here left
     headline-between between =
@@ -217,7 +222,9 @@ module _ (start : Start) (script : List ℕ) (here left : Left) where
     -- a beginning of what the next line prints
     headline-part : (before : List NumberedLine) (read : NumberedLine) (part missing : List ℕ) → AreFirst start script (before ++ read ∷ []) → Recovers (account_at start (before ++ read ∷ [])) left
         → left.out ≡ (lines_from start here.out ++ outputs start before) ++ part → part ++ missing ≡ output_at start (before, read) → 1 ≤ length missing
-        → PrintsEvent start (before, read) → StoreNow (line_after start script (events_among (places before))) (laid_with start script (events_among (places before))) left.store → Headline start script here left
+        → PrintsEvent start (before, read)
+        → StoreNow (line_after start script (events_among (places before))) (KnownBy (account_at start (before ++ read ∷ []))) (laid_with start script (events_among (places before))) left.store
+        → Headline start script here left
     headline-part before read part missing first recovers text splits some event store =
         let n : ℕ = events_among (places before) in
         let without : AreFirst start script before = first-without start script before read first in
@@ -228,33 +235,41 @@ module _ (start : Start) (script : List ℕ) (here left : Left) where
         (begins-in start script before read first part missing splits)
         (count-first start script before without account part ∙ omega (arith, none))
         (account_at start (before ++ read ∷ [])) recovers (inr more) (λ longer. more) store
-        (first-kept start (KnownBy (account_at start (before ++ read ∷ []))) script before without account)
+        (kept-weaker (last_laid_with start script n) (KnownBy (account_at start before)) (KnownBy (account_at start (before ++ read ∷ []))) (laid_with start script n)
+        (known-next start before read) (first-kept start script before without account))
 
     module _ (before rest : List NumberedLine) (read : NumberedLine) (splits : before ++ read ∷ rest ≡ reads_of script) (accepted : AreAccepted start before) where
       -- a line that is no event prints nothing
-      headline-next : (at : InLine start before read (lines_from start here.out ++ outputs start before) left) (missing : List ℕ) → at.text.part ++ missing ≡ output_at start (before, read)
-          → Tells start (before, read) → Headline start script here left
-      headline-next at [] is tells =
-          headline-whole before read at.text.part (first_more start script before rest read splits accepted at.accepted) at.recovers at.text.is (sym (append-nil at.text.part) ∙ is)
-          (at.store ∙ sym (stored-next start script before rest read splits accepted account at.accepted))
-      headline-next at (b ∷ missing) is (inl event) =
-          headline-part before read at.text.part (b ∷ missing) (first_more start script before rest read splits accepted at.accepted) at.recovers at.text.is is (omega arith) event
-          (put-now start script before rest read splits accepted account left.store at.accepted.taken event.event at.store)
-      headline-next at (b ∷ missing) is (inr none) =
-          absurd (omega (arith, length-append at.text.part (b ∷ missing), ap (λ (more : List ℕ). length more) (is ∙ none.silent)))
+      headline-next : (at : InLine start before read (lines_from start here.out ++ outputs start before) left) (missing : List ℕ) → at.text.missing ≡ missing → Tells start (before, read)
+          → Headline start script here left
+      headline-next at [] none tells =
+          headline-whole before read at.text.part (first_more start script before rest read splits accepted at.accepted) at.recovers at.text.is
+          (sym (append-nil at.text.part) ∙ ap (λ (text : List ℕ). at.text.part ++ text) (sym none) ∙ at.text.splits)
+          (at.whole none ∙ sym (left-next start script before rest accepted account read at.accepted.taken))
+      headline-next at (b ∷ missing) more (inl event) =
+          headline-part before read at.text.part (b ∷ missing) (first_more start script before rest read splits accepted at.accepted) at.recovers at.text.is
+          (ap (λ (text : List ℕ). at.text.part ++ text) (sym more) ∙ at.text.splits) (omega arith) event
+          (part-now start script before rest accepted account read left.store at.count splits event.event at.accepted.taken at.store)
+      headline-next at (b ∷ missing) more (inr none) =
+          absurd (omega (
+            arith,
+            length-append at.text.part at.text.missing,
+            ap (λ (text : List ℕ). length text) more,
+            ap (λ (text : List ℕ). length text) (at.text.splits ∙ none.silent),
+          ))
 
       headline-in : IsBegun (course_at start (before, read)) (lines_from start here.out ++ outputs start before) left ⊎ InLine start before read (lines_from start here.out ++ outputs start before) left
           → Headline start script here left
       headline-in (inl begun) =
           headline-behind before (record { rest = read ∷ rest; splits = splits; accepted = accepted }) begun.recovers begun.text
-          (begun-now start script before rest read splits accepted account left (lines_from start here.out ++ outputs start before) begun)
+          (begun-now start script before rest accepted account (KnownBy (account_at start before)) read left (lines_from start here.out ++ outputs start before) splits begun)
       headline-in (inr at) =
-          headline-next at at.text.missing at.text.splits (tells-last start script before read (first_more start script before rest read splits accepted at.accepted) account)
+          headline-next at at.text.missing refl (tells-last start script before read (first_more start script before rest read splits accepted at.accepted) account)
 
     pub headline-line : AtLine start script (lines_from start here.out) left → Headline start script here left
     headline-line at =
         headline-in at.before at.rest at.read at.splits at.accepted
-        (line-course start at.before at.read (taken-here start script at.before at.rest at.read at.splits at.accepted account) (lines_from start here.out ++ outputs start at.before) left at.course)
+        (line-course start at.before at.read (lines_from start here.out ++ outputs start at.before) left at.course)
 
     -- no event is behind the last one
     events-all : (exit : Exit) (before : List NumberedLine) → AreAll start script exit before → events_of start script ≡ filter is_event (places before)
@@ -284,8 +299,8 @@ module _ (start : Start) (script : List ℕ) (here left : Left) where
         (account_at start at.before) at.recovers
         (inl (sym (account-first start script at.before at.all.first account)))
         (λ longer. sym (account-past at.exit at.before at.all))
-        (inl (at.store ∙ sym (store-first start script at.before at.all.first account)))
-        (first-kept start (KnownBy (account_at start at.before)) script at.before at.all.first account)
+        (end-now start script at.exit at.before left.store at.all account at.store (KnownBy (account_at start at.before)))
+        (first-kept start script at.before at.all.first account)
 
 -- ---- at every moment
 

@@ -11,6 +11,8 @@ pub mod FirstLinesLemmas
 pub mod EventLemmas
 pub mod CountLemmas
 pub mod StoreLemmas
+pub mod KeptLemmas
+pub mod CourseLemmas
 pub mod HeadlineLemmas
 pub mod CallLemmas
 pub mod HistoryLemmas

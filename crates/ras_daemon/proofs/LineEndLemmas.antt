@@ -6,6 +6,7 @@ use Rattle.board_core.specs.Told.{Told}
 use Rattle.ras_events.specs.Reports.{NumberedLine}
 use Rattle.std.specs.List.{AllByRecursion, slice_split}
 use Rattle.ras_base.specs.Places.{places}
+use Rattle.ras_script.specs.Line.{line_of}
 use Rattle.ras_script.specs.Lines.{without_last}
 use Rattle.ras_script.proofs.LineAndWordLemmas.{lines_unbroken, some_part, split_between, split_lacking}
 use Rattle.text_laws.specs.DoneLines.{ended_lines}
@@ -17,12 +18,11 @@ use Rattle.ras_script.specs.SplittingLaws.{Lacks, script_of}
 use Rattle.ras_exit.specs.declared.exit.Exit.{Exit}
 use Rattle.ras_exit.specs.declared.exit.Exit.TheVariants.{SourceFault}
 use Rattle.ras_run.specs.declared.run.Run.{Run}
-use Rattle.ras_run.specs.LaterKinds.{taken_line}
 use Rattle.ras_run.specs.Places.{Start}
 use Rattle.ras_exit.specs.Endings.{IsStop}
 use Rattle.ras_daemon.specs.Running.{EndsAhead, ReadAhead, first_size, outputs}
 use Rattle.ras_daemon.specs.Script.{reads_in, reads_of}
-use Rattle.ras_daemon.proofs.AlongActLemmas.{along_prints}
+use Rattle.ras_daemon.proofs.AlongActLemmas.{acts_along, along_prints}
 use Rattle.ras_daemon.proofs.GrowLemmas.{Grows}
 use Rattle.ras_daemon.proofs.ListLemmas.{all-front}
 use Rattle.ras_daemon.proofs.LinesLemmas.{Taking, given_here, lines_first, some_more, taken_tells}
@@ -106,7 +106,7 @@ line_taken start script t number reader new left now run taking rest is moves = 
 -- where a line is given, and the text goes on from there
 pub ahead_given : (Fault : Type 0) → (Fault → ⊥) → (start : Start) (script : List ℕ) (t : Told) (number : ℕ) (reader new : Reader) (left now : Option (List ℕ)) (run : Run) (later : Option Told) (line : List ℕ) → (same : line ≡ new.line)
     → (taking : Taking start script t number reader left run) → IsLine new.line → given_count reader < given_count new → length new.held ≤ LONGEST_LINE + 1 → MovesLine (Ok true) reader new left now
-    → (rest : List NumberedLine) × (reads_in taking.done ++ (number + 1, taken_line line) ∷ rest ≡ reads_of script)
+    → (rest : List NumberedLine) × (reads_in taking.done ++ (number + 1, line_of line) ∷ rest ≡ reads_of script)
     → IsSomeAnd later (Grows (after_acts taking.acts t)) → EndsAhead Fault start script t.here.out now later
 ahead_given Fault never start script t number reader new left now run later line same taking is_line grew few moves given goes =
     let here = given_here start script t number reader new left now run line same taking is_line grew moves in
@@ -121,8 +121,8 @@ ahead_given Fault never start script t number reader new left now run later line
       done = taking.done;
       more = line ∷ lines_of (new.held ++ here.0);
       lines = taking.cut ∙ ap (λ lines. taking.done ++ lines) here.2;
-      first = record { rest = (number + 1, taken_line line) ∷ given.0; splits = given.1; accepted = taking.accepted };
-      text = (went.part, went.is ∙ ap (λ out. out ++ went.part) (along_prints start (places (reads_in taking.done)) t taking.acts taking.accepted taking.along));
+      first = record { rest = (number + 1, line_of line) ∷ given.0; splits = given.1; accepted = taking.accepted };
+      text = (went.part, went.is ∙ ap (λ out. out ++ went.part) (along_prints start (places (reads_in taking.done)) t taking.acts taking.accepted (acts_along start (places (reads_in taking.done)) t taking.acts taking.along)));
       bound = bound;
       taken = all.0;
       splits = all.1;
@@ -149,7 +149,7 @@ ahead_none Fault start script t number reader new left now run told taking is fe
       more = lines_of (reader.held ++ taking.now);
       lines = taking.cut;
       first = lines_first start script t number reader left run taking;
-      text = ([], along_prints start (places (reads_in taking.done)) t taking.acts taking.accepted taking.along ∙ sym (append-nil (t.here.out ++ outputs start (reads_in taking.done))));
+      text = ([], along_prints start (places (reads_in taking.done)) t taking.acts taking.accepted (acts_along start (places (reads_in taking.done)) t taking.acts taking.along) ∙ sym (append-nil (t.here.out ++ outputs start (reads_in taking.done))));
       bound = bound;
       taken = all.0;
       splits = all.1;

@@ -1,38 +1,36 @@
 -- Lines taken one after another.
-use Rattle.std.proofs.Common.{◌≡◌, ℕ, ◌+◌, Bool, true, false, cond, List, [], ◌∷◌, ◌++◌, length, map, Option, None, Some, IfSome, IsSomeAnd, Result, Ok, Err, refl, ap, sym, ◌∙◌, subst, append_assoc, append-nil, length-append, arith, inl, inr, ◌<◌, ◌≤◌, suc}
-use Rattle.std.specs.Prelude.{⊤, ◌⊎◌, is_some}
-use Rattle.board_core.specs.declared.board.DiskCall.{DiskCall}
+use Rattle.std.proofs.Common.{◌≡◌, ℕ, ◌+◌, Bool, true, false, List, [], ◌∷◌, ◌++◌, length, Option, None, Some, IfSome, IsSomeAnd, Result, Ok, Err, refl, ap, sym, ◌∙◌, subst, append_assoc, append-nil, length-append, arith, inl, inr, ◌<◌, ◌≤◌, suc}
+use Rattle.std.specs.Prelude.{⊤, ◌⊎◌}
 use Rattle.board_core.specs.Cause.{Kind}
-use Rattle.board_core.specs.Doing.{Act, Breaks, GoesWell, Seen, after_acts, broke, calls, went_well}
+use Rattle.board_core.specs.Doing.{Act, Breaks, GoesWell, Seen, after_acts, broke, went_well}
 use Rattle.board_core.specs.Told.{Told}
 use Rattle.board_core.proofs.DoingLemmas.{does_nothing, does_then}
-use Rattle.ras_events.specs.Reports.{NumberedLine, Place, event_at}
+use Rattle.ras_events.specs.Reports.{NumberedLine, event_at}
 use Rattle.ras_script.specs.declared.reader.NextRefused.{NextRefused}
+use Rattle.ras_script.specs.Line.{line_of}
 use Rattle.ras_script.specs.Lines.{Ending, Lines, no_line, script_ended, script_lines, with_line}
 use Rattle.ras_script.specs.Reader.{AreTaken, GivesNext, IsAtEnd, IsLine, Moves, MovesLine, Reader, given_count, lines_to_come}
 use Rattle.ras_script.specs.Splitting.{lines_of}
 use Rattle.ras_script.specs.SplittingLaws.{script_of}
 use Rattle.ras_script.proofs.LinesLemmas.{line_alone, line_cut}
 use Rattle.std.proofs.lemmas.Grind.{flat_map-append}
-use Rattle.ras_base.specs.Places.{places, places_behind}
+use Rattle.ras_base.specs.Places.{places}
 use Rattle.ras_exit.specs.Acts.{DoesBy}
 use Rattle.ras_exit.specs.declared.exit.Exit.{Exit}
 use Rattle.ras_exit.specs.declared.exit.Exit.TheVariants.{Done, SourceFault}
-use Rattle.ras_exit.specs.Endings.{CallEnding, EndsBy, IfAnswered, answered, ending_of, faulted, source_failed, starved}
-use Rattle.ras_exit.proofs.EndingLemmas.{on_answer}
+use Rattle.ras_exit.specs.Endings.{AnyFault, CallEnding, EndsBy, answered, ending_of, faulted, source_failed, starved}
+use Rattle.ras_exit.proofs.PrintLemmas.{none_still}
 use Rattle.ras_run.specs.declared.run.Run.{Run}
-use Rattle.ras_run.specs.LaterKinds.{taken_line}
-use Rattle.ras_run.specs.LineActs.{AreActsUnless, AreEventActs, AreLineActs, HoldsAfter, refused_acts}
+use Rattle.ras_run.specs.LineActs.{AreBegun, CanAsk, HoldsAfter, asking_acts}
 use Rattle.ras_run.specs.Places.{IsBoardAfter, Start}
-use Rattle.ras_run.specs.Status.{event_refusal, places_before_refusal, put_refusal, refusal_at}
-use Rattle.ras_run.specs.Taking.{IsRunAfter, MayFail, TakesLine}
-use Rattle.ras_daemon.specs.Doing.{AreAllAsked, AreLinesActs, DoesFirst, DoesLines, IsAsked, MayAsk}
-use Rattle.ras_daemon.specs.RunActs.{AreActsAlong, asked_acts, script_asked}
+use Rattle.ras_run.specs.Status.{refusal_at}
+use Rattle.ras_run.specs.Taking.{IsRunAfter, TakesLine}
+use Rattle.ras_daemon.specs.Doing.{AreAllAsked, AreDoneAlong, AreLinesActs, AsksBy, DoesFirst, DoesLines, IsAsked, MayAsk}
+use Rattle.ras_daemon.specs.RunActs.{asked_acts, script_asked}
 use Rattle.ras_daemon.specs.Running.{AreAccepted, AreAll, AreFirst}
 use Rattle.ras_exit.specs.ScriptEnd.{ending_exit}
 use Rattle.ras_daemon.specs.Script.{reads_in, reads_of}
-use Rattle.ras_daemon.proofs.AlongActLemmas.{along-append, along-snoc, along_begun, along_done, along_some}
-use Rattle.ras_daemon.proofs.FirstLinesLemmas.{first-before}
+use Rattle.ras_daemon.proofs.AlongActLemmas.{IsDoneAt, acts_along, along_begun, along_done, asks_alone, done-snoc, line_begun}
 use Rattle.ras_daemon.proofs.PlaceLemmas.{accepted-snoc, all_read, first_more, line_refused, none-asked, reads-append, reads_behind, script-asked}
 
 -- lines, and then others with their ending
@@ -50,7 +48,7 @@ pub record Taking (start : Start) (script : List ℕ) (t : Told) (number : ℕ) 
   pub holds : HoldsAfter start [] t
   pub accepted : AreAccepted start (reads_in done)
   pub acts : List Act
-  pub along : AreActsAlong start (places (reads_in done)) t acts
+  pub along : AreDoneAlong start (places (reads_in done)) t acts
   pub cut : lines_of script ≡ done ++ lines_of (reader.held ++ now)
   pub size : length script ≤ length (script_of done) + length (reader.held ++ now)
   pub kept : (script ≡ script_of done ++ (reader.held ++ now)) ⊎ ((reader.held ≡ []) × (now ≡ []))
@@ -188,7 +186,7 @@ lines-given done line come all more is gives =
 module _ (start : Start) (script : List ℕ) (t : Told) (number : ℕ) (reader new : Reader) (left now : Option (List ℕ)) (run : Run) (line : List ℕ) (same : line ≡ new.line) (taking : Taking start script t number reader left run) where
   -- the line's number and what it asks for
   abbrev pub read_given : NumberedLine
-  read_given = (number + 1, taken_line line)
+  read_given = (number + 1, line_of line)
 
   given_lines : Gave (Ok true) reader new left now → MovesLine (Ok true) reader new left now
       → (rest : List ℕ) × (now ≡ Some rest) × (script_lines script ≡ with_lines (taking.done ++ line ∷ []) (lines_to_come new rest))
@@ -202,7 +200,7 @@ module _ (start : Start) (script : List ℕ) (t : Told) (number : ℕ) (reader n
       )
 
   reads-given : reads_in (taking.done ++ line ∷ []) ≡ reads_in taking.done ++ read_given ∷ []
-  reads-given = reads-append taking.done (line ∷ []) ∙ (let n : 1 + length taking.done ≡ number + 1 = (let c = taking.count in omega arith) in ap (λ k. reads_in taking.done ++ (k, taken_line line) ∷ []) n)
+  reads-given = reads-append taking.done (line ∷ []) ∙ (let n : 1 + length taking.done ≡ number + 1 = (let c = taking.count in omega arith) in ap (λ k. reads_in taking.done ++ (k, line_of line) ∷ []) n)
 
   -- It stands behind the lines that were taken.
   pub given : Gave (Ok true) reader new left now → MovesLine (Ok true) reader new left now
@@ -226,7 +224,7 @@ module _ (start : Start) (script : List ℕ) (t : Told) (number : ℕ) (reader n
 
   -- It was taken, and did its acts.
   pub took_line : {X : Type 0} (see : X → Seen) (more : Run) (acts : List Act) (old mid later : X) → GoesWell taking.acts (see old) (see mid) → GoesWell acts (see mid) (see later) → IsLine new.line → given_count reader < given_count new → Gave (Ok true) reader new left now → MovesLine (Ok true) reader new left now
-      → TakesLine start (reads_in taking.done, read_given) (Ok tt) more → AreLineActs start (reads_in taking.done, read_given) (after_acts taking.acts t) acts → Took see start script t (number + 1) new now more old later
+      → TakesLine start (reads_in taking.done, read_given) (Ok tt) more → IsDoneAt start (reads_in taking.done, read_given) (after_acts taking.acts t) acts → Took see start script t (number + 1) new now more old later
   took_line see more acts old mid later well does is_line grew gave moves takes are =
       let lines = given_lines gave moves in
       let text = given_text reader new taking.now lines.0 is_line grew (subst (λ n. MovesLine (Ok true) reader new (Some taking.now) n) lines.1 (subst (λ b. MovesLine (Ok true) reader new b now) taking.tells moves)) in (
@@ -240,7 +238,7 @@ module _ (start : Start) (script : List ℕ) (t : Told) (number : ℕ) (reader n
           holds = taking.holds;
           accepted = rw reads-given (accepted-snoc start (reads_in taking.done) read_given taking.accepted takes.0);
           acts = taking.acts ++ acts;
-          along = rw reads-given (along-snoc start (reads_in taking.done) read_given t taking.acts acts taking.along are);
+          along = rw reads-given (done-snoc start (reads_in taking.done) read_given t taking.acts acts taking.along are);
           cut =
               taking.cut ∙ ap (λ lines. taking.done ++ lines) text.0
               ∙ ap (λ l. taking.done ++ l ∷ lines_of (new.held ++ lines.0)) (sym same)
@@ -279,64 +277,25 @@ left_nil : {A : Type 0} (xs ys : List A) → xs ++ ys ≡ [] → xs ≡ []
 left_nil [] ys is = refl
 left_nil (x ∷ xs) ys is = absurd cc
 
--- a refused line does what is asked of the record store, if it puts a record
-refused_are : (refusal : Option Exit) (exit : Exit) (refused : List Act) (Are : List Act → Type 0) (acts : List Act) → refusal ≡ Some exit → AreActsUnless refusal refused Are acts → acts ≡ refused
-refused_are refusal exit refused Are acts is are = let there : AreActsUnless (Some exit) refused Are acts = subst (λ (o : Option Exit). AreActsUnless o refused Are acts) is are in there
-
-some_is : (refusal : Option Exit) (exit : Exit) → refusal ≡ Some exit → is_some refusal ≡ true
-some_is refusal exit is = ap (λ (o : Option Exit). is_some o) is
-
 module _ {X : Type 0} (see : X → Seen) (start : Start) (script : List ℕ) (t : Told) (before rest : List NumberedLine) (read : NumberedLine) (splits : before ++ read ∷ rest ≡ reads_of script) (accepted : AreAccepted start before)
-    (acts line : List Act) (along : AreActsAlong start (places before) t acts) (are : AreLineActs start (before, read) (after_acts acts t) line) (old mid new : X) (well : GoesWell acts (see old) (see mid)) where
+    (acts line : List Act) (along : AreDoneAlong start (places before) t acts) (old mid new : X) (well : GoesWell acts (see old) (see mid)) where
   abbrev first_here : AreFirst start script before
   first_here = record { rest = read ∷ rest; splits = splits; accepted = accepted }
 
-  -- a refused line does what it asks
-  abbrev line_asks : (exit : Exit) → refusal_at start (before, read) ≡ Some exit → IsAsked start script before line
-  line_asks exit refused = record {
-    read = read;
-    rest = rest;
-    splits = splits;
-    refused = some_is (refusal_at start (before, read)) exit refused;
-    is = refused_are (refusal_at start (before, read)) exit (refused_acts (event_at (before, read))) (AreEventActs start (before, read) (after_acts acts t) (event_at (before, read))) line refused are;
-  }
+  -- what is told by then
+  abbrev then : Told
+  then = after_acts acts t
 
-  -- a line of which some disk calls were made is one of those up to the first refused one
-  part_of : (made : List DiskCall) (later : List Act) → map calls made ++ later ≡ line → (more : List Act) × AreLinesActs start script t ((acts ++ map calls made) ++ more)
-  part_of made later is = by (refusal_at start (before, read)) refl
-    where
-      by : (refusal : Option Exit) → refusal_at start (before, read) ≡ refusal → (more : List Act) × AreLinesActs start script t ((acts ++ map calls made) ++ more)
-      by None taken =
-          let behind : List Place = places_before_refusal start (places_behind (before ++ read ∷ []) rest) in
-          let others = along_some start behind (after_acts line (after_acts acts t)) in
-          let whole : AreActsAlong start ((before, read) ∷ behind) (after_acts acts t) (line ++ others.0) = (line, others.0, refl, are, others.1) in
-          let there : places_before_refusal start (places (reads_of script)) ≡ places before ++ (before, read) ∷ behind =
-          first-before start script before first_here ∙ ap (λ (o : Option Exit). places before ++ cond (is_some o) [] ((before, read) ∷ behind)) taken in
-          let asked : List Act = script_asked start script in
-          let made_acts : List Act = map calls made in (
-            later ++ (others.0 ++ asked),
-            record {
-              along = acts ++ (line ++ others.0);
-              lines = rw there (along-append start (places before) ((before, read) ∷ behind) t acts (line ++ others.0) along whole);
-              is = append_assoc acts made_acts (later ++ (others.0 ++ asked))
-                  ∙ ap (λ more. acts ++ more) (sym (append_assoc made_acts later (others.0 ++ asked)) ∙ ap (λ more. more ++ (others.0 ++ asked)) is ∙ sym (append_assoc line others.0 asked))
-                  ∙ sym (append_assoc acts (line ++ others.0) asked);
-            },
-          )
-      by (Some exit) refused = (
-        later,
-        record {
-          along = acts;
-          lines = subst (λ (ps : List Place). AreActsAlong start ps t acts) (sym (line_refused start script before rest read exit splits accepted refused).all) along;
-          is = append_assoc acts (map calls made) later ∙ ap (λ more. acts ++ more) (is ∙ (line_asks exit refused).is ∙ sym (script-asked start script before rest read exit splits accepted refused));
-        },
-      )
+  -- these are what the line asks
+  abbrev line_asks : CanAsk (event_at (before, read)) then → line ≡ asking_acts before (event_at (before, read)) then → IsAsked start script before then line
+  line_asks can is = record { read = read; rest = rest; splits = splits; can = can; is = is }
 
-  pub stopped : (exit : Exit) (run : Run) → TakesLine start (before, read) (Err exit) run → DoesBy see line (ending_of exit) mid new → DoesLines see start script t (Err exit) run old new
-  stopped exit run takes does = by (ending_of exit) refl takes does
+  pub stopped : (exit : Exit) (run : Run) → (see mid).told ≡ Some then → TakesLine start (before, read) (Err exit) run → AreBegun start (before, read) then (ending_of exit) line → DoesBy see line (ending_of exit) mid new
+      → DoesLines see start script t (Err exit) run old new
+  stopped exit run told takes begun does = by (ending_of exit) refl takes begun does
     where
-      behind : (ending : CallEnding) → ending_of exit ≡ ending → (lines : List NumberedLine) (made asked : List Act) → AreFirst start script lines → AreActsAlong start (places lines) t made → MayAsk start script lines asked
-          → DoesFirst see (AreLinesActs start script t) (made ++ asked) ending old new → IfAnswered ending (AreAllAsked start script exit lines asked) → DoesLines see start script t (Err exit) run old new
+      behind : (ending : CallEnding) → ending_of exit ≡ ending → (lines : List NumberedLine) (made asked : List Act) → AreFirst start script lines → AreDoneAlong start (places lines) t made → MayAsk start script lines (after_acts made t) asked
+          → DoesFirst see (AreLinesActs start script t) t (made ++ asked) ending old new → AsksBy start script lines (after_acts made t) asked exit ending → DoesLines see start script t (Err exit) run old new
       behind ending is lines made asked first are asks does all = record {
         before = lines;
         first = first;
@@ -344,42 +303,39 @@ module _ {X : Type 0} (see : X → Seen) (start : Start) (script : List ℕ) (t 
         along = are;
         asked = asked;
         asks = asks;
-        does = subst (λ (e : CallEnding). DoesFirst see (AreLinesActs start script t) (made ++ asked) e old new) (sym is) does;
-        ends = subst (λ (e : CallEnding). IfAnswered e (AreAllAsked start script exit lines asked)) (sym is) all;
+        does = subst (λ (e : CallEnding). DoesFirst see (AreLinesActs start script t) t (made ++ asked) e old new) (sym is) does;
+        ends = subst (λ (e : CallEnding). AsksBy start script lines (after_acts made t) asked exit e) (sym is) all;
       }
 
-      fails : (kind : Kind) → ending_of exit ≡ faulted kind → MayFail start (before, read) kind → DoesBy see line (faulted kind) mid new → DoesLines see start script t (Err exit) run old new
-      fails kind is (inl taken) failed =
-          behind (faulted kind) is (before ++ read ∷ []) (acts ++ line) [] (first_more start script before rest read splits accepted taken) (along-snoc start before read t acts line along are) (inl refl)
+      fails : (kind : Kind) → ending_of exit ≡ faulted kind → AreBegun start (before, read) then (faulted kind) line → DoesBy see line (faulted kind) mid new → DoesLines see start script t (Err exit) run old new
+      fails kind is (can, inl (taken, are)) failed =
+          behind (faulted kind) is (before ++ read ∷ []) (acts ++ line) [] (first_more start script before rest read splits accepted taken) (done-snoc start before read t acts line along (can, are)) (inl refl)
           (subst (λ (l : List Act). Breaks kind l (see old) (see new)) (sym (append-nil (acts ++ line))) (does_then see acts line (broke kind) old mid new well tt failed)) tt
-      fails kind is (inr (own, put)) failed = put_fails (refusal_at start (before, read)) refl
-        where
-          put_fails : (refusal : Option Exit) → refusal_at start (before, read) ≡ refusal → DoesLines see start script t (Err exit) run old new
-          put_fails None taken =
-              let none : put_refusal read.0 (Some put.why) ≡ None =
-              ap (put_refusal read.0) (sym put.refused) ∙ ap (event_refusal start (before, read)) (sym put.event) ∙ taken in absurd cc
-          put_fails (Some why) refused =
-              behind (faulted kind) is before acts line first_here along (inr (line_asks why refused)) (does_then see acts line (broke kind) old mid new well tt failed) tt
+      fails kind is (can, inr (own, asks)) failed =
+          behind (faulted kind) is before acts line first_here along (inr (line_asks can asks)) (does_then see acts line (broke kind) old mid new well tt failed) tt
 
-      by : (ending : CallEnding) → ending_of exit ≡ ending → EndsBy (refusal_at start (before, read) ≡ Some exit) ⊤ (MayFail start (before, read)) ending → DoesBy see line ending mid new
+      by : (ending : CallEnding) → ending_of exit ≡ ending → EndsBy (refusal_at start (before, read) ≡ Some exit) ⊤ AnyFault ending → AreBegun start (before, read) then ending line → DoesBy see line ending mid new
           → DoesLines see start script t (Err exit) run old new
-      by answered is refused done =
-          behind answered is before acts line first_here along (inr (line_asks exit refused)) (does_then see acts line went_well old mid new well tt done)
+      by answered is refused begun done =
+          let asks : IsAsked start script before then line = line_asks begun.0 (asks_alone start (before, read) exit then line refused begun.1) in
+          behind answered is before acts line first_here along (inr asks) (does_then see acts line went_well old mid new well tt done)
           (record {
             all = line_refused start script before rest read exit splits accepted refused;
-            is = (line_asks exit refused).is ∙ sym (script-asked start script before rest read exit splits accepted refused);
+            is = asks.is ∙ sym (script-asked start script before rest read exit then splits accepted refused);
+            ends = inr asks;
           })
-      by (faulted kind) is may failed = fails kind is may failed
-      by source_failed is never some = absurd never
-      by starved is any some =
-          let part = part_of some.made some.later some.splits in
+      by (faulted kind) is any begun failed = fails kind is begun failed
+      by source_failed is never begun some = absurd never
+      by starved is any are some =
+          let part = line_begun start script t before rest read splits accepted acts (acts_along start (places before) t acts along) line are some.done some.later some.splits in
           behind starved is before acts [] first_here along (inl refl)
           (record {
-            made = some.made;
+            done = some.done;
             later = part.0;
             are = rw append-nil part.1;
-            does = rw append-nil (does_then see acts (map calls some.made) went_well old mid new well tt some.does);
-          }) tt
+            still = rw append-nil (some.still then told);
+            does = rw append-nil (does_then see acts some.done went_well old mid new well tt some.does);
+          }) refl
 
 -- ---- where no line is given
 
@@ -396,7 +352,8 @@ module _ {X : Type 0} (see : X → Seen) (start : Start) (script : List ℕ) (t 
   -- the source failed
   pub took_now : DoesLines see start script t (Err SourceFault) run old new
   took_now =
-      let begun = along_begun start script (reads_in taking.done) t taking.acts first_taken taking.along in
+      let begun = along_begun start script (reads_in taking.done) t taking.acts first_taken (acts_along start (places (reads_in taking.done)) t taking.acts taking.along) in
+      let rest : List Act = script_asked start script (after_acts (taking.acts ++ begun.0) t) in
       let none : (taking.acts ++ []) ++ [] ≡ taking.acts = append-nil (taking.acts ++ []) ∙ append-nil taking.acts in
       record {
         before = reads_in taking.done;
@@ -406,16 +363,17 @@ module _ {X : Type 0} (see : X → Seen) (start : Start) (script : List ℕ) (t 
         asked = [];
         asks = inl refl;
         does = record {
-          made = [];
-          later = begun.0 ++ script_asked start script;
+          done = [];
+          later = begun.0 ++ rest;
           are = record {
             along = taking.acts ++ begun.0;
             lines = begun.1;
-            is = ap (λ l. l ++ (begun.0 ++ script_asked start script)) none ∙ sym (append_assoc taking.acts begun.0 (script_asked start script));
+            is = ap (λ l. l ++ (begun.0 ++ rest)) none ∙ sym (append_assoc taking.acts begun.0 rest);
           };
+          still = none_still (after_acts (taking.acts ++ []) t);
           does = subst (λ (l : List Act). GoesWell l (see old) (see new)) (sym none) well;
         };
-        ends = tt;
+        ends = refl;
       }
 
   none_behind : GoesWell (taking.acts ++ []) (see old) (see new)
@@ -424,12 +382,18 @@ module _ {X : Type 0} (see : X → Seen) (start : Start) (script : List ℕ) (t 
   whole_given : (ending : Ending) → lines_to_come reader taking.now ≡ no_line ending → script_lines script ≡ record { whole = taking.done; ending = ending }
   whole_given ending none = taking.lines ∙ ap (with_lines taking.done) none ∙ ap (λ whole. record { whole = whole; ending = ending }) (append-nil taking.done)
 
-  all_given : (ending : Ending) (exit : Exit) → exit ≡ ending_exit number ending → lines_to_come reader taking.now ≡ no_line ending → AreAllAsked start script exit (reads_in taking.done) []
-  all_given ending exit is none = record {
-    all = subst (λ e. AreAll start script e (reads_in taking.done)) (sym (is ∙ ap (λ n. ending_exit n ending) taking.count))
-        (all_read start script taking.done ending (whole_given ending none) taking.accepted);
-    is = sym (ap (λ (l : Lines). asked_acts start (places (reads_in l.whole))) (whole_given ending none) ∙ none-asked start (places (reads_in taking.done)) taking.accepted);
-  }
+  -- what is told behind them
+  abbrev told_now : Told
+  told_now = after_acts taking.acts t
+
+  all_given : (ending : Ending) (exit : Exit) → exit ≡ ending_exit number ending → lines_to_come reader taking.now ≡ no_line ending → AreAllAsked start script exit (reads_in taking.done) told_now []
+  all_given ending exit is none =
+      let same : exit ≡ ending_exit (length taking.done) ending = is ∙ ap (λ n. ending_exit n ending) taking.count in
+      record {
+        all = subst (λ e. AreAll start script e (reads_in taking.done)) (sym same) (all_read start script taking.done ending (whole_given ending none) taking.accepted);
+        is = sym (ap (λ (l : Lines). asked_acts start (places (reads_in l.whole)) told_now) (whole_given ending none) ∙ none-asked start (places (reads_in taking.done)) told_now taking.accepted);
+        ends = inl (same ∙ ap (λ (l : Lines). ending_exit (length l.whole) l.ending) (sym (whole_given ending none)), refl);
+      }
 
   -- they end here, in this way
   pub lines_end : (ending : Ending) (exit : Exit) → ending_of exit ≡ answered → exit ≡ ending_exit number ending → lines_to_come reader taking.now ≡ no_line ending → DoesLines see start script t (Err exit) run old new
@@ -440,8 +404,8 @@ module _ {X : Type 0} (see : X → Seen) (start : Start) (script : List ℕ) (t 
     along = taking.along;
     asked = [];
     asks = inl refl;
-    does = subst (λ (e : CallEnding). DoesFirst see (AreLinesActs start script t) (taking.acts ++ []) e old new) (sym answer) none_behind;
-    ends = on_answer exit (AreAllAsked start script exit (reads_in taking.done) []) (all_given ending exit is none);
+    does = subst (λ (e : CallEnding). DoesFirst see (AreLinesActs start script t) t (taking.acts ++ []) e old new) (sym answer) none_behind;
+    ends = subst (λ (e : CallEnding). AsksBy start script (reads_in taking.done) told_now [] exit e) (sym answer) (all_given ending exit is none);
   }
 
   -- all of them were taken

@@ -1,11 +1,9 @@
 -- No line of a script that is made up is refused: its machine is taken, and the account and the
 -- journal have room for all that its reports add.
-use Rattle.std.proofs.Common.{◌≡◌, ℕ, ◌+◌, ◌<◌, ◌≤◌, suc, zero, cond, Bool, true, false, ◌||◌, List, [], ◌∷◌, ◌++◌, codes, length, map, Option, Some, None, Result, Ok, Err, IfSome, refl, sym, ap, subst, ◌∙◌, arith}
+use Rattle.std.proofs.Common.{◌≡◌, ℕ, ◌+◌, ◌<◌, ◌≤◌, suc, zero, cond, Bool, true, false, ◌||◌, List, [], ◌∷◌, ◌++◌, codes, length, map, Option, Some, None, Result, Ok, IfSome, refl, sym, ap, subst, ◌∙◌, arith}
 use Rattle.std.specs.Prelude.{if◌then◌else◌, unwrap_or}
-use Rattle.std.specs.Fmt.{decimal}
-use Rattle.std.specs.List.{AllByRecursion, cons_option, enumerate_from, filter_map, join_with_byte, list_any}
+use Rattle.std.specs.List.{AllByRecursion, cons_option, enumerate_from, filter_map}
 use Rattle.std.specs.Option.{option_map, option_map_or}
-use Rattle.std.specs.Str.{bytes_eq}
 use Rattle.std.proofs.lemmas.List.{map-append}
 use Rattle.std.proofs.lemmas.List.Elements.{filter_map-append}
 use Rattle.ras_base.specs.Places.{places}
@@ -31,15 +29,12 @@ use Rattle.ras_journal.specs.declared.standing.Standing.{Standing}
 use Rattle.ras_journal.specs.File.{front_of}
 use Rattle.ras_journal.specs.Recovered.{journal_of, position_of}
 use Rattle.ras_script.specs.Line.{line_of}
-use Rattle.ras_script.specs.LineLaws.{IsBankInRange, IsInRange, bank_words, line_text}
+use Rattle.ras_script.specs.LineLaws.{IsBankInRange, IsInRange, line_text}
 use Rattle.ras_script.specs.Lines.{Lines, script_ended, script_lines}
-use Rattle.ras_script.specs.Splitting.{words_of}
 use Rattle.ras_script.specs.declared.line.Line.{Line}
-use Rattle.ras_script.specs.declared.line.Line.TheVariants.{Report, Row}
+use Rattle.ras_script.specs.declared.line.Line.TheVariants.{Report}
 use Rattle.ras_script.specs.declared.line.LineRefused.{LineRefused}
-use Rattle.ras_script.specs.declared.line.LineRefused.TheVariants.{Kind}
 use Rattle.ras_script.specs.declared.line.ErrorReport.TheVariants.{Bank}
-use Rattle.ras_script.proofs.LineAndWordLemmas.{words_separated}
 use Rattle.ras_script.proofs.LineTextLemmas.{text_read}
 use Rattle.ras_events.specs.Making.{entries_in, made_by_report}
 use Rattle.ras_events.specs.declared.made.Piece.{Piece}
@@ -52,7 +47,6 @@ use Rattle.ras_load.specs.LoadScript.{bank_line, bank_lines, bank_number, genera
 use Rattle.ras_load.specs.declared.script.TheConstants.{MOST_LINES}
 use Rattle.ras_load.proofs.FeedLemmas.{lines_whole}
 use Rattle.ras_load.proofs.ReadingLemmas.{line_in_range, lines_in_range}
-use Rattle.ras_run.specs.LaterKinds.{is_later, later_kinds, taken_line}
 use Rattle.ras_run.specs.Places.{Start, account_at, has_no_room_for, lacks_room_for, standing_at, standing_with_news}
 use Rattle.ras_run.specs.Status.{refusal_at}
 use Rattle.ras_run.proofs.PlaceLemmas.{account-snoc, standing-snoc}
@@ -70,52 +64,12 @@ asked line = Ok line
 abbrev pub numbered : List Line → List NumberedLine
 numbered lines = enumerate_from 1 (map asked lines)
 
--- a line whose first word is of a kind that a run takes
-first_taken : (kind rest : List ℕ) → words_of kind ≡ kind ∷ [] → list_any (bytes_eq kind) later_kinds ≡ false → taken_line (kind ++ 32 ∷ rest) ≡ line_of (kind ++ 32 ∷ rest)
-first_taken kind rest one other =
-    let words : words_of (kind ++ 32 ∷ rest) ≡ kind ∷ words_of rest = words_separated kind rest ∙ ap (λ ws. ws ++ words_of rest) one in
-    ap (λ later. cond later (Err Kind) (line_of (kind ++ 32 ∷ rest))) (ap is_later words ∙ other)
-
-abbrev IsReadTaken : Line → Type 0
-IsReadTaken line = taken_line (line_text line) ≡ Ok line
-
-read_taken : (line : Line) (kind rest : List ℕ) → IsInRange line → line_text line ≡ kind ++ 32 ∷ rest → words_of kind ≡ kind ∷ [] → list_any (bytes_eq kind) later_kinds ≡ false → IsReadTaken line
-read_taken line kind rest range is one other = ap taken_line is ∙ first_taken kind rest one other ∙ ap line_of (sym is) ∙ text_read line range
-
-all_both : (P : Line → Type 0) (xs ys : List Line) → AllByRecursion P xs → AllByRecursion P ys → AllByRecursion P (xs ++ ys)
-all_both P [] ys one other = other
-all_both P (x ∷ xs) ys one other = (one.0, all_both P xs ys one.1 other)
-
-bank_taken : (bank : BankReport) → IsBankInRange bank → IsReadTaken (Report (Bank bank))
-bank_taken bank range = read_taken (Report (Bank bank)) (codes "bank") (join_with_byte 32 (bank_words bank)) range refl refl refl
-
-banks_taken : (n : ℕ) → n ≤ MOST_LINES → AllByRecursion IsReadTaken (bank_lines n)
-unfolding bank_lines
-banks_taken zero few = tt
-banks_taken (suc n) few =
-    all_both IsReadTaken (bank_lines n) (bank_line (n + 1) ∷ []) (banks_taken n (omega arith))
-    (bank_taken (load_bank (bank_number (n + 1)) (generated (bank_number (n + 1)))) (line_in_range (n + 1) (omega arith)), tt)
-
-module_taken : (label : List ℕ) (channel : ℕ) → IsInRange (Row (Module label 0 7 channel)) → IsReadTaken (Row (Module label 0 7 channel))
-module_taken label channel range =
-    read_taken (Row (Module label 0 7 channel)) (codes "module") (join_with_byte 32 (label ∷ decimal 0 ∷ decimal 7 ∷ decimal channel ∷ [])) range refl refl refl
-
-lines_taken : (n : ℕ) → n ≤ MOST_LINES → AllByRecursion IsReadTaken (load_lines n)
-lines_taken n few =
-    let range : AllByRecursion IsInRange (load_lines n) = lines_in_range n few in (
-      read_taken (Row (Cpu 0 0)) (codes "cpu") (join_with_byte 32 (decimal 0 ∷ decimal 0 ∷ [])) range.0 refl refl refl,
-      (
-        module_taken (codes "M0") 0 range.1.0,
-        (module_taken (codes "M1") 1 range.1.1.0, (module_taken (codes "M2") 2 range.1.1.1.0, (module_taken (codes "M3") 3 range.1.1.1.1.0, banks_taken n few))),
-      ),
-    )
-
-map_taken : (lines : List Line) → AllByRecursion IsReadTaken lines → map taken_line (map line_text lines) ≡ map asked lines
-map_taken [] all = refl
-map_taken (line ∷ lines) all = λ i. all.0 i ∷ map_taken lines all.1 i
+lines_read : (lines : List Line) → AllByRecursion IsInRange lines → map line_of (map line_text lines) ≡ map asked lines
+lines_read [] all = refl
+lines_read (line ∷ lines) all = λ i. text_read line all.0 i ∷ lines_read lines all.1 i
 
 pub reads_are : (n : ℕ) → n ≤ MOST_LINES → reads_in (map line_text (load_lines n)) ≡ numbered (load_lines n)
-reads_are n few = ap (enumerate_from 1) (map_taken (load_lines n) (lines_taken n few))
+reads_are n few = ap (enumerate_from 1) (lines_read (load_lines n) (lines_in_range n few))
 
 enumerate-snoc : {X : Type 0} (n : ℕ) (xs : List X) (x : X) → enumerate_from n (xs ++ x ∷ []) ≡ enumerate_from n xs ++ (n + length xs, x) ∷ []
 enumerate-snoc n [] x = let same : n + 0 ≡ n = omega arith in rw same refl

@@ -3,13 +3,14 @@ use Rattle.std.proofs.Common.{◌≡◌, ℕ, ◌+◌, List, [], ◌∷◌, ◌+
 use Rattle.std.specs.List.{AllByRecursion, enumerate_from, flat_map}
 use Rattle.std.proofs.lemmas.List.{map-append, length-map}
 use Rattle.std.proofs.lemmas.Grind.{flat_map-append}
+use Rattle.board_core.specs.Told.{Told}
 use Rattle.ras_base.specs.Places.{places, places_behind}
 use Rattle.ras_base.specs.PlacesLemmas.{places-snoc, places_behind-append}
 use Rattle.ras_events.specs.Reports.{NumberedLine, Place, event_at}
+use Rattle.ras_script.specs.Line.{line_of}
 use Rattle.ras_script.specs.Lines.{Ending, Lines, script_lines}
 use Rattle.ras_exit.specs.declared.exit.Exit.{Exit}
-use Rattle.ras_run.specs.LaterKinds.{taken_line}
-use Rattle.ras_run.specs.LineActs.{refused_acts}
+use Rattle.ras_run.specs.LineActs.{asking_acts}
 use Rattle.ras_run.specs.Output.{output_at}
 use Rattle.ras_run.specs.Places.{Start}
 use Rattle.ras_run.specs.Status.{places_before_refusal, refusal_at}
@@ -31,13 +32,13 @@ enumerate-append n (x ∷ xs) ys =
 
 -- the numbered lines that stand behind these
 abbrev pub reads_behind : List (List ℕ) → List (List ℕ) → List NumberedLine
-reads_behind done more = enumerate_from (1 + length done) (map taken_line more)
+reads_behind done more = enumerate_from (1 + length done) (map line_of more)
 
 pub reads-append : (done more : List (List ℕ)) → reads_in (done ++ more) ≡ reads_in done ++ reads_behind done more
 reads-append done more =
-    ap (enumerate_from 1) (map-append taken_line done more)
-    ∙ enumerate-append 1 (map taken_line done) (map taken_line more)
-    ∙ ap (λ n. reads_in done ++ enumerate_from (1 + n) (map taken_line more)) (length-map done taken_line)
+    ap (enumerate_from 1) (map-append line_of done more)
+    ∙ enumerate-append 1 (map line_of done) (map line_of more)
+    ∙ ap (λ n. reads_in done ++ enumerate_from (1 + n) (map line_of more)) (length-map done line_of)
 
 -- ---- lines that are accepted
 
@@ -71,20 +72,20 @@ refusal-first start [] qs p exit all is = rw is refl
 refusal-first start (q ∷ ps) qs p exit all is = rw all.0.taken (refusal-first start ps qs p exit all.1 is)
 
 -- what accepted lines ask, and then a refused one
-pub none-asked : (start : Start) (ps : List Place) → AllByRecursion (IsAccepted start) ps → asked_acts start ps ≡ []
-none-asked start [] all = refl
-none-asked start (p ∷ ps) all = rw all.0.taken (none-asked start ps all.1)
+pub none-asked : (start : Start) (ps : List Place) (t : Told) → AllByRecursion (IsAccepted start) ps → asked_acts start ps t ≡ []
+none-asked start [] t all = refl
+none-asked start (p ∷ ps) t all = rw all.0.taken (none-asked start ps t all.1)
 
-refused-asked : (start : Start) (ps qs : List Place) (p : Place) (exit : Exit) → AllByRecursion (IsAccepted start) ps → refusal_at start p ≡ Some exit → asked_acts start (ps ++ p ∷ qs) ≡ refused_acts (event_at p)
-refused-asked start [] qs p exit all is = rw is refl
-refused-asked start (q ∷ ps) qs p exit all is = rw all.0.taken (refused-asked start ps qs p exit all.1 is)
+refused-asked : (start : Start) (ps qs : List Place) (p : Place) (exit : Exit) (t : Told) → AllByRecursion (IsAccepted start) ps → refusal_at start p ≡ Some exit → asked_acts start (ps ++ p ∷ qs) t ≡ asking_acts p.0 (event_at p) t
+refused-asked start [] qs p exit t all is = rw is refl
+refused-asked start (q ∷ ps) qs p exit t all is = rw all.0.taken (refused-asked start ps qs p exit t all.1 is)
 
-pub script-asked : (start : Start) (script : List ℕ) (before rest : List NumberedLine) (read : NumberedLine) (exit : Exit) → before ++ read ∷ rest ≡ reads_of script
-    → AreAccepted start before → refusal_at start (before, read) ≡ Some exit → script_asked start script ≡ refused_acts (event_at (before, read))
-script-asked start script before rest read exit splits accepted refused =
-    ap (λ reads. asked_acts start (places reads)) (sym splits)
-    ∙ ap (asked_acts start) (places_behind-append [] before (read ∷ rest))
-    ∙ refused-asked start (places before) (places_behind (before ++ read ∷ []) rest) (before, read) exit accepted refused
+pub script-asked : (start : Start) (script : List ℕ) (before rest : List NumberedLine) (read : NumberedLine) (exit : Exit) (t : Told) → before ++ read ∷ rest ≡ reads_of script
+    → AreAccepted start before → refusal_at start (before, read) ≡ Some exit → script_asked start script t ≡ asking_acts before (event_at (before, read)) t
+script-asked start script before rest read exit t splits accepted refused =
+    ap (λ reads. asked_acts start (places reads) t) (sym splits)
+    ∙ ap (λ ps. asked_acts start ps t) (places_behind-append [] before (read ∷ rest))
+    ∙ refused-asked start (places before) (places_behind (before ++ read ∷ []) rest) (before, read) exit t accepted refused
 
 -- A script that ends behind these lines.
 pub all_read : (start : Start) (script : List ℕ) (done : List (List ℕ)) (ending : Ending) → script_lines script ≡ record { whole = done; ending = ending }

@@ -49,13 +49,13 @@ use Rattle.dimm_topology.specs.Labels.{Bytes, same_label}
 use Rattle.ras_base.specs.PlacesLemmas.{places_behind-append}
 use Rattle.ras_script.specs.declared.line.Line.{Line}
 use Rattle.ras_script.specs.declared.line.LineRefused.{LineRefused}
-use Rattle.ras_run.specs.LaterKinds.{taken_line}
+use Rattle.ras_script.specs.Line.{line_of}
 use Rattle.ras_daemon.specs.Headline.{account_with, reported}
 use Rattle.ras_daemon.specs.RunOutput.{closing_line, lines_output, output_upto, run_output}
 use Rattle.ras_daemon.specs.RunStatus.{run_exit}
-use Rattle.ras_daemon.specs.Runs.{BeginsWith, CountTheSame, Follows, IsTakenWhole, ReportsFacts, event_count, facts_of, history_after, logged, ordered}
+use Rattle.ras_daemon.specs.Runs.{BeginsWith, CountTheSame, Follows, IsNoPoll, IsTakenWhole, PollsNothing, ReportsFacts, event_count, facts_of, history_after, logged, ordered}
 use Rattle.ras_daemon.specs.Script.{events_of, is_event, reads_of, reads_in}
-use Rattle.ras_daemon.proofs.EventLemmas.{IsTakenRead, entries-plain, taken-all}
+use Rattle.ras_daemon.proofs.EventLemmas.{entries-unpolled}
 use Rattle.ras_daemon.proofs.AgainLemmas.{counts-again, facts-again, facts_of-append}
 use Rattle.ras_daemon.proofs.HistoryLemmas.{again-counted, among-own, fresh-once, none-logged, orders-entries, with_entries-append}
 use Rattle.ras_daemon.proofs.ListLemmas.{all-front, flat_map-passing, take-whole}
@@ -125,14 +125,14 @@ output-begins start script n =
           ∙ ap (λ (text : List ℕ). standing ++ text) (sym (append_assoc one other closing) ∙ ap (λ (text : List ℕ). text ++ closing) all),
     )
 
--- ---- what is reported needs no record store
+-- ---- what is reported needs no record store, if it isn't polled
 
-abbrev IsTakenPlace : Place → Type 0
-IsTakenPlace p = IsTakenRead p.1
+abbrev IsUnpolledPlace : Place → Type 0
+IsUnpolledPlace p = IsNoPoll p.1
 
-places-taken : (before reads : List NumberedLine) → AllByRecursion IsTakenRead reads → AllByRecursion IsTakenPlace (places_behind before reads)
-places-taken before [] all = tt
-places-taken before (read ∷ reads) all = (all.0, places-taken (before ++ read ∷ []) reads all.1)
+places-unpolled : (before reads : List NumberedLine) → AllByRecursion IsNoPoll reads → AllByRecursion IsUnpolledPlace (places_behind before reads)
+places-unpolled before [] all = tt
+places-unpolled before (read ∷ reads) all = (all.0, places-unpolled (before ++ read ∷ []) reads all.1)
 
 all-filter : {X : Type 0} (P : X → Type 0) (p : X → Bool) (xs : List X) → AllByRecursion P xs → AllByRecursion P (filter p xs)
 all-filter P p [] all = tt
@@ -142,12 +142,13 @@ all-filter {X} P p (x ∷ xs) all = by (p x) (all-filter P p xs all.1)
     by true rest = (all.0, rest)
     by false rest = rest
 
-entries-any : (one other : List Stored) (ps : List Place) → AllByRecursion IsTakenPlace ps → flat_map (entries_at one) ps ≡ flat_map (entries_at other) ps
+entries-any : (one other : List Stored) (ps : List Place) → AllByRecursion IsUnpolledPlace ps → flat_map (entries_at one) ps ≡ flat_map (entries_at other) ps
 entries-any one other [] all = refl
-entries-any one other (p ∷ ps) all = λ i. entries-plain one other p.0 p.1 all.0 i ++ entries-any one other ps all.1 i
+entries-any one other (p ∷ ps) all = λ i. entries-unpolled one other p.0 p.1 all.0 i ++ entries-any one other ps all.1 i
 
-all-events : (script : List ℕ) → AllByRecursion IsTakenPlace (filter is_event (places (reads_of script)))
-all-events script = all-filter IsTakenPlace is_event (places (reads_of script)) (places-taken [] (reads_of script) (taken-all script))
+all-events : (script : List ℕ) → PollsNothing script → AllByRecursion IsUnpolledPlace (filter is_event (places (reads_of script)))
+all-events script none =
+    all-filter IsUnpolledPlace is_event (places (reads_of script)) (places-unpolled [] (reads_of script) (recursion_from_All IsNoPoll (reads_of script) none))
 
 events-front : (start : Start) (script : List ℕ) (n : ℕ) → IsPrefixOf (take n (events_of start script)) (filter is_event (places (reads_of script)))
 events-front start script n =
@@ -155,11 +156,11 @@ events-front start script n =
     IsPrefixOf-trans (take n (events_of start script)) (events_of start script) all (prefix-take n (events_of start script))
     (prefix-filter is_event (places_before_refusal start (places (reads_of script))) (places (reads_of script)) (before-front start (places (reads_of script))))
 
-pub reported-any : (start : Start) (store : List Stored) (script : List ℕ) (n : ℕ) → reported start script n ≡ flat_map (entries_at store) (take n (events_of start script))
-reported-any start store script n =
+pub reported-any : (start : Start) (store : List Stored) (script : List ℕ) (n : ℕ) → PollsNothing script → reported start script n ≡ flat_map (entries_at store) (take n (events_of start script))
+reported-any start store script n none =
     let front = events-front start script n in
     entries-any start.store store (take n (events_of start script))
-    (all-front IsTakenPlace (take n (events_of start script)) front.0 (subst (AllByRecursion IsTakenPlace) (sym front.1) (all-events script)))
+    (all-front IsUnpolledPlace (take n (events_of start script)) front.0 (subst (AllByRecursion IsUnpolledPlace) (sym front.1) (all-events script none)))
 
 -- ---- the account of a history
 
@@ -182,21 +183,22 @@ module _ (history : History) (start : Start) (is : BeginsWith history start) whe
 pub taken-events : (start : Start) (script : List ℕ) → IsTakenWhole start script → events_of start script ≡ filter is_event (places (reads_of script))
 taken-events start script taken = ap (filter is_event) (done-all start script taken)
 
-pub reported-all : (start : Start) (script : List ℕ) → reported start script (event_count start script) ≡ flat_map (entries_at []) (events_of start script)
-reported-all start script = reported-any start [] script (event_count start script) ∙ ap (flat_map (entries_at [])) (take-whole (events_of start script) (event_count start script) (omega arith))
+pub reported-all : (start : Start) (script : List ℕ) → PollsNothing script → reported start script (event_count start script) ≡ flat_map (entries_at []) (events_of start script)
+reported-all start script none = reported-any start [] script (event_count start script) none ∙ ap (flat_map (entries_at [])) (take-whole (events_of start script) (event_count start script) (omega arith))
 
 -- and what any run reports of it is among what these report
-reported-front : (start next : Start) (script : List ℕ) (n : ℕ) → IsTakenWhole start script → IsPrefixOf (reported next script n) (reported start script (event_count start script))
-reported-front start next script n taken =
+reported-front : (start next : Start) (script : List ℕ) (n : ℕ) → PollsNothing script → IsTakenWhole start script → IsPrefixOf (reported next script n) (reported start script (event_count start script))
+reported-front start next script n none taken =
     let all : List Place = filter is_event (places (reads_of script)) in
-    subst (λ (es : List Entry). IsPrefixOf es (reported start script (event_count start script))) (sym (reported-any next [] script n))
-    (subst (IsPrefixOf (flat_map (entries_at []) (take n (events_of next script)))) (ap (flat_map (entries_at [])) (sym (taken-events start script taken)) ∙ sym (reported-all start script))
+    subst (λ (es : List Entry). IsPrefixOf es (reported start script (event_count start script))) (sym (reported-any next [] script n none))
+    (subst (IsPrefixOf (flat_map (entries_at []) (take n (events_of next script)))) (ap (flat_map (entries_at [])) (sym (taken-events start script taken)) ∙ sym (reported-all start script none))
     (prefix-flat_map (entries_at []) (take n (events_of next script)) all (events-front next script n)))
 
-pub logs-again : (history : History) (start next : Start) (script : List ℕ) (n : ℕ) → BeginsWith history start → IsTakenWhole start script → Follows start script (event_count start script) next → names_of (logged next script n) ≡ []
-logs-again history start next script n is taken follows =
+pub logs-again : (history : History) (start next : Start) (script : List ℕ) (n : ℕ) → PollsNothing script → BeginsWith history start → IsTakenWhole start script → Follows start script (event_count start script) next
+    → names_of (logged next script n) ≡ []
+logs-again history start next script n none is taken follows =
     let all : List Entry = reported start script (event_count start script) in
-    let front = reported-front start next script n taken in
+    let front = reported-front start next script n none taken in
     let names : names_of (reported next script n) ++ names_of front.0 ≡ names_of all = sym (names_of-append (reported next script n) front.0) ∙ ap names_of front.1 in
     ap (λ (a : State). names_of (fresh_entries_in a (reported next script n))) (follows ∙ accounts-follow history start is script (event_count start script))
     ∙ none-logged (with_entries history all) (reported next script n)
@@ -204,7 +206,7 @@ logs-again history start next script n is taken follows =
     (subst (AllByRecursion (λ name. is_among (names_in (with_entries history all)) name ≡ true)) (sym names) (among-own history all)))
 
 -- what a run that follows a stop reports are those again, and the others
-module _ (history : History) (start next : Start) (script : List ℕ) (n : ℕ) (begins : BeginsWith history start) (taken : IsTakenWhole start script) (follows : Follows start script n next) (whole : IsTakenWhole next script) where
+module _ (history : History) (start next : Start) (script : List ℕ) (n : ℕ) (none : PollsNothing script) (begins : BeginsWith history start) (taken : IsTakenWhole start script) (follows : Follows start script n next) (whole : IsTakenWhole next script) where
   abbrev stopped : History
   stopped = with_entries history (reported start script n)
 
@@ -213,9 +215,9 @@ module _ (history : History) (start next : Start) (script : List ℕ) (n : ℕ) 
 
   all-again : reported next script (event_count next script) ≡ reported start script (event_count start script)
   all-again =
-      reported-all next script
+      reported-all next script none
       ∙ ap (flat_map (entries_at [])) (taken-events next script whole ∙ sym (taken-events start script taken))
-      ∙ sym (reported-all start script)
+      ∙ sym (reported-all start script none)
 
   account-again : (rest : List Entry) → reported start script n ++ rest ≡ reported start script (event_count start script)
       → account_with next script (event_count next script) ≡ account_of (with_entries stopped (reported start script n ++ rest))
@@ -225,7 +227,7 @@ module _ (history : History) (start next : Start) (script : List ℕ) (n : ℕ) 
 
   pub resumed-counts : CountTheSame (account_with next script (event_count next script)) (account_with start script (event_count start script))
   resumed-counts =
-      let front = reported-front start start script n taken in
+      let front = reported-front start start script n none taken in
       subst (λ (a : State). CountTheSame a (account_with start script (event_count start script))) (sym (account-again front.0 front.1))
       (subst (λ (a : State). CountTheSame (account_of (with_entries stopped (reported start script n ++ front.0))) a)
       (ap (λ (es : List Entry). account_of (with_entries history es)) front.1 ∙ sym (accounts-follow history start begins script (event_count start script)))
@@ -236,7 +238,7 @@ module _ (history : History) (start next : Start) (script : List ℕ) (n : ℕ) 
   logs-together =
       let h : History = history in
       let xs : List Entry = reported start script n in
-      let (rest, is) = reported-front start start script n taken in
+      let (rest, is) = reported-front start start script n none taken in
       let one : List Entry = logged start script n in
       let other : List Entry = logged next script (event_count next script) in
       let all : List Entry = logged start script (event_count start script) in
@@ -255,7 +257,7 @@ module _ (history : History) (start next : Start) (script : List ℕ) (n : ℕ) 
 
   pub resumed-same : ReportsFacts start script → account_with next script (event_count next script) ≡ account_with start script (event_count start script)
   resumed-same facts =
-      let front = reported-front start start script n taken in
+      let front = reported-front start start script n none taken in
       account-again front.0 front.1
       ∙ again-counted history (reported start script n) front.0
       (all-front IsFact (reported start script n) front.0 (subst (AllByRecursion IsFact) (sym front.1) (recursion_from_All IsFact (reported start script (event_count start script)) facts)))
@@ -382,8 +384,8 @@ before-behind start (p ∷ ps) qs = by (is_some (refusal_at start p)) (before-be
 
 reads-front : (lines more : List (List ℕ)) → IsPrefixOf (reads_in lines) (reads_in (lines ++ more))
 reads-front lines more =
-    subst (λ (reads : List (Result Line LineRefused)). IsPrefixOf (reads_in lines) (enumerate_from 1 reads)) (sym (map-append taken_line lines more))
-    (enumerate-front 1 (map taken_line lines) (map taken_line more))
+    subst (λ (reads : List (Result Line LineRefused)). IsPrefixOf (reads_in lines) (enumerate_from 1 reads)) (sym (map-append line_of lines more))
+    (enumerate-front 1 (map line_of lines) (map line_of more))
 
 pub lines-stay : (start : Start) (lines more : List (List ℕ)) → IsPrefixOf (lines_output start (reads_in lines)) (lines_output start (reads_in (lines ++ more)))
 lines-stay start lines more =

@@ -3,16 +3,16 @@ use Rattle.std.specs.Prelude.{◌≡◌, ℕ, ◌+◌, ◌-◌, ◌≤◌, ◌==
 use Rattle.std.specs.Option.{option_map}
 use Rattle.board_core.specs.Told.{Told}
 use Rattle.ras_script.specs.declared.reader.TheConstants.{LONGEST_LINE, LONGEST_SCRIPT}
+use Rattle.ras_script.specs.Line.{line_of}
 use Rattle.ras_script.specs.Splitting.{lines_of}
 use Rattle.text_laws.specs.DoneLines.{done_count, ended_lines}
 use Rattle.ras_exit.specs.declared.exit.Exit.{Exit}
 use Rattle.ras_exit.specs.declared.exit.Exit.TheVariants.{SourceFault}
-use Rattle.ras_run.specs.LaterKinds.{taken_line}
 use Rattle.ras_daemon.specs.Script.{is_event}
 
 -- whether a line is an event, wherever it stands
 abbrev pub is_event_line : List ℕ → Bool
-is_event_line line = is_event ([], (1, taken_line line))
+is_event_line line = is_event ([], (1, line_of line))
 
 -- how far lines reach to the end of the event that has n events before it, each line with its line
 -- feed: to no end if there is no such event

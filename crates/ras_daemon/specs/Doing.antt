@@ -1,89 +1,107 @@
 -- Only for proofs: what the parts of a run did, as acts, by how they ended.
-use Rattle.std.specs.Prelude.{◌≡◌, ℕ, ◌⊎◌, true, List, [], ◌∷◌, ◌++◌, IsSomeAnd, Result, Ok, Err, is_some, map}
+use Rattle.std.specs.Prelude.{◌≡◌, ◌≢◌, ℕ, ◌⊎◌, ⊤, List, [], ◌∷◌, ◌++◌, IsSomeAnd, Result, Ok, Err}
 use Rattle.board_core.specs.Cause.{disk_call, print_call}
 use Rattle.board_core.specs.Clock.{Adds, Rests}
-use Rattle.board_core.specs.declared.board.DiskCall.{DiskCall}
-use Rattle.board_core.specs.Doing.{Act, Breaks, GoesWell, Seen, after_acts, calls}
+use Rattle.board_core.specs.Doing.{Act, Breaks, GoesWell, Seen, after_acts}
 use Rattle.board_core.specs.Told.{Told}
 use Rattle.ras_base.specs.Places.{places}
 use Rattle.ras_recover.specs.Opening.{Opening}
 use Rattle.ras_recover.specs.OpeningActs.{FailsOpening}
 use Rattle.ras_recover.specs.OpeningCalls.{AfterOpening, AfterRecovery, MakesOpening}
-use Rattle.ras_events.specs.Reports.{NumberedLine, event_at}
-use Rattle.ras_exit.specs.Acts.{ended_with, print_acts}
-use Rattle.ras_exit.specs.Endings.{CallEnding, EndsBy, IsAnswer, IsCut, OnAnswer, OnlyFault, answered, ending_of, faulted}
+use Rattle.ras_events.specs.Reports.{NumberedLine, Place, event_at}
+use Rattle.ras_exit.specs.Acts.{AreStill, ended_with, print_acts}
+use Rattle.ras_exit.specs.Endings.{CallEnding, EndsBy, IsAnswer, IsCut, OnlyFault, answered, ending_of, faulted}
+use Rattle.ras_exit.specs.ScriptEnd.{script_exit}
 use Rattle.ras_exit.specs.declared.exit.Exit.{Exit}
-use Rattle.ras_exit.specs.declared.exit.Exit.TheVariants.{DiskFault, Done, NoMemory, PrintFault}
+use Rattle.ras_exit.specs.declared.exit.Exit.TheVariants.{DiskFault, Done, ErstBusy, NoMemory, PrintFault}
 use Rattle.ras_run.specs.declared.run.Run.{Run}
-use Rattle.ras_run.specs.LineActs.{HoldsAfter, refused_acts}
+use Rattle.ras_run.specs.LineActs.{AreLineActs, CanAsk, HoldsAfter, asking_acts}
 use Rattle.ras_run.specs.Places.{Start}
-use Rattle.ras_run.specs.Status.{places_before_refusal, refusal_at}
+use Rattle.ras_run.specs.Status.{places_before_refusal}
 use Rattle.ras_run.specs.Taking.{IsRunAfter}
 use Rattle.ras_daemon.specs.RunActs.{AreActsAlong, AreScriptActs, last_acts, orders_acts, script_asked}
 use Rattle.ras_daemon.specs.Running.{AreAll, AreFirst}
 use Rattle.ras_daemon.specs.Script.{reads_of}
 
--- Behind these acts a line made disk calls that write nothing, maybe none, and then memory ran out
--- or the source failed. Together they are the first ones of such acts.
-pub record DoesPart {X : Type 0} (see : X → Seen) (Are : List Act → Type 0) (acts : List Act) (old new : X) : Type 0 where
-  pub made : List DiskCall
+-- Behind these acts a line only read, maybe nothing, and then memory ran out or the source failed.
+-- Together they are the first ones of such acts.
+pub record DoesPart {X : Type 0} (see : X → Seen) (Are : List Act → Type 0) (t : Told) (acts : List Act) (old new : X) : Type 0 where
+  pub done : List Act
   pub later : List Act
-  pub are : Are ((acts ++ map calls made) ++ later)
-  pub does : GoesWell (acts ++ map calls made) (see old) (see new)
+  pub are : Are ((acts ++ done) ++ later)
+  pub still : AreStill done (after_acts acts t)
+  pub does : GoesWell (acts ++ done) (see old) (see new)
 
-abbrev pub DoesFirst : {X : Type 0} → (X → Seen) → (List Act → Type 0) → List Act → CallEnding → X → X → Type 0
-DoesFirst see Are acts answered old new = GoesWell acts (see old) (see new)
-DoesFirst see Are acts (faulted kind) old new = Breaks kind acts (see old) (see new)
-DoesFirst see Are acts ending old new = DoesPart see Are acts old new
+abbrev pub DoesFirst : {X : Type 0} → (X → Seen) → (List Act → Type 0) → Told → List Act → CallEnding → X → X → Type 0
+DoesFirst see Are t acts answered old new = GoesWell acts (see old) (see new)
+DoesFirst see Are t acts (faulted kind) old new = Breaks kind acts (see old) (see new)
+DoesFirst see Are t acts ending old new = DoesPart see Are t acts old new
 
 -- ---- lines
+
+-- The acts of lines that are done, each over what is told by then, which its calls of the device showed to
+-- be a device.
+abbrev pub AreDoneAlong : Start → List Place → Told → List Act → Type 0
+AreDoneAlong start [] t acts = acts ≡ []
+AreDoneAlong start (place ∷ places) t acts =
+    (here : List Act) × (rest : List Act) × (acts ≡ here ++ rest)
+    × (CanAsk (event_at place) t × AreLineActs start place t here) × AreDoneAlong start places (after_acts here t) rest
 
 -- the acts of all lines up to the first refused one
 pub record AreLinesActs (start : Start) (script : List ℕ) (t : Told) (acts : List Act) : Type 0 where
   pub along : List Act
   pub lines : AreActsAlong start (places_before_refusal start (places (reads_of script))) t along
-  pub is : acts ≡ along ++ script_asked start script
+  pub is : acts ≡ along ++ script_asked start script (after_acts along t)
 
--- These lines are all that a run takes, and behind them one is refused, or none.
-pub record AreAllAsked (start : Start) (script : List ℕ) (exit : Exit) (before : List NumberedLine) (asked : List Act) : Type 0 where
-  pub all : AreAll start script exit before
-  pub is : asked ≡ script_asked start script
-
--- So it is if a run isn't cut short among its lines.
-abbrev pub EndsBehind : Start → List ℕ → List NumberedLine → List Act → Result (Unit {0}) Exit → Run → Type 0
-EndsBehind start script before asked (Ok done) run = AreAllAsked start script Done before asked × IsRunAfter start before run
-EndsBehind start script before asked (Err exit) run = OnAnswer exit (AreAllAsked start script exit before asked)
-
--- what the record store was asked behind these lines: nothing, or what the refused line asks
-pub record IsAsked (start : Start) (script : List ℕ) (before : List NumberedLine) (asked : List Act) : Type 0 where
+-- What the record store was asked behind these lines: nothing, or what the next line asks; t is told
+-- by then.
+pub record IsAsked (start : Start) (script : List ℕ) (before : List NumberedLine) (t : Told) (asked : List Act) : Type 0 where
   pub read : NumberedLine
   pub rest : List NumberedLine
   pub splits : before ++ read ∷ rest ≡ reads_of script
-  pub refused : is_some (refusal_at start (before, read)) ≡ true
-  pub is : asked ≡ refused_acts (event_at (before, read))
+  pub can : CanAsk (event_at (before, read)) t
+  pub is : asked ≡ asking_acts before (event_at (before, read)) t
 
-abbrev pub MayAsk : Start → List ℕ → List NumberedLine → List Act → Type 0
-MayAsk start script before asked = (asked ≡ []) ⊎ IsAsked start script before asked
+abbrev pub MayAsk : Start → List ℕ → List NumberedLine → Told → List Act → Type 0
+MayAsk start script before t asked = (asked ≡ []) ⊎ IsAsked start script before t asked
+
+-- These lines are all that a run takes: the next one asks and is refused, or there is none.
+pub record AreAllAsked (start : Start) (script : List ℕ) (exit : Exit) (before : List NumberedLine) (t : Told) (asked : List Act) : Type 0 where
+  pub all : AreAll start script exit before
+  pub is : asked ≡ script_asked start script t
+  pub ends : ((exit ≡ script_exit script) × (asked ≡ [])) ⊎ IsAsked start script before t asked
+
+-- So it is if a run comes to an answer among its lines. If memory ran out there, or the source failed,
+-- nothing was asked behind them.
+abbrev pub AsksBy : Start → List ℕ → List NumberedLine → Told → List Act → Exit → CallEnding → Type 0
+AsksBy start script before t asked exit answered = AreAllAsked start script exit before t asked
+AsksBy start script before t asked exit (faulted kind) = ⊤
+AsksBy start script before t asked exit ending = asked ≡ []
+
+abbrev pub EndsBehind : Start → List ℕ → List NumberedLine → Told → List Act → Result (Unit {0}) Exit → Run → Type 0
+EndsBehind start script before t asked (Ok done) run = AreAllAsked start script Done before t asked × IsRunAfter start before run
+EndsBehind start script before t asked (Err exit) run = AsksBy start script before t asked exit (ending_of exit)
 
 -- The first lines of a script did their acts, or the last of them was cut short.
 pub record DoesLines {X : Type 0} (see : X → Seen) (start : Start) (script : List ℕ) (t : Told) (result : Result (Unit {0}) Exit) (run : Run) (old new : X) : Type 0 where
   pub before : List NumberedLine
   pub first : AreFirst start script before
   pub acts : List Act
-  pub along : AreActsAlong start (places before) t acts
+  pub along : AreDoneAlong start (places before) t acts
   pub asked : List Act
-  pub asks : MayAsk start script before asked
-  pub does : DoesFirst see (AreLinesActs start script t) (acts ++ asked) (ended_with result) old new
-  pub ends : EndsBehind start script before asked result run
+  pub asks : MayAsk start script before (after_acts acts t) asked
+  pub does : DoesFirst see (AreLinesActs start script t) t (acts ++ asked) (ended_with result) old new
+  pub ends : EndsBehind start script before (after_acts acts t) asked result run
 
 -- ---- the last line
 
--- A last line was printed, or that failed, or memory ran out before it.
+-- A last line was printed, or that failed, or memory ran out before it. That of a device that was busy
+-- for too long takes no memory.
 abbrev pub Says : {X : Type 0} → (X → Seen) → Exit → Exit → List ℕ → X → X → Type 0
 Says see exit result line old new =
     ((result ≡ exit) × GoesWell (print_acts line) (see old) (see new))
     ⊎ (((result ≡ PrintFault) × Breaks print_call (print_acts line) (see old) (see new))
-    ⊎ ((result ≡ NoMemory) × (new ≡ old)))
+    ⊎ ((result ≡ NoMemory) × (new ≡ old) × (exit ≢ ErstBusy)))
 
 -- A run that would end so ends with its last line, or as it was cut short.
 abbrev pub Ends : {X : Type 0} → (X → Seen) → Exit → Exit → List ℕ → X → X → Type 0
@@ -92,13 +110,19 @@ Ends see exit result line old new =
 
 -- ---- a script, over a journal that was opened
 
--- what is printed behind these lines: the last line, if the run came so far
-abbrev pub IsLastBy : Start → List ℕ → List NumberedLine → List Act → Exit → CallEnding → List Act → Type 0
-IsLastBy start script before asked exit answered last =
-    AreAllAsked start script exit before asked × (last ≡ last_acts start before exit)
-IsLastBy start script before asked exit (faulted kind) last =
-    (last ≡ []) ⊎ ((end : Exit) × AreAllAsked start script end before asked × (last ≡ last_acts start before end))
-IsLastBy start script before asked exit ending last = last ≡ []
+-- What was asked behind these lines left the record store as it was: it was nothing, or the line was
+-- refused, and not because the device was busy for too long.
+abbrev pub KeepsStore : Start → List ℕ → List NumberedLine → Told → List Act → Type 0
+KeepsStore start script before t asked =
+    (asked ≡ []) ⊎ ((end : Exit) × AreAllAsked start script end before t asked × (end ≢ ErstBusy))
+
+-- What is printed behind these lines: the last line, if the run came so far; t is told behind them.
+abbrev pub IsLastBy : Start → List ℕ → List NumberedLine → Told → List Act → Exit → CallEnding → List Act → Type 0
+IsLastBy start script before t asked exit answered last =
+    AreAllAsked start script exit before t asked × (last ≡ last_acts start before exit)
+IsLastBy start script before t asked exit (faulted kind) last =
+    (last ≡ []) ⊎ ((end : Exit) × AreAllAsked start script end before t asked × (last ≡ last_acts start before end))
+IsLastBy start script before t asked exit ending last = (last ≡ []) × KeepsStore start script before t asked
 
 -- The orders at the start were printed, then lines did their acts, and then the last line was
 -- printed, as far as the run came.
@@ -106,12 +130,12 @@ pub record DoesScript {X : Type 0} (see : X → Seen) (start : Start) (script : 
   pub before : List NumberedLine
   pub first : AreFirst start script before
   pub along : List Act
-  pub lines : AreActsAlong start (places before) (after_acts (orders_acts start) t) along
+  pub lines : AreDoneAlong start (places before) (after_acts (orders_acts start) t) along
   pub asked : List Act
-  pub asks : MayAsk start script before asked
+  pub asks : MayAsk start script before (after_acts along (after_acts (orders_acts start) t)) asked
   pub last : List Act
-  pub ends : IsLastBy start script before asked exit (ending_of exit) last
-  pub does : DoesFirst see (AreScriptActs start script t) (orders_acts start ++ (along ++ (asked ++ last))) (ending_of exit) old new
+  pub ends : IsLastBy start script before (after_acts along (after_acts (orders_acts start) t)) asked exit (ending_of exit) last
+  pub does : DoesFirst see (AreScriptActs start script t) t (orders_acts start ++ (along ++ (asked ++ last))) (ending_of exit) old new
 
 -- or memory ran out before all that
 abbrev pub TakesScript : {X : Type 0} → (X → Seen) → Start → List ℕ → Told → Exit → X → X → Type 0

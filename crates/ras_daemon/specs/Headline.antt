@@ -13,11 +13,12 @@ use Rattle.ras_journal.specs.Recovered.{Recovers}
 use Rattle.ras_events.specs.Reports.{NumberedLine, Place, entries_at}
 use Rattle.ras_events.specs.Stores.{laid, last_laid}
 use Rattle.text_laws.specs.DoneLines.{done_count}
+use Rattle.ras_exit.specs.declared.exit.Exit.{Exit}
 use Rattle.ras_run.specs.Places.{Start}
 use Rattle.ras_daemon.specs.RunOutput.{output_upto, run_output}
 use Rattle.ras_daemon.specs.RunStatus.{start_of}
 use Rattle.ras_daemon.specs.Script.{events_of, line_after}
-use Rattle.ras_daemon.specs.StoreDuring.{KeepsOthers, KnownBy, StoreDuring}
+use Rattle.ras_daemon.specs.StoreDuring.{KeepsOthers, KnownBy, KnowsReadable, OnPoll, StoreDuring, store_at_end}
 use Rattle.ras_daemon.specs.declared.word.Task.{Task}
 use Rattle.ras_daemon.specs.declared.word.Task.TheVariants.{Run}
 
@@ -43,8 +44,9 @@ last_laid_with start script n id = last_laid start.store (lines_with start scrip
 -- prints. If n events are done by what is printed, the files recover the account at the start with
 -- what the first n events report, or the first n and one. Once a byte of the next event's output is
 -- printed, it is the latter. The record store is what the first n events left, or one on the way of
--- the next. Each record that was last laid and can be read, and that the next event doesn't put
--- anew, is in the store, or the account knows its name.
+-- the next: a poll clears no record before the account knows the name of each that can be read. Each
+-- record that was last laid and can be read, and that the next event doesn't put anew, is in the store,
+-- or the account knows its name.
 pub record Headline (start : Start) (script : List ℕ) (here left : Left) : Type 0 where
   pub printed : List ℕ
   pub text : left.out ≡ here.out ++ printed
@@ -59,17 +61,23 @@ pub record Headline (start : Start) (script : List ℕ) (here left : Left) : Typ
       → account ≡ account_with start script (done_count printed + 1)
   pub store :
       StoreDuring (line_after start script (done_count printed)) (laid_with start script (done_count printed)) left.store
+  pub cleared :
+      OnPoll (line_after start script (done_count printed))
+      (¬ (left.store ≡ laid_with start script (done_count printed))
+      → KnowsReadable (laid_with start script (done_count printed)) (KnownBy account))
   pub kept :
       KeepsOthers (line_after start script (done_count printed)) (last_laid_with start script (done_count printed))
       (KnownBy account) left.store
 
--- What is told if no call of the board failed: whole events, those that are done by what was
--- printed.
-pub record IsWhole (start : Start) (script : List ℕ) (before now : Told) : Type 0 where
+-- What is told if no call of the board failed: whole events, those that are done by what was printed,
+-- by how the run ended.
+pub record IsWhole (start : Start) (script : List ℕ) (exit : Exit) (before now : Told) : Type 0 where
   pub printed : List ℕ
   pub text : now.here.out ≡ before.here.out ++ printed
   pub recovers : Recovers (account_with start script (done_count printed)) now.here
-  pub store : now.here.store ≡ laid_with start script (done_count printed)
+  pub store :
+      now.here.store
+      ≡ store_at_end exit (line_after start script (done_count printed)) (laid_with start script (done_count printed))
 
 -- There is a moment of a run from which the headline holds, whatever a stop at its start may leave:
 -- when its journal is open. A stop before it leaves that, or what the headline says.

@@ -10,7 +10,7 @@ use Rattle.ras_events.specs.Reports.{NumberedLine, Place, event_at}
 use Rattle.ras_exit.specs.Acts.{print_acts}
 use Rattle.ras_exit.specs.Endings.{CallEnding, answered, faulted}
 use Rattle.ras_exit.specs.declared.exit.Exit.{Exit}
-use Rattle.ras_run.specs.LineActs.{AreLineActs, refused_acts}
+use Rattle.ras_run.specs.LineActs.{AreLineActs, asking_acts}
 use Rattle.ras_run.specs.Places.{Start, account_at}
 use Rattle.ras_run.specs.Status.{places_before_refusal, refusal_at}
 use Rattle.ras_texts.specs.Orders.{standing_lines}
@@ -33,21 +33,27 @@ orders_acts start = print_acts (standing_lines start.account)
 abbrev pub last_acts : Start → List NumberedLine → Exit → List Act
 last_acts start before exit = print_acts (closing_line (account_at start before) exit)
 
--- what the first refused line does: the record store is asked of a put that it refuses
-abbrev pub asked_acts : Start → List Place → List Act
-asked_acts start [] = []
-asked_acts start (place ∷ places) =
-    if is_some (refusal_at start place) then refused_acts (event_at place) else asked_acts start places
+-- what the first refused line does, over what is told by then: it asks the record store, if it is of a
+-- kind that does
+abbrev pub asked_acts : Start → List Place → Told → List Act
+asked_acts start [] t = []
+asked_acts start (place ∷ places) t =
+    if is_some (refusal_at start place) then asking_acts place.0 (event_at place) t else asked_acts start places t
 
-abbrev pub script_asked : Start → List ℕ → List Act
-script_asked start script = asked_acts start (places (reads_of script))
+abbrev pub script_asked : Start → List ℕ → Told → List Act
+script_asked start script t = asked_acts start (places (reads_of script)) t
 
 -- Once the journal is open: the orders are printed, then the lines before the first refused one are
--- taken, then that one is refused, and then the last line is printed.
+-- taken, then that one asks and is refused, and then the last line is printed.
 pub record AreScriptActs (start : Start) (script : List ℕ) (t : Told) (acts : List Act) : Type 0 where
   pub along : List Act
   pub lines : AreActsAlong start (places_before_refusal start (places (reads_of script))) (after_acts (orders_acts start) t) along
-  pub is : acts ≡ orders_acts start ++ (along ++ (script_asked start script ++ last_acts start (reads_of script) (run_exit start script)))
+  pub is :
+      acts
+      ≡ orders_acts start
+      ++ (along
+      ++ (script_asked start script (after_acts along (after_acts (orders_acts start) t))
+      ++ last_acts start (reads_of script) (run_exit start script)))
 
 -- the acts of a run over a board that tells this
 pub record AreRunActs (start : Start) (script : List ℕ) (t : Told) (acts : List Act) : Type 0 where

@@ -4,21 +4,23 @@ use Rattle.std.specs.List.{AllByRecursion, flat_map}
 use Rattle.board_core.specs.Clock.{Clock, LeftNow}
 use Rattle.board_core.specs.Stop.{Left, Begins}
 use Rattle.board_core.specs.Told.{Told}
+use Rattle.erst_store.specs.Store.{Stored}
 use Rattle.ras_base.specs.Places.{places}
 use Rattle.ras_account.specs.Accounts.{IsAccount}
 use Rattle.ras_journal.specs.Recovered.{Recovers}
 use Rattle.ras_ledger.specs.declared.ledger.Ledger.{Ledger}
-use Rattle.ras_events.specs.Reports.{NumberedLine}
+use Rattle.ras_events.specs.Reports.{NumberedLine, event_at}
 use Rattle.ras_script.specs.declared.reader.TheConstants.{LONGEST_LINE}
 use Rattle.ras_script.specs.Splitting.{lines_of}
 use Rattle.ras_script.specs.SplittingLaws.{script_of}
 use Rattle.ras_texts.specs.Orders.{standing_lines}
 use Rattle.ras_exit.specs.declared.exit.Exit.{Exit}
 use Rattle.ras_exit.specs.Endings.{CallEnding, answered, ending_of, faulted}
+use Rattle.ras_exit.specs.ScriptEnd.{script_exit}
 use Rattle.ras_run.specs.Output.{output_at}
-use Rattle.ras_run.specs.Moments.{CourseMoment, course_at}
+use Rattle.ras_run.specs.Moments.{CourseMoment, course_at, refused_store}
 use Rattle.ras_run.specs.Places.{IsBoardAfter, Start, account_at, store_at}
-use Rattle.ras_run.specs.Status.{places_before_refusal}
+use Rattle.ras_run.specs.Status.{places_before_refusal, refusal_at}
 use Rattle.ras_run.specs.Taking.{IsAccepted}
 use Rattle.ras_daemon.specs.RunOutput.{closing_line}
 use Rattle.text_laws.specs.DoneLines.{ended_lines}
@@ -67,6 +69,19 @@ pub record AtLine (start : Start) (script : List ℕ) (out : List ℕ) (left : L
 abbrev pub LinesMoment : Start → List ℕ → List ℕ → Left → Type 0
 LinesMoment start script out left = BetweenLines start script out left ⊎ AtLine start script out left
 
+-- The store at the end of a run: what these lines left, if none is refused; or what the line behind
+-- them left, which is refused.
+pub record LeftByRefused (start : Start) (script : List ℕ) (before : List NumberedLine) (exit : Exit) (store : List Stored) : Type 0 where
+  pub read : NumberedLine
+  pub rest : List NumberedLine
+  pub splits : before ++ read ∷ rest ≡ reads_of script
+  pub refused : refusal_at start (before, read) ≡ Some exit
+  pub is : store ≡ refused_store exit (event_at (before, read)) (store_at start before)
+
+abbrev pub StoreAtEnd : Start → List ℕ → List NumberedLine → Exit → List Stored → Type 0
+StoreAtEnd start script before exit store =
+    ((exit ≡ script_exit script) × (store ≡ store_at start before)) ⊎ LeftByRefused start script before exit store
+
 -- while the journal is opened, while the orders that stand at the start are printed, and while the
 -- last line is
 pub record AtOpening (start : Start) (out : List ℕ) (left : Left) : Type 0 where
@@ -84,7 +99,7 @@ pub record AtEnd (start : Start) (script : List ℕ) (out : List ℕ) (left : Le
   pub exit : Exit
   pub all : AreAll start script exit before
   pub recovers : Recovers (account_at start before) left
-  pub store : left.store ≡ store_at start before
+  pub store : StoreAtEnd start script before exit left.store
   pub text : Begins (closing_line (account_at start before) exit) (out ++ outputs start before) left.out
 
 -- the text that stands before the lines
@@ -130,7 +145,7 @@ pub record EndsSo (start : Start) (script : List ℕ) (exit : Exit) (out : List 
   pub all : AreAll start script exit before
   pub account : IsAccount start.account
   pub recovers : Recovers (account_at start before) now.here
-  pub store : now.here.store ≡ store_at start before
+  pub store : StoreAtEnd start script before exit now.here.store
   pub text : now.here.out ≡ out ++ (standing_lines start.account ++ (outputs start before ++ closing_line (account_at start before) exit))
 
 abbrev pub EndsIn : Start → List ℕ → Exit → CallEnding → List ℕ → Told → Type 0

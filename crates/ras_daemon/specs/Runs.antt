@@ -1,5 +1,5 @@
 -- What the laws of runs speak of: what runs log and order, one run after the other.
-use Rattle.std.specs.Prelude.{◌≡◌, ℕ, List, [], ◌∷◌, ◌++◌, length, take, All}
+use Rattle.std.specs.Prelude.{◌≡◌, ℕ, List, [], ◌∷◌, ◌++◌, length, take, All, Ok, ⊤}
 use Rattle.std.specs.List.{flat_map}
 use Rattle.page_policy.specs.declared.rows.Order.{Order}
 use Rattle.ras_facts.specs.declared.entry.Entry.{Entry}
@@ -9,15 +9,16 @@ use Rattle.ras_account.specs.Account.{State, account_of}
 use Rattle.ras_account.specs.History.{History, with_entries}
 use Rattle.ras_account.specs.Numbers.{fresh_entries_in}
 use Rattle.ras_events.specs.Events.{no_settings}
-use Rattle.ras_events.specs.Reports.{entries_at, reports, settings_told}
+use Rattle.ras_events.specs.Reports.{NumberedLine, entries_at, reports, settings_told}
 use Rattle.ras_events.specs.Sizes.{IsFact}
 use Rattle.ras_events.specs.Preparing.{orders_along_entries}
 use Rattle.ras_exit.specs.declared.exit.Exit.TheVariants.{Done}
 use Rattle.ras_run.specs.Places.{Start, account_at}
 use Rattle.ras_daemon.specs.Headline.{account_with, reported}
 use Rattle.ras_daemon.specs.RunStatus.{run_exit}
+use Rattle.ras_script.specs.declared.line.Line.TheVariants.{Poll}
 use Rattle.ras_script.specs.Lines.{script_lines}
-use Rattle.ras_daemon.specs.Script.{events_of, reads_in}
+use Rattle.ras_daemon.specs.Script.{events_of, reads_in, reads_of}
 
 -- a run begins with the account of a history
 abbrev pub BeginsWith : History → Start → Type 0
@@ -57,6 +58,14 @@ Follows start script n next = next.account ≡ account_with start script n
 -- a run reports facts alone, and sets no limit and retires no boot
 abbrev pub ReportsFacts : Start → List ℕ → Type 0
 ReportsFacts start script = All IsFact (reported start script (event_count start script))
+
+-- No line of a script polls the record store: what it reports hangs on its own lines alone.
+abbrev pub IsNoPoll : NumberedLine → Type 0
+IsNoPoll (number, Ok (Poll seconds)) = ⊥
+IsNoPoll read = ⊤
+
+abbrev pub PollsNothing : List ℕ → Type 0
+PollsNothing script = All IsNoPoll (reads_of script)
 
 -- two accounts are the same but for the number of their entries
 abbrev pub CountTheSame : State → State → Type 0

@@ -2,19 +2,19 @@
 use Rattle.std.specs.Prelude.{ℕ, Bool, true, false, List, [], ◌∷◌, map, Option, None, Some, Ok, filter, drop}
 use Rattle.std.specs.List.{enumerate_from}
 use Rattle.ras_base.specs.Places.{places}
+use Rattle.ras_script.specs.Line.{line_of}
 use Rattle.ras_script.specs.Lines.{script_lines}
 use Rattle.ras_script.specs.declared.line.Line.{Line}
 use Rattle.ras_script.specs.declared.line.Line.TheVariants as asks
 use Rattle.ras_events.specs.Reports.{NumberedLine, Place}
 use Rattle.ras_exit.specs.declared.exit.Exit.{Exit}
 use Rattle.ras_exit.specs.declared.exit.Exit.TheVariants.{BadLine, ErstRefused}
-use Rattle.ras_run.specs.LaterKinds.{taken_line}
 use Rattle.ras_run.specs.Places.{Start}
 use Rattle.ras_run.specs.Status.{places_before_refusal, refusal_at}
 
--- lines as a run takes them, numbered from 1
+-- what lines ask for, numbered from 1
 abbrev pub reads_in : List (List ℕ) → List NumberedLine
-reads_in lines = enumerate_from 1 (map taken_line lines)
+reads_in lines = enumerate_from 1 (map line_of lines)
 
 -- the lines of a script, up to where their list ends
 abbrev pub reads_of : List ℕ → List NumberedLine

@@ -78,7 +78,7 @@ pub fn rasd<S: Source, B: Board>(
         (λ now. PrintsPart (run_output start script) told.here.out now.here.out))
         (task_of words.now) (S.left source.old) (B.told board.old) }
     ensures whole { OverRun (λ start script told. OnWhole result (IsSomeAnd (B.told board.new)
-        (IsWhole start script told)))
+        (IsWhole start script result told)))
         (task_of words.now) (S.left source.old) (B.told board.old) }
 
     // A run takes no more of its source than it needs: at most 40,001 bytes past the first event
@@ -91,8 +91,8 @@ pub fn rasd<S: Source, B: Board>(
     ensures few { TakesFewOf (S.left source.old) (S.left source.new) }
 
     // A run does its acts in order: the opening's, the print of the orders that stand, those of each
-    // line before the first refused one, the put that the record store refuses, if that is why the
-    // line is refused, and the print of the last line. At an answer all of them are done. If a call
+    // line before the first refused one, those by which that one asks the record store, if it is of
+    // a kind that does, and the print of the last line. At an answer all of them are done. If a call
     // of the board failed it is the last that was begun of them. Else some first ones are done. The
     // disk calls are theirs, or at any exit a beginning of them.
     ensures acts { OverRun (λ start script told. IsSomeAnd (B.told board.new)

@@ -30,7 +30,8 @@ pub fn closing_line(alloc: Global, exit: Exit, account: &Account) -> Result<Vec<
 }
 
 /// Prints the last line of a run that ends by this exit, and tells how it ended. If a fault or lack
-/// of memory cut the run short, it has no last line.
+/// of memory cut the run short, it has no last line. That of a device that was busy for too long takes
+/// no memory: the record that was to be saved is in the store, and the exit has to say so.
 pub fn end_run<B: Board>(alloc: Global, exit: Exit, account: &Account, board: &mut B) -> Exit
     ensures ends { Ends (looks B.told B.clock B.faults) exit result
         (closing_line account.now.state exit) board.old board.new }
@@ -39,6 +40,9 @@ pub fn end_run<B: Board>(alloc: Global, exit: Exit, account: &Account, board: &m
 {
     if !exit.is_answer() {
         return exit;
+    }
+    if let Exit::ErstBusy = exit {
+        return last_line(b"stop 10 busy\n", exit, board);
     }
     match closing_line(alloc, exit, account) {
         Ok(line) => last_line(&line, exit, board),

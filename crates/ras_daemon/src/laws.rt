@@ -19,7 +19,7 @@ ghost use Rattle.ras_daemon.specs.Headline.{account_with};
 ghost use Rattle.ras_daemon.specs.RunOutput.{lines_output, output_upto, run_output};
 ghost use Rattle.ras_daemon.specs.RunStatus.{run_exit};
 ghost use Rattle.ras_daemon.specs.Runs.{AreJoined, BeginsWith, CountTheSame, Follows};
-ghost use Rattle.ras_daemon.specs.Runs.{IsTakenWhole};
+ghost use Rattle.ras_daemon.specs.Runs.{IsTakenWhole, PollsNothing};
 ghost use Rattle.ras_daemon.specs.Runs.{ReportsFacts, event_count, facts_of, history_after};
 ghost use Rattle.ras_daemon.specs.Runs.{logged, ordered};
 ghost use Rattle.ras_daemon.specs.Script.{reads_in};
@@ -58,9 +58,9 @@ pub fn run_laws()
         → BeginsWith history start → IsDistinct same_name
         (names_of (fresh_entries history ++ logged start script n)) }
 
-    // So a script that was taken whole logs no report when it is run again.
+    // So a script that was taken whole logs no report when it is run again, if it polls nothing.
     ensures again { (history : History) (start next : Start) (script : List ℕ) (n : ℕ)
-        → BeginsWith history start → IsTakenWhole start script
+        → PollsNothing script → BeginsWith history start → IsTakenWhole start script
         → Follows start script (event_count start script) next
         → names_of (logged next script n) ≡ [] }
 
@@ -68,12 +68,12 @@ pub fn run_laws()
     // which it ends where it isn't stopped, but for the number of entries, since limits are set
     // again. Where it reports facts alone that number is the same too.
     ensures resumed { (history : History) (start next : Start) (script : List ℕ) (n : ℕ)
-        → BeginsWith history start → IsTakenWhole start script
+        → PollsNothing script → BeginsWith history start → IsTakenWhole start script
         → Follows start script n next → IsTakenWhole next script
         → CountTheSame (account_with next script (event_count next script))
         (account_with start script (event_count start script)) }
     ensures same { (history : History) (start next : Start) (script : List ℕ) (n : ℕ)
-        → BeginsWith history start → IsTakenWhole start script
+        → PollsNothing script → BeginsWith history start → IsTakenWhole start script
         → Follows start script n next → IsTakenWhole next script → ReportsFacts start script
         → account_with next script (event_count next script)
         ≡ account_with start script (event_count start script) }
@@ -83,7 +83,7 @@ pub fn run_laws()
     // link and its print; what the report ordered stands then at the next start, by the clauses
     // on what stands.
     ensures together { (history : History) (start next : Start) (script : List ℕ) (n : ℕ)
-        → BeginsWith history start → IsTakenWhole start script
+        → PollsNothing script → BeginsWith history start → IsTakenWhole start script
         → Follows start script n next → IsTakenWhole next script
         → facts_of (logged start script n ++ logged next script (event_count next script))
         ≡ facts_of (logged start script (event_count start script)) }
@@ -91,6 +91,7 @@ pub fn run_laws()
     // Two scripts that are run one after the other leave the account of the script that joins them,
     // if both begin with the same rows of the machine, which the joined script has once.
     ensures joined { (start next : Start) (one other both : List ℕ) → AreJoined one other both
+        → PollsNothing both
         → IsTakenWhole start one → Follows start one (event_count start one) next
         → IsTakenWhole next other → IsTakenWhole start both
         → account_with next other (event_count next other)

@@ -54,7 +54,7 @@ returns-clause-counted g c =
 pub returns-clause-whole : goal.returns-clause-whole
 returns-clause-whole g c =
     over_does (looks g.B.Board.told g.B.Board.clock g.B.Board.faults)
-    (λ start script told. OnWhole c.call.result (IsSomeAnd (g.B.Board.told c.call.new.board) (IsWhole start script told)))
+    (λ start script told. OnWhole c.call.result (IsSomeAnd (g.B.Board.told c.call.new.board) (IsWhole start script c.call.result told)))
     (task_of c.args.words.now) (g.S.Source.left c.args.source.now) (g.B.Board.told c.args.board.now) c.call.result c.args.board.now c.call.new.board
     (λ account script t is recovers does. run-whole (looks g.B.Board.told g.B.Board.clock g.B.Board.faults) account script c.call.result t c.args.board.now c.call.new.board recovers does) c.call.ensures.does
 

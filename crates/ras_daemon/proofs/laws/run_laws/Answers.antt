@@ -14,16 +14,16 @@ pub returns-clause-once : goal.returns-clause-once
 returns-clause-once c = λ history start script n is. logs-once history start is script n
 
 pub returns-clause-again : goal.returns-clause-again
-returns-clause-again c = λ history start next script n is taken follows. logs-again history start next script n is taken follows
+returns-clause-again c = λ history start next script n none is taken follows. logs-again history start next script n none is taken follows
 
 pub returns-clause-resumed : goal.returns-clause-resumed
-returns-clause-resumed c = λ history start next script n is taken follows whole. resumed-counts history start next script n is taken follows whole
+returns-clause-resumed c = λ history start next script n none is taken follows whole. resumed-counts history start next script n none is taken follows whole
 
 pub returns-clause-same : goal.returns-clause-same
-returns-clause-same c = λ history start next script n is taken follows whole facts. resumed-same history start next script n is taken follows whole facts
+returns-clause-same c = λ history start next script n none is taken follows whole facts. resumed-same history start next script n none is taken follows whole facts
 
 pub returns-clause-together : goal.returns-clause-together
-returns-clause-together c = λ history start next script n is taken follows whole. logs-together history start next script n is taken follows whole
+returns-clause-together c = λ history start next script n none is taken follows whole. logs-together history start next script n none is taken follows whole
 
 pub returns-clause-page_stands : goal.returns-clause-page_stands
 returns-clause-page_stands c = λ history start script n page is. page-stands history start is script n page

@@ -3,10 +3,10 @@ use Rattle.std.proofs.lemmas.Result.{err_from_is_err_and}
 use Rattle.board_core.specs.Doing.{after_acts, looks}
 use Rattle.ras_exit.specs.declared.reason.Reason.TheVariants.{LongLine}
 use Rattle.ras_script.specs.declared.reader.NextRefused.TheVariants as refused
+use Rattle.ras_script.specs.Line.{line_of}
 use Rattle.ras_script.specs.Lines.{line_too_long, script_ended, script_too_long}
 use Rattle.ras_exit.specs.declared.exit.Exit.TheVariants.{BadLine, TooLong}
 use Rattle.ras_exit.specs.Endings.{ending_of}
-use Rattle.ras_run.specs.LaterKinds.{taken_line}
 use Rattle.ras_daemon.specs.Script.{reads_in}
 use Rattle.ras_daemon.proofs.GrowLemmas.{part_grows}
 use Rattle.ras_daemon.proofs.LinesLemmas.{all_taken, board_then, gave_as, given, if_more, lines_end, moved_as, moved_tells, none_given, stopped, tells_same, took_line, took_none, took_now}
@@ -59,8 +59,8 @@ returns-in_err-take_line-in-Ok-true-clause-does g c = λ start script t after le
     let takes = c.in_err-take_line-in-Ok-true.ensures.takes start (reads_in taking.done) taking.after (after_acts taking.acts t) there (board_then start script t _ c.loop-number.reader (g.S.Source.left c.loop-number.source) _ taking) in
     let does = c.in_err-take_line-in-Ok-true.ensures.does start (reads_in taking.done) taking.after (after_acts taking.acts t) there (board_then start script t _ c.loop-number.reader (g.S.Source.left c.loop-number.source) _ taking) in
     rw (p.1, p.2)
-    (stopped (looks g.B.Board.told g.B.Board.clock g.B.Board.faults) start script t (reads_in taking.done) line.0 (c.loop-number.number + 1, taken_line c.line.result.now) line.1 taking.accepted taking.acts does.0 taking.along does.1
-    c.args.board.now c.loop-number.board c.take_line.new.board took.1 c.in_err-take_line-in-Ok-true.field-0.0 c.take_line.new.run takes does.2)
+    (stopped (looks g.B.Board.told g.B.Board.clock g.B.Board.faults) start script t (reads_in taking.done) line.0 (c.loop-number.number + 1, line_of c.line.result.now) line.1 taking.accepted taking.acts does.0 taking.along
+    c.args.board.now c.loop-number.board c.take_line.new.board took.1 c.in_err-take_line-in-Ok-true.field-0.0 c.take_line.new.run there takes does.1 does.2)
 
 pub returns-in-Ok-false-clause-does : goal.returns-in-Ok-false-clause-does
 returns-in-Ok-false-clause-does g c = λ start script t after left is holds.

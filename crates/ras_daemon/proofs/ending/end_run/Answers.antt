@@ -1,0 +1,16 @@
+use Rattle.std.proofs.Common.{◌≡◌, ap, inl, subst, sym}
+use Rattle.board_core.specs.Doing.{looks}
+use Rattle.ras_exit.specs.Endings.{is_answer}
+use Rattle.ras_exit.specs.StopLine.{stop_line}
+use Rattle.ras_exit.specs.declared.exit.Exit.TheVariants.{ErstBusy}
+use Rattle.ras_daemon.specs.Doing.{Says}
+use Rattle.ras_daemon.specs.RunOutput.{closing_line}
+use Rattle.ras_daemon.proofs.ending.end_run.Goals as goal
+
+pub returns-in-ErstBusy-clause-ends : goal.returns-in-ErstBusy-clause-ends
+returns-in-ErstBusy-clause-ends g c =
+    let busy : closing_line c.args.account.now.state c.args.exit ≡ stop_line ErstBusy = ap (closing_line c.args.account.now.state) c.in-ErstBusy.is in
+    inl (
+      ap is_answer c.in-ErstBusy.is,
+      subst (λ line. Says (looks g.B.Board.told g.B.Board.clock g.B.Board.faults) c.args.exit c.last_line.result line c.args.board.now c.last_line.new.board) (sym busy) c.last_line.ensures.says,
+    )
