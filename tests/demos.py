@@ -1,8 +1,9 @@
 """Checks of what the scripts in demo/ make of the program's lines; tests/examples runs them.
 
 demo/json is tried on every line that tests/rows.txt and the cases say is printed, demo/metrics by a
-parser that refuses what the rules of Prometheus' text format (version 0.0.4) don't allow, and
-demo/bank-lines on the forms in which a kernel log is printed.
+parser that refuses what the rules of Prometheus' text format (version 0.0.4) don't allow,
+demo/bank-lines on the forms in which a kernel log is printed, and demo/put-lines on records that
+are whole or cut.
 """
 import json
 import re
@@ -22,7 +23,7 @@ KINDS = (
     "record=", "block=", "bert=", "module ", "pcie block=", "pcie record=", "device=", "end sections=", "partial ",
     "end reports=",
 )  # fmt: skip
-# Lines of kinds that no row and no case has, made by hand: records are told of once a run takes them.
+# Lines of kinds that no row and no case has, and some with identifiers of digits alone, made by hand.
 MORE = (
     "stop 9 line=1",
     "stop 10 busy",
@@ -234,8 +235,26 @@ def checks_of_bank_lines():
     yield holds("bank-lines: another counter than 0 doesn't stay", output.count(b" 7 18446744073709551615 1000c14 ") == 3)
 
 
+# ---- demo/put-lines
+
+
+def checks_of_put_lines():
+    """Each record is put whole under its identifier; what comes before a cut one too, and nothing of that."""
+    data, first = (DEMO / "firmware.records").read_bytes(), 353
+    line = b"put 0000000000000005 %s\n" % data[:first].hex().encode()
+    second = b"put 0000000000000006 %s\n" % data[first:].hex().encode()
+    tried = [(data, line + second, 0), (b"", b"", 0), (data[:first] * 30, line * 30, 0)]
+    tried += [(data[: first + n], line, 1) for n in (1, 20, 24, 127, 352)]
+    tried += [(data[:first] + b"X" + data[first + 1 :], line, 1), (data[:20] + bytes(4) + data[24:], b"", 1)]
+    for records, wanted, status in tried:
+        output, got = output_of("put-lines", records)
+        printed = b"".join(it for it in output.splitlines(keepends=True) if it.startswith(b"put "))
+        yield holds(f"put-lines: {len(records)} bytes: {output.decode()[:80]}", (printed, got) == (wanted, status))
+
+
 def checks(program):
     """Whether each check of the demos passed."""
     yield all([*checks_of_json()])
     yield all([*checks_of_metrics(program)])
     yield all([*checks_of_bank_lines()])
+    yield all([*checks_of_put_lines()])

@@ -20,7 +20,6 @@ sys.dont_write_bytecode = True
 from reference import commands
 from reference.journal import Disk, FolderDisk
 from reference.run import Run
-from reference.script import KINDS
 
 
 @dataclasses.dataclass
@@ -34,10 +33,10 @@ class Outcome:
     calls: list
 
 
-def run(script, files=(None, None), events=None, store=None, kinds=KINDS):
+def run(script, files=(None, None), events=None, store=None):
     """The run over a script, two files and the record store's file, to its end, or so many events of it."""
     disk, printed = Disk(files, store), []
-    status = Run(disk, printed.append, kinds).take_all([script], events)
+    status = Run(disk, printed.append).take_all([script], events)
     return Outcome(b"".join(printed), status, tuple(map(bytes, disk.files)), disk.store, disk.calls)
 
 

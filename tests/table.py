@@ -12,11 +12,6 @@ The file has, line by line, a comment from `#`, nothing, or one of
   fail STATUS INPUT | PRINTED   a run that ends with this status
   then WORD .. | PRINTED   a run with these words and an empty input, after the row before it and over what that left
   leaves BYTES             the file of the record store that the next row has to leave, in hexadecimal
-  if KIND ..               the rows from here on are tried if a run takes all these kinds of lines
-  unless KIND ..           they are tried if it takes none of these
-  always                   they are tried
-
-Which kinds a run takes stands in tests/reference/script.py.
 
 In each text \n is a line feed, \r a carriage return, \t a tab and \xNN the byte of that number.
 Spaces round a text don't count.
@@ -24,8 +19,6 @@ Spaces round a text don't count.
 import dataclasses
 import pathlib
 import re
-
-from reference.script import KINDS
 
 TABLE = pathlib.Path(__file__).resolve().parent / "rows.txt"
 ESCAPES = {"n": b"\n", "r": b"\r", "t": b"\t", "\\": b"\\"}
@@ -66,15 +59,9 @@ def words_of(text, names):
     return bytes_of(text, names).split(b" ")
 
 
-def is_tried(word, kinds):
-    """Whether rows are tried that are for these kinds of lines, or for runs without these."""
-    taken = [kind.encode() in KINDS for kind in kinds.split()]
-    return all(taken) if word == "if" else not any(taken)
-
-
 def rows():
-    """Each run of the table that is tried."""
-    names, front, counts, words, last, store, is_for_now = {}, "", [0], [b"run"], None, None, True
+    """Each run of the table."""
+    names, front, counts, words, last, store = {}, "", [0], [b"run"], None, None
     for number, line in enumerate(TABLE.read_text().splitlines(), 1):
         word, _, rest = line.partition(" ")
         if not word or word.startswith("#"):
@@ -82,10 +69,6 @@ def rows():
         if word == "let":
             name, _, value = rest.partition(" ")
             names[name] = filled(value, names)
-        elif word in ("if", "unless", "always"):
-            is_for_now = is_tried(word, rest)
-        elif not is_for_now and word not in ("words", "end"):
-            continue
         elif word == "leaves":
             store = bytes.fromhex(filled(rest, names))
         elif word == "each":

@@ -7,7 +7,7 @@ from reference.account import CLASSES, STATES, text_of_name
 from reference.base import Refused, Stop
 from reference.journal import recover
 from reference.reports import bit, digits, number_at
-from reference.script import ALL_KINDS, lines_of, read_line
+from reference.script import lines_of, read_line
 
 
 def end_line(account):
@@ -112,7 +112,7 @@ DEVICE, VENDOR = "{segment:04x}:{bus:02x}:{device:02x}.{function:x}", "{vendor:0
 
 def sections_of(line):
     """The name of the report of a line, and its sections of PCI Express; none where it is no report."""
-    kind, values = read_line(line, ALL_KINDS) or ("", ())
+    kind, values = read_line(line) or ("", ())
     name, sections = None, []
     try:
         if kind == "put" and len(values[1]) <= RECORD_BYTES:

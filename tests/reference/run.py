@@ -6,7 +6,7 @@ from reference.account import Entry, Item, text_of_name
 from reference.base import Fault, Refused, Stop, check
 from reference.journal import Journal, bytes_of_link
 from reference.reports import digits
-from reference.script import KINDS, TOPOLOGY, Topology, lines_of, read_line
+from reference.script import TOPOLOGY, Topology, lines_of, read_line
 
 
 class NoTable(Exception):
@@ -22,10 +22,10 @@ class Piece:
 
 
 class Run:
-    """A run over a disk, which prints by `write`, and takes lines of these kinds."""
+    """A run over a disk, which prints by `write`."""
 
-    def __init__(self, disk, write, kinds=KINDS):
-        self.disk, self.write, self.kinds = disk, write, kinds
+    def __init__(self, disk, write):
+        self.disk, self.write = disk, write
         self.topology, self.sources, self.has_table = Topology(), set(), False
         self.device = store.Device(disk)
         self.done = 0
@@ -55,7 +55,7 @@ class Run:
     def take_line(self, number, line):
         """Takes a line."""
         try:
-            event = read_line(line, self.kinds)
+            event = read_line(line)
             if event:
                 kind, values = event
                 getattr(self.topology if kind in TOPOLOGY else self, kind)(*values)

@@ -68,7 +68,7 @@ BYTE, SHORT, LONG = decimal(255), decimal(65_535), decimal()
 LIMITS = (decimal(1_000_000, 1), decimal(10_000_000, 1))
 TOPOLOGY = {"cpu", "module", "range", "place"}
 # The words of each kind of line.
-ALL_KINDS = {
+KINDS = {
     b"bank": (LONG, LONG, SHORT, BYTE, LONG, *[hexadecimal] * 5),
     b"cpu": (SHORT, BYTE),
     b"module": (label, BYTE, BYTE, decimal(14)),
@@ -85,21 +85,17 @@ ALL_KINDS = {
     b"put": (hexadecimal, octets),
     b"poll": (LONG,),
 }
-ALL_KINDS[b"panic"] = (hexadecimal, *ALL_KINDS[b"bank"])
-# The kinds that a run doesn't take yet, and refuses as none. Once one is taken, its name goes from here: then the rows,
-# the cases and the random histories that need it are tried, and those that hold without it alone are left out.
-LATER = {b"poll", b"panic"}
-KINDS = {kind: words for kind, words in ALL_KINDS.items() if kind not in LATER}
+KINDS[b"panic"] = (hexadecimal, *KINDS[b"bank"])
 
 
-def read_line(line, kinds=KINDS):
-    """The kind of a line, one of these, and its values; None where it is no event."""
+def read_line(line):
+    """The kind of a line, and its values; None where it is no event."""
     kind, *words = [word for word in line.split(b" ") if word] or [b"#"]
     if kind.startswith(b"#"):
         return None
-    check(kind in kinds, Refused("line.1"))
-    check(len(words) == len(kinds[kind]), Refused("line.2"))
-    values = [read(word) for read, word in zip(kinds[kind], words)]
+    check(kind in KINDS, Refused("line.1"))
+    check(len(words) == len(KINDS[kind]), Refused("line.2"))
+    values = [read(word) for read, word in zip(KINDS[kind], words)]
     check(kind != b"range" or values[1] <= values[2], Refused("line.3"))
     return kind.decode().replace("-", "_"), values
 

@@ -8,7 +8,6 @@ from reference.base import Unreadable
 from reference.journal import Disk, recover
 from reference.rows import EVERYDAY, LOGGED, MEMORY_TYPE, bytes_at, expect, with_bytes
 from reference.run import Run
-from reference.script import ALL_KINDS
 
 ONES = 16 * "f"
 
@@ -179,7 +178,7 @@ def stored(*records):
 
 def gives(script, printed, status=0, files=(None, None), held=None, left=None):
     """Runs a script over a store's file, which must print this, end so, and leave this in that file."""
-    outcome = model.run(script.encode(), files, store=held, kinds=ALL_KINDS)
+    outcome = model.run(script.encode(), files, store=held)
     expect(outcome.printed.decode(), printed)
     expect(outcome.status, status)
     expect(outcome.store, held if left is None else left)
@@ -213,7 +212,7 @@ def tables():
     gives(f"erst {NOT_ADMITTED.hex()}\n", "stop 9 line=1\n", 9)
     cuts = {f"{size} bytes": (PLAIN[:size], 1 if size < 48 else 3) for size in range(1, 624)}
     for what, (data, number) in (UNREAD | cuts).items():
-        printed = model.run(f"erst {data.hex()}".encode(), kinds=ALL_KINDS).printed.decode()
+        printed = model.run(f"erst {data.hex()}".encode()).printed.decode()
         expect((what, printed), (what, f"stop 2 line=1 reason=erst.{number}\n"))
 
 
@@ -427,8 +426,8 @@ def stops():
     names = {5: ("record", 5), 7: ("record", 7), 9: ("bank", 1, 0, 4, 3)}
     script = TABLE + put(5, RECORD) + put(6, SECTION_OUT) + PANIC + "poll 300\n" + put(7, RECORD_7) + "poll 400\n"
     disk = Recorded((None, None), None)
-    expect(Run(disk, disk.print, ALL_KINDS).take_all([script.encode()]), 0)
-    end = model.run(script.encode(), kinds=ALL_KINDS)
+    expect(Run(disk, disk.print).take_all([script.encode()]), 0)
+    end = model.run(script.encode())
     expect((disk.text, disk.store, len(disk.lefts) > 150), (end.printed, stored((6, SECTION_OUT)), True))
     for files, held, text in disk.lefts:
         known, done = recover(files)[1].names, len(re.findall(rb"^done \d+\n", text, re.M))
@@ -439,20 +438,12 @@ def stops():
         expect(len(polled) in (0, 2), True)
         expect(b"log" not in text or len(polled) == 2, True)
         expect(done < 5 or len(polled) == 2 and not {5, 9} & set(kept), True)
-        again = model.run(script.encode(), files, store=held, kinds=ALL_KINDS)
+        again = model.run(script.encode(), files, store=held)
         expect((again.status, again.store), (0, stored((6, SECTION_OUT))))
         expect(again.printed.endswith(b"end entries=3 names=3\n"), True)
 
 
-def kinds_that_a_run_does_not_take():
-    """As long as a run doesn't take a kind, its lines are none."""
-    for kind in (b"erst", b"put", b"poll", b"panic"):
-        kinds = {it: words for it, words in ALL_KINDS.items() if it != kind}
-        printed = model.run(kind + b" x y", kinds=kinds).printed
-        expect(printed, b"stop 2 line=1 reason=line.1\n")
-
-
 ROWS = (
     samples, tables, puts, malformed_stores, a_poll, polls, one_link_for_a_poll, reasons, panic_records,
-    panic_lines_that_are_refused, panic_records_that_are_none, stops, kinds_that_a_run_does_not_take,
+    panic_lines_that_are_refused, panic_records_that_are_none, stops,
 )  # fmt: skip

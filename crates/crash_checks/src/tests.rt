@@ -5,9 +5,11 @@
 
 mod board;
 mod calls;
+mod devices;
 mod exchanged;
 mod faults;
 mod journals;
+mod records;
 mod stops;
 
 use board::TestBoard;

@@ -5,16 +5,17 @@ ghost use Rattle.board_core.specs.Cause.{HasCause};
 ghost use Rattle.board_core.specs.Clock.{untold};
 ghost use Rattle.board_core.specs.ClockLemmas.{not_told};
 
-use board_core::{Board, BoardPut, DiskCall, Failed, FileNo, MemBoard, Pick, Reg};
+use board_core::{Access, Board, BoardPut, DiskCall, Failed, FileNo, MemBoard, Pick, Reg};
 use erst_store::Store;
 use std::alloc::Global;
 use std::test::Fail;
 
 /// A board that tells nothing, as one over real files does, so that the clauses of a run say little
-/// of it, and whose device fails at each call.
+/// of it.
 ///
 /// It has one disk in memory, or two: then its disk is exchanged for the second at the second sync
-/// of file 1, and that call and every later disk call go there. All is printed to the first.
+/// of file 1, and that call and every later disk call go there. All is printed to the first, whose
+/// device is the board's.
 #[derive(Drop)]
 pub struct TestBoard {
     disks: Disks,
@@ -30,12 +31,19 @@ struct Disks {
     second: MemBoard,
     is_to_be_exchanged: bool,
     syncs_of_one: u64,
+    calls: u64,
 }
 
 impl TestBoard {
     /// A board whose disk has these files.
     pub fn new(alloc: Global, zero: Vec<u8>, one: Vec<u8>) -> Result<TestBoard, Fail> {
         let first = disk_with(alloc, zero, one)?;
+        Ok(over(first, disk_with(alloc, Vec::new(alloc), Vec::new(alloc))?))
+    }
+
+    /// A board with an empty disk, whose device is busy so many times in each operation.
+    pub fn slow(alloc: Global, slow: u64) -> Result<TestBoard, Fail> {
+        let first = MemBoard::new(alloc, Store::new(alloc), slow)?;
         Ok(over(first, disk_with(alloc, Vec::new(alloc), Vec::new(alloc))?))
     }
 
@@ -69,9 +77,24 @@ impl TestBoard {
         self.disks.first.out()
     }
 
+    /// How many calls were made, on either disk.
+    pub fn calls(&self) -> u64 {
+        self.disks.calls
+    }
+
     /// The calls on the first disk.
     pub fn disk_calls(&self) -> &[DiskCall] {
         self.disks.first.disk_calls()
+    }
+
+    /// The accesses to the device.
+    pub fn accesses(&self) -> &[Access] {
+        self.disks.first.accesses()
+    }
+
+    /// How many records are in the store.
+    pub fn records(&self) -> usize {
+        self.disks.first.store().len()
     }
 }
 
@@ -82,6 +105,7 @@ fn over(first: MemBoard, second: MemBoard) -> TestBoard {
             second,
             is_to_be_exchanged: false,
             syncs_of_one: 0,
+            calls: 0,
         },
         disk_faults: 0,
         device_faults: 0,
@@ -97,13 +121,20 @@ fn disk_with(alloc: Global, zero: Vec<u8>, one: Vec<u8>) -> Result<MemBoard, Fai
 }
 
 impl Disks {
-    // The disk that is there.
+    // The disk that is there, for a call.
     fn disk(&mut self) -> &mut MemBoard {
         if self.is_to_be_exchanged && self.syncs_of_one > 1 {
+            self.calls = self.calls.saturating_add(1);
             &mut self.second
         } else {
-            &mut self.first
+            self.first()
         }
+    }
+
+    // The first disk, for a call.
+    fn first(&mut self) -> &mut MemBoard {
+        self.calls = self.calls.saturating_add(1);
+        &mut self.first
     }
 
     fn sync(&mut self, file: FileNo) -> Result<(), Failed> {
@@ -147,29 +178,38 @@ impl Board for TestBoard {
         count_failure(self.disks.sync(file), &mut self.disk_faults)
     }
 
-    fn reg_read(&mut self, _: Reg) -> Result<u64, Failed> {
-        count_failure(Err(Failed), &mut self.device_faults)
+    fn reg_read(&mut self, reg: Reg) -> Result<u64, Failed> {
+        count_failure(self.disks.first().reg_read(reg), &mut self.device_faults)
     }
 
-    fn reg_write(&mut self, _: Reg, _: u64) -> Result<(), Failed> {
-        count_failure(Err(Failed), &mut self.device_faults)
+    fn reg_write(&mut self, reg: Reg, value: u64) -> Result<(), Failed> {
+        let written = self.disks.first().reg_write(reg, value);
+        count_failure(written, &mut self.device_faults)
     }
 
-    fn range_read(&mut self, _: u32, _: &mut [u8]) -> Result<(), Failed> {
-        count_failure(Err(Failed), &mut self.device_faults)
+    fn range_read(&mut self, place: u32, buf: &mut [u8]) -> Result<(), Failed> {
+        let read = self.disks.first().range_read(place, buf);
+        count_failure(read, &mut self.device_faults)
     }
 
-    fn range_write(&mut self, _: u32, _: &[u8]) -> Result<(), Failed> {
-        count_failure(Err(Failed), &mut self.device_faults)
+    fn range_write(&mut self, place: u32, bytes: &[u8]) -> Result<(), Failed> {
+        let written = self.disks.first().range_write(place, bytes);
+        count_failure(written, &mut self.device_faults)
     }
 
-    fn put(&mut self, _: u64, _: &[u8]) -> Result<(), BoardPut> {
-        self.device_faults = self.device_faults.saturating_add(1);
-        Err(BoardPut::Failed)
+    fn put(&mut self, id: u64, bytes: &[u8]) -> Result<(), BoardPut> {
+        match self.disks.first().put(id, bytes) {
+            Ok(()) => Ok(()),
+            Err(BoardPut::Refused(why)) => Err(BoardPut::Refused(why)),
+            Err(BoardPut::Failed) => {
+                self.device_faults = self.device_faults.saturating_add(1);
+                Err(BoardPut::Failed)
+            }
+        }
     }
 
     fn print(&mut self, bytes: &[u8]) -> Result<(), Failed> {
-        count_failure(self.disks.first.print(bytes), &mut self.print_faults)
+        count_failure(self.disks.first().print(bytes), &mut self.print_faults)
     }
 }
 

@@ -1,6 +1,7 @@
 //! The disk calls of runs, one by one.
 use super::board::TestBoard;
 use super::journals::{OLD_LABELLED, Pieces, SHUT};
+use super::records::{ENTRIES, ERST, POLL, PUT_5, PUT_7, RECORD};
 use super::{ANOTHER, EVERYDAY, MODULE, joined, play_on};
 use board_core::DiskCall::{Size, Sync, WriteAt};
 use board_core::{DiskCall, FileNo};
@@ -52,11 +53,34 @@ const TAKING_OVER: &[DiskCall] = &[
     Sync(ONE),
 ];
 
+// Those of an opening over no file, and of one link for the two records of a poll: all of the run.
+const POLLING: &[DiskCall] = &[
+    Sync(ZERO),
+    Sync(ONE),
+    Size(ZERO),
+    Size(ONE),
+    WriteAt(ZERO, 0, 1),
+    Sync(ZERO),
+    WriteAt(ZERO, 1, 97),
+    Sync(ZERO),
+    WriteAt(ZERO, 0, 1),
+    Sync(ZERO),
+    WriteAt(ZERO, 98, 85),
+    Sync(ZERO),
+    WriteAt(ZERO, 97, 1),
+    Sync(ZERO),
+];
+
 // A script over a file 0, and its last disk calls.
-const ROWS: [(&[&[u8]], Pieces, &[DiskCall]); 3] = [
+const ROWS: [(&[&[u8]], Pieces, &[DiskCall]); 4] = [
     (&[], &[], OPENING),
     (&[MODULE, EVERYDAY, EVERYDAY], SHUT, APPENDING),
     (&[MODULE, ANOTHER, EVERYDAY], OLD_LABELLED, TAKING_OVER),
+    (
+        &[ERST, ENTRIES, PUT_5, RECORD, PUT_7, RECORD, POLL],
+        &[],
+        POLLING,
+    ),
 ];
 
 fn makes(alloc: Global, script: &[&[u8]], file0: Pieces, calls: &[DiskCall]) -> Result<bool, Fail> {

@@ -1,12 +1,16 @@
 //! Stops of the machine after each call of a run, and runs that go on from what they leave.
 use super::board::TestBoard;
 use super::journals::{GATE, LABELLED, OLD_LABELLED, Pieces, SECOND, SHUT, full_chain};
-use super::{ANOTHER, EVERYDAY, MODULE, joined, play_on};
+use super::records::{
+    ENTRIES, ERST, PANIC, PANIC_TOLD, POLL, PUT_5, PUT_7, RECORD, REPEATED_5, TOLD_5,
+};
+use super::{ANOTHER, EVERYDAY, MODULE, are_joined, joined, play, play_on};
 use board_core::Pick;
+use ras_daemon::Exit;
 use std::alloc::Global;
 use std::test::Fail;
 
-const PICKS: [Pick; 3] = [Pick::Old, Pick::New, Pick::Fill(0xa5)];
+const PICKS: &[Pick] = &[Pick::Old, Pick::New, Pick::Fill(0xa5)];
 
 // What is printed of a run over the module and the everyday line where the line is news, and where
 // it isn't.
@@ -16,40 +20,172 @@ end entries=1 names=1\n";
 
 const NO_NEWS: &[u8] = b"done 1\ndone 2\nrepeat bank=1/0/7/1000\ndone 3\nend entries=1 names=1\n";
 
-// The lines of its two rows.
-const BEGUN: &[u8] = b"done 1\ndone 2\n";
+const ONE: &[u8] = b"done 1\n";
 
-// A run over a new board is stopped after a call: after call 14 the link's first sync was made,
-// after call 15 the write of its gate, and after call 16 the sync of that. What is printed by a run
-// over what is left.
-const GATES: [(u64, Pick, &[u8]); 6] = [
-    (14, Pick::Old, NEWS),
-    (14, Pick::New, NEWS),
-    (14, Pick::Fill(0xa5), NEWS),
-    (15, Pick::Old, NEWS),
-    (15, Pick::New, NO_NEWS),
-    (16, Pick::Old, NO_NEWS),
-];
+const TWO: &[u8] = b"done 1\ndone 2\n";
 
-// Whether a run that is stopped so has printed the lines of its rows alone, and then a run over
-// what is left prints this.
-fn prints_so(alloc: Global, calls: u64, pick: Pick, output: &[u8]) -> Result<bool, Fail> {
+const NO_NAME: &[u8] = b"end entries=0 names=0\n";
+
+const ONE_NAME: &[u8] = b"end entries=1 names=1\n";
+
+const TWO_NAMES: &[u8] = b"end entries=2 names=2\n";
+
+// A script whose run over a new board is stopped, one whose run goes over what is left, and what
+// comes of it.
+struct Stop {
+    script: &'static [&'static [u8]],
+    next: &'static [&'static [u8]],
+    cases: &'static [Case],
+}
+
+// The calls from one number to another, after each of which the first run is stopped; what it has
+// printed then; and what the next one prints over what is left under each of some picks.
+struct Case {
+    first: u64,
+    last: u64,
+    printed: &'static [&'static [u8]],
+    picks: &'static [Pick],
+    output: &'static [&'static [u8]],
+}
+
+// After call 14 the link's first sync was made, after call 15 the write of its gate, and after call
+// 16 the sync of that.
+const LINKED: Stop = Stop {
+    script: &[MODULE, EVERYDAY],
+    next: &[MODULE, EVERYDAY],
+    cases: &[
+        Case {
+            first: 14,
+            last: 14,
+            printed: &[TWO],
+            picks: PICKS,
+            output: &[NEWS],
+        },
+        Case {
+            first: 15,
+            last: 15,
+            printed: &[TWO],
+            picks: &[Pick::Old],
+            output: &[NEWS],
+        },
+        Case {
+            first: 15,
+            last: 15,
+            printed: &[TWO],
+            picks: &[Pick::New],
+            output: &[NO_NEWS],
+        },
+        Case {
+            first: 16,
+            last: 16,
+            printed: &[TWO],
+            picks: &[Pick::Old],
+            output: &[NO_NEWS],
+        },
+    ],
+};
+
+// A record is counted and told by call 39, and cleared by call 44.
+const POLLED: Stop = Stop {
+    script: &[ERST, ENTRIES, PUT_5, RECORD, POLL],
+    next: &[ERST, ENTRIES, POLL],
+    cases: &[Case {
+        first: 39,
+        last: 43,
+        printed: &[TWO, TOLD_5],
+        picks: PICKS,
+        output: &[ONE, REPEATED_5, b"done 2\n", ONE_NAME],
+    }],
+};
+
+// Two records of one poll are in one link, whose gate call 56 opens.
+const BOTH_POLLED: Stop = Stop {
+    script: &[ERST, ENTRIES, PUT_5, RECORD, PUT_7, RECORD, POLL],
+    next: &[],
+    cases: &[
+        Case {
+            first: 15,
+            last: 55,
+            printed: &[TWO, b"done 3\n"],
+            picks: PICKS,
+            output: &[NO_NAME],
+        },
+        Case {
+            first: 56,
+            last: 56,
+            printed: &[TWO, b"done 3\n"],
+            picks: &[Pick::Old],
+            output: &[NO_NAME],
+        },
+        Case {
+            first: 56,
+            last: 56,
+            printed: &[TWO, b"done 3\n"],
+            picks: &[Pick::New, Pick::Fill(0xa5)],
+            output: &[TWO_NAMES],
+        },
+        Case {
+            first: 57,
+            last: 57,
+            printed: &[TWO, b"done 3\n"],
+            picks: PICKS,
+            output: &[TWO_NAMES],
+        },
+    ],
+};
+
+// Call 17 saves a panic record.
+const SAVED: Stop = Stop {
+    script: &[ERST, ENTRIES, PANIC],
+    next: &[ERST, ENTRIES, POLL],
+    cases: &[
+        Case {
+            first: 11,
+            last: 16,
+            printed: &[ONE],
+            picks: PICKS,
+            output: &[TWO, NO_NAME],
+        },
+        Case {
+            first: 17,
+            last: 22,
+            printed: &[ONE],
+            picks: PICKS,
+            output: &[ONE, PANIC_TOLD, b"done 2\n", ONE_NAME],
+        },
+    ],
+};
+
+fn is_left(alloc: Global, stop: &Stop, case: &Case, calls: u64, pick: Pick) -> Result<bool, Fail> {
     let mut board = TestBoard::new(alloc, Vec::new(alloc), Vec::new(alloc))?;
     board.stop_after(calls);
-    let board = play_on(alloc, &[MODULE, EVERYDAY], board);
-    let is_begun = board.out() == BEGUN;
-    let left = play_on(alloc, &[MODULE, EVERYDAY], board.left(alloc, pick)?);
-    Ok(is_begun && left.out() == output)
+    let board = play_on(alloc, stop.script, board);
+    let is_so = are_joined(board.out(), case.printed);
+    let left = play_on(alloc, stop.next, board.left(alloc, pick)?);
+    Ok(is_so && are_joined(left.out(), case.output))
+}
+
+// The number of calls after which a stop left something else.
+fn first_otherwise(alloc: Global, stop: &Stop) -> Result<Option<u64>, Fail> {
+    for case in stop.cases {
+        for calls in case.first..=case.last {
+            for pick in case.picks {
+                if !is_left(alloc, stop, case, calls, *pick)? {
+                    return Ok(Some(calls));
+                }
+            }
+        }
+    }
+    Ok(None)
 }
 
 #[test]
-fn a_link_stays_from_its_gate_on(rt: HostRuntime) -> Result<(), Fail> {
-    for (calls, pick, output) in GATES {
-        assert!(rt;
-            prints_so(rt.alloc(), calls, pick, output)?,
-            "{calls} calls"
-        );
-    }
+fn a_stop_leaves_what_was_done(rt: HostRuntime) -> Result<(), Fail> {
+    let alloc = rt.alloc();
+    assert!(rt; first_otherwise(alloc, &LINKED)? == None);
+    assert!(rt; first_otherwise(alloc, &POLLED)? == None);
+    assert!(rt; first_otherwise(alloc, &BOTH_POLLED)? == None);
+    assert!(rt; first_otherwise(alloc, &SAVED)? == None);
     Ok(())
 }
 
@@ -138,22 +274,48 @@ const SWITCHES: [Row; 2] = [
     },
 ];
 
+// Records that are put or saved, and polled.
+const POLLS: [Row; 3] = [
+    Row {
+        script: &[ERST, ENTRIES, PUT_5, RECORD, POLL],
+        zero: &[],
+        one: &[],
+        calls: 51,
+        end: ONE_NAME,
+    },
+    Row {
+        script: &[ERST, ENTRIES, PUT_5, RECORD, PUT_7, RECORD, POLL],
+        zero: &[],
+        one: &[],
+        calls: 80,
+        end: TWO_NAMES,
+    },
+    Row {
+        script: &[ERST, ENTRIES, PANIC, POLL],
+        zero: &[],
+        one: &[],
+        calls: 61,
+        end: ONE_NAME,
+    },
+];
+
 // Whether a run over this file 0 that is stopped after so many calls leaves a board, under a pick,
-// over which the script is taken to its end.
+// over which the script is taken to its end, and no record stays in the store.
 fn goes_on(alloc: Global, row: &Row, zero: &[u8], calls: u64, pick: Pick) -> Result<bool, Fail> {
     let zero = zero.to_vec(alloc)?;
     let one = joined(alloc, row.one)?;
     let mut board = TestBoard::new(alloc, zero, one)?;
     board.stop_after(calls);
     let board = play_on(alloc, row.script, board);
-    let left = play_on(alloc, row.script, board.left(alloc, pick)?);
-    Ok(left.out().ends_with(row.end))
+    let mut left = board.left(alloc, pick)?;
+    let is_done = play(alloc, row.script, &mut left) == Some(Exit::Done);
+    Ok(is_done && left.out().ends_with(row.end) && left.records() == 0)
 }
 
 // The number of calls after which a stop was not gone on from.
 fn first_wrong(alloc: Global, row: &Row, zero: &[u8]) -> Result<Option<u64>, Fail> {
     for calls in 0..=row.calls {
-        for pick in &PICKS {
+        for pick in PICKS {
             if !goes_on(alloc, row, zero, calls, *pick)? {
                 return Ok(Some(calls));
             }
@@ -177,6 +339,15 @@ fn a_stopped_switch_goes_on(rt: HostRuntime) -> Result<(), Fail> {
     let zero = full_chain(rt.alloc())?;
     for (number, row) in SWITCHES.iter().enumerate() {
         let wrong = first_wrong(rt.alloc(), row, &zero)?;
+        assert!(rt; wrong == None, "row {number}");
+    }
+    Ok(())
+}
+
+#[test]
+fn a_stopped_poll_goes_on(rt: HostRuntime) -> Result<(), Fail> {
+    for (number, row) in POLLS.iter().enumerate() {
+        let wrong = first_wrong(rt.alloc(), row, &[])?;
         assert!(rt; wrong == None, "row {number}");
     }
     Ok(())
