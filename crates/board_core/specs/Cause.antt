@@ -3,12 +3,13 @@ use Rattle.std.specs.Prelude.{◌≡◌, ℕ, ◌+◌, ◌-◌, ◌^◌, ◌≤�
 use Rattle.board_core.specs.declared.board.BoardPut.{BoardPut}
 use Rattle.board_core.specs.declared.board.BoardPut.TheVariants.{Refused, Failed}
 
--- A count that was before is now greater. A count ends at 2^64 - 1, where it may stand.
+-- A count is greater by just one than it was before: one call failed, and no other. A count ends at
+-- 2^64 - 1, where it stays.
 abbrev pub Rose : ℕ → ℕ → Type 0
-Rose before now = min (before + 1) (2 ^ 64 - 1) ≤ now
+Rose before now = now ≡ min (before + 1) (2 ^ 64 - 1)
 
--- A count never falls over a call, rose where the call failed, and is as it was where it didn't
--- fail.
+-- A count never falls over a call, rose by one where the call failed, and is as it was where it
+-- didn't fail.
 pub record HasCause {T E : Type 0} (before now : ℕ) (result : Result T E) : Type 0 where
   pub later : before ≤ now
   pub failed : OnErr result (Rose before now)
