@@ -1,6 +1,7 @@
 -- How far ahead a run reads its source, to its end.
-use Rattle.std.proofs.Common.{◌≡◌, ℕ, suc, ◌+◌, ◌-◌, ◌≤◌, ◌==◌, ◌&&◌, Bool, true, false, List, [], ◌∷◌, ◌++◌, length, Option, None, Some, IfSome, IsSomeAnd, map, refl, ap, ◌∙◌, subst, append_assoc, length-append, arith, inl, inr, cond, sym}
+use Rattle.std.proofs.Common.{◌≡◌, ℕ, suc, ◌+◌, ◌-◌, ◌≤◌, ◌==◌, ◌&&◌, Bool, true, false, List, [], ◌∷◌, ◌++◌, length, Option, None, Some, IfSome, IsSomeAnd, map, refl, ap, ◌∙◌, append_assoc, length-append, arith, inl, inr, cond, sym}
 use Rattle.std.specs.List.{enumerate_from}
+use Rattle.std.specs.Prelude.{◌⊎◌}
 use Rattle.std.specs.Option.{option_map}
 use Rattle.std.proofs.lemmas.Bool.Decides.{nat_tests}
 use Rattle.board_core.specs.Doing.{Seen}
@@ -20,12 +21,8 @@ use Rattle.ras_run.specs.Places.{Start}
 use Rattle.ras_daemon.specs.Ahead.{TakesAhead, end_of_event, events_in, is_event_line}
 use Rattle.ras_exit.specs.Telling.{PrintsPart}
 use Rattle.ras_daemon.specs.Doing.{Ends}
-use Rattle.ras_daemon.specs.Headline.{OverRun}
 use Rattle.ras_daemon.specs.RunOutput.{run_output}
-use Rattle.ras_daemon.specs.RunStatus.{start_of}
-use Rattle.ras_daemon.specs.declared.word.Task.{Task}
-use Rattle.ras_daemon.specs.declared.word.Task.TheVariants.{Run}
-use Rattle.ras_daemon.specs.Running.{EndsAhead, ReadAhead, RunAhead, first_size, lines_from, outputs}
+use Rattle.ras_daemon.specs.Running.{EndsAhead, ReadAhead, first_size, lines_from, outputs}
 use Rattle.ras_daemon.specs.Script.{reads_in}
 use Rattle.ras_daemon.proofs.SaidLemmas.{Printed}
 use Rattle.ras_daemon.proofs.CountLemmas.{count-first, events_among}
@@ -64,13 +61,6 @@ fault_before see exit result line a b (inr cut) fault = sym cut.1 ∙ fault
 fault_before see exit result line a b (inl (answer, inl said)) fault = sym said.0 ∙ fault
 fault_before see exit result line a b (inl (answer, inr (inl failed))) fault = let e = sym failed.0 ∙ fault in absurd cc
 fault_before see exit result line a b (inl (answer, inr (inr short))) fault = let e = sym short.0 ∙ fault in absurd cc
-
--- ---- an opening before
-
-pub ahead_opened : (Fault : Type 0) (start : Start) (script : List ℕ) (t u : Told) (left : Option (List ℕ)) (told : Option Told) → u.here.out ≡ t.here.out → RunAhead Fault start script u left told → RunAhead Fault start script t left told
-ahead_opened Fault start script t u left told same (inl none) = inl none
-ahead_opened Fault start script t u left told same (inr ahead) =
-    inr (ahead.0, subst (λ out. EndsAhead Fault start script (out ++ standing_lines start.account) left told) same ahead.1)
 
 -- ---- which event isn't done
 
@@ -170,16 +160,10 @@ takes_none exit script t now output part = record {
     all None = tt
     all (Some end) = omega arith
 
-pub ahead_told : (exit : Exit) (start : Start) (script : List ℕ) (t : Told) (left : Option (List ℕ)) (now : Option Told) → RunAhead (exit ≡ SourceFault) start script t left now
+pub ahead_told : (exit : Exit) (Same : Type 0) (start : Start) (script : List ℕ) (t : Told) (left : Option (List ℕ)) (now : Option Told) → (Same → left ≡ Some script)
+    → Same ⊎ (IsAccount start.account × EndsAhead (exit ≡ SourceFault) start script (lines_from start t.here.out) left now)
     → IsSomeAnd now (λ n. PrintsPart (run_output start script) t.here.out n.here.out) → IsSomeAnd left (λ rest. IsSomeAnd now (TakesAhead exit script rest t))
-ahead_told exit start script t left None ahead printed = absurd printed
-ahead_told exit start script t left (Some n) (inl none) printed = rw none (takes_none exit script t n (run_output start script) printed)
-ahead_told exit start script t None (Some n) (inr ahead) printed = absurd ahead.1
-ahead_told exit start script t (Some rest) (Some n) (inr ahead) printed = takes_ahead exit start script rest t n ahead.0 ahead.1
-
-pub run-ahead : (exit : Exit) (task : Option Task) (script : Option (List ℕ)) (told : Option Told) (left : Option (List ℕ)) (now : Option Told)
-    → OverRun (λ start text t. RunAhead (exit ≡ SourceFault) start text t left now) task script told
-    → OverRun (λ start text t. IsSomeAnd now (λ n. PrintsPart (run_output start text) t.here.out n.here.out)) task script told
-    → OverRun (λ start text t. IsSomeAnd left (λ rest. IsSomeAnd now (TakesAhead exit text rest t))) task script told
-run-ahead exit (Some Run) (Some text) (Some t) left now ahead printed = λ account recovers. ahead_told exit (start_of account t) text t left now (ahead account recovers) (printed account recovers)
-run-ahead exit task script told left now ahead printed = tt
+ahead_told exit Same start script t left None back reads printed = absurd printed
+ahead_told exit Same start script t left (Some n) back (inl same) printed = rw (back same) (takes_none exit script t n (run_output start script) printed)
+ahead_told exit Same start script t None (Some n) back (inr ahead) printed = absurd ahead.1
+ahead_told exit Same start script t (Some rest) (Some n) back (inr ahead) printed = takes_ahead exit start script rest t n ahead.0 ahead.1

@@ -18,8 +18,8 @@ use Rattle.ras_run.specs.Moments.{CourseMoment, course_at}
 use Rattle.ras_run.specs.Taking.{IsAccepted, LineMoment}
 use Rattle.ras_run.proofs.LineLawLemmas.{line_holds, line_moment, line_out}
 use Rattle.ras_run.proofs.SomeActLemmas.{some_acts}
-use Rattle.ras_daemon.specs.Doing.{AreDoneAlong, AreLinesActs}
-use Rattle.ras_daemon.specs.RunActs.{AreActsAlong, script_asked}
+use Rattle.ras_daemon.specs.Doing.{AreLinesActs}
+use Rattle.ras_daemon.specs.RunActs.{AreActsAlong, AreDoneAlong, script_asked}
 use Rattle.ras_daemon.specs.Running.{AreAccepted, AreFirst, LinesMoment, outputs}
 use Rattle.ras_daemon.specs.Script.{reads_of}
 use Rattle.ras_daemon.proofs.FirstLinesLemmas.{first-before}

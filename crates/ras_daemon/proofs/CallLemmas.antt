@@ -1,7 +1,8 @@
--- How a run ends, what it has printed, and whole events, from where it ends.
-use Rattle.std.proofs.Common.{◌≡◌, ℕ, ◌≤◌, List, [], ◌++◌, Option, Some, None, refl, sym, ap, ◌∙◌, subst, append_assoc, append-nil, arith, inl, inr, length}
-use Rattle.std.specs.Prelude.{◌⊎◌, IsSomeAnd}
+-- What `rasd` promises of a run, from what it did.
+use Rattle.std.proofs.Common.{◌≡◌, ℕ, ◌≤◌, List, [], ◌++◌, Option, Some, None, refl, sym, ap, ◌∙◌, subst, append_assoc, append-nil, arith, inl, inr}
+use Rattle.std.specs.Prelude.{◌⊎◌, IsSomeAnd, ⊤}
 use Rattle.std.specs.List.{flat_map}
+use Rattle.board_core.specs.Cause.{disk_call}
 use Rattle.board_core.specs.Clock.{Adds, Always, Clock, LeftNow}
 use Rattle.board_core.specs.Stop.{Left}
 use Rattle.board_core.specs.Told.{Told}
@@ -12,32 +13,36 @@ use Rattle.ras_account.specs.Accounts.{IsAccount}
 use Rattle.ras_journal.specs.Recovered.{Recovers}
 use Rattle.ras_script.specs.declared.line.Line.{Line}
 use Rattle.ras_texts.specs.Orders.{standing_lines}
-use Rattle.ras_events.specs.Reports.{NumberedLine, Place}
+use Rattle.ras_events.specs.Reports.{NumberedLine}
 use Rattle.text_laws.specs.DoneLines.{done_count}
 use Rattle.ras_exit.specs.declared.exit.Exit.{Exit}
-use Rattle.ras_exit.specs.Endings.{CallEnding, IfAnswered, OnAnswer, OnWhole, UnlessFaulted, answered, ending_of, faulted, source_failed, starved}
+use Rattle.ras_exit.specs.Endings.{CallEnding, EndsBy, IfAnswered, OnAnswer, OnlyFault, OnWhole, UnlessFaulted, answered, ending_of, faulted, source_failed, starved}
 use Rattle.ras_exit.specs.Telling.{PrintsPart}
+use Rattle.ras_exit.proofs.EndingLemmas.{memory_ran_out}
 use Rattle.ras_run.specs.Output.{output_at}
 use Rattle.ras_run.specs.Places.{Start, account_at, store_at}
-use Rattle.ras_daemon.specs.Headline.{Headline, IsWhole, OverRun, Settles, StopsRecover, account_with, laid_with}
+use Rattle.ras_daemon.specs.Ahead.{TakesAhead}
+use Rattle.ras_daemon.specs.Headline.{Headline, IsWhole, NeverOpens, Settles, StopsRecover, account_with, laid_with}
+use Rattle.ras_daemon.specs.Promises.{HasOpened, Ran, RunStops, StillTell}
+use Rattle.ras_daemon.specs.RunActs.{DidRun}
 use Rattle.ras_daemon.specs.RunOutput.{closing_line, run_output}
 use Rattle.ras_daemon.specs.RunStatus.{run_exit, start_of}
 use Rattle.board_core.specs.Doing.{Seen}
-use Rattle.ras_daemon.specs.Doing.{DoesRun, Opens}
-use Rattle.ras_daemon.proofs.RunLemmas.{run_ends, run_stops}
+use Rattle.ras_daemon.specs.Doing.{Comes, DoesNotOpen, DoesRun, Opens}
+use Rattle.ras_daemon.proofs.RunLemmas.{disk_failed, opening_at, run_ends, run_stops}
+use Rattle.ras_daemon.proofs.AheadLemmas.{ahead_told}
+use Rattle.ras_daemon.proofs.DidLemmas.{opened_first, run_did}
+use Rattle.ras_daemon.proofs.FewLinksLemmas.{run-few}
 use Rattle.ras_daemon.specs.StoreDuring.{store_at_end}
-use Rattle.ras_daemon.specs.Running.{AreAll, AreFirst, EndsEarly, EndsIn, EndsSo, OpenMoment, RunEnds, RunMoment, outputs}
-use Rattle.ras_daemon.specs.Script.{events_of, line_after}
-use Rattle.ras_daemon.specs.declared.word.Task.{Task}
-use Rattle.ras_daemon.specs.declared.word.Task.TheVariants.{Run}
+use Rattle.ras_daemon.specs.Running.{AreAll, AreFirst, EndsEarly, EndsIn, EndsAhead, EndsSo, OpenMoment, RunEnds, RunMoment, lines_from, outputs}
+use Rattle.ras_daemon.specs.Script.{line_after}
 use Rattle.ras_daemon.proofs.HeadlineLemmas.{closing-quiet, headline, headline-nothing, headline-since, moment-prints}
 use Rattle.ras_daemon.proofs.ScriptLemmas.{takes_stops}
 use Rattle.ras_daemon.proofs.CountLemmas.{account-first, count-first, events_among}
 use Rattle.ras_daemon.proofs.FirstLinesLemmas.{closing-same}
 use Rattle.ras_daemon.proofs.CourseLemmas.{end-store}
 use Rattle.ras_daemon.proofs.StoreLemmas.{store-first}
-use Rattle.ras_daemon.specs.Runs.{event_count}
-use Rattle.ras_exit.specs.declared.exit.Exit.TheVariants.{Done, ErstBusy}
+use Rattle.ras_exit.specs.declared.exit.Exit.TheVariants.{DiskFault, ErstBusy, NoMemory, SourceFault}
 use Rattle.text_laws.proofs.DoneLemmas.{none_done}
 
 -- the store is kept, unless the device was busy for too long
@@ -49,7 +54,7 @@ kept-at-end exit next store free = refl
 -- ---- where a run comes to an answer
 
 -- all that it prints
-text-so : (start : Start) (script : List ℕ) (exit : Exit) (before : List NumberedLine) → AreAll start script exit before
+pub text-so : (start : Start) (script : List ℕ) (exit : Exit) (before : List NumberedLine) → AreAll start script exit before
     → standing_lines start.account ++ (outputs start before ++ closing_line (account_at start before) exit) ≡ run_output start script
 text-so start script exit before all = λ i.
     standing_lines start.account ++ (flat_map (output_at start) (sym all.all i) ++ closing-same start script exit before all i)
@@ -57,17 +62,6 @@ text-so start script exit before all = λ i.
 -- it was printed
 output-so : (start : Start) (script : List ℕ) (exit : Exit) (old now : Told) → EndsSo start script exit old.here.out now → now.here.out ≡ old.here.out ++ run_output start script
 output-so start script exit old now ends = ends.text ∙ ap (λ (text : List ℕ). old.here.out ++ text) (text-so start script exit ends.before ends.all)
-
--- and its done lines number the events
-counted-so : (start : Start) (script : List ℕ) (exit : Exit) (before : List NumberedLine) → AreAll start script exit before → IsAccount start.account
-    → done_count (run_output start script) ≡ length (events_of start script)
-counted-so start script exit before all account =
-    let standing : List ℕ = standing_lines start.account in
-    let last : List ℕ = closing_line (account_at start before) exit in
-    let none : done_count last ≡ 0 = none_done last last [] (closing-quiet (account_at start before) exit) (append-nil last) in
-    ap done_count (sym (text-so start script exit before all) ∙ sym (append_assoc standing (outputs start before) last))
-    ∙ count-first start script before all.first account last
-    ∙ omega (arith, none, ap (λ (ps : List Place). events_among ps) all.all)
 
 module _ (start : Start) (script : List ℕ) (old now : Told) where
   -- what an answer says
@@ -83,9 +77,6 @@ module _ (start : Start) (script : List ℕ) (old now : Told) where
 
   pub ends-output : (exit : Exit) → RunEnds start script exit old.here.out now → OnAnswer exit (now.here.out ≡ old.here.out ++ run_output start script)
   ends-output exit = ends-answer exit (now.here.out ≡ old.here.out ++ run_output start script) (output-so start script exit old now)
-
-  pub ends-counted : (exit : Exit) → RunEnds start script exit old.here.out now → OnAnswer exit (done_count (run_output start script) ≡ length (events_of start script))
-  ends-counted exit = ends-answer exit (done_count (run_output start script) ≡ length (events_of start script)) (λ ends. counted-so start script exit ends.before ends.all ends.account)
 
   -- whole events, by their number
   abbrev store-with : Exit → ℕ → List Stored
@@ -130,15 +121,6 @@ module _ (start : Start) (script : List ℕ) (old now : Told) where
           whole-by exit [] 0 (text ∙ sym (append-nil old.here.out)) refl (subst (λ (reads : List NumberedLine). Recovers (account_at start reads) now.here) none ends.recovers)
           (left 0 (ap (store_at start) none))
 
-  -- the store at the end of a script
-  pub ends-stored : (exit : Exit) → RunEnds start script exit old.here.out now → exit ≡ Done → now.here.store ≡ laid_with start script (event_count start script)
-  ends-stored exit ends done = by (subst (λ (e : Exit). RunEnds start script e old.here.out now) done ends)
-    where
-      by : EndsSo start script Done old.here.out now → now.here.store ≡ laid_with start script (event_count start script)
-      by ends =
-          end-store start script Done ends.before now.here.store ends.all ends.account ends.store
-          ∙ ap (λ (ps : List Place). laid_with start script (events_among ps)) (sym ends.all.all)
-
   pub ends-whole : (exit : Exit) → RunEnds start script exit old.here.out now → OnWhole exit (IsWhole start script exit old now)
   ends-whole exit ends = by (ending_of exit) refl ends
     where
@@ -147,29 +129,6 @@ module _ (start : Start) (script : List ℕ) (old now : Told) where
       by (faulted kind) is ends = tt
       by source_failed is ends = early-lines exit (λ busy. let e = sym is ∙ ap ending_of busy in cc) ends
       by starved is ends = early-lines exit (λ busy. let e = sym is ∙ ap ending_of busy in cc) ends
-
--- ---- where words ask for a run
-
--- a fact of a run, from another one of the same run
-pub over-run : (P Q : Start → List ℕ → Told → Type 0) (task : Option Task) (script : Option (List ℕ)) (told : Option Told)
-    → ((start : Start) (text : List ℕ) (t : Told) → told ≡ Some t → P start text t → Q start text t)
-    → OverRun P task script told → OverRun Q task script told
-over-run P Q (Some Run) (Some text) (Some t) gives has = λ account recovers. gives (start_of account t) text t refl (has account recovers)
-over-run P Q task script told gives has = tt
-
--- what holds of what is told now
-pub some-weaker : (P Q : Told → Type 0) (told : Option Told) → ((t : Told) → P t → Q t) → IsSomeAnd told P → IsSomeAnd told Q
-some-weaker P Q None weaker has = absurd has
-some-weaker P Q (Some t) weaker has = weaker t has
-
--- where an exit is an answer, also what holds of what is told now
-pub on-answer : (exit : Exit) (P : Told → Type 0) (told : Option Told) → IsSomeAnd told (λ t. OnAnswer exit (P t)) → OnAnswer exit (IsSomeAnd told P)
-on-answer exit P None has = absurd has
-on-answer exit P (Some t) has = has
-
-pub on-whole : (exit : Exit) (P : Told → Type 0) (told : Option Told) → IsSomeAnd told (λ t. OnWhole exit (P t)) → OnWhole exit (IsSomeAnd told P)
-on-whole exit P None has = absurd has
-on-whole exit P (Some t) has = has
 
 -- ---- over moments
 
@@ -192,79 +151,120 @@ begun-now old new start script here now text adds may = by (adds.each old.now no
     by (inl before) = moment-prints old start script here now (text now) (inl before)
     by (inr moment) = moment-prints old start script here now (text now) moment
 
--- ---- the clauses of a run, from what it did
+-- ---- the journal was opened, or it never was
 
-module _ {X : Type 0} (see : X → Seen) (account : State) (script : List ℕ) (exit : Exit) (t : Told) (old new : X) (recovers : Recovers account t.here) (does : DoesRun see (start_of account t) script exit t old new) where
+cut-exit : (exit : Exit) → EndsBy ⊥ ⊤ (OnlyFault disk_call) (ending_of exit) → (exit ≡ DiskFault) ⊎ (exit ≡ NoMemory)
+cut-exit exit cut = by (ending_of exit) refl cut
+  where
+    by : (ending : CallEnding) → ending_of exit ≡ ending → EndsBy ⊥ ⊤ (OnlyFault disk_call) ending → (exit ≡ DiskFault) ⊎ (exit ≡ NoMemory)
+    by answered so never = absurd never
+    by source_failed so never = absurd never
+    by (faulted kind) so only = inl (disk_failed exit (so ∙ ap faulted only))
+    by starved so any = inr (memory_ran_out exit so)
+
+module _ {X : Type 0} (see : X → Seen) (account : State) (script : List ℕ) (exit : Exit) (t : Told) (old new : X) (recovers : Recovers account t.here) where
   abbrev start : Start
   start = start_of account t
 
-  runs : IsSomeAnd (see new).told (RunEnds start script exit t.here.out)
-  runs = run_ends see account script exit t old new recovers does
+  run-moments : DoesRun see start script exit t old new → Adds (RunMoment (see old).clock start script t.here) (see old).clock (see new).clock
+  run-moments does = run_stops see account script exit t old new recovers does
 
-  stops : Adds (RunMoment (see old).clock start script t.here) (see old).clock (see new).clock
-  stops = run_stops see account script exit t old new recovers does
-
-  by-ends : (P : Type 0) → ((now : Told) → RunEnds start script exit t.here.out now → P) → P
-  by-ends P gives = by (see new).told runs
+  -- from the moment on at which its journal is open
+  run-settles : Opens see start script exit t old new → Settles start script t.here (see old).clock (see new).clock
+  run-settles d = record {
+    at = (see d.mid).clock.now;
+    later = d.stops.later;
+    within = adds.later;
+    before = λ left may. elim ((run-moments (inr d)).each (see old).clock.now left (omega arith) may) [ inl was ↦ inl was | inr moment ↦ begun left moment ];
+    from = λ left may. elim (adds.each (see d.mid).clock.now left (omega arith) may) [ inl was ↦ rests left was | inr moment ↦ later left moment ];
+  }
     where
-      by : (told : Option Told) → IsSomeAnd told (RunEnds start script exit t.here.out) → P
-      by None ends = absurd ends
-      by (Some now) ends = gives now ends
+      adds : Adds (OpenMoment start script d.there.here.out) (see d.mid).clock (see new).clock
+      adds = takes_stops see start script d.there exit d.mid new d.rests d.holds d.takes
 
-  pub run-status : OnAnswer exit (exit ≡ run_exit start script)
-  run-status = by-ends (OnAnswer exit (exit ≡ run_exit start script)) (λ now. ends-status start script t now exit)
+      begun : (left : Left) → RunMoment (see old).clock start script t.here left → LeftNow (see old).clock left ⊎ Headline start script t.here left
+      begun left (inl now) = inl now
+      begun left (inr moment) = inr (headline-since start script t.here left moment)
 
-  pub run-counted : OnAnswer exit (done_count (run_output start script) ≡ length (events_of start script))
-  run-counted = by-ends (OnAnswer exit (done_count (run_output start script) ≡ length (events_of start script))) (λ now. ends-counted start script t now exit)
+      later : (left : Left) → OpenMoment start script d.there.here.out left → Headline start script t.here left
+      later left moment = headline-since start script t.here left (inr (d.holds.account, subst (λ out. OpenMoment start script out left) d.text moment))
 
-  pub run-printed : OnAnswer exit (IsSomeAnd (see new).told (λ now. now.here.out ≡ t.here.out ++ run_output start script))
-  run-printed = on-answer exit (λ now. now.here.out ≡ t.here.out ++ run_output start script) (see new).told
-      (some-weaker (RunEnds start script exit t.here.out) (λ now. OnAnswer exit (now.here.out ≡ t.here.out ++ run_output start script)) (see new).told (λ now. ends-output start script t now exit) runs)
+      rests : (left : Left) → LeftNow (see d.mid).clock left → Headline start script t.here left
+      rests left was =
+          subst (Headline start script t.here) (sym (d.rests.only left was))
+          (headline-nothing start script t.here d.there.here d.text (record { is = d.holds.at.recovers }) d.holds.board.store)
 
-  pub run-whole : OnWhole exit (IsSomeAnd (see new).told (IsWhole start script exit t))
-  run-whole = on-whole exit (IsWhole start script exit t) (see new).told
-      (some-weaker (RunEnds start script exit t.here.out) (λ now. OnWhole exit (IsWhole start script exit t now)) (see new).told (λ now. ends-whole start script t now exit) runs)
+  never-opens : (Same : Type 0) → Same → DoesNotOpen see exit t old new → NeverOpens exit Same start t.here (see old).clock (see new).clock
+  never-opens Same same d = record {
+    cut = cut-exit exit d.cut;
+    unread = same;
+    always = λ left may. elim (d.stops.each (see old).clock.now left (omega arith) may) [ inl was ↦ inl was | inr opening ↦ opening_at account t (see old).clock left recovers opening ];
+  }
 
-  pub run-stored : exit ≡ Done → IsSomeAnd (see new).told (λ now. now.here.store ≡ laid_with start script (event_count start script))
-  run-stored done = some-weaker (RunEnds start script exit t.here.out) (λ now. now.here.store ≡ laid_with start script (event_count start script)) (see new).told (λ now ends. ends-stored start script t now exit ends done) runs
+  pub run-settled : (Same : Type 0) (left : Option (List ℕ)) → Comes see Same start script exit t left old new
+      → Settles start script t.here (see old).clock (see new).clock ⊎ NeverOpens exit Same start t.here (see old).clock (see new).clock
+  run-settled Same left comes = by comes.does comes.reads
+    where
+      by : DoesRun see start script exit t old new → Same ⊎ (Opens see start script exit t old new × EndsAhead (exit ≡ SourceFault) start script (lines_from start t.here.out) left (see new).told)
+          → Settles start script t.here (see old).clock (see new).clock ⊎ NeverOpens exit Same start t.here (see old).clock (see new).clock
+      by (inl d) (inl same) = inr (never-opens Same same d)
+      by (inl d) (inr read) = inl (run-settles read.0)
+      by (inr d) reads = inl (run-settles d)
 
-  module _ (text : (left : Left) → LeftNow (see old).clock left → left.out ≡ t.here.out) where
-    pub run-headline : ((left : Left) → LeftNow (see old).clock left → left.store ≡ t.here.store) → StopsRecover start (see old).clock → Always (see new).clock (see old).clock.now (Headline start script t.here)
-    run-headline store recover = always-headline (see old).clock (see new).clock start script t.here recover text store stops
+-- ---- the records of a run, from what it did
 
-    pub run-begun : ((now : Told) → (see new).told ≡ Some now → LeftNow (see new).clock now.here) → ((m n : ℕ) (left : Left) → m ≤ n → (see new).clock.may_leave_since n left → (see new).clock.may_leave_since m left)
-        → IsSomeAnd (see new).told (λ now. PrintsPart (run_output start script) t.here.out now.here.out)
-    run-begun may earlier = by (see new).told refl runs
+-- What the laws of a board say of what a stop between its calls leaves.
+pub record LeavesTold (told : Option Told) (clock : Clock) : Type 0 where
+  pub text : (t : Told) (left : Left) → told ≡ Some t → LeftNow clock left → left.out ≡ t.here.out
+  pub store : (t : Told) (left : Left) → told ≡ Some t → LeftNow clock left → left.store ≡ t.here.store
+  pub now : (t : Told) → told ≡ Some t → LeftNow clock t.here
+  pub earlier : (m n : ℕ) (left : Left) → m ≤ n → clock.may_leave_since n left → clock.may_leave_since m left
+
+module _ {X : Type 0} (see : X → Seen) (Same : Type 0) (account : State) (script : List ℕ) (exit : Exit) (t : Told) (left : Option (List ℕ)) (old new : X) (is : (see old).told ≡ Some t) (recovers : Recovers account t.here)
+    (first : LeavesTold (see old).told (see old).clock) (comes : Comes see Same (start_of account t) script exit t left old new) where
+  abbrev begins : Start
+  begins = start_of account t
+
+  stops : Adds (RunMoment (see old).clock begins script t.here) (see old).clock (see new).clock
+  stops = run_stops see account script exit t old new recovers comes.does
+
+  -- what stops leave
+  pub run-stops : RunStops exit Same begins script t.here (see old).clock (see new).clock
+  run-stops = record {
+    later = stops.later;
+    once = λ recover. always-headline (see old).clock (see new).clock begins script t.here recover (λ left may. first.text t left is may) (λ left may. first.store t left is may) stops;
+    settled = run-settled see account script exit t old new recovers Same left comes;
+    few = run-few see begins script exit t old new (first.now t is) comes.does;
+  }
+
+  -- what is told at its end
+  module _ (last : LeavesTold (see new).told (see new).clock) where
+    ran-now : (rest : List ℕ) (now : Told) → (see new).told ≡ Some now → RunEnds begins script exit t.here.out now → DidRun begins script (ending_of exit) t now → TakesAhead exit script rest t now
+        → Same ⊎ HasOpened begins t now → Ran exit Same begins script t rest now
+    ran-now rest now here ends did ahead opened = record {
+      status = ends-status begins script t now exit ends;
+      output = ends-output begins script t now exit ends;
+      begun = begun-now (see old).clock (see new).clock begins script t.here now.here (λ left may. first.text t left is may) stops (last.earlier (see old).clock.now (see new).clock.now now.here stops.later (last.now now here));
+      whole = ends-whole begins script t now exit ends;
+      acts = did;
+      ahead = ahead;
+      opened = opened;
+    }
+
+    run-begun : (told : Option Told) → (see new).told ≡ told → IsSomeAnd told (RunEnds begins script exit t.here.out) → IsSomeAnd told (λ now. PrintsPart (run_output begins script) t.here.out now.here.out)
+    run-begun None here ends = absurd ends
+    run-begun (Some now) here ends =
+        begun-now (see old).clock (see new).clock begins script t.here now.here (λ left may. first.text t left is may) stops (last.earlier (see old).clock.now (see new).clock.now now.here stops.later (last.now now here))
+
+    pub run-ran : (Same → left ≡ Some script) → StillTell (Ran exit Same begins script t) left (see new).told
+    run-ran back =
+        by left (see new).told refl (run_ends see account script exit t old new recovers comes.does) (run_did see begins script exit t old new comes.does)
+        (ahead_told exit Same begins script t left (see new).told back (elim comes.reads [ inl same ↦ inl same | inr (opens, ahead) ↦ inr (opens.holds.account, ahead) ])
+        (run-begun (see new).told refl (run_ends see account script exit t old new recovers comes.does)))
+        (elim comes.reads [ inl same ↦ inl same | inr (opens, ahead) ↦ inr (opened_first see begins script exit t left old new opens ahead) ])
       where
-        by : (told : Option Told) → (see new).told ≡ told → IsSomeAnd told (RunEnds start script exit t.here.out) → IsSomeAnd told (λ now. PrintsPart (run_output start script) t.here.out now.here.out)
-        by None is ends = absurd ends
-        by (Some now) is ends = begun-now (see old).clock (see new).clock start script t.here now.here text stops (earlier (see old).clock.now (see new).clock.now now.here stops.later (may now is))
-
--- from the moment on at which its journal is open
-pub run-settles : {X : Type 0} (see : X → Seen) (account : State) (script : List ℕ) (exit : Exit) (t : Told) (old new : X) → Recovers account t.here → Opens see (start_of account t) script exit t old new
-    → Settles (start_of account t) script t.here (see old).clock (see new).clock
-run-settles see account script exit t old new recovers d = record {
-  at = (see d.mid).clock.now;
-  later = d.stops.later;
-  within = adds.later;
-  before = λ left may. elim (moments.each (see old).clock.now left (omega arith) may) [ inl was ↦ inl was | inr moment ↦ begun left moment ];
-  from = λ left may. elim (adds.each (see d.mid).clock.now left (omega arith) may) [ inl was ↦ rests left was | inr moment ↦ later left moment ];
-}
-  where
-    adds : Adds (OpenMoment (start_of account t) script d.there.here.out) (see d.mid).clock (see new).clock
-    adds = takes_stops see (start_of account t) script d.there exit d.mid new d.rests d.holds d.takes
-
-    moments : Adds (RunMoment (see old).clock (start_of account t) script t.here) (see old).clock (see new).clock
-    moments = run_stops see account script exit t old new recovers (inr d)
-
-    begun : (left : Left) → RunMoment (see old).clock (start_of account t) script t.here left → LeftNow (see old).clock left ⊎ Headline (start_of account t) script t.here left
-    begun left (inl now) = inl now
-    begun left (inr moment) = inr (headline-since (start_of account t) script t.here left moment)
-
-    later : (left : Left) → OpenMoment (start_of account t) script d.there.here.out left → Headline (start_of account t) script t.here left
-    later left moment = headline-since (start_of account t) script t.here left (inr (d.holds.account, subst (λ out. OpenMoment (start_of account t) script out left) d.text moment))
-
-    rests : (left : Left) → LeftNow (see d.mid).clock left → Headline (start_of account t) script t.here left
-    rests left was =
-        subst (Headline (start_of account t) script t.here) (sym (d.rests.only left was))
-        (headline-nothing (start_of account t) script t.here d.there.here d.text (record { is = d.holds.at.recovers }) d.holds.board.store)
+        by : (left : Option (List ℕ)) (told : Option Told) → (see new).told ≡ told → IsSomeAnd told (RunEnds begins script exit t.here.out) → IsSomeAnd told (DidRun begins script (ending_of exit) t)
+            → IsSomeAnd left (λ rest. IsSomeAnd told (TakesAhead exit script rest t)) → Same ⊎ IsSomeAnd told (HasOpened begins t) → StillTell (Ran exit Same begins script t) left told
+        by None told here ends did ahead opened = absurd ahead
+        by (Some rest) None here ends did ahead opened = absurd ahead
+        by (Some rest) (Some now) here ends did ahead opened = ran-now rest now here ends did ahead opened

@@ -1,20 +1,65 @@
--- A run that no fault cut short and that is refused nowhere is done, where there is memory.
-use Rattle.std.proofs.Common.{◌≡◌, ℕ, List, Option, ◌∙◌, refl, inl, inr}
-use Rattle.std.specs.Prelude.{◌⊎◌}
+-- What else holds of a run, by what `rasd` promises of it.
+use Rattle.std.proofs.Common.{◌≡◌, ℕ, List, [], length, Option, None, Some, ◌∙◌, refl, sym, ap, subst, append_assoc, append-nil, arith, inl, inr}
+use Rattle.std.proofs.lemmas.List.{append_cancel_left}
+use Rattle.std.specs.Prelude.{◌≢◌, ◌⊎◌}
 use Rattle.board_core.specs.Cause.{Faults}
 use Rattle.board_core.specs.Told.{Told}
+use Rattle.ras_account.specs.Accounts.{IsAccount}
+use Rattle.ras_events.specs.Reports.{NumberedLine, Place}
 use Rattle.ras_exit.specs.declared.exit.Exit.{Exit}
-use Rattle.ras_exit.specs.declared.exit.Exit.TheVariants.{Done, NoMemory}
+use Rattle.ras_exit.specs.declared.exit.Exit.TheVariants.{Done, ErstStatus, NoMemory}
 use Rattle.ras_exit.specs.Causes.{BoardCause, BoardCauseBy, SourceCause, SourceCauseBy}
 use Rattle.ras_exit.specs.Endings.{CallEnding, IfAnswered, OnAnswer, answered, ending_of, faulted, source_failed, starved}
 use Rattle.ras_exit.proofs.EndingLemmas.{memory_ran_out}
-use Rattle.ras_daemon.specs.Ended.{IsQuiet, IsQuietBoard}
-use Rattle.ras_daemon.specs.Headline.{OverRun}
-use Rattle.ras_daemon.specs.RunStatus.{run_exit}
+use Rattle.ras_run.specs.Places.{Start, account_at}
+use Rattle.ras_texts.specs.Orders.{standing_lines}
+use Rattle.text_laws.specs.DoneLines.{done_count}
+use Rattle.text_laws.proofs.DoneLemmas.{none_done}
+use Rattle.ras_daemon.specs.Commands.{MayEnd}
 use Rattle.ras_daemon.specs.declared.word.Task.{Task}
-use Rattle.ras_daemon.proofs.CallLemmas.{over-run}
+use Rattle.ras_daemon.specs.declared.word.Task.TheVariants.{Run, Report, Load, Pcie, Klog}
+use Rattle.ras_daemon.specs.Headline.{laid_with}
+use Rattle.ras_daemon.specs.Promises.{Caused, IsQuiet, IsQuietBoard, Ran}
+use Rattle.ras_daemon.specs.RunActs.{DidAll, DidRun}
+use Rattle.ras_daemon.specs.RunOutput.{closing_line, run_output}
+use Rattle.ras_daemon.specs.RunStatus.{run_exit}
+use Rattle.ras_daemon.specs.Running.{AreAll, outputs}
+use Rattle.ras_daemon.specs.Runs.{event_count}
+use Rattle.ras_daemon.specs.Script.{events_of}
+use Rattle.ras_daemon.proofs.CallLemmas.{text-so}
+use Rattle.ras_daemon.proofs.CountLemmas.{count-first, events_among}
+use Rattle.ras_daemon.proofs.HeadlineLemmas.{closing-quiet}
 
--- the exit of a run, where all counts are quiet
+-- ---- its done lines number its events
+
+counted-so : (start : Start) (script : List ℕ) (exit : Exit) (before : List NumberedLine) → AreAll start script exit before → IsAccount start.account
+    → done_count (run_output start script) ≡ length (events_of start script)
+counted-so start script exit before all account =
+    let standing : List ℕ = standing_lines start.account in
+    let last : List ℕ = closing_line (account_at start before) exit in
+    let none : done_count last ≡ 0 = none_done last last [] (closing-quiet (account_at start before) exit) (append-nil last) in
+    ap done_count (sym (text-so start script exit before all) ∙ sym (append_assoc standing (outputs start before) last))
+    ∙ count-first start script before all.first account last
+    ∙ omega (arith, none, ap (λ (ps : List Place). events_among ps) all.all)
+
+all_counted : (start : Start) (script : List ℕ) (before now : Told) → DidAll start script before now → done_count (run_output start script) ≡ length (events_of start script)
+all_counted start script before now did =
+    counted-so start script (run_exit start script) did.takes.before
+    (record { first = record { rest = did.takes.rest; splits = did.takes.splits; accepted = did.takes.accepted }; all = did.takes.all; exit_is = refl }) did.holds.account
+
+pub did_counted : (start : Start) (script : List ℕ) (ending : CallEnding) (before now : Told) → DidRun start script ending before now → IfAnswered ending (done_count (run_output start script) ≡ length (events_of start script))
+did_counted start script answered before now did = all_counted start script before now did
+did_counted start script ending before now did = tt
+
+-- ---- the record store of one that is done
+
+pub ran_stored : (Same : Type 0) (start : Start) (script left : List ℕ) (before now : Told) → Ran Done Same start script before left now → now.here.store ≡ laid_with start script (event_count start script)
+ran_stored Same start script left before now ran =
+    let printed : ran.whole.printed ≡ run_output start script = append_cancel_left before.here.out ran.whole.printed (run_output start script) (sym ran.whole.text ∙ ran.output) in
+    ran.whole.store ∙ ap (laid_with start script) (ap done_count printed ∙ all_counted start script before now ran.acts)
+
+-- ---- one that no fault cut short and that is refused nowhere is done, where there is memory
+
 module _ (source source' : ℕ) (board board' : Faults) (quiet_source : IsQuiet source source') (quiet_board : IsQuietBoard board board') where
   exit-done : (exit status : Exit) → OnAnswer exit (exit ≡ status) → SourceCause exit source source' → BoardCause exit board board' → status ≡ Done
       → (exit ≡ Done) ⊎ (exit ≡ NoMemory)
@@ -27,12 +72,24 @@ module _ (source source' : ℕ) (board board' : Faults) (quiet_source : IsQuiet 
       by source_failed is answers rose same = absurd (quiet_source rose)
       by starved is answers same also = inr (memory_ran_out exit is)
 
-pub run-complete : (task : Option Task) (script : Option (List ℕ)) (told : Option Told) (exit : Exit) (source source' : ℕ) (board board' : Faults)
-    → SourceCause exit source source' → BoardCause exit board board'
-    → OverRun (λ start text t. OnAnswer exit (exit ≡ run_exit start text)) task script told
-    → OverRun (λ start text t. IsQuiet source source' → IsQuietBoard board board' → run_exit start text ≡ Done → (exit ≡ Done) ⊎ (exit ≡ NoMemory)) task script told
-run-complete task script told exit source source' board board' cause_source cause_board status =
-    over-run (λ start text t. OnAnswer exit (exit ≡ run_exit start text))
-    (λ start text t. IsQuiet source source' → IsQuietBoard board board' → run_exit start text ≡ Done → (exit ≡ Done) ⊎ (exit ≡ NoMemory)) task script told
-    (λ start text t is answers quiet_source quiet_board done. exit-done source source' board board' quiet_source quiet_board exit (run_exit start text) answers cause_source cause_board done)
-    status
+pub ran_complete : (exit : Exit) (Same : Type 0) (start : Start) (script left : List ℕ) (before now : Told) (count count' : ℕ) (faults faults' : Faults)
+    → Ran exit Same start script before left now → Caused exit count count' faults faults' → IsQuiet count count' → IsQuietBoard faults faults'
+    → run_exit start script ≡ Done → (exit ≡ Done) ⊎ (exit ≡ NoMemory)
+ran_complete exit Same start script left before now count count' faults faults' ran caused quiet_source quiet_board done =
+    exit-done count count' faults faults' quiet_source quiet_board exit (run_exit start script) ran.status caused.source caused.board done
+
+-- ---- no command tells a status of 0
+
+pub may_code : (task : Option Task) (exit : Exit) (code : ℕ) → MayEnd task exit → exit ≡ ErstStatus code → code ≢ 0
+may_code task exit code may is = by task (subst (MayEnd task) is may)
+  where
+    by : (task : Option Task) → MayEnd task (ErstStatus code) → code ≢ 0
+    by None (inl is) = absurd cc
+    by None (inr is) = absurd cc
+    by (Some Run) some = some
+    by (Some (Report listing)) never = absurd never
+    by (Some (Load n)) (inl is) = absurd cc
+    by (Some (Load n)) (inr (inl is)) = absurd cc
+    by (Some (Load n)) (inr (inr is)) = absurd cc
+    by (Some Pcie) never = absurd never
+    by (Some (Klog boot mask)) never = absurd never

@@ -17,14 +17,26 @@ use Rattle.ras_recover.proofs.OpeningActsLemmas.{after_reading, listed_alone}
 use Rattle.ras_recover.proofs.OpeningCallsLemmas.{opens_calls, reads_all, recovery_on}
 use Rattle.ras_exit.specs.Endings.{CallEnding, EndsBy, IfAnswered, OnlyFault, answered, ending_of, faulted, source_failed, starved}
 use Rattle.ras_exit.specs.declared.exit.Exit.{Exit}
-use Rattle.ras_exit.specs.declared.exit.Exit.TheVariants.{DiskFault}
+use Rattle.ras_exit.specs.declared.exit.Exit.TheVariants.{SourceFault}
 use Rattle.ras_exit.proofs.EndingLemmas.{memory_ran_out}
+use Rattle.ras_base.specs.Places.{places}
+use Rattle.ras_run.specs.LineActs.{HoldsAfter}
 use Rattle.ras_run.specs.Places.{Start}
 use Rattle.ras_daemon.specs.Doing.{DoesRun, Opens}
-use Rattle.ras_daemon.specs.Ended.{HasOpened}
-use Rattle.ras_daemon.specs.RunActs.{AreRunActs, AreRunCalls, AreScriptActs, DidOf, DidRun, ListsAccesses}
-use Rattle.ras_daemon.proofs.CallLemmas.{some-weaker}
-use Rattle.ras_daemon.proofs.ScriptLemmas.{script_some, takes_did}
+use Rattle.ras_daemon.specs.Promises.{HasOpened}
+use Rattle.ras_texts.specs.Orders.{standing_lines}
+use Rattle.ras_daemon.specs.Running.{EndsAhead, ReadAhead, lines_from, outputs}
+use Rattle.ras_daemon.specs.Script.{reads_in, reads_of}
+use Rattle.ras_daemon.specs.RunActs.{AreRunActs, AreRunCalls, AreScriptActs, DidAll, DidOf, DidRun, ListsAccesses, TookAll, last_acts, orders_acts, script_asked}
+use Rattle.ras_daemon.specs.RunStatus.{run_exit}
+use Rattle.ras_daemon.proofs.RunLemmas.{disk_failed}
+use Rattle.ras_daemon.proofs.ScriptLemmas.{script_some, takes_did, took_all}
+use Rattle.ras_daemon.proofs.AlongActLemmas.{acts_along}
+
+-- what holds of what is told now
+some-weaker : (P Q : Told → Type 0) (told : Option Told) → ((t : Told) → P t → Q t) → IsSomeAnd told P → IsSomeAnd told Q
+some-weaker P Q None weaker has = absurd has
+some-weaker P Q (Some t) weaker has = weaker t has
 
 -- ---- behind an opening
 
@@ -37,14 +49,45 @@ did_behind first acts ending t now (done, begins, is) = (first ++ done, (begins.
 run_acts : (start : Start) (script : List ℕ) (t : Told) (first rest : List Act) → AreOpeningActs t.here first → AreScriptActs start script (after_acts first t) rest → AreRunActs start script t (first ++ rest)
 run_acts start script t first rest opens takes = record { first = first; rest = rest; opens = opens; takes = takes; is = refl }
 
-opened_did : (start : Start) (script : List ℕ) (ending : CallEnding) (t there now : Told) → MakesOpening t there → (acts : List Act) × AreScriptActs start script there acts × DidOf acts ending there now → DidRun start script ending t now
+-- some of the acts of a run were done
+abbrev RunDid : Start → List ℕ → CallEnding → Told → Told → Type 0
+RunDid start script ending t now = (acts : List Act) × AreRunActs start script t acts × DidOf acts ending t now
+
+-- the acts of an opening
+opened_acts : (t there : Told) → MakesOpening t there → (first : List Act) × AreOpeningActs t.here first × (there ≡ after_acts first t)
+opened_acts t there makes = (
+  map calls makes.recovery ++ opening_acts t.here,
+  record { recovery = makes.recovery; recovers = makes.recovers; is = refl },
+  makes.is ∙ ap (after_acts (opening_acts t.here)) (sym (after_reading makes.recovery t)) ∙ sym (after-append (map calls makes.recovery) (opening_acts t.here) t),
+)
+
+opened_did : (start : Start) (script : List ℕ) (ending : CallEnding) (t there now : Told) → MakesOpening t there → (acts : List Act) × AreScriptActs start script there acts × DidOf acts ending there now → RunDid start script ending t now
 opened_did start script ending t there now makes (acts, are, did) =
-    let first : List Act = map calls makes.recovery ++ opening_acts t.here in
-    let is : there ≡ after_acts first t = makes.is ∙ ap (after_acts (opening_acts t.here)) (sym (after_reading makes.recovery t)) ∙ sym (after-append (map calls makes.recovery) (opening_acts t.here) t) in (
-      first ++ acts,
-      run_acts start script t first acts (record { recovery = makes.recovery; recovers = makes.recovers; is = refl }) (subst (λ (u : Told). AreScriptActs start script u acts) is are),
-      did_behind first acts ending t now (subst (λ (u : Told). DidOf acts ending u now) is did),
+    let first = opened_acts t there makes in (
+      first.0 ++ acts,
+      run_acts start script t first.0 acts first.1 (subst (λ (u : Told). AreScriptActs start script u acts) first.2 are),
+      did_behind first.0 acts ending t now (subst (λ (u : Told). DidOf acts ending u now) first.2 did),
     )
+
+-- all that a run did
+opened_all : (start : Start) (script : List ℕ) (t there now : Told) → MakesOpening t there → HoldsAfter start [] there → TookAll start script there now → DidAll start script t now
+opened_all start script t there now makes holds took =
+    let first = opened_acts t there makes in
+    record { first = first.0; opens = first.1; holds = subst (HoldsAfter start []) first.2 holds; takes = subst (λ (u : Told). TookAll start script u now) first.2 took }
+
+-- whether or not, acts of a run
+pub did_acts : (start : Start) (script : List ℕ) (ending : CallEnding) (t now : Told) → DidRun start script ending t now → RunDid start script ending t now
+did_acts start script answered t now d =
+    let u : Told = after_acts d.first t in
+    let acts : List Act =
+    orders_acts start ++ (d.takes.along ++ (script_asked start script (after_acts d.takes.along (after_acts (orders_acts start) u)) ++ last_acts start (reads_of script) (run_exit start script))) in (
+      d.first ++ acts,
+      run_acts start script t d.first acts d.opens (record { along = d.takes.along; lines = rw d.takes.all (acts_along start (places d.takes.before) (after_acts (orders_acts start) u) d.takes.along d.takes.lines); is = refl }),
+      d.takes.is ∙ sym (after-append d.first acts t),
+    )
+did_acts start script (faulted kind) t now d = d
+did_acts start script source_failed t now d = d
+did_acts start script starved t now d = d
 
 -- ---- of an opening alone
 
@@ -60,8 +103,8 @@ opening_some start script t recovery recovers =
 -- how a run ends whose journal isn't opened
 module _ (start : Start) (script : List ℕ) (t u : Told) where
   -- memory ran out
-  read_some : (ending : CallEnding) → ending ≡ starved → AfterRecovery t u → DidRun start script ending t u
-  read_some ending so after =
+  read_some : AfterRecovery t u → DidRun start script starved t u
+  read_some after =
       let made : List DiskCall = after.calls.made in
       let begun = after.calls.are in
       let more : List DiskCall = reads_all t.here in
@@ -71,34 +114,40 @@ module _ (start : Start) (script : List ℕ) (t u : Told) where
       let splits : map calls made ++ later ≡ map calls (begun.whole ++ more) ++ all.0 =
       sym (append_assoc (map calls made) (map calls (begun.begins.0 ++ more)) all.0)
       ∙ ap (λ l. l ++ all.0) (sym (map-append calls made (begun.begins.0 ++ more)) ∙ ap (map calls) (sym (append_assoc made begun.begins.0 more) ∙ ap (λ l. l ++ more) begun.begins.1)) in
-      (map calls (begun.whole ++ more) ++ all.0, all.1, subst (λ (e : CallEnding). DidOf (map calls (begun.whole ++ more) ++ all.0) e t u) (sym so) (map calls made, (later, splits), is ∙ sym (after_reading made t)))
+      (map calls (begun.whole ++ more) ++ all.0, all.1, (map calls made, (later, splits), is ∙ sym (after_reading made t)))
 
   -- a disk call failed
-  not_read : (ending : CallEnding) → ending ≡ faulted disk_call → FailsOpening t u → DidRun start script ending t u
-  not_read ending so failed =
+  not_read : FailsOpening t u → DidRun start script (faulted disk_call) t u
+  not_read failed =
       let rest = script_some start script (after_acts failed.acts t) in
-      (failed.acts ++ rest.0, run_acts start script t failed.acts rest.0 failed.are rest.1, subst (λ (e : CallEnding). DidOf (failed.acts ++ rest.0) e t u) (sym so) (fails_first disk_call failed.acts rest.0 t u failed.fails))
+      (failed.acts ++ rest.0, run_acts start script t failed.acts rest.0 failed.are rest.1, fails_first disk_call failed.acts rest.0 t u failed.fails)
 
 -- ---- of a run
 
-disk_failed : (exit : Exit) → ending_of exit ≡ faulted disk_call → exit ≡ DiskFault
-disk_failed DiskFault is = refl
-disk_failed exit is = absurd cc
-
 pub run_did : {X : Type 0} (see : X → Seen) (start : Start) (script : List ℕ) (exit : Exit) (t : Told) (old new : X) → DoesRun see start script exit t old new → IsSomeAnd (see new).told (DidRun start script (ending_of exit) t)
-run_did see start script exit t old new (inr d) =
-    some-weaker (λ now. (acts : List Act) × AreScriptActs start script d.there acts × DidOf acts (ending_of exit) d.there now) (DidRun start script (ending_of exit) t) (see new).told
-    (λ now did. opened_did start script (ending_of exit) t d.there now d.makes did)
-    (takes_did see start script d.there exit d.mid new d.rests d.takes)
+run_did see start script exit t old new (inr d) = by (ending_of exit) refl (takes_did see start script d.there exit d.mid new d.rests d.takes)
+  where
+    AreDone : CallEnding → Told → Type 0
+    AreDone ending now = (acts : List Act) × AreScriptActs start script d.there acts × DidOf acts ending d.there now
+
+    some : (ending : CallEnding) → IsSomeAnd (see new).told (AreDone ending) → IsSomeAnd (see new).told (RunDid start script ending t)
+    some ending did = some-weaker (AreDone ending) (RunDid start script ending t) (see new).told (λ now did. opened_did start script ending t d.there now d.makes did) did
+
+    by : (ending : CallEnding) → ending_of exit ≡ ending → IsSomeAnd (see new).told (AreDone ending) → IsSomeAnd (see new).told (DidRun start script ending t)
+    by answered so did =
+        some-weaker (TookAll start script d.there) (DidAll start script t) (see new).told (λ now took. opened_all start script t d.there now d.makes d.holds took)
+        (took_all see start script d.there exit d.mid new d.rests so d.takes)
+    by (faulted kind) so did = some (faulted kind) did
+    by source_failed so did = some source_failed did
+    by starved so did = some starved did
 run_did see start script exit t old new (inl d) = by (ending_of exit) refl d.cut
   where
-    by : (ending : CallEnding) → ending_of exit ≡ ending → EndsBy ⊥ ⊤ (OnlyFault disk_call) ending → IsSomeAnd (see new).told (DidRun start script (ending_of exit) t)
+    by : (ending : CallEnding) → ending_of exit ≡ ending → EndsBy ⊥ ⊤ (OnlyFault disk_call) ending → IsSomeAnd (see new).told (DidRun start script ending t)
     by answered so never = absurd never
     by source_failed so never = absurd never
     by (faulted kind) so only =
-        let broke : ending_of exit ≡ faulted disk_call = so ∙ ap faulted only in
-        some-weaker (FailsOpening t) (DidRun start script (ending_of exit) t) (see new).told (λ u failed. not_read start script t u (ending_of exit) broke failed) (d.fails (disk_failed exit broke))
-    by starved so any = some-weaker (AfterRecovery t) (DidRun start script (ending_of exit) t) (see new).told (λ u after. read_some start script t u (ending_of exit) so after) (d.kept (memory_ran_out exit so))
+        rw only (some-weaker (FailsOpening t) (DidRun start script (faulted disk_call) t) (see new).told (λ u failed. not_read start script t u failed) (d.fails (disk_failed exit (so ∙ ap faulted only))))
+    by starved so any = some-weaker (AfterRecovery t) (DidRun start script starved t) (see new).told (λ u after. read_some start script t u after) (d.kept (memory_ran_out exit so))
 
 -- ---- the opening comes first
 
@@ -107,29 +156,43 @@ did_later acts answered there now is = (calls_of acts, ap (λ (u : Told). u.disk
 did_later acts (faulted kind) there now fails = (let lists = calls_by_fails kind acts there now fails in (lists.made, lists.listed))
 did_later acts ending there now (done, begins, is) = (calls_of done, ap (λ (u : Told). u.disk_calls) is ∙ calls_by_acts done there)
 
-has_opened : (t there now : Told) → MakesOpening t there → (later : List DiskCall) × (now.disk_calls ≡ there.disk_calls ++ later) → HasOpened t now
-has_opened t there now makes later =
+has_opened : (start : Start) (t there now : Told) → MakesOpening t there → (later : List DiskCall) × (now.disk_calls ≡ there.disk_calls ++ later)
+    → (more : List ℕ) × (now.here.out ≡ t.here.out ++ (standing_lines start.account ++ more)) → HasOpened start t now
+has_opened start t there now makes later text =
     let first = opens_calls t there makes in
     record {
       opening = first.made;
       are = first.are;
       later = later.0;
       listed = later.1 ∙ ap (λ l. l ++ later.0) first.listed ∙ append_assoc t.disk_calls first.made later.0;
+      more = text.0;
+      ordered = text.1;
     }
 
-pub opened_first : {X : Type 0} (see : X → Seen) (start : Start) (script : List ℕ) (exit : Exit) (t : Told) (old new : X) → Opens see start script exit t old new → IsSomeAnd (see new).told (HasOpened t)
-opened_first see start script exit t old new d =
-    some-weaker (λ now. (acts : List Act) × AreScriptActs start script d.there acts × DidOf acts (ending_of exit) d.there now) (HasOpened t) (see new).told
-    (λ now did. has_opened t d.there now d.makes (did_later did.0 (ending_of exit) d.there now did.2))
-    (takes_did see start script d.there exit d.mid new d.rests d.takes)
+pub opened_first : {X : Type 0} (see : X → Seen) (start : Start) (script : List ℕ) (exit : Exit) (t : Told) (left : Option (List ℕ)) (old new : X) → Opens see start script exit t old new
+    → EndsAhead (exit ≡ SourceFault) start script (lines_from start t.here.out) left (see new).told → IsSomeAnd (see new).told (HasOpened start t)
+opened_first see start script exit t None old new d ahead = absurd ahead
+opened_first see start script exit t (Some rest) old new d ahead = by (see new).told ahead (takes_did see start script d.there exit d.mid new d.rests d.takes)
+  where
+    by : (told : Option Told) → IsSomeAnd told (ReadAhead (exit ≡ SourceFault) start script (lines_from start t.here.out) rest)
+        → IsSomeAnd told (λ now. (acts : List Act) × AreScriptActs start script d.there acts × DidOf acts (ending_of exit) d.there now) → IsSomeAnd told (HasOpened start t)
+    by None ahead did = absurd ahead
+    by (Some now) ahead did =
+        let orders : List ℕ = standing_lines start.account in
+        let lines : List ℕ = outputs start (reads_in ahead.done) in
+        has_opened start t d.there now d.makes (did_later did.0 (ending_of exit) d.there now did.2) (
+          lines ++ ahead.text.0,
+          ahead.text.1 ∙ append_assoc (t.here.out ++ orders) lines ahead.text.0 ∙ append_assoc t.here.out orders (lines ++ ahead.text.0),
+        )
 
 -- ---- accesses
 
 -- at an answer they are those of all acts
-pub did_access : (start : Start) (script : List ℕ) (ending : CallEnding) (t : Told) (told : Option Told) → IsSomeAnd told (DidRun start script ending t) → IfAnswered ending (IsSomeAnd told (ListsAccesses start script t))
-did_access start script answered t None did = absurd did
-did_access start script answered t (Some now) (acts, are, is) = record { acts = acts; are = are; listed = ap (λ (u : Told). u.accesses) is ∙ accesses_by_acts acts t }
-did_access start script ending t told did = tt
+pub did_access : (start : Start) (script : List ℕ) (ending : CallEnding) (t now : Told) → DidRun start script ending t now → IfAnswered ending (ListsAccesses start script t now)
+did_access start script answered t now did =
+    let d = did_acts start script answered t now did in
+    record { acts = d.0; are = d.1; listed = ap (λ (u : Told). u.accesses) d.2 ∙ accesses_by_acts d.0 t }
+did_access start script ending t now did = tt
 
 -- ---- disk calls
 
@@ -159,4 +222,6 @@ acts_make start script acts (faulted kind) t now are fails =
 acts_make start script acts ending t now are did = done_make start script acts t now are did
 
 pub did_calls : (start : Start) (script : List ℕ) (ending : CallEnding) (t now : Told) → DidRun start script ending t now → MakesRun start script t now
-did_calls start script ending t now (acts, are, did) = acts_make start script acts ending t now are did
+did_calls start script ending t now did =
+    let d = did_acts start script ending t now did in
+    acts_make start script d.0 ending t now d.1 d.2

@@ -3,7 +3,9 @@ use Rattle.std.proofs.Common.{◌≡◌, ℕ, ◌+◌, ◌≤◌, Bool, true, fa
 use Rattle.ras_script.specs.declared.reader.NextRefused.{NextRefused}
 use Rattle.ras_script.specs.declared.reader.TheConstants.{LONGEST_SCRIPT}
 use Rattle.ras_script.specs.Reader.{AreTaken, Moves, MovesLine, Reader}
-use Rattle.ras_daemon.specs.Ahead.{TakesFewOf}
+use Rattle.ras_exit.specs.declared.exit.Exit.{Exit}
+use Rattle.ras_exit.specs.declared.exit.Exit.TheVariants.{Done}
+use Rattle.ras_daemon.specs.Ahead.{TakesBy}
 
 -- so many bytes of what a source told first were taken of it
 pub record Takes (count : ℕ) (script left : List ℕ) : Type 0 where
@@ -38,11 +40,17 @@ takes_more (Ok true) old new first now later takes (inr (moved, end)) = went new
 takes_more (Ok false) old new first now later takes (moved, end) = went [] old new first now later takes moved
 takes_more (Err why) old new first now later takes moved = went [] old new first now later takes moved
 
-pub takes_few : (count : ℕ) (first now : Option (List ℕ)) → count ≤ LONGEST_SCRIPT + 1 → TakesOf count first now → TakesFewOf first now
-takes_few count None now few takes = tt
-takes_few count (Some script) None few takes = absurd takes
-takes_few count (Some script) (Some left) few takes = record { taken = takes.taken; splits = takes.splits; few = (let size = takes.size in omega arith) }
+pub takes_by : (exit : Exit) (count : ℕ) (first now : Option (List ℕ)) → count ≤ LONGEST_SCRIPT + 1 → (exit ≡ Done → IfSome now (λ rest. rest ≡ [])) → TakesOf count first now → TakesBy exit first now
+takes_by exit count None now few all takes = tt
+takes_by exit count (Some script) None few all takes = absurd takes
+takes_by exit count (Some script) (Some left) few all takes = record { taken = takes.taken; splits = takes.splits; few = (let size = takes.size in omega arith); all = all }
 
 -- if none was taken
-pub few_none : (first : Option (List ℕ)) → TakesFewOf first first
-few_none first = takes_few 0 first first (omega arith) (takes_none first)
+pub takes_no_byte : (exit : Exit) (first : Option (List ℕ)) → (exit ≡ Done → ⊥) → TakesBy exit first first
+takes_no_byte exit first cut = takes_by exit 0 first first (omega arith) (λ done. absurd (cut done)) (takes_none first)
+
+-- with an exit behind another
+pub takes_as : (one other : Exit) (first now : Option (List ℕ)) → (other ≡ Done → one ≡ Done) → TakesBy one first now → TakesBy other first now
+takes_as one other None now back takes = tt
+takes_as one other (Some script) None back takes = absurd takes
+takes_as one other (Some script) (Some left) back takes = record { taken = takes.taken; splits = takes.splits; few = takes.few; all = λ done. takes.all (back done) }

@@ -19,8 +19,8 @@ use Rattle.ras_run.specs.Taking.{IsAccepted}
 use Rattle.ras_run.proofs.LineFewLemmas.{asking_few, few_same, line_few, line_few_done, print_few, printed_few}
 use Rattle.ras_run.proofs.LineLawLemmas.{line_holds}
 use Rattle.ras_texts.specs.Orders.{standing_lines}
-use Rattle.ras_daemon.specs.Doing.{AreAllAsked, AreDoneAlong, DoesFirst, DoesPart, DoesRun, DoesScript, IsLastBy, KeepsStore, MayAsk, TakesScript}
-use Rattle.ras_daemon.specs.RunActs.{AreScriptActs, orders_acts}
+use Rattle.ras_daemon.specs.Doing.{AreAllAsked, DoesFirst, DoesPart, DoesRun, DoesScript, IsLastBy, KeepsStore, MayAsk, TakesScript}
+use Rattle.ras_daemon.specs.RunActs.{AreDoneAlong, AreScriptActs, orders_acts}
 use Rattle.ras_daemon.specs.RunOutput.{closing_line}
 use Rattle.ras_daemon.specs.Running.{AreFirst}
 use Rattle.ras_daemon.proofs.AlongActLemmas.{along_done}

@@ -25,10 +25,10 @@ use Rattle.ras_run.specs.Moments.{IsBegun, course_at}
 use Rattle.ras_run.specs.Places.{Start, account_at, store_at}
 use Rattle.ras_run.specs.Status.{places_before_refusal}
 use Rattle.ras_exit.specs.Telling.{PrintsPart}
-use Rattle.ras_daemon.specs.Headline.{Headline, StopsRecover, account_with, laid_with, last_laid_with}
+use Rattle.ras_daemon.specs.Headline.{AtOpening, Headline, StopsRecover, account_with, laid_with, last_laid_with}
 use Rattle.ras_daemon.specs.RunOutput.{closing_line, lines_output, output_upto, run_output}
 use Rattle.ras_daemon.specs.RunStatus.{run_exit}
-use Rattle.ras_daemon.specs.Running.{AreAccepted, AreAll, AreFirst, AtEnd, AtLine, AtOpening, AtStart, BetweenLines, OpenMoment, RunMoment, lines_from, outputs}
+use Rattle.ras_daemon.specs.Running.{AreAccepted, AreAll, AreFirst, AtEnd, AtLine, AtStart, BetweenLines, OpenMoment, RunMoment, lines_from, outputs}
 use Rattle.ras_daemon.specs.Script.{events_of, is_event, line_after, reads_of}
 use Rattle.ras_daemon.specs.StoreDuring.{KeepsOthers, KeepsRecords, KnownBy, KnowsReadable, OnPoll, StoreDuring}
 use Rattle.ras_daemon.proofs.CountLemmas.{account-first, count-first, events_among, output-first, tells-last}

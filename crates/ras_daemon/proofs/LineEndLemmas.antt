@@ -16,7 +16,7 @@ use Rattle.ras_script.specs.declared.reader.TheConstants.{LONGEST_LINE}
 use Rattle.ras_script.specs.Splitting.{lines_of, without_empty_last}
 use Rattle.ras_script.specs.SplittingLaws.{Lacks, script_of}
 use Rattle.ras_exit.specs.declared.exit.Exit.{Exit}
-use Rattle.ras_exit.specs.declared.exit.Exit.TheVariants.{SourceFault}
+use Rattle.ras_exit.specs.declared.exit.Exit.TheVariants.{Done, SourceFault}
 use Rattle.ras_run.specs.declared.run.Run.{Run}
 use Rattle.ras_run.specs.Places.{Start}
 use Rattle.ras_exit.specs.Endings.{IsStop}
@@ -161,3 +161,6 @@ ahead_none Fault start script t number reader new left now run told taking is fe
 -- a line isn't refused for a fault of the source
 pub not_fault : (exit : Exit) → IsStop exit → ◌≡◌ {A = Result (Unit {0}) Exit} (Err exit) (Err SourceFault) → ⊥
 not_fault exit stop is = let same : exit ≡ SourceFault = cc in subst IsStop same stop
+
+pub line_not_done : (exit : Exit) → IsStop exit → exit ≡ Done → ⊥
+line_not_done exit stop done = subst IsStop done stop

@@ -7,7 +7,7 @@ use Rattle.board_core.specs.declared.board.DiskCall.TheVariants.{Sync}
 use Rattle.board_core.specs.declared.board.FileNo.TheVariants.{Zero, One}
 use Rattle.std.specs.Result.{result_unwrap_or}
 use Rattle.board_core.specs.Cause.{disk_call}
-use Rattle.board_core.specs.Clock.{Clock, Adds}
+use Rattle.board_core.specs.Clock.{Clock, Adds, LeftNow}
 use Rattle.board_core.specs.ClockLemmas.{adds_both, adds_none, adds_weaker}
 use Rattle.board_core.specs.Device.{LeavesDevice}
 use Rattle.board_core.specs.Doing.{Seen}
@@ -27,21 +27,22 @@ use Rattle.ras_recover.specs.OpeningCalls.{AfterOpening, AfterRecovery, IsRecove
 use Rattle.ras_recover.specs.Recovering.{file_number}
 use Rattle.ras_recover.proofs.OpeningCallsLemmas.{refused_keeps, refused_recovers, told_opened}
 use Rattle.ras_exit.specs.declared.exit.Exit.{Exit}
-use Rattle.ras_exit.specs.declared.exit.Exit.TheVariants.{Damaged, DiskFault, NoMemory, TooLong}
+use Rattle.ras_exit.specs.declared.exit.Exit.TheVariants.{Damaged, DiskFault, NoMemory, SourceFault, TooLong}
 use Rattle.ras_exit.specs.Endings.{CallEnding, EndsBy, IfAnswered, IsCut, OnAnswer, OnlyFault, answered, ending_of, faulted, is_answered, source_failed, starved}
-use Rattle.ras_exit.proofs.DeviceLemmas.{StoreIsLeft, device_by}
+use Rattle.ras_exit.proofs.DeviceLemmas.{StoreIsLeft, device_by, device_stays}
 use Rattle.ras_exit.proofs.EndingLemmas.{ends_weaker, memory_ran_out, not_both, on_cut}
 use Rattle.ras_run.specs.LineActs.{HoldsAfter}
 use Rattle.ras_run.specs.Places.{Start}
 use Rattle.ras_exit.specs.StopLine.{stop_line}
+use Rattle.ras_exit.specs.Telling.{Tells}
 use Rattle.ras_run.specs.Files.{KeepsFiles, files_refusal, refusal_exit}
 use Rattle.ras_run.specs.Taking.{IsReady, Opens, Prints}
-use Rattle.ras_daemon.specs.Doing.{DoesRun, Ends, Opens as OpensRun, TakesScript}
-use Rattle.ras_daemon.specs.Ended.{AreRefused, EndsRefused, OverFiles, Refuses, RefusesFiles}
-use Rattle.ras_daemon.specs.Headline.{OverRun}
+use Rattle.ras_daemon.specs.Doing.{Comes, ComesScript, DoesRun, Ends, Opens as OpensRun, TakesScript}
+use Rattle.ras_daemon.specs.Promises.{EndsRefused, OverRefused, Refuses}
+use Rattle.ras_daemon.specs.Headline.{AtOpening, OverRun}
 use Rattle.ras_daemon.specs.RunOutput.{closing_line}
 use Rattle.ras_daemon.specs.RunStatus.{start_of}
-use Rattle.ras_daemon.specs.Running.{EndsIn, IsStart, OpenMoment, RunEnds, RunMoment}
+use Rattle.ras_daemon.specs.Running.{EndsAhead, EndsIn, IsStart, OpenMoment, RunEnds, RunMoment, lines_from}
 use Rattle.ras_daemon.specs.declared.word.Task.{Task}
 use Rattle.ras_daemon.specs.declared.word.Task.TheVariants.{Run}
 use Rattle.ras_daemon.proofs.SaidLemmas.{Printed, before_at, says_printed}
@@ -56,9 +57,9 @@ over_run P None told holds = tt
 over_run P (Some script) None holds = tt
 over_run P (Some script) (Some t) holds = λ account recovers. holds account script t refl refl recovers
 
-pub over_files : (P : Told → Option Told → Type 0) (old new : Option Told) → ((before : Told) → old ≡ Some before → P before new) → OverFiles P (Some Run) old new
-over_files P None new holds = tt
-over_files P (Some before) new holds = holds before refl
+over_refused : (P : Exit → Told → Told → Type 0) (old new : Option Told) → ((before : Told) → old ≡ Some before → IfSome (files_refusal before.here) (λ why. IsSomeAnd new (P why before))) → OverRefused P (Some Run) old new
+over_refused P None new holds = tt
+over_refused P (Some before) new holds = holds before refl
 
 ok_same : {A E : Type 0} (x y : A) → ◌≡◌ {A = Result A E} (Ok x) (Ok y) → x ≡ y
 ok_same {A} {E} x y is = ap (λ (r : Result A E). result_unwrap_or r x) is
@@ -102,15 +103,17 @@ told_both P told new t u one two relates = subst (λ n. Relates P (Some t) n) tw
 -- ---- what stops leave
 
 -- while the journal is opened
+pub opening_at : (account : State) (t : Told) (a : Clock) (left : Left) → Recovers account t.here → Opening a t.here left → LeftNow a left ⊎ AtOpening (start_of account t) t.here.out left
+opening_at account t a left recovers (inl now) = inl now
+opening_at account t a left recovers (inr formats) =
+    let same : account ≡ account_of empty = none_empty account t.here.file0 t.here.file1 recovers.is formats.none in
+    inr (record { recovers = rw same formats.recovers; store = ap (λ (l : Left). l.store) formats.rest; text = ap (λ (l : Left). l.out) formats.rest })
+
 pub opening_moments : (account : State) (script : List ℕ) (t : Told) (a b : Clock) → Recovers account t.here → Adds (Opening a t.here) a b
     → Adds (RunMoment a (start_of account t) script t.here) a b
-opening_moments account script t a b recovers adds = adds_weaker (Opening a t.here) (RunMoment a (start_of account t) script t.here) a b adds (λ left opening. by left opening)
-  where
-    by : (left : Left) → Opening a t.here left → RunMoment a (start_of account t) script t.here left
-    by left (inl now) = inl now
-    by left (inr formats) =
-        let same : account ≡ account_of empty = none_empty account t.here.file0 t.here.file1 recovers.is formats.none in
-        inr (inl (record { recovers = rw same formats.recovers; store = ap (λ (l : Left). l.store) formats.rest; text = ap (λ (l : Left). l.out) formats.rest }))
+opening_moments account script t a b recovers adds =
+    adds_weaker (Opening a t.here) (RunMoment a (start_of account t) script t.here) a b adds
+    (λ left opening. elim (opening_at account t a left recovers opening) [ inl now ↦ inl now | inr at ↦ inr (inl at) ])
 
 -- and once it is open
 pub opened_moments : (clock : Clock) (start : Start) (script : List ℕ) (t u : Told) (b c : Clock) → IsAccount start.account → u.here.out ≡ t.here.out
@@ -139,18 +142,29 @@ cut_is exit cut = by (ending_of exit) cut
 
 -- ---- files that are refused
 
+-- what is said of a run that is refused but for the device and the source
+abbrev pub RefusesSo : Exit → Exit → Told → Told → Type 0
+RefusesSo why result before now = EndsRefused why result × Tells why (stop_line why) result before now × KeepsFiles before now × Makes (IsBeginning IsRecovery) before now
+
 -- nothing was printed, and the run was cut short
-pub refuses_cut : (why result : Exit) (before now : Told) → EndsRefused why result → Makes (IsBeginning IsRecovery) before now → IsCut result → Prints [] before now → KeepsFiles before now → Refuses why result before now
-refuses_cut why result before now ends calls cut text keeps = record {
-  ends = ends;
-  calls = calls;
-  tells = record {
+refuses_cut : (why result : Exit) (before now : Told) → EndsRefused why result → Makes (IsBeginning IsRecovery) before now → IsCut result → Prints [] before now → KeepsFiles before now → RefusesSo why result before now
+refuses_cut why result before now ends calls cut text keeps = (
+  ends,
+  record {
     answers = on_cut result (result ≡ why) cut;
     begun = ([], (stop_line why, refl), text);
     whole = on_cut result (now.here.out ≡ before.here.out ++ stop_line why) cut;
-  };
-  files = keeps;
-}
+  },
+  keeps,
+  calls,
+)
+
+-- with both
+refuses_whole : (result : Exit) (Same : Type 0) (a b : Clock) (before : Told) (new : Option Told) (refusal : Option Exit) → Same → LeavesDevice (Some before) new a b
+    → IfSome refusal (λ why. IsSomeAnd new (RefusesSo why result before)) → IfSome refusal (λ why. IsSomeAnd new (Refuses result Same a b why before))
+refuses_whole result Same a b before new None same device so = tt
+refuses_whole result Same a b before None (Some why) same device so = absurd so
+refuses_whole result Same a b before (Some now) (Some why) same device so = record { ends = so.0; tells = so.1; files = so.2; calls = so.3; device = device; unread = same }
 
 some_same : {A : Type 0} (x y : A) → Some x ≡ Some y → x ≡ y
 some_same x y is = ap (λ o. unwrap_or o x) is
@@ -176,7 +190,7 @@ refused_as held why exit is opens = by (ending_of exit) refl opens
     by starved so found = inr (ap is_answered so)
 
 -- how such a run ends
-disk_failed : (exit : Exit) → ending_of exit ≡ faulted disk_call → exit ≡ DiskFault
+pub disk_failed : (exit : Exit) → ending_of exit ≡ faulted disk_call → exit ≡ DiskFault
 disk_failed DiskFault is = refl
 disk_failed exit is = absurd cc
 
@@ -212,25 +226,24 @@ answer_weaker result P Q holds gives = by (ending_of result) holds
 
 module _ (why result : Exit) (line : List ℕ) (before mid : Told) (ends : EndsRefused why result) (calls : Makes (IsBeginning IsRecovery) before mid) (text : Prints [] before mid) (keeps : KeepsFiles before mid) where
   -- a last line, or a beginning of it
-  refuses_printed : (new : Option Told) → line ≡ stop_line why → Relates (Printed why result line) (Some mid) new → IsSomeAnd new (Refuses why result before)
+  refuses_printed : (new : Option Told) → line ≡ stop_line why → Relates (Printed why result line) (Some mid) new → IsSomeAnd new (RefusesSo why result before)
   refuses_printed None same printed = absurd printed
   refuses_printed (Some now) same printed =
       let out : (part : List ℕ) → now.here.out ≡ mid.here.out ++ part → now.here.out ≡ before.here.out ++ part = (λ part is. is ∙ ap (λ out. out ++ part) (text ∙ append-nil before.here.out)) in
-      let told : now.here.out ≡ before.here.out ++ printed.part = out printed.part (ap (λ (t : Told). t.here.out) printed.is) in
-      record {
-        tells = record {
+      let told : now.here.out ≡ before.here.out ++ printed.part = out printed.part (ap (λ (t : Told). t.here.out) printed.is) in (
+        ends,
+        record {
           answers = answer_weaker result ((result ≡ why) × (printed.part ≡ line)) (result ≡ why) printed.answers (λ both. both.0);
           begun = (printed.part, subst (IsPrefixOf printed.part) same printed.begins, told);
           whole = answer_weaker result ((result ≡ why) × (printed.part ≡ line)) (now.here.out ≡ before.here.out ++ stop_line why) printed.answers (λ both. told ∙ ap (λ last. before.here.out ++ last) (both.1 ∙ same));
-        };
-        files = rw printed.is (record { file0 = keeps.file0; file1 = keeps.file1 });
-        ends = ends;
-        calls = record { made = calls.made; listed = ap (λ (t : Told). t.disk_calls) printed.is ∙ calls.listed; are = calls.are };
-      }
+        },
+        rw printed.is (record { file0 = keeps.file0; file1 = keeps.file1 }),
+        record { made = calls.made; listed = ap (λ (t : Told). t.disk_calls) printed.is ∙ calls.listed; are = calls.are },
+      )
 
-pub files_refused : {X : Type 0} (see : X → Seen) (exit result : Exit) (state : State) (before : Told) (old mid new : X) → (see old).told ≡ Some before → Relates AfterOpening (see old).told (see mid).told
-    → IfSome (see old).told (λ t. Opens (Err exit) (recovered t.here.file0 t.here.file1)) → Ends see exit result (closing_line state exit) mid new → RefusesFiles (files_refusal before.here) result before (see new).told
-files_refused see exit result state before old mid new one after opens ends = by (files_refusal before.here) refl
+refused_so : {X : Type 0} (see : X → Seen) (exit result : Exit) (state : State) (before : Told) (old mid new : X) → (see old).told ≡ Some before → Relates AfterOpening (see old).told (see mid).told
+    → IfSome (see old).told (λ t. Opens (Err exit) (recovered t.here.file0 t.here.file1)) → Ends see exit result (closing_line state exit) mid new → IfSome (files_refusal before.here) (λ why. IsSomeAnd (see new).told (RefusesSo why result before))
+refused_so see exit result state before old mid new one after opens ends = by (files_refusal before.here) refl
   where
     found : (u : Told) × ((see mid).told ≡ Some u) × AfterOpening before u
     found = told_on AfterOpening (see old).told (see mid).told before one after
@@ -249,7 +262,7 @@ files_refused see exit result state before old mid new one after opens ends = by
     here : Opens (Err exit) held
     here = if_told (λ t. Opens (Err exit) (recovered t.here.file0 t.here.file1)) (see old).told before one opens
 
-    last : (why : Exit) → refusal_exit held ≡ Some why → Makes (IsBeginning IsRecovery) before found.0 → KeepsFiles before found.0 → (exit ≡ why) ⊎ IsCut exit → Ends see exit result (closing_line state exit) mid new → IsSomeAnd (see new).told (Refuses why result before)
+    last : (why : Exit) → refusal_exit held ≡ Some why → Makes (IsBeginning IsRecovery) before found.0 → KeepsFiles before found.0 → (exit ≡ why) ⊎ IsCut exit → Ends see exit result (closing_line state exit) mid new → IsSomeAnd (see new).told (RefusesSo why result before)
     last why is made keeps as_found (inr cut) =
         rw (cut.2, found.1) (refuses_cut why result before found.0 (refused_ends see why exit result (closing_line state exit) mid new (refused_exits held why exit is here) (inr cut)) made (rw cut.1 cut.0) text keeps)
     last why is made keeps (inr cut) (inl said) = absurd (not_both exit cut said.0)
@@ -258,7 +271,7 @@ files_refused see exit result state before old mid new one after opens ends = by
         (subst (λ (o : Option Told). Relates (Printed why result (closing_line state exit)) o (see new).told) found.1
         (subst (λ (e : Exit). Relates (Printed e result (closing_line state exit)) (see mid).told (see new).told) same (says_printed see exit result (closing_line state exit) mid new said.1)))
 
-    by : (refusal : Option Exit) → files_refusal before.here ≡ refusal → RefusesFiles refusal result before (see new).told
+    by : (refusal : Option Exit) → files_refusal before.here ≡ refusal → IfSome refusal (λ why. IsSomeAnd (see new).told (RefusesSo why result before))
     by None is = tt
     by (Some why) is =
         let err = refusal_err held why is in
@@ -269,13 +282,17 @@ files_refused see exit result state before old mid new one after opens ends = by
 opened_not : (held : Result State Refusal) (account : State) → held ≡ Ok account → refusal_exit held ≡ None
 opened_not held account is = ap (λ (h : Result State Refusal). refusal_exit h) is
 
-pub refused_none : (result : Exit) (before : Told) (new : Option Told) (account : State) → recovered before.here.file0 before.here.file1 ≡ Ok account → RefusesFiles (files_refusal before.here) result before new
-refused_none result before new account is = rw (opened_not (recovered before.here.file0 before.here.file1) account is) tt
+pub refused_none : (P : Exit → Told → Told → Type 0) (told new : Option Told) (account : State) → IfSome told (λ t. recovered t.here.file0 t.here.file1 ≡ Ok account) → OverRefused P (Some Run) told new
+refused_none P None new account is = tt
+refused_none P (Some t) new account is = rw (opened_not (recovered t.here.file0 t.here.file1) account is) tt
 
-pub takes_lines : (told : Option Told) (account : State) → AreRefused told → ((t : Told) → told ≡ Some t → recovered t.here.file0 t.here.file1 ≡ Ok account) → ⊥
-takes_lines None account never is = never
-takes_lines (Some t) account (exit, refused) is =
-    let none : None ≡ Some exit = sym (opened_not (recovered t.here.file0 t.here.file1) account (is t refl)) ∙ refused in cc
+pub files_refused : {X : Type 0} (see : X → Seen) (Same : Type 0) (exit result : Exit) (state : State) (old mid new : X) → Same → LeavesDevice (see old).told (see new).told (see old).clock (see new).clock
+    → Relates AfterOpening (see old).told (see mid).told → IfSome (see old).told (λ t. Opens (Err exit) (recovered t.here.file0 t.here.file1)) → Ends see exit result (closing_line state exit) mid new
+    → OverRefused (Refuses result Same (see old).clock (see new).clock) (Some Run) (see old).told (see new).told
+files_refused see Same exit result state old mid new same device after opens ends =
+    over_refused (Refuses result Same (see old).clock (see new).clock) (see old).told (see new).told (λ before one.
+    refuses_whole result Same (see old).clock (see new).clock before (see new).told (files_refusal before.here) same
+    (subst (λ o. LeavesDevice o (see new).told (see old).clock (see new).clock) one device) (refused_so see exit result state before old mid new one after opens ends))
 
 -- ---- a run, from what its parts did
 
@@ -298,11 +315,11 @@ recovery_none t = record {
     syncs : List DiskCall
     syncs = Sync Zero ∷ Sync One ∷ []
 
-pub starved_refused : (told : Option Told) → OverFiles (λ before now. RefusesFiles (files_refusal before.here) NoMemory before now) (Some Run) told told
-starved_refused None = tt
-starved_refused (Some t) = by (files_refusal t.here)
+pub starved_refused : (Same : Type 0) (told : Option Told) (clock : Clock) → Same → OverRefused (Refuses NoMemory Same clock clock) (Some Run) told told
+starved_refused Same None clock same = tt
+starved_refused Same (Some t) clock same = refuses_whole NoMemory Same clock clock t (Some t) (files_refusal t.here) same (device_stays (Some t) clock) (by (files_refusal t.here))
   where
-    by : (refusal : Option Exit) → RefusesFiles refusal NoMemory t (Some t)
+    by : (refusal : Option Exit) → IfSome refusal (λ why. IsSomeAnd (Some t) (RefusesSo why NoMemory t))
     by None = tt
     by (Some why) = refuses_cut why NoMemory t t (inr (inr (inr refl))) (recovery_none t).calls refl (sym (append-nil t.here.out)) (record { file0 = refl; file1 = refl })
 
@@ -353,6 +370,17 @@ was_opened see start script exit ledger t a b new is after begins account makes 
       takes = takes;
     }
 
+-- and its source was read behind the orders, or left alone
+pub opened_comes : {X : Type 0} (see : X → Seen) (Same : Type 0) (start : Start) (script : List ℕ) (exit : Exit) (t there : Told) (left : Option (List ℕ)) (old mid new : X) → there.here.out ≡ t.here.out
+    → OpensRun see start script exit t old new → ComesScript see Same start script there exit left mid new → Comes see Same start script exit t left old new
+opened_comes see Same start script exit t there left old mid new text opens comes = record {
+  does = inr opens;
+  reads = elim comes.reads [
+    | inl same ↦ inl same
+    | inr ahead ↦ inr (opens, subst (λ out. EndsAhead (exit ≡ SourceFault) start script (lines_from start out) left (see new).told) text ahead)
+  ];
+}
+
 -- the device is left alone while it is opened
 pub opening_device : (told new : Option Told) (a b : Clock) → StoreIsLeft told a → Relates AfterOpening told new → ((t : Told) → told ≡ Some t → Adds (Opening a t.here) a b) → LeavesDevice told new a b
 opening_device told new a b law after stops =
@@ -393,8 +421,14 @@ module _ {X : Type 0} (see : X → Seen) (account : State) (script : List ℕ) (
       (opened_moments (see old).clock start script t d.there (see d.mid).clock (see new).clock d.holds.account d.text (takes_stops see start script d.there exit d.mid new d.rests d.holds d.takes))
 
 -- what follows of it where source and board tell, and the files hold an account
-pub over_does : {X : Type 0} (see : X → Seen) (P : Start → List ℕ → Told → Type 0) (task : Option Task) (script : Option (List ℕ)) (told : Option Told) (exit : Exit) (old new : X)
-    → ((account : State) (text : List ℕ) (t : Told) → told ≡ Some t → Recovers account t.here → DoesRun see (start_of account t) text exit t old new → P (start_of account t) text t)
-    → OverRun (λ start text t. DoesRun see start text exit t old new) task script told → OverRun P task script told
-over_does see P (Some Run) (Some text) (Some t) exit old new gives does = λ account recovers. gives account text t refl recovers (does account recovers)
-over_does see P task script told exit old new gives does = tt
+pub over_comes : {X : Type 0} (see : X → Seen) (Same : Type 0) (P : Start → List ℕ → Told → Type 0) (task : Option Task) (script left : Option (List ℕ)) (told : Option Told) (exit : Exit) (old new : X) → task ≡ Some Run
+    → ((account : State) (text : List ℕ) (t : Told) → script ≡ Some text → told ≡ Some t → Recovers account t.here → Comes see Same (start_of account t) text exit t left old new → P (start_of account t) text t)
+    → OverRun (λ start text t. Comes see Same start text exit t left old new) (Some Run) script told → OverRun P task script told
+over_comes see Same P task script left told exit old new is gives comes = rw is (by script told gives comes)
+  where
+    by : (script : Option (List ℕ)) (told : Option Told)
+        → ((account : State) (text : List ℕ) (t : Told) → script ≡ Some text → told ≡ Some t → Recovers account t.here → Comes see Same (start_of account t) text exit t left old new → P (start_of account t) text t)
+        → OverRun (λ start text t. Comes see Same start text exit t left old new) (Some Run) script told → OverRun P (Some Run) script told
+    by (Some text) (Some t) gives comes = λ account recovers. gives account text t refl refl recovers (comes account recovers)
+    by None told gives comes = tt
+    by (Some text) None gives comes = tt

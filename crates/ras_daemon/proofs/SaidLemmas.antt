@@ -1,6 +1,6 @@
 -- What is told once a last line was printed or not, and why it ends so.
 use Rattle.std.proofs.Common.{◌≡◌, ℕ, List, Option, Result, Ok, Err, refl, ap, sym, ◌∙◌, subst, inl, inr, [], None, Some, append-nil}
-use Rattle.std.specs.Prelude.{◌≢◌, ⊤, IfSome, IsSomeAnd}
+use Rattle.std.specs.Prelude.{⊤, IfSome, IsSomeAnd}
 use Rattle.board_core.specs.Cause.{Faults, print_call}
 use Rattle.board_core.specs.Clock.{Clock}
 use Rattle.board_core.specs.Doing.{Act, Does, Seen}
@@ -13,12 +13,15 @@ use Rattle.ras_exit.specs.Acts.{end_of}
 use Rattle.ras_exit.specs.Causes.{BoardCause, BoardCauseBy, Causes, SourceCause, SourceCauseBy}
 use Rattle.ras_exit.specs.Endings.{OnAnswer, CallEnding, EndsBy, IsAnswer, IsCut, IsLineExit, IsStop, OnlyFault, answered, ending_of, faulted, source_failed, starved}
 use Rattle.ras_exit.specs.declared.exit.Exit.{Exit}
-use Rattle.ras_exit.specs.declared.exit.Exit.TheVariants.{ErstStatus, PrintFault, SourceFault, Usage}
+use Rattle.ras_exit.specs.declared.exit.Exit.TheVariants.{Done, ErstStatus, PrintFault, SourceFault, Usage}
 use Rattle.ras_exit.proofs.EndingLemmas.{not_both, on_answer, on_cut}
 use Rattle.ras_exit.proofs.PrintLemmas.{not_printed, part_causes, printed}
 use Rattle.ras_run.specs.Taking.{IsPrintExit}
 use Rattle.ras_base.specs.Prefix.{IsPrefixOf}
+use Rattle.line_filters.specs.Steps.{exit_of}
+use Rattle.ras_daemon.specs.Commands.{IsRunExit}
 use Rattle.ras_daemon.specs.Doing.{Ends, Says}
+use Rattle.ras_daemon.specs.Promises.{Caused}
 use Rattle.ras_daemon.proofs.TakenLemmas.{EndsAs, answers}
 
 -- ---- what is told
@@ -69,45 +72,50 @@ says_source see exit result line a b s s' answer same (inl said) =
 says_source see exit result line a b s s' answer same (inr (inl failed)) = rw failed.0 same
 says_source see exit result line a b s s' answer same (inr (inr short)) = rw short.0 same
 
+pub says_causes : {X : Type 0} (see : X → Seen) (exit result : Exit) (line : List ℕ) (a b : X) (s : ℕ) → IsAnswer exit → Says see exit result line a b → Caused result s s (see a).faults (see b).faults
+says_causes see exit result line a b s answer said = record { source = says_source see exit result line a b s s answer refl said; board = says_cause see exit result line a b answer said }
+
 -- after lines were taken
 pub ends_causes : {X : Type 0} (see : X → Seen) (lines : Result (Unit {0}) Exit) (exit result : Exit) (line : List ℕ) (a b : X) (s s' : ℕ) (f : Faults) → EndsAs lines exit → Causes {C = ℕ} SourceCause lines s s'
-    → Causes {C = Faults} BoardCause lines f (see a).faults → Ends see exit result line a b → SourceCause result s s' × BoardCause result f (see b).faults
-ends_causes see (Ok done) exit result line a b s s' f is source board (inl said) = (
-  says_source see exit result line a b s s' said.0 source said.1,
-  subst (λ (g : Faults). BoardCause result g (see b).faults) board (says_cause see exit result line a b said.0 said.1),
-)
+    → Causes {C = Faults} BoardCause lines f (see a).faults → Ends see exit result line a b → Caused result s s' f (see b).faults
+ends_causes see (Ok done) exit result line a b s s' f is source board (inl said) = record {
+  source = says_source see exit result line a b s s' said.0 source said.1;
+  board = subst (λ (g : Faults). BoardCause result g (see b).faults) board (says_cause see exit result line a b said.0 said.1);
+}
 ends_causes see (Ok done) exit result line a b s s' f is source board (inr cut) = absurd (not_both exit cut.0 (rw is refl))
 ends_causes see (Err found) exit result line a b s s' f is source board (inl said) =
     let answer : IsAnswer found = subst IsAnswer is.0 said.0 in
     let ending : ending_of found ≡ answered = answers found answer in
     let quiet : s' ≡ s = subst (λ (e : CallEnding). SourceCauseBy e s s') ending source in
-    let still : (see a).faults ≡ f = subst (λ (e : CallEnding). BoardCauseBy e f (see a).faults) ending board in (
-      says_source see exit result line a b s s' said.0 quiet said.1,
-      subst (λ (g : Faults). BoardCause result g (see b).faults) still (says_cause see exit result line a b said.0 said.1),
-    )
+    let still : (see a).faults ≡ f = subst (λ (e : CallEnding). BoardCauseBy e f (see a).faults) ending board in
+    record {
+      source = says_source see exit result line a b s s' said.0 quiet said.1;
+      board = subst (λ (g : Faults). BoardCause result g (see b).faults) still (says_cause see exit result line a b said.0 said.1);
+    }
 ends_causes see (Err found) exit result line a b s s' f is source board (inr cut) =
     let same : result ≡ found = cut.1 ∙ is.0 in
-    (rw same source, rw (same, cut.2) board)
+    record { source = rw same source; board = rw (same, cut.2) board }
 
 -- and where no line was
 stop_source : (exit : Exit) (s : ℕ) → IsStop exit → SourceCause exit s s
 stop_source SourceFault s stop = absurd stop
 stop_source exit s stop = refl
 
-pub stopped_causes : {X : Type 0} (see : X → Seen) (exit result : Exit) (line : List ℕ) (a b : X) (s : ℕ) (f : Faults) → IsStop exit → BoardCause exit f (see a).faults → Ends see exit result line a b → SourceCause result s s × BoardCause result f (see b).faults
+pub stopped_causes : {X : Type 0} (see : X → Seen) (exit result : Exit) (line : List ℕ) (a b : X) (s : ℕ) (f : Faults) → IsStop exit → BoardCause exit f (see a).faults → Ends see exit result line a b → Caused result s s f (see b).faults
 stopped_causes see exit result line a b s f stop board (inl said) =
-    let still : (see a).faults ≡ f = subst (λ (e : CallEnding). BoardCauseBy e f (see a).faults) (answers exit said.0) board in (
-      says_source see exit result line a b s s said.0 refl said.1,
-      subst (λ (g : Faults). BoardCause result g (see b).faults) still (says_cause see exit result line a b said.0 said.1),
-    )
-stopped_causes see exit result line a b s f stop board (inr cut) = (
-  subst (λ (e : Exit). SourceCause e s s) (sym cut.1) (stop_source exit s stop),
-  rw (cut.1, cut.2) board,
-)
+    let still : (see a).faults ≡ f = subst (λ (e : CallEnding). BoardCauseBy e f (see a).faults) (answers exit said.0) board in
+    record {
+      source = says_source see exit result line a b s s said.0 refl said.1;
+      board = subst (λ (g : Faults). BoardCause result g (see b).faults) still (says_cause see exit result line a b said.0 said.1);
+    }
+stopped_causes see exit result line a b s f stop board (inr cut) = record {
+  source = subst (λ (e : Exit). SourceCause e s s) (sym cut.1) (stop_source exit s stop);
+  board = rw (cut.1, cut.2) board;
+}
 
 -- the same of the print before them, if it failed
-pub orders_causes : {X : Type 0} (see : X → Seen) (acts : List Act) (exit : Exit) (a b : X) (s : ℕ) → IsPrintExit exit → Does see acts (end_of (ending_of exit)) a b → SourceCause exit s s × BoardCause exit (see a).faults (see b).faults
-orders_causes see acts exit a b s ends does = (by (ending_of exit) ends, part_causes {T = Unit {0}} see acts (Err exit) a b does)
+pub orders_causes : {X : Type 0} (see : X → Seen) (acts : List Act) (exit : Exit) (a b : X) (s : ℕ) → IsPrintExit exit → Does see acts (end_of (ending_of exit)) a b → Caused exit s s (see a).faults (see b).faults
+orders_causes see acts exit a b s ends does = record { source = by (ending_of exit) ends; board = part_causes {T = Unit {0}} see acts (Err exit) a b does }
   where
     by : (ending : CallEnding) → EndsBy ⊥ ⊤ (OnlyFault print_call) ending → SourceCauseBy ending s s
     by answered never = absurd never
@@ -115,50 +123,65 @@ orders_causes see acts exit a b s ends does = (by (ending_of exit) ends, part_ca
     by starved any = refl
     by (faulted kind) only = refl
 
-no_usage : (exit : Exit) → IsLineExit exit → exit ≡ Usage → ⊥
-no_usage exit line is = subst IsLineExit is line
+-- ---- with which exits a run ends
 
--- never with the exit of words of no form
-pub ends_listed : {X : Type 0} (see : X → Seen) (lines : Result (Unit {0}) Exit) (exit result : Exit) (line : List ℕ) (a b : X) → EndsAs lines exit → Ends see exit result line a b → result ≡ Usage → ⊥
-ends_listed see (Ok done) exit result line a b is ends usage = by ends
-  where
-    by : Ends see exit result line a b → ⊥
-    by (inl (answer, inl said)) = let e = sym (said.0 ∙ is) ∙ usage in cc
-    by (inl (answer, inr (inl failed))) = let e = sym failed.0 ∙ usage in cc
-    by (inl (answer, inr (inr short))) = let e = sym short.0 ∙ usage in cc
-    by (inr cut) = let e = sym (cut.1 ∙ is) ∙ usage in cc
-ends_listed see (Err found) exit result line a b is ends usage = by ends
-  where
-    by : Ends see exit result line a b → ⊥
-    by (inl (answer, inl said)) = no_usage found is.1 (sym (said.0 ∙ is.0) ∙ usage)
-    by (inl (answer, inr (inl failed))) = let e = sym failed.0 ∙ usage in cc
-    by (inl (answer, inr (inr short))) = let e = sym short.0 ∙ usage in cc
-    by (inr cut) = no_usage found is.1 (sym (cut.1 ∙ is.0) ∙ usage)
+pub line_exit : (exit : Exit) → IsLineExit exit → IsRunExit exit
+line_exit Done never = absurd never
+line_exit Usage never = never
+line_exit (ErstStatus code) some = some
+line_exit exit any = tt
 
--- never with a status of 0
-coded_line : (exit : Exit) (code : ℕ) → IsLineExit exit → exit ≡ ErstStatus code → code ≢ 0
-coded_line exit code line is = let here : IsLineExit (ErstStatus code) = subst IsLineExit is line in here
+pub stop_exit : (exit : Exit) → IsStop exit → IsRunExit exit
+stop_exit Done never = absurd never
+stop_exit SourceFault never = absurd never
+stop_exit Usage never = never
+stop_exit (ErstStatus code) some = some
+stop_exit exit any = tt
 
-coded_stop : (exit : Exit) (code : ℕ) → IsStop exit → exit ≡ ErstStatus code → code ≢ 0
-coded_stop exit code stop is = let here : IsStop (ErstStatus code) = subst IsStop is stop in here
+-- where the orders weren't printed
+pub print_exit : (exit : Exit) → IsPrintExit exit → IsRunExit exit
+print_exit Usage never = never
+print_exit (ErstStatus code) never = absurd never
+print_exit exit any = tt
+
+pub print_not_done : (exit : Exit) → IsPrintExit exit → exit ≡ Done → ⊥
+print_not_done exit ends done = subst IsPrintExit done ends
 
 -- a last line is behind an exit, or there is a fault, or want of memory
-ends_as : {X : Type 0} (see : X → Seen) (exit result : Exit) (line : List ℕ) (a b : X) (code : ℕ) → Ends see exit result line a b → result ≡ ErstStatus code → exit ≡ ErstStatus code
-ends_as see exit result line a b code (inl (answer, inl said)) is = sym said.0 ∙ is
-ends_as see exit result line a b code (inl (answer, inr (inl failed))) is = let e = sym failed.0 ∙ is in absurd cc
-ends_as see exit result line a b code (inl (answer, inr (inr short))) is = let e = sym short.0 ∙ is in absurd cc
-ends_as see exit result line a b code (inr cut) is = sym cut.1 ∙ is
+pub end_exit : {X : Type 0} (see : X → Seen) (exit result : Exit) (line : List ℕ) (a b : X) → IsRunExit exit → Ends see exit result line a b → IsRunExit result
+end_exit see exit result line a b may (inl (answer, inl said)) = subst IsRunExit (sym said.0) may
+end_exit see exit result line a b may (inl (answer, inr (inl failed))) = rw failed.0 tt
+end_exit see exit result line a b may (inl (answer, inr (inr short))) = rw short.0 tt
+end_exit see exit result line a b may (inr cut) = subst IsRunExit (sym cut.1) may
 
-pub ends_coded : {X : Type 0} (see : X → Seen) (lines : Result (Unit {0}) Exit) (exit result : Exit) (line : List ℕ) (a b : X) → EndsAs lines exit → Ends see exit result line a b → (code : ℕ) → result ≡ ErstStatus code → code ≢ 0
-ends_coded see (Ok done) exit result line a b is ends code told = let e = sym is ∙ ends_as see exit result line a b code ends told in absurd cc
-ends_coded see (Err found) exit result line a b is ends code told = coded_line found code is.1 (sym is.0 ∙ ends_as see exit result line a b code ends told)
+-- after lines
+pub ends_exit : {X : Type 0} (see : X → Seen) (lines : Result (Unit {0}) Exit) (exit result : Exit) (line : List ℕ) (a b : X) → EndsAs lines exit → Ends see exit result line a b → IsRunExit result
+ends_exit see (Ok done) exit result line a b is ends = end_exit see exit result line a b (rw is tt) ends
+ends_exit see (Err found) exit result line a b is ends = end_exit see exit result line a b (rw is.0 (line_exit found is.1)) ends
 
-pub stop_coded : {X : Type 0} (see : X → Seen) (exit result : Exit) (line : List ℕ) (a b : X) → IsStop exit → Ends see exit result line a b → (code : ℕ) → result ≡ ErstStatus code → code ≢ 0
-stop_coded see exit result line a b stop ends code told = coded_stop exit code stop (ends_as see exit result line a b code ends told)
+-- a run whose lines weren't taken isn't done
+pub not_done : {X : Type 0} (see : X → Seen) (exit result : Exit) (line : List ℕ) (a b : X) → IsStop exit → Ends see exit result line a b → result ≡ Done → ⊥
+not_done see exit result line a b stop ends done = by ends
+  where
+    never : exit ≡ Done → ⊥
+    never is = subst IsStop is stop
 
--- nor where the orders weren't printed
-pub print_coded : (exit : Exit) → IsPrintExit exit → (code : ℕ) → exit ≡ ErstStatus code → code ≢ 0
-print_coded exit ends code is = let never : IsPrintExit (ErstStatus code) = subst IsPrintExit is ends in absurd never
+    by : Ends see exit result line a b → ⊥
+    by (inl (answer, inl said)) = never (sym said.0 ∙ done)
+    by (inl (answer, inr (inl failed))) = let e = sym failed.0 ∙ done in cc
+    by (inl (answer, inr (inr short))) = let e = sym short.0 ∙ done in cc
+    by (inr cut) = never (sym cut.1 ∙ done)
+
+-- a run is done only if its lines were
+pub done_before : {X : Type 0} (see : X → Seen) (lines : Result (Unit {0}) Exit) (exit result : Exit) (line : List ℕ) (a b : X) → EndsAs lines exit → Ends see exit result line a b → result ≡ Done → exit_of lines ≡ Done
+done_before see (Ok ok) exit result line a b is ends done = refl
+done_before see (Err found) exit result line a b is ends done = by ends
+  where
+    by : Ends see exit result line a b → found ≡ Done
+    by (inl (answer, inl said)) = sym is.0 ∙ sym said.0 ∙ done
+    by (inl (answer, inr (inl failed))) = let e = sym failed.0 ∙ done in absurd cc
+    by (inl (answer, inr (inr short))) = let e = sym short.0 ∙ done in absurd cc
+    by (inr cut) = sym is.0 ∙ sym cut.1 ∙ done
 
 -- ---- over a ledger that stands
 

@@ -29,8 +29,8 @@ use Rattle.ras_run.specs.Status.{places_before_refusal, refusal_at}
 use Rattle.ras_run.proofs.LineLawLemmas.{asking_moment, line_still}
 use Rattle.ras_run.proofs.SomeActLemmas.{some_acts}
 use Rattle.ras_texts.specs.Orders.{standing_lines}
-use Rattle.ras_daemon.specs.Doing.{AreAllAsked, AreDoneAlong, AreLinesActs, DoesFirst, DoesPart, DoesScript, IsAsked, IsLastBy, KeepsStore, MayAsk, TakesScript}
-use Rattle.ras_daemon.specs.RunActs.{AreActsAlong, AreScriptActs, DidOf, last_acts, orders_acts, script_asked}
+use Rattle.ras_daemon.specs.Doing.{AreAllAsked, AreLinesActs, DoesFirst, DoesPart, DoesScript, IsAsked, IsLastBy, KeepsStore, MayAsk, TakesScript}
+use Rattle.ras_daemon.specs.RunActs.{AreActsAlong, AreDoneAlong, AreScriptActs, DidOf, TookAll, last_acts, orders_acts, script_asked}
 use Rattle.ras_daemon.specs.RunOutput.{closing_line}
 use Rattle.ras_daemon.specs.RunStatus.{run_exit}
 use Rattle.ras_daemon.specs.Running.{AreAll, AreFirst, EndsEarly, EndsIn, EndsSo, LinesMoment, OpenMoment, RunEnds, StoreAtEnd, lines_from, outputs}
@@ -345,6 +345,28 @@ module _ {X : Type 0} (see : X → Seen) (start : Start) (script : List ℕ) (t 
       let some = script_some start script t in
       rw (none.0, none.1) (subst (λ (o : Option Told). IsSomeAnd o (Did starved)) (sym rests.is) (some.0, some.1, ([], (some.0, refl), refl)))
   takes_did (inr d) = did_by d (ending_of exit) d.ends d.does
+
+  -- if it came to an answer it took all lines
+  pub took_all : ending_of exit ≡ answered → TakesScript see start script t exit old new → IsSomeAnd (see new).told (TookAll start script t)
+  unfolding script_whole
+  took_all is (inl none) = let e = sym is ∙ ap ending_of none.0 in absurd cc
+  took_all is (inr d) =
+      by (subst (λ (e : CallEnding). IsLastBy start script d.before (after_acts d.along (after_acts (orders_acts start) t)) d.asked exit e d.last) is d.ends)
+      (subst (λ (e : CallEnding). DoesFirst see (AreScriptActs start script t) t (acts_by d) e old new) is d.does)
+    where
+      by : AreAllAsked start script exit d.before (after_acts d.along (after_acts (orders_acts start) t)) d.asked × (d.last ≡ last_acts start d.before exit) → GoesWell (acts_by d) (see old) (see new)
+          → IsSomeAnd (see new).told (TookAll start script t)
+      by ends does =
+          rw (told_done (acts_by d) does) (record {
+            before = d.before;
+            rest = d.first.rest;
+            splits = d.first.splits;
+            all = ends.0.all.all;
+            accepted = d.first.accepted;
+            along = d.along;
+            lines = d.lines;
+            is = ap (λ (l : List Act). after_acts l t) (script_whole start script t d.before d.first d.along d.lines d.asked d.asks d.last exit ends.0 ends.1).is;
+          })
 
   module _ (holds : HoldsAfter start [] t) where
     -- how the run ends

@@ -1,6 +1,8 @@
 -- A call that only prints a text changes nothing else that is told, and prints it whole if it
 -- answers its exit.
 use Rattle.std.proofs.Common.{◌≡◌, ℕ, List, ◌++◌, Option, Some, None, refl, sym, ap, ◌∙◌}
+use Rattle.board_core.specs.Clock.{Clock}
+use Rattle.board_core.specs.Device.{LeavesDevice}
 use Rattle.board_core.specs.Told.{Relates, Told}
 use Rattle.ras_exit.specs.declared.exit.Exit.{Exit}
 use Rattle.ras_exit.specs.declared.exit.Exit.TheVariants.{NoMemory, Usage}
@@ -32,6 +34,6 @@ module _ (exit : Exit) (text : List ℕ) where
   pub none_told : (told : Option Told) → Relates (OnlyTells exit text NoMemory) told told
   none_told told = only_told NoMemory told told (none_printed exit NoMemory text told told tt refl)
 
-pub usage_commands : (result : Exit) (task : Option Task) (script left : Option (List ℕ)) (old new : Option Told) → task ≡ None
-    → Relates (Printed Usage result (stop_line Usage)) old new → ByTask result task script left old new
-usage_commands result task script left old new none said = rw none (only_told Usage (stop_line Usage) result old new said)
+pub usage_commands : (exit : Exit) (task : Option Task) (script left : Option (List ℕ)) (before now : Option Told) (old new : Clock) → task ≡ None
+    → Relates (Printed Usage exit (stop_line Usage)) before now → LeavesDevice before now old new → ByTask exit task script left before now old new
+usage_commands exit task script left before now old new none said device = rw none (record { tells = only_told Usage (stop_line Usage) exit before now said; device = device })

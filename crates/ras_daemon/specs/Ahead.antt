@@ -2,7 +2,8 @@
 use Rattle.std.specs.Prelude.{◌≡◌, ℕ, ◌+◌, ◌-◌, ◌≤◌, ◌==◌, ◌&&◌, Bool, List, [], ◌∷◌, ◌++◌, length, Option, None, Some, IfSome, IsSomeAnd, if◌then◌else◌, filter}
 use Rattle.std.specs.Option.{option_map}
 use Rattle.board_core.specs.Told.{Told}
-use Rattle.ras_script.specs.declared.reader.TheConstants.{LONGEST_LINE, LONGEST_SCRIPT}
+use Rattle.ras_script.specs.declared.reader.TheConstants.{LONGEST_LINE}
+use Rattle.line_filters.specs.Filters.{TakesOf}
 use Rattle.ras_script.specs.Line.{line_of}
 use Rattle.ras_script.specs.Splitting.{lines_of}
 use Rattle.text_laws.specs.DoneLines.{done_count, ended_lines}
@@ -39,12 +40,7 @@ pub record TakesAhead (exit : Exit) (script left : List ℕ) (before now : Told)
       (λ end. length taken ≤ end + (LONGEST_LINE + 1))
   pub done : exit ≡ SourceFault → events_in (ended_lines taken) ≤ done_count printed
 
--- at most 67,108,865 bytes were taken of a source, of which this is left
-pub record TakesFew (script left : List ℕ) : Type 0 where
-  pub taken : List ℕ
-  pub splits : taken ++ left ≡ script
-  pub few : length taken ≤ LONGEST_SCRIPT + 1
-
--- the same if it tells
-abbrev pub TakesFewOf : Option (List ℕ) → Option (List ℕ) → Type 0
-TakesFewOf first now = IfSome first (λ script. IsSomeAnd now (TakesFew script))
+-- What a call that ends so takes of its source, if that tells: at most 67,108,865 bytes, and all of it
+-- if it is done.
+abbrev pub TakesBy : Exit → Option (List ℕ) → Option (List ℕ) → Type 0
+TakesBy exit first now = IfSome first (λ script. IsSomeAnd now (TakesOf exit script))

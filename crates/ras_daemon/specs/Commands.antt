@@ -1,8 +1,10 @@
 -- What each command tells, and how it may end.
-use Rattle.std.specs.Prelude.{◌≡◌, ℕ, ◌⊎◌, List, Option, None, Some, ⊤}
+use Rattle.std.specs.Prelude.{◌≡◌, ◌≢◌, ℕ, ◌⊎◌, List, Option, None, Some, ⊤}
+use Rattle.board_core.specs.Clock.{Clock}
+use Rattle.board_core.specs.Device.{LeavesDevice}
 use Rattle.board_core.specs.Told.{Relates, Told}
 use Rattle.ras_exit.specs.declared.exit.Exit.{Exit}
-use Rattle.ras_exit.specs.declared.exit.Exit.TheVariants.{Done, NoMemory, PrintFault, Usage}
+use Rattle.ras_exit.specs.declared.exit.Exit.TheVariants.{Done, ErstStatus, NoMemory, PrintFault, Usage}
 use Rattle.ras_exit.specs.StopLine.{stop_line}
 use Rattle.ras_exit.specs.Telling.{OnlyText, Tells}
 use Rattle.cper_pcie.specs.Filter.{pcie_filter}
@@ -18,30 +20,41 @@ pub record OnlyTells (exit : Exit) (text : List ℕ) (result : Exit) (before now
   pub tells : Tells exit text result before now
   pub only : OnlyText before now
 
+-- So much is told by a command that is no run, and it leaves the device alone.
+pub record Leaves (Tells : Type 0) (before now : Option Told) (old new : Clock) : Type 0 where
+  pub tells : Tells
+  pub device : LeavesDevice before now old new
+
 -- What a command tells by what its source has left and its board tells, before and now. Of a run
 -- clauses of their own tell. Words of no form print the usage line.
 abbrev pub ByTask : Exit → Option Task
-    → Option (List ℕ) → Option (List ℕ) → Option Told → Option Told → Type 0
-ByTask result None script left before now =
-    Relates (OnlyTells Usage (stop_line Usage) result) before now
-ByTask result (Some Run) script left before now = ⊤
-ByTask result (Some (Report listing)) script left before now =
-    Relates (Reports listing result) before now
-ByTask result (Some (Load n)) script left before now =
-    Relates (OnlyTells Done (load_output n) result) before now
-ByTask result (Some Pcie) script left before now =
-    OfBoth (Filters pcie_filter result) script left before now
-ByTask result (Some (Klog boot cap)) script left before now =
-    OfBoth (Filters (klog_filter boot cap) result) script left before now
+    → Option (List ℕ) → Option (List ℕ) → Option Told → Option Told → Clock → Clock → Type 0
+ByTask exit None script left before now old new =
+    Leaves (Relates (OnlyTells Usage (stop_line Usage) exit) before now) before now old new
+ByTask exit (Some Run) script left before now old new = ⊤
+ByTask exit (Some (Report listing)) script left before now old new =
+    Leaves (Relates (Reports listing exit) before now) before now old new
+ByTask exit (Some (Load n)) script left before now old new =
+    Leaves (Relates (OnlyTells Done (load_output n) exit) before now) before now old new
+ByTask exit (Some Pcie) script left before now old new =
+    Leaves (OfBoth (Filters pcie_filter exit) script left before now) before now old new
+ByTask exit (Some (Klog boot cap)) script left before now old new =
+    Leaves (OfBoth (Filters (klog_filter boot cap) exit) script left before now) before now old new
 
 -- how a run over a script that is made up may end
 abbrev pub IsLoadExit : Exit → Type 0
 IsLoadExit exit = (exit ≡ Done) ⊎ ((exit ≡ PrintFault) ⊎ (exit ≡ NoMemory))
 
--- how it may end, over every source and board
+-- how a run may end: with no usage line, and at a status of its device only if that isn't 0
+abbrev pub IsRunExit : Exit → Type 0
+IsRunExit Usage = ⊥
+IsRunExit (ErstStatus code) = code ≢ 0
+IsRunExit exit = ⊤
+
+-- how a command may end, over every source and board
 abbrev pub MayEnd : Option Task → Exit → Type 0
 MayEnd None exit = (exit ≡ Usage) ⊎ (exit ≡ PrintFault)
-MayEnd (Some Run) exit = exit ≡ Usage → ⊥
+MayEnd (Some Run) exit = IsRunExit exit
 MayEnd (Some (Report listing)) exit = IsReportExit exit
 MayEnd (Some (Load n)) exit = IsLoadExit exit
 MayEnd (Some Pcie) exit = IsFilterExit exit

@@ -1,6 +1,6 @@
 -- Only for proofs: what the parts of a run did, as acts, by how they ended.
-use Rattle.std.specs.Prelude.{◌≡◌, ◌≢◌, ℕ, ◌⊎◌, ⊤, List, [], ◌∷◌, ◌++◌, IsSomeAnd, Result, Ok, Err}
-use Rattle.board_core.specs.Cause.{disk_call, print_call}
+use Rattle.std.specs.Prelude.{◌≡◌, ◌≢◌, ℕ, ◌⊎◌, ⊤, List, [], ◌∷◌, ◌++◌, IfErr, IsSomeAnd, Option, Result, Ok, Err}
+use Rattle.board_core.specs.Cause.{Faults, disk_call, print_call}
 use Rattle.board_core.specs.Clock.{Adds, Rests}
 use Rattle.board_core.specs.Doing.{Act, Breaks, GoesWell, Seen, after_acts}
 use Rattle.board_core.specs.Told.{Told}
@@ -8,19 +8,20 @@ use Rattle.ras_base.specs.Places.{places}
 use Rattle.ras_recover.specs.Opening.{Opening}
 use Rattle.ras_recover.specs.OpeningActs.{FailsOpening}
 use Rattle.ras_recover.specs.OpeningCalls.{AfterOpening, AfterRecovery, MakesOpening}
-use Rattle.ras_events.specs.Reports.{NumberedLine, Place, event_at}
+use Rattle.ras_events.specs.Reports.{NumberedLine, event_at}
 use Rattle.ras_exit.specs.Acts.{AreStill, ended_with, print_acts}
-use Rattle.ras_exit.specs.Endings.{CallEnding, EndsBy, IsAnswer, IsCut, OnlyFault, answered, ending_of, faulted}
+use Rattle.ras_exit.specs.Causes.{BoardCause, Causes, SourceCause}
+use Rattle.ras_exit.specs.Endings.{CallEnding, EndsBy, IsAnswer, IsCut, IsLineExit, OnlyFault, answered, ending_of, faulted}
 use Rattle.ras_exit.specs.ScriptEnd.{script_exit}
 use Rattle.ras_exit.specs.declared.exit.Exit.{Exit}
-use Rattle.ras_exit.specs.declared.exit.Exit.TheVariants.{DiskFault, Done, ErstBusy, NoMemory, PrintFault}
+use Rattle.ras_exit.specs.declared.exit.Exit.TheVariants.{DiskFault, Done, ErstBusy, NoMemory, PrintFault, SourceFault}
 use Rattle.ras_run.specs.declared.run.Run.{Run}
-use Rattle.ras_run.specs.LineActs.{AreLineActs, CanAsk, HoldsAfter, asking_acts}
+use Rattle.ras_run.specs.LineActs.{CanAsk, HoldsAfter, asking_acts}
 use Rattle.ras_run.specs.Places.{Start}
 use Rattle.ras_run.specs.Status.{places_before_refusal}
 use Rattle.ras_run.specs.Taking.{IsRunAfter}
-use Rattle.ras_daemon.specs.RunActs.{AreActsAlong, AreScriptActs, last_acts, orders_acts, script_asked}
-use Rattle.ras_daemon.specs.Running.{AreAll, AreFirst}
+use Rattle.ras_daemon.specs.RunActs.{AreActsAlong, AreDoneAlong, AreScriptActs, last_acts, orders_acts, script_asked}
+use Rattle.ras_daemon.specs.Running.{AreAll, AreFirst, EndsAhead, lines_from}
 use Rattle.ras_daemon.specs.Script.{reads_of}
 
 -- Behind these acts a line only read, maybe nothing, and then memory ran out or the source failed.
@@ -38,14 +39,6 @@ DoesFirst see Are t acts (faulted kind) old new = Breaks kind acts (see old) (se
 DoesFirst see Are t acts ending old new = DoesPart see Are t acts old new
 
 -- ---- lines
-
--- The acts of lines that are done, each over what is told by then, which its calls of the device showed to
--- be a device.
-abbrev pub AreDoneAlong : Start → List Place → Told → List Act → Type 0
-AreDoneAlong start [] t acts = acts ≡ []
-AreDoneAlong start (place ∷ places) t acts =
-    (here : List Act) × (rest : List Act) × (acts ≡ here ++ rest)
-    × (CanAsk (event_at place) t × AreLineActs start place t here) × AreDoneAlong start places (after_acts here t) rest
 
 -- the acts of all lines up to the first refused one
 pub record AreLinesActs (start : Start) (script : List ℕ) (t : Told) (acts : List Act) : Type 0 where
@@ -92,6 +85,17 @@ pub record DoesLines {X : Type 0} (see : X → Seen) (start : Start) (script : L
   pub asks : MayAsk start script before (after_acts acts t) asked
   pub does : DoesFirst see (AreLinesActs start script t) t (acts ++ asked) (ended_with result) old new
   pub ends : EndsBehind start script before (after_acts acts t) asked result run
+
+-- They did that, and their source was read no further than they need.
+pub record ComesLines {X : Type 0} (see : X → Seen) (start : Start) (script : List ℕ) (t : Told) (result : Result (Unit {0}) Exit) (run : Run) (left : Option (List ℕ)) (old new : X) : Type 0 where
+  pub does : DoesLines see start script t result run old new
+  pub ahead : EndsAhead (result ≡ Err SourceFault) start script t.here.out left (see new).told
+
+-- how they end, and why
+pub record EndsLines (result : Result (Unit {0}) Exit) (count count' : ℕ) (faults faults' : Faults) : Type 0 where
+  pub stop : IfErr result IsLineExit
+  pub source : Causes SourceCause result count count'
+  pub board : Causes BoardCause result faults faults'
 
 -- ---- the last line
 
@@ -141,6 +145,11 @@ pub record DoesScript {X : Type 0} (see : X → Seen) (start : Start) (script : 
 abbrev pub TakesScript : {X : Type 0} → (X → Seen) → Start → List ℕ → Told → Exit → X → X → Type 0
 TakesScript see start script t exit old new = ((exit ≡ NoMemory) × (new ≡ old)) ⊎ DoesScript see start script t exit old new
 
+-- It did that, and its source was left alone, or lines were taken of it behind the orders.
+pub record ComesScript {X : Type 0} (see : X → Seen) (Same : Type 0) (start : Start) (script : List ℕ) (t : Told) (exit : Exit) (left : Option (List ℕ)) (old new : X) : Type 0 where
+  pub does : TakesScript see start script t exit old new
+  pub reads : Same ⊎ EndsAhead (exit ≡ SourceFault) start script (lines_from start t.here.out) left (see new).told
+
 -- ---- a run over files that hold an account
 
 -- The journal wasn't opened: a disk call failed, or memory ran out.
@@ -164,3 +173,11 @@ pub record Opens {X : Type 0} (see : X → Seen) (start : Start) (script : List 
 
 abbrev pub DoesRun : {X : Type 0} → (X → Seen) → Start → List ℕ → Exit → Told → X → X → Type 0
 DoesRun see start script exit t old new = DoesNotOpen see exit t old new ⊎ Opens see start script exit t old new
+
+-- It did that, and its source was left alone, or the journal was opened and lines were taken.
+pub record Comes {X : Type 0} (see : X → Seen) (Same : Type 0) (start : Start) (script : List ℕ) (exit : Exit) (t : Told) (left : Option (List ℕ)) (old new : X) : Type 0 where
+  pub does : DoesRun see start script exit t old new
+  pub reads :
+      Same
+      ⊎ (Opens see start script exit t old new
+      × EndsAhead (exit ≡ SourceFault) start script (lines_from start t.here.out) left (see new).told)

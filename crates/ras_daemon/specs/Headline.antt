@@ -14,6 +14,7 @@ use Rattle.ras_events.specs.Reports.{NumberedLine, Place, entries_at}
 use Rattle.ras_events.specs.Stores.{laid, last_laid}
 use Rattle.text_laws.specs.DoneLines.{done_count}
 use Rattle.ras_exit.specs.declared.exit.Exit.{Exit}
+use Rattle.ras_exit.specs.declared.exit.Exit.TheVariants.{DiskFault, NoMemory}
 use Rattle.ras_run.specs.Places.{Start}
 use Rattle.ras_daemon.specs.RunOutput.{output_upto, run_output}
 use Rattle.ras_daemon.specs.RunStatus.{start_of}
@@ -78,6 +79,20 @@ pub record IsWhole (start : Start) (script : List ℕ) (exit : Exit) (before now
   pub store :
       now.here.store
       ≡ store_at_end exit (line_after start script (done_count printed)) (laid_with start script (done_count printed))
+
+-- what stands while the journal is opened: the files recover the account at the start, and store and
+-- text are as they were
+pub record AtOpening (start : Start) (out : List ℕ) (left : Left) : Type 0 where
+  pub recovers : Recovers start.account left
+  pub store : left.store ≡ start.store
+  pub text : left.out ≡ out
+
+-- The journal was never open: a call of the disk failed, or memory ran out. The source is left alone,
+-- and a stop leaves what one at the start may have left, or what stands while the journal is opened.
+pub record NeverOpens (exit : Exit) (Same : Type 0) (start : Start) (here : Left) (old new : Clock) : Type 0 where
+  pub cut : (exit ≡ DiskFault) ⊎ (exit ≡ NoMemory)
+  pub unread : Same
+  pub always : Always new old.now (λ left. LeftNow old left ⊎ AtOpening start here.out left)
 
 -- There is a moment of a run from which the headline holds, whatever a stop at its start may leave:
 -- when its journal is open. A stop before it leaves that, or what the headline says.

@@ -5,7 +5,7 @@ pub mod RunStatus
 pub mod RunOutput
 pub mod StoreDuring
 pub mod Headline
-pub mod Ended
+pub mod Promises
 pub mod Ahead
 pub mod RunActs
 pub mod Runs

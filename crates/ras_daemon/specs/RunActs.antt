@@ -1,4 +1,5 @@
 -- What a run does to the board, as a list of acts, and how much of it was done.
+use Rattle.std.specs.List.{AllByRecursion}
 use Rattle.std.specs.Prelude.{◌≡◌, ℕ, List, [], ◌∷◌, ◌++◌, if◌then◌else◌, is_some}
 use Rattle.board_core.specs.declared.board.DiskCall.{DiskCall}
 use Rattle.board_core.specs.Doing.{Act, FailsActs, accesses_of, after_acts, calls_of}
@@ -10,9 +11,10 @@ use Rattle.ras_events.specs.Reports.{NumberedLine, Place, event_at}
 use Rattle.ras_exit.specs.Acts.{print_acts}
 use Rattle.ras_exit.specs.Endings.{CallEnding, answered, faulted}
 use Rattle.ras_exit.specs.declared.exit.Exit.{Exit}
-use Rattle.ras_run.specs.LineActs.{AreLineActs, asking_acts}
+use Rattle.ras_run.specs.LineActs.{AreLineActs, CanAsk, HoldsAfter, asking_acts}
 use Rattle.ras_run.specs.Places.{Start, account_at}
 use Rattle.ras_run.specs.Status.{places_before_refusal, refusal_at}
+use Rattle.ras_run.specs.Taking.{IsAccepted}
 use Rattle.ras_texts.specs.Orders.{standing_lines}
 use Rattle.ras_daemon.specs.RunOutput.{closing_line}
 use Rattle.ras_daemon.specs.RunStatus.{run_exit}
@@ -25,6 +27,14 @@ AreActsAlong start [] t acts = acts ≡ []
 AreActsAlong start (place ∷ places) t acts =
     (here : List Act) × (rest : List Act) × (acts ≡ here ++ rest)
     × AreLineActs start place t here × AreActsAlong start places (after_acts here t) rest
+
+-- The acts of lines that are done, each over what is told by then, which its calls of the device showed to
+-- be a device.
+abbrev pub AreDoneAlong : Start → List Place → Told → List Act → Type 0
+AreDoneAlong start [] t acts = acts ≡ []
+AreDoneAlong start (place ∷ places) t acts =
+    (here : List Act) × (rest : List Act) × (acts ≡ here ++ rest)
+    × (CanAsk (event_at place) t × AreLineActs start place t here) × AreDoneAlong start places (after_acts here t) rest
 
 -- the print of the orders that stand at the start, and of the last line behind these lines
 abbrev pub orders_acts : Start → List Act
@@ -74,10 +84,35 @@ DidOf acts answered old now = now ≡ after_acts acts old
 DidOf acts (faulted kind) old now = FailsActs kind acts old now
 DidOf acts ending old now = (done : List Act) × IsPrefixOf done acts × (now ≡ after_acts done old)
 
--- A run did its acts, by how it ended.
+-- A run that came to an answer took all lines before the first refused one, over a journal that was
+-- open: each was accepted at its place, and its calls of the device showed that to be one.
+pub record TookAll (start : Start) (script : List ℕ) (t now : Told) : Type 0 where
+  pub before : List NumberedLine
+  pub rest : List NumberedLine
+  pub splits : before ++ rest ≡ reads_of script
+  pub all : places_before_refusal start (places (reads_of script)) ≡ places before
+  pub accepted : AllByRecursion (IsAccepted start) (places before)
+  pub along : List Act
+  pub lines : AreDoneAlong start (places before) (after_acts (orders_acts start) t) along
+  pub is :
+      now
+      ≡ after_acts
+      (orders_acts start
+      ++ (along
+      ++ (script_asked start script (after_acts along (after_acts (orders_acts start) t))
+      ++ last_acts start (reads_of script) (run_exit start script)))) t
+
+-- Before that the journal was opened, and held the account. So the laws of lines hold of each line.
+pub record DidAll (start : Start) (script : List ℕ) (old now : Told) : Type 0 where
+  pub first : List Act
+  pub opens : AreOpeningActs old.here first
+  pub holds : HoldsAfter start [] (after_acts first old)
+  pub takes : TookAll start script (after_acts first old) now
+
+-- A run did its acts, by how it ended: all of them, or some of the acts of such a run.
 abbrev pub DidRun : Start → List ℕ → CallEnding → Told → Told → Type 0
-DidRun start script ending old now =
-    (acts : List Act) × AreRunActs start script old acts × DidOf acts ending old now
+DidRun start script answered old now = DidAll start script old now
+DidRun start script ending old now = (acts : List Act) × AreRunActs start script old acts × DidOf acts ending old now
 
 -- what is told lists the accesses of the run's acts behind those before it, and no others
 pub record ListsAccesses (start : Start) (script : List ℕ) (old now : Told) : Type 0 where

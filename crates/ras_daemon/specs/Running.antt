@@ -22,6 +22,7 @@ use Rattle.ras_run.specs.Moments.{CourseMoment, course_at, refused_store}
 use Rattle.ras_run.specs.Places.{IsBoardAfter, Start, account_at, store_at}
 use Rattle.ras_run.specs.Status.{places_before_refusal, refusal_at}
 use Rattle.ras_run.specs.Taking.{IsAccepted}
+use Rattle.ras_daemon.specs.Headline.{AtOpening}
 use Rattle.ras_daemon.specs.RunOutput.{closing_line}
 use Rattle.text_laws.specs.DoneLines.{ended_lines}
 use Rattle.ras_daemon.specs.Ahead.{events_in}
@@ -82,13 +83,7 @@ abbrev pub StoreAtEnd : Start → List ℕ → List NumberedLine → Exit → Li
 StoreAtEnd start script before exit store =
     ((exit ≡ script_exit script) × (store ≡ store_at start before)) ⊎ LeftByRefused start script before exit store
 
--- while the journal is opened, while the orders that stand at the start are printed, and while the
--- last line is
-pub record AtOpening (start : Start) (out : List ℕ) (left : Left) : Type 0 where
-  pub recovers : Recovers start.account left
-  pub store : left.store ≡ start.store
-  pub text : left.out ≡ out
-
+-- while the orders that stand at the start are printed, and while the last line is
 pub record AtStart (start : Start) (out : List ℕ) (left : Left) : Type 0 where
   pub recovers : Recovers start.account left
   pub store : left.store ≡ start.store
@@ -181,9 +176,3 @@ pub record ReadAhead (Fault : Type 0) (start : Start) (script from left : List �
 abbrev pub EndsAhead : Type 0 → Start → List ℕ → List ℕ → Option (List ℕ) → Option Told → Type 0
 EndsAhead Fault start script from left told =
     IsSomeAnd left (λ rest. IsSomeAnd told (ReadAhead Fault start script from rest))
-
--- Nothing was taken of it; or the journal was opened, and lines were taken.
-abbrev pub RunAhead : Type 0 → Start → List ℕ → Told → Option (List ℕ) → Option Told → Type 0
-RunAhead Fault start script t left told =
-    (left ≡ Some script)
-    ⊎ (IsAccount start.account × EndsAhead Fault start script (lines_from start t.here.out) left told)

@@ -49,16 +49,10 @@ abbrev pub IsTask : Task → Type 0
 IsTask (Load n) = n ≤ MOST_LINES
 IsTask task = ⊤
 
--- P holds if what the words ask for reads the source
-abbrev pub IfReads : Option Task → Type 0 → Type 0
-IfReads (Some Run) P = P
-IfReads (Some Pcie) P = P
-IfReads (Some (Klog boot cap)) P = P
-IfReads task P = ⊤
-
--- P holds if it doesn't
-abbrev pub UnlessReads : Option Task → Type 0 → Type 0
-UnlessReads (Some Run) P = ⊤
-UnlessReads (Some Pcie) P = ⊤
-UnlessReads (Some (Klog boot cap)) P = ⊤
-UnlessReads task P = P
+-- What holds of the source, by what the words ask for: what reads it takes of it, and all else leaves it
+-- as it was.
+abbrev pub ReadsBy : Option Task → Type 0 → Type 0 → Type 0
+ReadsBy (Some Run) Takes Same = Takes
+ReadsBy (Some Pcie) Takes Same = Takes
+ReadsBy (Some (Klog boot cap)) Takes Same = Takes
+ReadsBy task Takes Same = Same

@@ -4,14 +4,13 @@
 
 mod daemon;
 mod ending;
-mod filters;
 mod laws;
 mod lines;
 mod load;
 mod running;
 mod word;
 
-pub use daemon::rasd;
+pub use daemon::{promise_laws, rasd};
 pub use laws::run_laws;
 pub use load::loading_laws;
 pub use ras_exit::{Exit, Reason};

@@ -1,16 +1,14 @@
 //! The lines of a script, taken in order.
 
-ghost use Rattle.std.specs.Prelude.{◌≡◌, Err, ℕ, List, [], Ok, Some, IfErr, IfSome};
+ghost use Rattle.std.specs.Prelude.{◌≡◌, ℕ, List, [], Some};
 ghost use Rattle.board_core.specs.Doing.{looks};
 ghost use Rattle.board_core.specs.Told.{Told};
-ghost use Rattle.ras_exit.specs.Causes.{BoardCause, Causes, SourceCause};
-ghost use Rattle.ras_exit.specs.Endings.{IsLineExit};
+ghost use Rattle.line_filters.specs.Steps.{exit_of};
 ghost use Rattle.ras_run.specs.LineActs.{HoldsAfter};
 ghost use Rattle.ras_run.specs.Places.{Start};
 ghost use Rattle.ras_run.specs.Taking.{IsReady, IsRunAfter};
-ghost use Rattle.ras_daemon.specs.Ahead.{TakesFewOf};
-ghost use Rattle.ras_daemon.specs.Doing.{DoesLines};
-ghost use Rattle.ras_daemon.specs.Running.{EndsAhead};
+ghost use Rattle.ras_daemon.specs.Ahead.{TakesBy};
+ghost use Rattle.ras_daemon.specs.Doing.{ComesLines, EndsLines};
 
 use board_core::{Board, Source};
 use ras_exit::{Exit, Reason};
@@ -35,20 +33,13 @@ pub fn take_lines<S: Source, B: Board>(
     requires fresh { reader.old ≡ record { line = []; held = []; taken = 0 } }
     requires ready { IsReady run.old.ledger (B.told board.old) (B.clock board.old) }
 
-    ensures does { (start : Start) (script : List ℕ) (t : Told) → IsRunAfter start [] run.old
+    ensures comes { (start : Start) (script : List ℕ) (t : Told) → IsRunAfter start [] run.old
         → S.left source.old ≡ Some script → B.told board.old ≡ Some t → HoldsAfter start [] t
-        → DoesLines (looks B.told B.clock B.faults) start script t result run.new
-        board.old board.new }
-    ensures ahead { (start : Start) (script : List ℕ) (t : Told) → IsRunAfter start [] run.old
-        → S.left source.old ≡ Some script → B.told board.old ≡ Some t → HoldsAfter start [] t
-        → EndsAhead (result ≡ Err Exit.SourceFault) start script t.here.out (S.left source.new)
-        (B.told board.new) }
-    ensures ended { result ≡ Ok tt
-        → IfSome (S.left source.old) (λ script. S.left source.new ≡ Some []) }
-    ensures few { TakesFewOf (S.left source.old) (S.left source.new) }
-    ensures stop { IfErr result IsLineExit }
-    ensures causes { Causes SourceCause result (S.faults source.old) (S.faults source.new)
-        × Causes BoardCause result (B.faults board.old) (B.faults board.new) }
+        → ComesLines (looks B.told B.clock B.faults) start script t result run.new
+        (S.left source.new) board.old board.new }
+    ensures takes { TakesBy (exit_of result) (S.left source.old) (S.left source.new) }
+    ensures ends { EndsLines result (S.faults source.old) (S.faults source.new)
+        (B.faults board.old) (B.faults board.new) }
 {
     let mut number = 0u64;
     loop {

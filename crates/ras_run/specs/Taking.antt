@@ -1,18 +1,22 @@
 -- How far a run has come, and how each part of it ends.
-use Rattle.std.specs.Prelude.{◌≡◌, ℕ, Bool, true, false, List, [], ◌∷◌, ◌++◌, Option, None, Some, Result, Ok, Err, ⊤}
-use Rattle.board_core.specs.Cause.{disk_call, print_call}
+use Rattle.std.specs.Prelude.{◌≡◌, ℕ, Bool, true, false, List, [], ◌∷◌, ◌++◌, IfErr, IfOk, IfSome, OnOk, Option, None, Some, Result, Ok, Err, ⊤}
+use Rattle.board_core.specs.Cause.{Faults, disk_call, print_call}
 use Rattle.board_core.specs.Clock.{Clock}
 use Rattle.board_core.specs.Stop.{Left}
-use Rattle.board_core.specs.Told.{Told}
+use Rattle.board_core.specs.Told.{Relates, Told}
 use Rattle.ras_account.specs.Account.{State}
+use Rattle.ras_account.specs.Accounts.{IsAccount}
 use Rattle.ras_account.specs.Continued.{account_after_all}
 use Rattle.ras_account.specs.Numbers.{fresh_entries_in}
 use Rattle.ras_facts.specs.declared.entry.Entry.{Entry}
 use Rattle.entry_format.specs.declared.version.Version.TheVariants.{Two}
 use Rattle.journal_format.specs.Links.{CanLink, link_bytes}
-use Rattle.ras_journal.specs.Recovered.{Refusal}
+use Rattle.ras_journal.specs.Recovered.{Refusal, recovered}
 use Rattle.ras_recover.specs.declared.refused.OpenRefused.{OpenRefused}
 use Rattle.ras_recover.specs.declared.refused.OpenRefused.TheVariants as opening
+use Rattle.ras_recover.specs.Opening.{standing_opened}
+use Rattle.ras_recover.specs.OpeningActs.{FailsOpening}
+use Rattle.ras_recover.specs.OpeningCalls.{AfterOpening, AfterRecovery, MakesOpening}
 use Rattle.ras_ledger.specs.declared.ledger.Ledger.{Ledger}
 use Rattle.ras_ledger.specs.Keeping.{Stands}
 use Rattle.ras_events.specs.declared.preparing.News.{News}
@@ -22,7 +26,8 @@ use Rattle.ras_events.specs.Reports.{NumberedLine, Place, pieces_at, settings_to
 use Rattle.ras_events.specs.Sizes.{IsFit}
 use Rattle.ras_exit.specs.declared.exit.Exit.{Exit}
 use Rattle.ras_exit.specs.declared.exit.Exit.TheVariants.{DiskFault, Damaged, Full, NoMemory, TooLong}
-use Rattle.ras_exit.specs.Endings.{AnyFault, EndsBy, OnlyFault, ending_of}
+use Rattle.ras_exit.specs.Causes.{BoardCause, Causes}
+use Rattle.ras_exit.specs.Endings.{AnyFault, EndsBy, IsStop, OnlyFault, ending_of}
 use Rattle.ras_run.specs.declared.run.Run.{Run}
 use Rattle.ras_run.specs.Files.{refusal_exit}
 use Rattle.ras_run.specs.Moments.{CourseMoment, course_at}
@@ -128,6 +133,27 @@ unopened_exit opening.NoMemory = NoMemory
 abbrev pub Opens : Result Ledger Exit → Result State Refusal → Type 0
 Opens (Ok ledger) held = held ≡ Ok ledger.account.state
 Opens (Err exit) held = EndsBy (refusal_exit held ≡ Some exit) ⊤ (OnlyFault disk_call) (ending_of exit)
+
+-- What is opened, and where it stands: as the files say. It can be written, and holds an account.
+pub record Opened (result : Result Ledger Exit) (told now : Option Told) (clock : Clock) : Type 0 where
+  pub held : IfSome told (λ t. Opens result (recovered t.here.file0 t.here.file1))
+  pub standing : IfOk result (λ ledger. IfSome told (λ t. ledger.journal.standing ≡ standing_opened t.here.file0 t.here.file1))
+  pub ready : IfOk result (λ ledger. IsReady ledger now clock)
+  pub account : IfOk result (λ ledger. IsAccount ledger.account.state)
+
+-- What an opening does: whatever it answers all is told as before, but for file 0 if no file stands. Once
+-- it is open, all that counts of the files was read, and exactly the formatting was written. If memory
+-- ran out nothing was written; if a disk call failed it is one of the opening's acts.
+pub record DoesOpening (result : Result Ledger Exit) (before now : Option Told) : Type 0 where
+  pub told : Relates AfterOpening before now
+  pub whole : OnOk result (Relates MakesOpening before now)
+  pub kept : result ≡ Err NoMemory → Relates AfterRecovery before now
+  pub fails : result ≡ Err DiskFault → Relates FailsOpening before now
+
+-- how it ends, and why
+pub record EndsOpening (result : Result Ledger Exit) (faults faults' : Faults) : Type 0 where
+  pub stop : IfErr result IsStop
+  pub cause : Causes BoardCause result faults faults'
 
 -- In the midst of a run the account and the standing are as they were. A journal that stands is not
 -- refused.

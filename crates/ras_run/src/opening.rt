@@ -1,19 +1,13 @@
 //! Opening the journal, at the start of a run and if a line asks for it again.
 
-ghost use Rattle.std.specs.Prelude.{◌≡◌, Err, IfErr, IfOk, IfSome, OnOk, Some};
+ghost use Rattle.std.specs.Prelude.{◌≡◌, IfErr, Some};
 ghost use Rattle.board_core.specs.Clock.{Adds};
 ghost use Rattle.board_core.specs.Doing.{Does, looks};
-ghost use Rattle.board_core.specs.Told.{Relates, Told};
-ghost use Rattle.ras_account.specs.Accounts.{IsAccount};
-ghost use Rattle.ras_journal.specs.Recovered.{recovered};
-ghost use Rattle.ras_recover.specs.Opening.{Opening, standing_opened};
-ghost use Rattle.ras_recover.specs.OpeningActs.{FailsOpening};
-ghost use Rattle.ras_recover.specs.OpeningCalls.{AfterOpening, AfterRecovery, MakesOpening};
+ghost use Rattle.board_core.specs.Told.{Told};
+ghost use Rattle.ras_recover.specs.Opening.{Opening};
 ghost use Rattle.ras_texts.specs.Orders.{standing_lines};
 ghost use Rattle.ras_exit.specs.Acts.{part_end, print_acts};
-ghost use Rattle.ras_exit.specs.Causes.{BoardCause, Causes};
-ghost use Rattle.ras_exit.specs.Endings.{IsStop};
-ghost use Rattle.ras_run.specs.Taking.{IsPrintExit, IsReady, Opens, unopened_exit};
+ghost use Rattle.ras_run.specs.Taking.{DoesOpening, EndsOpening, IsPrintExit, Opened, unopened_exit};
 
 use board_core::Board;
 use ras_account::Account;
@@ -30,25 +24,11 @@ use std::alloc::Global;
 /// `TooLong` and `Damaged` come exactly if the files' bytes say so, `DiskFault` only if a disk call
 /// failed, and `NoMemory` only if memory runs out.
 pub fn open<B: Board>(alloc: Global, board: &mut B) -> Result<Ledger, Exit>
-    ensures opens { IfSome (B.told board.old)
-        (λ t. Opens result (recovered t.here.file0 t.here.file1)) }
-    ensures standing { IfOk result (λ ledger. IfSome (B.told board.old)
-        (λ t. ledger.journal.standing ≡ standing_opened t.here.file0 t.here.file1)) }
-    ensures ready { IfOk result (λ ledger. IsReady ledger (B.told board.new) (B.clock board.new)) }
-    ensures account { IfOk result (λ ledger. IsAccount ledger.account.state) }
+    ensures opens { Opened result (B.told board.old) (B.told board.new) (B.clock board.new) }
+    ensures does { DoesOpening result (B.told board.old) (B.told board.new) }
     ensures stops { (t : Told) → B.told board.old ≡ Some t
         → Adds (Opening (B.clock board.old) t.here) (B.clock board.old) (B.clock board.new) }
-    // Whatever the answer is, all is told as before, but for file 0 if no file stands. Once it is
-    // open, all that counts of the files was read, and exactly the formatting was written.
-    ensures told { Relates AfterOpening (B.told board.old) (B.told board.new) }
-    ensures whole { OnOk result (Relates MakesOpening (B.told board.old) (B.told board.new)) }
-    ensures kept { result ≡ Err Exit.NoMemory
-        → Relates AfterRecovery (B.told board.old) (B.told board.new) }
-    // If a disk call failed it is one of the acts of the opening, and the last that was begun.
-    ensures fails { result ≡ Err Exit.DiskFault
-        → Relates FailsOpening (B.told board.old) (B.told board.new) }
-    ensures stop { IfErr result IsStop }
-    ensures faults { Causes BoardCause result (B.faults board.old) (B.faults board.new) }
+    ensures ends { EndsOpening result (B.faults board.old) (B.faults board.new) }
 {
     match open_journal(alloc, board) {
         Ok((account, journal)) => Ok(Ledger { account, journal }),

@@ -5,14 +5,14 @@ use Rattle.ras_exit.specs.declared.reason.Reason.TheVariants.{LongLine}
 use Rattle.ras_script.specs.declared.reader.NextRefused.TheVariants as refused
 use Rattle.ras_script.specs.Line.{line_of}
 use Rattle.ras_script.specs.Lines.{line_too_long, script_ended, script_too_long}
-use Rattle.ras_exit.specs.declared.exit.Exit.TheVariants.{BadLine, TooLong}
+use Rattle.ras_exit.specs.declared.exit.Exit.TheVariants.{BadLine, Done, SourceFault, TooLong}
 use Rattle.ras_exit.specs.Endings.{ending_of}
 use Rattle.ras_daemon.specs.Script.{reads_in}
 use Rattle.ras_daemon.proofs.GrowLemmas.{part_grows}
 use Rattle.ras_daemon.proofs.LinesLemmas.{all_taken, board_then, gave_as, given, if_more, lines_end, moved_as, moved_tells, none_given, stopped, tells_same, took_line, took_none, took_now}
 use Rattle.ras_script.specs.Reader.{Reader}
-use Rattle.ras_daemon.proofs.FewLemmas.{TakesOf, takes_few, takes_more, takes_none}
-use Rattle.ras_daemon.proofs.LineEndLemmas.{ahead_given, ahead_none, not_fault}
+use Rattle.ras_daemon.proofs.FewLemmas.{TakesOf, takes_by, takes_more, takes_none}
+use Rattle.ras_daemon.proofs.LineEndLemmas.{ahead_given, ahead_none, line_not_done, not_fault}
 use Rattle.ras_daemon.proofs.ScriptLemmas.{told_after}
 use Rattle.ras_daemon.proofs.lines.take_lines.Goals as goal
 
@@ -48,9 +48,8 @@ loop-number-preserved g c = record {
   faults = c.in_ok-take_line-in-Ok-true.ensures.faults ∙ c.loop-number.invariant.faults;
 }
 
-pub returns-in_err-take_line-in-Ok-true-clause-does :
-    goal.returns-in_err-take_line-in-Ok-true-clause-does
-returns-in_err-take_line-in-Ok-true-clause-does g c = λ start script t after left is holds.
+pub returns-in_err-take_line-in-Ok-true-clause-comes : goal.returns-in_err-take_line-in-Ok-true-clause-comes
+returns-in_err-take_line-in-Ok-true-clause-comes g c = λ start script t after left is holds.
     let p = err_from_is_err_and c.from_residual.result c.from_residual.ensures.1 in
     let took = c.loop-number.invariant.took start script t after left is holds in
     let taking = took.0 in
@@ -58,101 +57,84 @@ returns-in_err-take_line-in-Ok-true-clause-does g c = λ start script t after le
     let line = (given start script t _ c.loop-number.reader c.advance.new.self (g.S.Source.left c.loop-number.source) (g.S.Source.left c.advance.new.source) _ c.line.result.now c.line.ensures taking (gave_as _ (Ok true) c.loop-number.reader c.advance.new.self (g.S.Source.left c.loop-number.source) (g.S.Source.left c.advance.new.source) (ap Ok c.in-Ok-true.field-0-test) c.in-Ok-true.ensures.lines) (moved_as _ (Ok true) c.loop-number.reader c.advance.new.self (g.S.Source.left c.loop-number.source) (g.S.Source.left c.advance.new.source) (ap Ok c.in-Ok-true.field-0-test) c.in-Ok-true.ensures.moves)) in
     let takes = c.in_err-take_line-in-Ok-true.ensures.takes start (reads_in taking.done) taking.after (after_acts taking.acts t) there (board_then start script t _ c.loop-number.reader (g.S.Source.left c.loop-number.source) _ taking) in
     let does = c.in_err-take_line-in-Ok-true.ensures.does start (reads_in taking.done) taking.after (after_acts taking.acts t) there (board_then start script t _ c.loop-number.reader (g.S.Source.left c.loop-number.source) _ taking) in
-    rw (p.1, p.2)
-    (stopped (looks g.B.Board.told g.B.Board.clock g.B.Board.faults) start script t (reads_in taking.done) line.0 (c.loop-number.number + 1, line_of c.line.result.now) line.1 taking.accepted taking.acts does.0 taking.along
-    c.args.board.now c.loop-number.board c.take_line.new.board took.1 c.in_err-take_line-in-Ok-true.field-0.0 c.take_line.new.run there takes does.1 does.2)
+    rw (p.1, p.2) (record {
+      does = stopped (looks g.B.Board.told g.B.Board.clock g.B.Board.faults) start script t (reads_in taking.done) line.0 (c.loop-number.number + 1, line_of c.line.result.now) line.1 taking.accepted taking.acts does.0 taking.along
+          c.args.board.now c.loop-number.board c.take_line.new.board took.1 c.in_err-take_line-in-Ok-true.field-0.0 c.take_line.new.run there takes does.1 does.2;
+      ahead = ahead_given _ (λ fault. not_fault c.in_err-take_line-in-Ok-true.field-0.0 c.in_err-take_line-in-Ok-true.ensures.stop fault) start script t _ c.loop-number.reader c.advance.new.self (g.S.Source.left c.loop-number.source) (g.S.Source.left c.advance.new.source) _ (g.B.Board.told c.take_line.new.board) c.line.result.now c.line.ensures taking
+          (c.in-Ok-true.ensures.line (ap Ok c.in-Ok-true.field-0-test)) (c.in-Ok-true.ensures.given (ap Ok c.in-Ok-true.field-0-test)) c.in-Ok-true.ensures.ahead
+          (moved_as _ (Ok true) c.loop-number.reader c.advance.new.self (g.S.Source.left c.loop-number.source) (g.S.Source.left c.advance.new.source) (ap Ok c.in-Ok-true.field-0-test) c.in-Ok-true.ensures.moves)
+          (given start script t _ c.loop-number.reader c.advance.new.self (g.S.Source.left c.loop-number.source) (g.S.Source.left c.advance.new.source) _ c.line.result.now c.line.ensures taking (gave_as _ (Ok true) c.loop-number.reader c.advance.new.self (g.S.Source.left c.loop-number.source) (g.S.Source.left c.advance.new.source) (ap Ok c.in-Ok-true.field-0-test) c.in-Ok-true.ensures.lines) (moved_as _ (Ok true) c.loop-number.reader c.advance.new.self (g.S.Source.left c.loop-number.source) (g.S.Source.left c.advance.new.source) (ap Ok c.in-Ok-true.field-0-test) c.in-Ok-true.ensures.moves))
+          (part_grows (looks g.B.Board.told g.B.Board.clock g.B.Board.faults) does.0 (ending_of c.in_err-take_line-in-Ok-true.field-0.0) (after_acts taking.acts t) c.loop-number.board c.take_line.new.board there does.2);
+    })
 
-pub returns-in-Ok-false-clause-does : goal.returns-in-Ok-false-clause-does
-returns-in-Ok-false-clause-does g c = λ start script t after left is holds.
+pub returns-in-Ok-false-clause-comes : goal.returns-in-Ok-false-clause-comes
+returns-in-Ok-false-clause-comes g c = λ start script t after left is holds.
     let took = c.loop-number.invariant.took start script t after left is holds in
     let taking = took.0 in
-    all_taken (looks g.B.Board.told g.B.Board.clock g.B.Board.faults) start script t _ _ _ _ taking c.args.board.now c.loop-number.board took.1
-    (none_given (looks g.B.Board.told g.B.Board.clock g.B.Board.faults) start script t _ _ _ _ taking c.args.board.now c.loop-number.board took.1 (Ok false) c.advance.new.self (g.S.Source.left c.advance.new.source) script_ended (moved_as _ (Ok false) c.loop-number.reader c.advance.new.self (g.S.Source.left c.loop-number.source) (g.S.Source.left c.advance.new.source) (ap Ok c.in-Ok-false.field-0-test) c.in-Ok-false.ensures.moves) (gave_as _ (Ok false) c.loop-number.reader c.advance.new.self (g.S.Source.left c.loop-number.source) (g.S.Source.left c.advance.new.source) (ap Ok c.in-Ok-false.field-0-test) c.in-Ok-false.ensures.lines) (λ rest gives. gives))
+    record {
+      does = all_taken (looks g.B.Board.told g.B.Board.clock g.B.Board.faults) start script t _ _ _ _ taking c.args.board.now c.loop-number.board took.1
+          (none_given (looks g.B.Board.told g.B.Board.clock g.B.Board.faults) start script t _ _ _ _ taking c.args.board.now c.loop-number.board took.1 (Ok false) c.advance.new.self (g.S.Source.left c.advance.new.source) script_ended (moved_as _ (Ok false) c.loop-number.reader c.advance.new.self (g.S.Source.left c.loop-number.source) (g.S.Source.left c.advance.new.source) (ap Ok c.in-Ok-false.field-0-test) c.in-Ok-false.ensures.moves) (gave_as _ (Ok false) c.loop-number.reader c.advance.new.self (g.S.Source.left c.loop-number.source) (g.S.Source.left c.advance.new.source) (ap Ok c.in-Ok-false.field-0-test) c.in-Ok-false.ensures.lines) (λ rest gives. gives));
+      ahead = ahead_none _ start script t _ c.loop-number.reader c.advance.new.self (g.S.Source.left c.loop-number.source) (g.S.Source.left c.advance.new.source) _ _ taking
+          (told_after taking.acts t (g.B.Board.told c.args.board.now) (g.B.Board.told c.loop-number.board) is took.1.told) c.in-Ok-false.ensures.ahead (λ fault. absurd cc) (moved_as _ (Ok false) c.loop-number.reader c.advance.new.self (g.S.Source.left c.loop-number.source) (g.S.Source.left c.advance.new.source) (ap Ok c.in-Ok-false.field-0-test) c.in-Ok-false.ensures.moves).0;
+    }
 
-pub returns-in-Err-Source-clause-does : goal.returns-in-Err-Source-clause-does
-returns-in-Err-Source-clause-does g c = λ start script t after left is holds.
+pub returns-in-Err-Source-clause-comes : goal.returns-in-Err-Source-clause-comes
+returns-in-Err-Source-clause-comes g c = λ start script t after left is holds.
     let took = c.loop-number.invariant.took start script t after left is holds in
     let taking = took.0 in
-    took_now (looks g.B.Board.told g.B.Board.clock g.B.Board.faults) start script t _ _ _ _ taking c.args.board.now c.loop-number.board took.1
+    record {
+      does = took_now (looks g.B.Board.told g.B.Board.clock g.B.Board.faults) start script t _ _ _ _ taking c.args.board.now c.loop-number.board took.1;
+      ahead = ahead_none _ start script t _ c.loop-number.reader c.advance.new.self (g.S.Source.left c.loop-number.source) (g.S.Source.left c.advance.new.source) _ _ taking
+          (told_after taking.acts t (g.B.Board.told c.args.board.now) (g.B.Board.told c.loop-number.board) is took.1.told) c.in-Err-Source.ensures.ahead (λ fault. c.in-Err-Source.ensures.fault (ap Err c.in-Err-Source.field-0-is)) c.in-Err-Source.ensures.moves;
+    }
 
-pub returns-in-Err-TooLong-clause-does : goal.returns-in-Err-TooLong-clause-does
-returns-in-Err-TooLong-clause-does g c = λ start script t after left is holds.
+pub returns-in-Err-TooLong-clause-comes : goal.returns-in-Err-TooLong-clause-comes
+returns-in-Err-TooLong-clause-comes g c = λ start script t after left is holds.
     let took = c.loop-number.invariant.took start script t after left is holds in
     let taking = took.0 in
-    lines_end (looks g.B.Board.told g.B.Board.clock g.B.Board.faults) start script t _ _ _ _ taking c.args.board.now c.loop-number.board took.1 script_too_long TooLong refl refl
-    (none_given (looks g.B.Board.told g.B.Board.clock g.B.Board.faults) start script t _ _ _ _ taking c.args.board.now c.loop-number.board took.1 (Err refused.TooLong) c.advance.new.self (g.S.Source.left c.advance.new.source) script_too_long (moved_as _ (Err refused.TooLong) c.loop-number.reader c.advance.new.self (g.S.Source.left c.loop-number.source) (g.S.Source.left c.advance.new.source) (ap Err c.in-Err-TooLong.field-0-is) c.in-Err-TooLong.ensures.moves) (gave_as _ (Err refused.TooLong) c.loop-number.reader c.advance.new.self (g.S.Source.left c.loop-number.source) (g.S.Source.left c.advance.new.source) (ap Err c.in-Err-TooLong.field-0-is) c.in-Err-TooLong.ensures.lines) (λ rest gives. gives))
+    record {
+      does = lines_end (looks g.B.Board.told g.B.Board.clock g.B.Board.faults) start script t _ _ _ _ taking c.args.board.now c.loop-number.board took.1 script_too_long TooLong refl refl
+          (none_given (looks g.B.Board.told g.B.Board.clock g.B.Board.faults) start script t _ _ _ _ taking c.args.board.now c.loop-number.board took.1 (Err refused.TooLong) c.advance.new.self (g.S.Source.left c.advance.new.source) script_too_long (moved_as _ (Err refused.TooLong) c.loop-number.reader c.advance.new.self (g.S.Source.left c.loop-number.source) (g.S.Source.left c.advance.new.source) (ap Err c.in-Err-TooLong.field-0-is) c.in-Err-TooLong.ensures.moves) (gave_as _ (Err refused.TooLong) c.loop-number.reader c.advance.new.self (g.S.Source.left c.loop-number.source) (g.S.Source.left c.advance.new.source) (ap Err c.in-Err-TooLong.field-0-is) c.in-Err-TooLong.ensures.lines) (λ rest gives. gives));
+      ahead = ahead_none _ start script t _ c.loop-number.reader c.advance.new.self (g.S.Source.left c.loop-number.source) (g.S.Source.left c.advance.new.source) _ _ taking
+          (told_after taking.acts t (g.B.Board.told c.args.board.now) (g.B.Board.told c.loop-number.board) is took.1.told) c.in-Err-TooLong.ensures.ahead (λ fault. absurd cc) c.in-Err-TooLong.ensures.moves;
+    }
 
-pub returns-in-Err-LineTooLong-clause-does : goal.returns-in-Err-LineTooLong-clause-does
-returns-in-Err-LineTooLong-clause-does g c = λ start script t after left is holds.
+pub returns-in-Err-LineTooLong-clause-comes : goal.returns-in-Err-LineTooLong-clause-comes
+returns-in-Err-LineTooLong-clause-comes g c = λ start script t after left is holds.
     let took = c.loop-number.invariant.took start script t after left is holds in
     let taking = took.0 in
-    lines_end (looks g.B.Board.told g.B.Board.clock g.B.Board.faults) start script t _ _ _ _ taking c.args.board.now c.loop-number.board took.1 line_too_long (BadLine (c.loop-number.number + 1) LongLine) refl refl
-    (none_given (looks g.B.Board.told g.B.Board.clock g.B.Board.faults) start script t _ _ _ _ taking c.args.board.now c.loop-number.board took.1 (Err refused.LineTooLong) c.advance.new.self (g.S.Source.left c.advance.new.source) line_too_long (moved_as _ (Err refused.LineTooLong) c.loop-number.reader c.advance.new.self (g.S.Source.left c.loop-number.source) (g.S.Source.left c.advance.new.source) (ap Err c.in-Err-LineTooLong.field-0-is) c.in-Err-LineTooLong.ensures.moves) (gave_as _ (Err refused.LineTooLong) c.loop-number.reader c.advance.new.self (g.S.Source.left c.loop-number.source) (g.S.Source.left c.advance.new.source) (ap Err c.in-Err-LineTooLong.field-0-is) c.in-Err-LineTooLong.ensures.lines) (λ rest gives. gives))
+    record {
+      does = lines_end (looks g.B.Board.told g.B.Board.clock g.B.Board.faults) start script t _ _ _ _ taking c.args.board.now c.loop-number.board took.1 line_too_long (BadLine (c.loop-number.number + 1) LongLine) refl refl
+          (none_given (looks g.B.Board.told g.B.Board.clock g.B.Board.faults) start script t _ _ _ _ taking c.args.board.now c.loop-number.board took.1 (Err refused.LineTooLong) c.advance.new.self (g.S.Source.left c.advance.new.source) line_too_long (moved_as _ (Err refused.LineTooLong) c.loop-number.reader c.advance.new.self (g.S.Source.left c.loop-number.source) (g.S.Source.left c.advance.new.source) (ap Err c.in-Err-LineTooLong.field-0-is) c.in-Err-LineTooLong.ensures.moves) (gave_as _ (Err refused.LineTooLong) c.loop-number.reader c.advance.new.self (g.S.Source.left c.loop-number.source) (g.S.Source.left c.advance.new.source) (ap Err c.in-Err-LineTooLong.field-0-is) c.in-Err-LineTooLong.ensures.lines) (λ rest gives. gives));
+      ahead = ahead_none _ start script t _ c.loop-number.reader c.advance.new.self (g.S.Source.left c.loop-number.source) (g.S.Source.left c.advance.new.source) _ _ taking
+          (told_after taking.acts t (g.B.Board.told c.args.board.now) (g.B.Board.told c.loop-number.board) is took.1.told) c.in-Err-LineTooLong.ensures.ahead (λ fault. absurd cc) c.in-Err-LineTooLong.ensures.moves;
+    }
 
-pub returns-in_err-take_line-in-Ok-true-clause-ahead :
-    goal.returns-in_err-take_line-in-Ok-true-clause-ahead
-returns-in_err-take_line-in-Ok-true-clause-ahead g c = λ start script t after left is holds.
+pub returns-in_err-take_line-in-Ok-true-clause-takes : goal.returns-in_err-take_line-in-Ok-true-clause-takes
+returns-in_err-take_line-in-Ok-true-clause-takes g c =
     let p = err_from_is_err_and c.from_residual.result c.from_residual.ensures.1 in
-    let took = c.loop-number.invariant.took start script t after left is holds in
-    let taking = took.0 in
-    let there = told_after taking.acts t (g.B.Board.told c.args.board.now) (g.B.Board.told c.loop-number.board) is took.1.told in
-    let does = c.in_err-take_line-in-Ok-true.ensures.does start (reads_in taking.done) taking.after (after_acts taking.acts t) there (board_then start script t _ c.loop-number.reader (g.S.Source.left c.loop-number.source) _ taking) in
     rw (p.1, p.2)
-    (ahead_given _ (λ fault. not_fault c.in_err-take_line-in-Ok-true.field-0.0 c.in_err-take_line-in-Ok-true.ensures.stop fault) start script t _ c.loop-number.reader c.advance.new.self (g.S.Source.left c.loop-number.source) (g.S.Source.left c.advance.new.source) _ (g.B.Board.told c.take_line.new.board) c.line.result.now c.line.ensures taking
-    (c.in-Ok-true.ensures.line (ap Ok c.in-Ok-true.field-0-test)) (c.in-Ok-true.ensures.given (ap Ok c.in-Ok-true.field-0-test)) c.in-Ok-true.ensures.ahead
-    (moved_as _ (Ok true) c.loop-number.reader c.advance.new.self (g.S.Source.left c.loop-number.source) (g.S.Source.left c.advance.new.source) (ap Ok c.in-Ok-true.field-0-test) c.in-Ok-true.ensures.moves)
-    (given start script t _ c.loop-number.reader c.advance.new.self (g.S.Source.left c.loop-number.source) (g.S.Source.left c.advance.new.source) _ c.line.result.now c.line.ensures taking (gave_as _ (Ok true) c.loop-number.reader c.advance.new.self (g.S.Source.left c.loop-number.source) (g.S.Source.left c.advance.new.source) (ap Ok c.in-Ok-true.field-0-test) c.in-Ok-true.ensures.lines) (moved_as _ (Ok true) c.loop-number.reader c.advance.new.self (g.S.Source.left c.loop-number.source) (g.S.Source.left c.advance.new.source) (ap Ok c.in-Ok-true.field-0-test) c.in-Ok-true.ensures.moves))
-    (part_grows (looks g.B.Board.told g.B.Board.clock g.B.Board.faults) does.0 (ending_of c.in_err-take_line-in-Ok-true.field-0.0) (after_acts taking.acts t) c.loop-number.board c.take_line.new.board there does.2))
+    (takes_by c.in_err-take_line-in-Ok-true.field-0.0 c.advance.new.self.taken (g.S.Source.left c.args.source.now) (g.S.Source.left c.advance.new.source) c.in-Ok-true.ensures.few
+    (λ done. absurd (line_not_done c.in_err-take_line-in-Ok-true.field-0.0 c.in_err-take_line-in-Ok-true.ensures.stop done))
+    (takes_more (Ok c.in-Ok-true.field-0) c.loop-number.reader c.advance.new.self (g.S.Source.left c.args.source.now) (g.S.Source.left c.loop-number.source) (g.S.Source.left c.advance.new.source) c.loop-number.invariant.few c.in-Ok-true.ensures.moves))
 
-pub returns-in-Ok-false-clause-ahead : goal.returns-in-Ok-false-clause-ahead
-returns-in-Ok-false-clause-ahead g c = λ start script t after left is holds.
-    let took = c.loop-number.invariant.took start script t after left is holds in
-    let taking = took.0 in
-    ahead_none _ start script t _ c.loop-number.reader c.advance.new.self (g.S.Source.left c.loop-number.source) (g.S.Source.left c.advance.new.source) _ _ taking
-    (told_after taking.acts t (g.B.Board.told c.args.board.now) (g.B.Board.told c.loop-number.board) is took.1.told) c.in-Ok-false.ensures.ahead (λ fault. absurd cc) (moved_as _ (Ok false) c.loop-number.reader c.advance.new.self (g.S.Source.left c.loop-number.source) (g.S.Source.left c.advance.new.source) (ap Ok c.in-Ok-false.field-0-test) c.in-Ok-false.ensures.moves).0
-
-pub returns-in-Err-Source-clause-ahead : goal.returns-in-Err-Source-clause-ahead
-returns-in-Err-Source-clause-ahead g c = λ start script t after left is holds.
-    let took = c.loop-number.invariant.took start script t after left is holds in
-    let taking = took.0 in
-    ahead_none _ start script t _ c.loop-number.reader c.advance.new.self (g.S.Source.left c.loop-number.source) (g.S.Source.left c.advance.new.source) _ _ taking
-    (told_after taking.acts t (g.B.Board.told c.args.board.now) (g.B.Board.told c.loop-number.board) is took.1.told) c.in-Err-Source.ensures.ahead (λ fault. c.in-Err-Source.ensures.fault (ap Err c.in-Err-Source.field-0-is)) c.in-Err-Source.ensures.moves
-
-pub returns-in-Err-TooLong-clause-ahead : goal.returns-in-Err-TooLong-clause-ahead
-returns-in-Err-TooLong-clause-ahead g c = λ start script t after left is holds.
-    let took = c.loop-number.invariant.took start script t after left is holds in
-    let taking = took.0 in
-    ahead_none _ start script t _ c.loop-number.reader c.advance.new.self (g.S.Source.left c.loop-number.source) (g.S.Source.left c.advance.new.source) _ _ taking
-    (told_after taking.acts t (g.B.Board.told c.args.board.now) (g.B.Board.told c.loop-number.board) is took.1.told) c.in-Err-TooLong.ensures.ahead (λ fault. absurd cc) c.in-Err-TooLong.ensures.moves
-
-pub returns-in-Err-LineTooLong-clause-ahead : goal.returns-in-Err-LineTooLong-clause-ahead
-returns-in-Err-LineTooLong-clause-ahead g c = λ start script t after left is holds.
-    let took = c.loop-number.invariant.took start script t after left is holds in
-    let taking = took.0 in
-    ahead_none _ start script t _ c.loop-number.reader c.advance.new.self (g.S.Source.left c.loop-number.source) (g.S.Source.left c.advance.new.source) _ _ taking
-    (told_after taking.acts t (g.B.Board.told c.args.board.now) (g.B.Board.told c.loop-number.board) is took.1.told) c.in-Err-LineTooLong.ensures.ahead (λ fault. absurd cc) c.in-Err-LineTooLong.ensures.moves
-
-pub returns-in_err-take_line-in-Ok-true-clause-few : goal.returns-in_err-take_line-in-Ok-true-clause-few
-returns-in_err-take_line-in-Ok-true-clause-few g c =
-    takes_few c.advance.new.self.taken (g.S.Source.left c.args.source.now) (g.S.Source.left c.advance.new.source) c.in-Ok-true.ensures.few
-    (takes_more (Ok c.in-Ok-true.field-0) c.loop-number.reader c.advance.new.self (g.S.Source.left c.args.source.now) (g.S.Source.left c.loop-number.source) (g.S.Source.left c.advance.new.source) c.loop-number.invariant.few c.in-Ok-true.ensures.moves)
-
-pub returns-in-Ok-false-clause-few : goal.returns-in-Ok-false-clause-few
-returns-in-Ok-false-clause-few g c =
-    takes_few c.advance.new.self.taken (g.S.Source.left c.args.source.now) (g.S.Source.left c.advance.new.source) c.in-Ok-false.ensures.few
+pub returns-in-Ok-false-clause-takes : goal.returns-in-Ok-false-clause-takes
+returns-in-Ok-false-clause-takes g c =
+    takes_by Done c.advance.new.self.taken (g.S.Source.left c.args.source.now) (g.S.Source.left c.advance.new.source) c.in-Ok-false.ensures.few
+    (λ done. (moved_as _ (Ok false) c.loop-number.reader c.advance.new.self (g.S.Source.left c.loop-number.source) (g.S.Source.left c.advance.new.source) (ap Ok c.in-Ok-false.field-0-test) c.in-Ok-false.ensures.moves).1.1)
     (takes_more (Ok c.in-Ok-false.field-0) c.loop-number.reader c.advance.new.self (g.S.Source.left c.args.source.now) (g.S.Source.left c.loop-number.source) (g.S.Source.left c.advance.new.source) c.loop-number.invariant.few c.in-Ok-false.ensures.moves)
 
-pub returns-in-Err-Source-clause-few : goal.returns-in-Err-Source-clause-few
-returns-in-Err-Source-clause-few g c =
-    takes_few c.advance.new.self.taken (g.S.Source.left c.args.source.now) (g.S.Source.left c.advance.new.source) c.in-Err-Source.ensures.few
+pub returns-in-Err-Source-clause-takes : goal.returns-in-Err-Source-clause-takes
+returns-in-Err-Source-clause-takes g c =
+    takes_by SourceFault c.advance.new.self.taken (g.S.Source.left c.args.source.now) (g.S.Source.left c.advance.new.source) c.in-Err-Source.ensures.few (λ done. absurd cc)
     (takes_more (Err c.in-Err-Source.field-0) c.loop-number.reader c.advance.new.self (g.S.Source.left c.args.source.now) (g.S.Source.left c.loop-number.source) (g.S.Source.left c.advance.new.source) c.loop-number.invariant.few c.in-Err-Source.ensures.moves)
 
-pub returns-in-Err-TooLong-clause-few : goal.returns-in-Err-TooLong-clause-few
-returns-in-Err-TooLong-clause-few g c =
-    takes_few c.advance.new.self.taken (g.S.Source.left c.args.source.now) (g.S.Source.left c.advance.new.source) c.in-Err-TooLong.ensures.few
+pub returns-in-Err-TooLong-clause-takes : goal.returns-in-Err-TooLong-clause-takes
+returns-in-Err-TooLong-clause-takes g c =
+    takes_by TooLong c.advance.new.self.taken (g.S.Source.left c.args.source.now) (g.S.Source.left c.advance.new.source) c.in-Err-TooLong.ensures.few (λ done. absurd cc)
     (takes_more (Err c.in-Err-TooLong.field-0) c.loop-number.reader c.advance.new.self (g.S.Source.left c.args.source.now) (g.S.Source.left c.loop-number.source) (g.S.Source.left c.advance.new.source) c.loop-number.invariant.few c.in-Err-TooLong.ensures.moves)
 
-pub returns-in-Err-LineTooLong-clause-few : goal.returns-in-Err-LineTooLong-clause-few
-returns-in-Err-LineTooLong-clause-few g c =
-    takes_few c.advance.new.self.taken (g.S.Source.left c.args.source.now) (g.S.Source.left c.advance.new.source) c.in-Err-LineTooLong.ensures.few
+pub returns-in-Err-LineTooLong-clause-takes : goal.returns-in-Err-LineTooLong-clause-takes
+returns-in-Err-LineTooLong-clause-takes g c =
+    takes_by (BadLine (c.loop-number.number + 1) LongLine) c.advance.new.self.taken (g.S.Source.left c.args.source.now) (g.S.Source.left c.advance.new.source) c.in-Err-LineTooLong.ensures.few (λ done. absurd cc)
     (takes_more (Err c.in-Err-LineTooLong.field-0) c.loop-number.reader c.advance.new.self (g.S.Source.left c.args.source.now) (g.S.Source.left c.loop-number.source) (g.S.Source.left c.advance.new.source) c.loop-number.invariant.few c.in-Err-LineTooLong.ensures.moves)

@@ -15,5 +15,5 @@ returns-in-Ok c =
     ap (λ board. (told_of board).here) c.in_ok-board.ensures ∙ ap (λ store. (told_of (new_board [] [] store 0)).here) c.new-2.ensures in
     let account : c.in-Ok.recovered.account.state ≡ load_account c.args.n =
     load_found c.args.n c.new-source.result.left c.run.result (told_of c.in_ok-board.board) (told_of c.run.new.board) c.in-Ok.recovered.account.state script empty c.in-Done.is
-    (λ account recovers. run_ends _ account c.new-source.result.left c.run.result (told_of c.in_ok-board.board) _ _ recovers (c.run.ensures.does account recovers)) c.in-Ok.ensures.recovers in
+    (λ account recovers. run_ends _ account c.new-source.result.left c.run.result (told_of c.in_ok-board.board) _ _ recovers (c.run.ensures.comes account recovers).does) c.in-Ok.ensures.recovers in
     subst (λ (state : State). IfOk c.load_line.result (λ line. line.items ≡ load_line c.args.n state)) account c.load_line.ensures
