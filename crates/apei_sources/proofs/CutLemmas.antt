@@ -5,7 +5,7 @@ use Rattle.cper_sections.specs.Sections.{section_of}
 use Rattle.std.specs.List.{list_any}
 use Rattle.std.proofs.lemmas.List.Folds.{list_any_at}
 use Rattle.apei_sources.specs.Entries.{has_entry, is_refused, first_of, rest_of, entry_guid, entry_data}
-use Rattle.apei_sources.specs.Cut.{cut, AreInside}
+use Rattle.apei_sources.specs.Steps.Cut.{cut, AreInside}
 
 cut_suc : (more left : ℕ) (bytes : List ℕ) → more ≡ suc left → cut more bytes ≡ first_of bytes ∷ cut left (rest_of bytes)
 unfolding cut

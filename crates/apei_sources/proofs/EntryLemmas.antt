@@ -5,8 +5,8 @@ use Rattle.std.specs.List.{concat, AllByRecursion}
 use Rattle.std.proofs.lemmas.List.{length-take, length-drop, nil_from_length, take-append-drop, take_at, drop_at}
 use Rattle.apei_sources.specs.Entries.{entry_header_length, entry_length, first_of, rest_of, has_entry, block_entries_in, entries_of}
 use Rattle.apei_sources.specs.Laid.{IsEntry}
-use Rattle.apei_sources.specs.Cut.{cut, AreInside}
-use Rattle.ras_base.specs.LittleEndianLemmas.{number_at-append, number_at-take}
+use Rattle.apei_sources.specs.Steps.Cut.{cut, AreInside}
+use Rattle.ras_base.specs.Steps.LittleEndianLemmas.{number_at-append, number_at-take}
 
 -- the entries of bytes by those behind the first
 abbrev pub with_first : List ℕ → Option (List (List ℕ)) → Option (List (List ℕ))

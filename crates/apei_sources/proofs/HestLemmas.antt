@@ -4,7 +4,7 @@ use Rattle.apei_sources.specs.declared.refusals.TableRefused.{TableRefused}
 use Rattle.apei_sources.specs.declared.refusals.TableRefused.TheVariants.{Short, Signature, Length, Sum, SourceType, SourceOut, RepeatedId, NoMemory}
 use Rattle.ras_base.specs.Chaining.{◌>>=◌}
 use Rattle.apei_sources.specs.Refusals.{Answers}
-use Rattle.apei_sources.specs.Steps.{Fails}
+use Rattle.apei_sources.specs.Steps.Answering.{Fails}
 use Rattle.apei_sources.specs.Sources.{source_of, size_at}
 use Rattle.apei_sources.specs.Hest.{Sources, type_with_id, followed, sources_in, source_count, hest_table, hest_of}
 

@@ -11,7 +11,7 @@ use Rattle.apei_sources.specs.Tables.{table_of}
 use Rattle.apei_sources.specs.Hest.{hest_of, sources_of}
 use Rattle.apei_sources.specs.Bert.{bert_of}
 use Rattle.apei_sources.specs.Blocks.{block_status, data_length, data_of, block_of}
-use Rattle.ras_base.specs.LittleEndianLemmas.{number_at-take}
+use Rattle.ras_base.specs.Steps.LittleEndianLemmas.{number_at-take}
 
 -- Two lists with one front
 module _ (n : ℕ) (bytes others : List ℕ) (inside : n ≤ length bytes) (same : take n others ≡ take n bytes) where

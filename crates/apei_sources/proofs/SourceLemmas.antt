@@ -8,7 +8,7 @@ use Rattle.apei_sources.specs.declared.refusals.TableRefused.{TableRefused}
 use Rattle.apei_sources.specs.declared.refusals.TableRefused.TheVariants.{SourceType, SourceOut}
 use Rattle.apei_sources.specs.Sources.{layouts, source_type, source_id, source_of, layout_of, banks_of, size_of, size_by, size_at}
 use Rattle.apei_sources.specs.Laid.{IsSource}
-use Rattle.ras_base.specs.LittleEndianLemmas.{number_at-append}
+use Rattle.ras_base.specs.Steps.LittleEndianLemmas.{number_at-append}
 
 -- the count of banks stands in the fixed bytes, behind the identifier
 abbrev pub IsLayout : Option Layout → Type 0

@@ -6,5 +6,4 @@ pub mod Entries
 pub mod Blocks
 pub mod Laid
 pub mod Refusals
-pub mod Cut
 pub mod Steps

@@ -1,18 +1,3 @@
--- Only for proofs: what functions that aren't public answer.
-use Rattle.std.specs.Prelude.{◌≡◌, Result, Ok, Err}
-use Rattle.apei_sources.specs.declared.refusals.TableRefused.{TableRefused}
-use Rattle.apei_sources.specs.declared.refusals.TableRefused.TheVariants.{NoMemory}
-
--- what was answered, seen by a view, is what is read
-abbrev pub Reads : {X Y E : Type 0} → (X → Y) → Result X E → Result Y E → Type 0
-Reads view (Ok value) answer = answer ≡ Ok (view value)
-Reads view (Err why) answer = answer ≡ Err why
-
--- or memory ran out
-abbrev pub Fails : {Y : Type 0} → TableRefused → Result Y TableRefused → Type 0
-Fails NoMemory answer = Unit {0}
-Fails why answer = answer ≡ Err why
-
-abbrev pub Gives : {X Y : Type 0} → (X → Y) → Result X TableRefused → Result Y TableRefused → Type 0
-Gives view (Ok value) answer = answer ≡ Ok (view value)
-Gives view (Err why) answer = Fails why answer
+-- What only proofs use: no public clause comes to it.
+pub mod Cut
+pub mod Answering

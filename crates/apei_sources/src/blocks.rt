@@ -25,7 +25,7 @@ pub struct Block<'a> {
 
 impl<'a> Model for Block<'a> {
     ghost use Rattle.apei_sources.specs.Blocks.{BlockParts};
-    ghost use Rattle.apei_sources.specs.Cut.{cut, IsBlock};
+    ghost use Rattle.apei_sources.specs.Steps.Cut.{cut, IsBlock};
 
     ghost Value = { BlockParts };
 

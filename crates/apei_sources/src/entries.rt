@@ -5,7 +5,7 @@ ghost use Rattle.std.specs.Option.{option_map};
 ghost use Rattle.std.specs.List.{list_any};
 ghost use Rattle.apei_sources.specs.Entries.{entry_header_length, entry_length, first_of, rest_of, entry_guid, entry_severity, entry_data, has_entry, is_refused, entries_of};
 ghost use Rattle.apei_sources.specs.Laid.{IsEntry};
-ghost use Rattle.apei_sources.specs.Cut.{cut, AreInside};
+ghost use Rattle.apei_sources.specs.Steps.Cut.{cut, AreInside};
 
 use cper_sections::RawSection;
 use ras_base::little_endian::{u16_at, u32_at};

@@ -5,7 +5,7 @@ ghost use Rattle.std.specs.List.{IsDistinct};
 ghost use Rattle.std.specs.Map.{keys_of};
 ghost use Rattle.apei_sources.specs.declared.refusals.TableRefused.{TableRefused};
 ghost use Rattle.apei_sources.specs.Refusals.{Answers};
-ghost use Rattle.apei_sources.specs.Steps.{Gives};
+ghost use Rattle.apei_sources.specs.Steps.Answering.{Gives};
 ghost use Rattle.apei_sources.specs.Sources.{source_of};
 ghost use Rattle.apei_sources.specs.Hest.{type_with_id, followed, sources_in, hest_table, hest_of};
 

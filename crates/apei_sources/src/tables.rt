@@ -1,7 +1,7 @@
 //! The header that tables share.
 
 ghost use Rattle.std.specs.Prelude.{◌≡◌, ◌≤◌, length, IfOk};
-ghost use Rattle.apei_sources.specs.Steps.{Reads};
+ghost use Rattle.apei_sources.specs.Steps.Answering.{Reads};
 ghost use Rattle.apei_sources.specs.Tables.{table_of};
 
 use crate::TableRefused;

@@ -10,7 +10,7 @@ use Rattle.board_core.specs.declared.board.FileNo.{FileNo}
 use Rattle.board_core.specs.declared.board.FileNo.TheVariants.{Zero, One}
 use Rattle.board_core.specs.Cause.{Kind}
 use Rattle.board_core.specs.Clock.{Adds, Rests}
-use Rattle.board_core.specs.ClockLemmas.{adds_weaker}
+use Rattle.board_core.specs.Steps.ClockLemmas.{adds_weaker}
 use Rattle.board_core.specs.Device.{KeepsDevice, LeavesDevice}
 use Rattle.board_core.specs.Stop.{Left}
 use Rattle.board_core.specs.Told.{Told, MayList, Relates, after_write, after_write_through, device_of, with_call, with_file}

@@ -5,11 +5,11 @@ use Rattle.board_core.specs.declared.board.FileNo.{FileNo}
 use Rattle.board_core.specs.declared.board.FileNo.TheVariants.{Zero, One}
 use Rattle.board_core.specs.CallsMade.{IsMade, AreMade, Keeps, range_in, ranges_in}
 use Rattle.board_core.specs.Clock.{Clock, LeftNow, After, Passes, IsSynced}
-use Rattle.board_core.specs.DiskLemmas.{torn_more, settled_left, begins_none, nothing_begins, outside_front, greatest_length-more}
+use Rattle.board_core.specs.Steps.DiskLemmas.{torn_more, settled_left, begins_none, nothing_begins, outside_front, greatest_length-more}
 use Rattle.board_core.specs.DiskModel.{Range, greatest_length, DiskFile, Disk, MayLeave, MayLeaveFile, MayLeaveSince, Call, writes, syncs, stores, prints, rests, after, after_all}
 use Rattle.board_core.specs.MemBoard.{Past, Change, acted, printed, with_change, DeviceChange, device_step, device_in, call_of, calls_of, settled_disk, clock_of, disk_of, held_of}
-use Rattle.board_core.specs.ChangeLemmas.{here_left, calls_of-more}
-use Rattle.board_core.specs.MomentLemmas.{becomes_same, call_more, last_counts}
+use Rattle.board_core.specs.Steps.ChangeLemmas.{here_left, calls_of-more}
+use Rattle.board_core.specs.Steps.MomentLemmas.{becomes_same, call_more, last_counts}
 use Rattle.board_core.specs.Stop.{Left, Same, Becomes, Begins, Appends, InFile, InStore, InOut, file_in}
 use Rattle.board_core.specs.Told.{Torn}
 

@@ -8,7 +8,7 @@ use Rattle.board_core.specs.declared.board.BoardPut.TheVariants.{Refused, Failed
 use Rattle.board_core.specs.declared.board.DiskCall.{DiskCall}
 use Rattle.board_core.specs.Cause.{Faults, FailsAs, Kind, disk_call, device_call, print_call, count_of, put_failure, with_count}
 use Rattle.board_core.specs.Clock.{After, Clock, Adds, LeftNow, Passes, PassesAtRefusal, Rests}
-use Rattle.board_core.specs.ClockLemmas.{adds_at_rest, adds_both, adds_none, adds_weaker, rests_listed, rests_on, rests_stored}
+use Rattle.board_core.specs.Steps.ClockLemmas.{adds_at_rest, adds_both, adds_none, adds_weaker, rests_listed, rests_on, rests_stored}
 use Rattle.board_core.specs.Stop.{Becomes, InStore, Left, Same}
 use Rattle.board_core.specs.Told.{Told, KeepsAtRefusal, MayAct, MayList, Relates, Steps, StoreBy, after_put, device_of, on_device, with_call}
 use Rattle.board_core.specs.Doing.{Act, DeviceCall, Does, Ended, FailsAct, FailsActs, FailsDevice, GoesWell, IsBad, IsMade, Moment, Raises, Seen, TornAct, TornDevice, after_act, after_acts, after_device, broke, calls, device, gave_up, kind_of, one_end, put, put_acts, went_well}

@@ -7,9 +7,9 @@ use Rattle.erst_store.specs.Device.{Device}
 use Rattle.board_core.specs.declared.board.FileNo.{FileNo}
 use Rattle.board_core.specs.declared.board.FileNo.TheVariants.{Zero, One}
 use Rattle.board_core.specs.declared.history.Event.{Event}
-use Rattle.board_core.specs.History.{change_of, changes_of, held_with}
+use Rattle.board_core.specs.Steps.History.{change_of, changes_of, held_with}
 use Rattle.board_core.specs.MemBoard.{Held, Change, wrote, synced, acted, printed, DeviceChange, device_step, after_change, after_changes}
-use Rattle.board_core.specs.ChangeLemmas.{after_changes-more}
+use Rattle.board_core.specs.Steps.ChangeLemmas.{after_changes-more}
 use Rattle.board_core.specs.Told.{overlay}
 
 one_more : (changes new : List Change) (change : Change) (first held : Held) → after_changes changes first ≡ held → new ≡ changes ++ change ∷ [] → after_changes new first ≡ after_change change held

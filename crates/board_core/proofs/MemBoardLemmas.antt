@@ -4,7 +4,7 @@ use Rattle.std.specs.Prelude.{IfOk, Option, None}
 use Rattle.ras_base.specs.LittleEndian.{AreBytes}
 use Rattle.erst_store.specs.declared.store.PutRefused.{PutRefused}
 use Rattle.erst_store.specs.Actions.{range_length}
-use Rattle.erst_store.specs.KeptLemmas.{IsDevice-act, IsDevice-value, IsDevice-range, IsDevice-put}
+use Rattle.erst_store.specs.Steps.KeptLemmas.{IsDevice-act, IsDevice-value, IsDevice-range, IsDevice-put}
 use Rattle.erst_store.specs.DeviceLaws.{IsDevice}
 use Rattle.std.proofs.lemmas.Bool.{cases_lt}
 use Rattle.erst_store.specs.Store.{Stored, refusal_of}
@@ -22,10 +22,10 @@ use Rattle.board_core.specs.declared.board.Reg.TheVariants.{Action, Value}
 use Rattle.board_core.specs.Cause.{Faults, Kind, disk_call, device_call, print_call, count_of, with_count, FailsAs, put_failure}
 use Rattle.board_core.specs.Clock.{Clock, LeftNow, Passes, PassesAtRefusal, Leads, IsSynced}
 use Rattle.board_core.specs.MemBoard.{Held, device_in, DeviceChange, device_step, wrote_register, wrote_range, put_record, Change, wrote, synced, acted, printed, Past, with_change, past_after, after_change, held_of, clock_of, State, told_of, new_board, Performs, IsListed, ListsCall, ListsAccess, ListsNone}
-use Rattle.board_core.specs.MemBoardCalls.{IsMemBoard, Starves, Ends, EndsPut}
-use Rattle.board_core.specs.ChangeLemmas.{after_changes-more, passes_wrote, passes_synced, synced_now, passes_acted, passes_kept, passes_printed, leads_printed}
-use Rattle.board_core.specs.DiskLemmas.{nothing_begins}
-use Rattle.board_core.specs.MomentLemmas.{torn_same, torn_nothing}
+use Rattle.board_core.specs.Steps.MemBoardCalls.{IsMemBoard, Starves, Ends, EndsPut}
+use Rattle.board_core.specs.Steps.ChangeLemmas.{after_changes-more, passes_wrote, passes_synced, synced_now, passes_acted, passes_kept, passes_printed, leads_printed}
+use Rattle.board_core.specs.Steps.DiskLemmas.{nothing_begins}
+use Rattle.board_core.specs.Steps.MomentLemmas.{torn_same, torn_nothing}
 use Rattle.board_core.specs.Stop.{Left, Same, InFile, InStore, InOut, Becomes, Begins, Appends, file_in}
 use Rattle.board_core.specs.Told.{Told, Torn, file_of, with_call, after_write, after_print, on_device, with_access, after_reg_write, after_put, unless_refused, MayList, MayListAccess, MayAct, FailsWrite, FailsPrint, FailsAccess, KeepsAtRefusal}
 

@@ -5,15 +5,9 @@ pub mod Stop
 pub mod Clock
 pub mod Device
 pub mod Doing
-pub mod ClockLemmas
 pub mod DiskModel
 pub mod CallsMade
-pub mod DiskLemmas
-pub mod MomentLemmas
 pub mod MemSource
 pub mod MemBoard
-pub mod MemBoardCalls
-pub mod ChangeLemmas
 pub mod Pick
-pub mod FileHistory
-pub mod History
+pub mod Steps

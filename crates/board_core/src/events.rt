@@ -1,6 +1,6 @@
 //! What a board in memory keeps of each call that went well, and the calls on plain vectors.
 ghost use Rattle.std.specs.Prelude.{◌≡◌, ◌≤◌, ◌++◌, [], ◌∷◌, length, IsSome, OnOk, OnErr};
-ghost use Rattle.board_core.specs.History.{first_bytes, changes_of};
+ghost use Rattle.board_core.specs.Steps.History.{first_bytes, changes_of};
 ghost use Rattle.board_core.specs.MemBoard.{wrote, printed};
 ghost use Rattle.board_core.specs.Told.{overlay};
 

@@ -60,7 +60,7 @@ pub enum Event {
 
 impl Model for History {
     ghost use Rattle.std.specs.Prelude.{◌≡◌};
-    ghost use Rattle.board_core.specs.History.{first_bytes, changes_of, held_with};
+    ghost use Rattle.board_core.specs.Steps.History.{first_bytes, changes_of, held_with};
     ghost use Rattle.board_core.specs.MemBoard.{Past, new_held, after_changes};
 
     ghost Value = { Past };

@@ -1,7 +1,7 @@
 //! A file of a board in memory as a stop may leave it.
 ghost use Rattle.std.specs.Prelude.{◌≡◌, ◌↔◌, ℕ, ◌≤◌, IsTrue, [], ◌∷◌, length, take, drop, List, IfOk, OnOk};
-ghost use Rattle.board_core.specs.FileHistory.{bytes_after, bytes_after_all, disk_after_all, range_of, ranges_of, ArePartedAtSync};
-ghost use Rattle.board_core.specs.History.{change_of, changes_of, first_bytes};
+ghost use Rattle.board_core.specs.Steps.FileHistory.{bytes_after, bytes_after_all, disk_after_all, range_of, ranges_of, ArePartedAtSync};
+ghost use Rattle.board_core.specs.Steps.History.{change_of, changes_of, first_bytes};
 ghost use Rattle.board_core.specs.MemBoard.{synced, settled_file};
 ghost use Rattle.board_core.specs.Pick.{IsFilled, IsPicked};
 

@@ -10,7 +10,7 @@ ghost use Rattle.board_core.specs.Clock.{LeftNow};
 ghost use Rattle.board_core.specs.MemSource.{next_count};
 ghost use Rattle.board_core.specs.MemBoard.{State, new_board, new_past, told_of, held_of, device_in, disk_of, clock_of, wrote, synced, acted, printed, wrote_register, wrote_range, put_record, past_after};
 ghost use Rattle.board_core.specs.MemBoard.{fails_next, Performs, ListsCall, ListsAccess, ListsNone, failed_access};
-ghost use Rattle.board_core.specs.MemBoardCalls.{Starves, Ends, EndsPut};
+ghost use Rattle.board_core.specs.Steps.MemBoardCalls.{Starves, Ends, EndsPut};
 ghost use Rattle.board_core.specs.Pick.{IsPicked};
 ghost use Rattle.board_core.specs.Stop.{file_in, with_file_in};
 ghost use Rattle.board_core.specs.Told.{file_of};
@@ -46,7 +46,7 @@ pub struct MemBoard {
 
 impl Model for MemBoard {
     ghost use Rattle.board_core.specs.MemBoard.{State};
-    ghost use Rattle.board_core.specs.MemBoardCalls.{IsMemBoard};
+    ghost use Rattle.board_core.specs.Steps.MemBoardCalls.{IsMemBoard};
 
     ghost Value = { State };
 

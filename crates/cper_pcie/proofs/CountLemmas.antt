@@ -10,7 +10,7 @@ use Rattle.cper_pcie.specs.declared.section.PcieSection.{PcieSection}
 use Rattle.cper_pcie.specs.declared.counts.ErrorCounts.{ErrorCounts}
 use Rattle.cper_pcie.specs.Bits.{error_count}
 use Rattle.cper_pcie.specs.Devices.{same_device}
-use Rattle.cper_pcie.specs.DeviceLemmas.{same_device-exact, same_device-refl}
+use Rattle.cper_pcie.specs.Steps.DeviceLemmas.{same_device-exact, same_device-refl}
 use Rattle.cper_pcie.specs.Counts.{counted_device, in_64_bits, errors_in, errors_with, counts_of, pcie_counts_with}
 
 abbrev pub none : ErrorCounts

@@ -5,7 +5,7 @@ use Rattle.ras_facts.specs.Names.{same_name}
 use Rattle.ras_facts.specs.declared.name.Name.{Name}
 use Rattle.cper_pcie.specs.Reports.{Found, FirmwareReport, Taken, is_pcie, pcie_name}
 use Rattle.cper_pcie.specs.Along.{Counted, counted_with, fresh_sections, names_with, sections_lines, totals_after}
-use Rattle.cper_pcie.specs.Steps.{taken_from}
+use Rattle.cper_pcie.specs.Steps.Filtering.{taken_from}
 use Rattle.cper_pcie.specs.Texts.{read_sections}
 
 abbrev report : Name → List Found → FirmwareReport

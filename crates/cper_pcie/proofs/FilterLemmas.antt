@@ -7,7 +7,7 @@ use Rattle.std.proofs.lemmas.List.Folds.{list_any-append}
 use Rattle.std.proofs.lemmas.List.Sums.{sum_by-append}
 use Rattle.row_tables.proofs.TableLemmas.{table-more}
 use Rattle.ras_base.specs.Places.{places_behind}
-use Rattle.ras_facts.specs.NameLemmas.{same_name-exact}
+use Rattle.ras_facts.specs.Steps.NameLemmas.{same_name-exact}
 use Rattle.ras_facts.specs.Names.{same_name}
 use Rattle.ras_facts.specs.declared.name.Name.{Name}
 use Rattle.ras_script.specs.Line.{line_of}
@@ -15,12 +15,12 @@ use Rattle.ras_script.specs.declared.line.Line.{Line}
 use Rattle.ras_script.specs.declared.line.LineRefused.{LineRefused}
 use Rattle.cper_pcie.specs.Bits.{error_count}
 use Rattle.cper_pcie.specs.Counts.{counted_device}
-use Rattle.cper_pcie.specs.DeviceLemmas.{same_device-exact, same_device-refl}
+use Rattle.cper_pcie.specs.Steps.DeviceLemmas.{same_device-exact, same_device-refl}
 use Rattle.cper_pcie.specs.Devices.{same_device}
 use Rattle.cper_pcie.specs.Filter.{text_or_refusal, pcie_filter, pcie_text, place_answer, to_first_refusal}
 use Rattle.cper_pcie.specs.Reports.{LinePlace, FirmwareReport, Taken, first_sections, is_known, line_name, line_report, pcie_name, pcie_sections, report_read, line_report_in, taken_at}
 use Rattle.cper_pcie.specs.Along.{Counted, answers_from, counted_after, counted_from, filter_from, fresh_sections, line_answer, names_with, sections_lines, sums_with, text_with, then_answers, totals_after, totals_with}
-use Rattle.cper_pcie.specs.Steps.{none_counted}
+use Rattle.cper_pcie.specs.Steps.Filtering.{none_counted}
 use Rattle.cper_pcie.specs.Texts.{read_sections, totals_text}
 use Rattle.cper_pcie.specs.Totals.{Totals, sums_in, totals_of}
 use Rattle.cper_pcie.specs.declared.section.PcieSection.{PcieSection}

@@ -22,7 +22,7 @@ use Rattle.ras_script.specs.declared.line.ErrorReport.TheVariants as reports
 use Rattle.ras_script.specs.declared.line.Line.{Line}
 use Rattle.ras_script.specs.declared.line.LineRefused.{LineRefused}
 use Rattle.cper_pcie.specs.Reports.{block_sections}
-use Rattle.cper_pcie.specs.Steps.{FewBytes}
+use Rattle.cper_pcie.specs.Steps.Filtering.{FewBytes}
 use Rattle.cper_pcie.proofs.ReportLemmas.{block-count}
 
 -- ---- words

@@ -17,7 +17,7 @@ use Rattle.ras_facts.specs.declared.name.Name.{Name}
 use Rattle.cper_pcie.specs.Reports.{Found, Taken, record_section, record_sections, block_section, block_sections, is_pcie, pcie_section}
 use Rattle.cper_pcie.specs.Section.{pcie_of}
 use Rattle.cper_pcie.specs.Along.{sections_lines, totals_after}
-use Rattle.cper_pcie.specs.Steps.{sections_in, taken_from}
+use Rattle.cper_pcie.specs.Steps.Filtering.{sections_in, taken_from}
 use Rattle.cper_pcie.specs.Texts.{read_sections, section_line}
 use Rattle.cper_pcie.specs.Totals.{Totals}
 use Rattle.cper_pcie.specs.declared.reports.Sections.{Sections}

@@ -8,7 +8,7 @@ use Rattle.cper_pcie.specs.Bits.{error_count}
 use Rattle.cper_pcie.specs.Counts.{pcie_counts_with, errors_with, in_64_bits}
 use Rattle.cper_pcie.specs.Devices.{same_device}
 use Rattle.cper_pcie.specs.Along.{no_errors, sums_with, totals_with, totals_after}
-use Rattle.cper_pcie.specs.Steps.{IsFew}
+use Rattle.cper_pcie.specs.Steps.Filtering.{IsFew}
 use Rattle.cper_pcie.specs.Totals.{Totals}
 use Rattle.cper_pcie.specs.declared.counts.ErrorCounts.{ErrorCounts}
 use Rattle.cper_pcie.specs.declared.section.PcieDevice.{PcieDevice}

@@ -1,12 +1,10 @@
 pub mod Section
 pub mod Bits
 pub mod Devices
-pub mod DeviceLemmas
 pub mod Counts
 pub mod Reports
 pub mod Totals
 pub mod Texts
-pub mod TextSteps
 pub mod Filter
 pub mod Along
 pub mod Steps

@@ -2,9 +2,9 @@
 
 ghost use Rattle.std.specs.Prelude.{◌≡◌, ◌+◌, ◌<◌, ◌≤◌, ◌^◌, [], ◌∷◌, ◌++◌, length, OnOk};
 ghost use Rattle.cper_pcie.specs.Along.{counted_with, fresh_sections};
-ghost use Rattle.cper_pcie.specs.Steps.{none_counted, sections_in};
+ghost use Rattle.cper_pcie.specs.Steps.Filtering.{none_counted, sections_in};
 ghost use Rattle.cper_pcie.specs.Along.{sections_lines, totals_after};
-ghost use Rattle.cper_pcie.specs.Steps.{taken_from};
+ghost use Rattle.cper_pcie.specs.Steps.Filtering.{taken_from};
 ghost use Rattle.cper_pcie.specs.Texts.{read_sections, section_line, totals_text};
 
 use crate::reports::Sections;

@@ -6,7 +6,7 @@ ghost use Rattle.std.specs.Cmp.{partial_equiv_from_equiv};
 ghost use Rattle.cper_pcie.specs.declared.section.PcieSection.{PcieSection};
 ghost use Rattle.cper_pcie.specs.contracts.section.PcieDeviceHash.TheImpl.{hash_input-value as device_input};
 ghost use Rattle.cper_pcie.specs.Devices.{same_device};
-ghost use Rattle.cper_pcie.specs.DeviceLemmas.{same_device-exact, same_device-laws, same_device-fed};
+ghost use Rattle.cper_pcie.specs.Steps.DeviceLemmas.{same_device-exact, same_device-laws, same_device-fed};
 ghost use Rattle.cper_pcie.specs.Counts.{counts_of, pcie_counts_with, errors_with};
 
 use crate::bits::error_count;

@@ -7,7 +7,7 @@ ghost use Rattle.ras_script.specs.declared.reader.TheConstants.{LONGEST_LINE};
 ghost use Rattle.apei_sources.specs.Blocks.{block_of};
 ghost use Rattle.cper_pcie.specs.Reports.{report_in_block, line_report, report_in_store};
 ghost use Rattle.cper_pcie.specs.Along.{counted_after, text_with};
-ghost use Rattle.cper_pcie.specs.Steps.{FewBytes};
+ghost use Rattle.cper_pcie.specs.Steps.Filtering.{FewBytes};
 
 use crate::counted::Counted;
 use crate::reports::{STORED_LENGTH, Sections, fill};

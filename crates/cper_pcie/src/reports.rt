@@ -4,7 +4,7 @@ ghost use Rattle.std.specs.Prelude.{◌≡◌, ◌<◌, ◌≤◌, length, OnOk,
 ghost use Rattle.std.specs.List.{list_any};
 ghost use Rattle.cper_records.specs.Readable.{filled};
 ghost use Rattle.cper_pcie.specs.Reports.{is_pcie};
-ghost use Rattle.cper_pcie.specs.Steps.{sections_in};
+ghost use Rattle.cper_pcie.specs.Steps.Filtering.{sections_in};
 
 use crate::section::is_pcie;
 use apei_sources::Block;

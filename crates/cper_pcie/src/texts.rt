@@ -4,7 +4,7 @@ ghost use Rattle.std.specs.Prelude.{◌≡◌, ◌<◌, ◌++◌, OnOk};
 ghost use Rattle.cper_pcie.specs.Texts.{bit_name, bits_text, device_line, pcie_end_line, few_digits};
 ghost use Rattle.cper_pcie.specs.Texts.{four_digits, id_text, place_text, read_text};
 ghost use Rattle.cper_pcie.specs.Texts.{status_text, told_device, two_digits};
-ghost use Rattle.cper_pcie.specs.TextSteps.{end_text, line_of_section, bit_names_of, next_bit_text};
+ghost use Rattle.cper_pcie.specs.Steps.TextSteps.{end_text, line_of_section, bit_names_of, next_bit_text};
 
 use crate::bits::{correctable_name, uncorrectable_name};
 use crate::section::{PcieDevice, PcieRefused, PcieSection};

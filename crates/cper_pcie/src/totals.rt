@@ -2,7 +2,7 @@
 
 ghost use Rattle.std.specs.Prelude.{◌≡◌, ◌<◌, ◌^◌, ◌++◌, OnOk};
 ghost use Rattle.cper_pcie.specs.Along.{totals_with};
-ghost use Rattle.cper_pcie.specs.Steps.{no_totals};
+ghost use Rattle.cper_pcie.specs.Steps.Filtering.{no_totals};
 ghost use Rattle.cper_pcie.specs.Texts.{device_line, totals_text};
 
 use crate::counts::PcieCounts;
@@ -20,7 +20,7 @@ pub(crate) struct Totals {
 }
 
 impl Model for Totals {
-    ghost use Rattle.cper_pcie.specs.Steps.{AreFew};
+    ghost use Rattle.cper_pcie.specs.Steps.Filtering.{AreFew};
     ghost use Rattle.cper_pcie.specs.Totals.{Totals as Sums};
 
     ghost Value = { Sums };

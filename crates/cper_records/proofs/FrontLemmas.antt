@@ -1,7 +1,7 @@
 -- What is read in the front of bytes is what is read in all of them.
 use Rattle.std.proofs.Common.{◌≡◌, ℕ, ◌+◌, ◌-◌, ◌≤◌, ◌∙◌, List, ◌++◌, length, take, drop, refl, sym, ap, subst, arith, nat_lt, true, false}
 use Rattle.std.proofs.lemmas.List.{take-append-drop, drop-take, length-take, length-drop, take-append-le, length-append, take_at}
-use Rattle.ras_base.specs.LittleEndianLemmas.{number_at-take, number_at-append}
+use Rattle.ras_base.specs.Steps.LittleEndianLemmas.{number_at-take, number_at-append}
 use Rattle.cper_records.specs.Header.{record_length, has_signatures, has_record_length}
 use Rattle.cper_records.specs.Laid.{HasHeader}
 use Rattle.cper_records.specs.Records.{record_of, sections_of}

@@ -6,7 +6,7 @@ use Rattle.std.proofs.lemmas.List.{drop-replicate, length-replicate}
 use Rattle.std.proofs.Math.Seq.{take-append_seam, drop-append_seam}
 use Rattle.dimm_topology.specs.declared.label.TheConstants.{MOST_LABEL_BYTES}
 use Rattle.dimm_topology.specs.Labels.{Bytes, is_label, is_label_byte, is_label_or_none, same_label}
-use Rattle.dimm_topology.specs.LabelRoom.{IsRoom}
+use Rattle.dimm_topology.specs.Steps.LabelRoom.{IsRoom}
 
 and_first : (a b : Bool) → (a && b) ≡ true → a ≡ true
 and_first true b is = refl

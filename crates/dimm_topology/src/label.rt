@@ -8,7 +8,7 @@ ghost use Rattle.std.specs.Cmp.{partial_equiv_from_equiv};
 ghost use Rattle.std.specs.Cmp.Rules.{hashing};
 ghost use Rattle.std.proofs.Common.{rules};
 ghost use Rattle.dimm_topology.specs.Labels.{is_label, is_label_byte, is_label_or_none};
-ghost use Rattle.dimm_topology.specs.LabelLemmas.{same_label-exact};
+ghost use Rattle.dimm_topology.specs.Steps.LabelLemmas.{same_label-exact};
 
 use ras_base::{ExactEq, NoMemory};
 use std::alloc::Global;
@@ -31,7 +31,7 @@ pub struct Label {
 
 impl Model for Label {
     ghost use Rattle.std.specs.Prelude.{ℕ, List, take, length};
-    ghost use Rattle.dimm_topology.specs.LabelRoom.{IsRoom, room_of, room-back, length-back};
+    ghost use Rattle.dimm_topology.specs.Steps.LabelRoom.{IsRoom, room_of, room-back, length-back};
 
     ghost Value = { List ℕ };
 

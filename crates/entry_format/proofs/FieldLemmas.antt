@@ -5,7 +5,7 @@ use Rattle.std.specs.List.{find}
 use Rattle.std.proofs.lemmas.Bool.{ltb-true, ltb-false, lt-ltb, le-ltb, leb-true, le-leb, eqb-true, and_parts, and_from}
 use Rattle.std.proofs.lemmas.List.{take_at, drop_at, take-append-drop, length-take}
 use Rattle.ras_base.specs.LittleEndian.{AreBytes, u16_bytes, u32_bytes, u64_bytes, number_at}
-use Rattle.ras_base.specs.LittleEndianLemmas.{length-u16_bytes, length-u32_bytes, length-u64_bytes, number_at-lt, number_at-u16_bytes, number_at-u32_bytes, number_at-u64_bytes, u16_bytes-number_at, u32_bytes-number_at, u64_bytes-number_at}
+use Rattle.ras_base.specs.Steps.LittleEndianLemmas.{length-u16_bytes, length-u32_bytes, length-u64_bytes, number_at-lt, number_at-u16_bytes, number_at-u32_bytes, number_at-u64_bytes, u16_bytes-number_at, u32_bytes-number_at, u64_bytes-number_at}
 use Rattle.mca_status.specs.Classes.{classes, class_number}
 use Rattle.mca_status.specs.declared.classes.ItemClass.{ItemClass}
 use Rattle.mca_status.specs.declared.classes.ItemClass.TheVariants.{Ce, Ucna, Srao, Srar, Uc, Odd, Corrected, Recoverable, Fatal, Informational}

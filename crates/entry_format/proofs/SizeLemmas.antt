@@ -4,7 +4,7 @@ use Rattle.std.specs.List.{flat_map, AllByRecursion}
 use Rattle.std.proofs.lemmas.Bool.Decides.{nat_tests}
 use Rattle.std.proofs.lemmas.List.Elements.{recursion_from_All}
 use Rattle.ras_base.specs.LittleEndian.{u16_bytes, u64_bytes}
-use Rattle.ras_base.specs.LittleEndianLemmas.{length-u16_bytes, length-u64_bytes}
+use Rattle.ras_base.specs.Steps.LittleEndianLemmas.{length-u16_bytes, length-u64_bytes}
 use Rattle.dimm_topology.specs.Labels.{Bytes, is_label_or_none}
 use Rattle.ras_facts.specs.declared.name.Name.{Name}
 use Rattle.ras_facts.specs.declared.name.Name.TheVariants.{Bank, Record, Block, Boot}

@@ -5,7 +5,7 @@ use Rattle.erst_store.specs.Actions.{set_record_offset}
 use Rattle.erst_store.specs.Store.{Stored}
 use Rattle.erst_store.specs.Device.{Device}
 use Rattle.erst_store.specs.DeviceLaws.{IsDevice}
-use Rattle.erst_store.specs.KeptLemmas.{IsDevice-act, IsDevice-value}
+use Rattle.erst_store.specs.Steps.KeptLemmas.{IsDevice-act, IsDevice-value}
 use Rattle.board_core.specs.Clock.{Passes}
 use Rattle.board_core.specs.Stop.{InStore}
 use Rattle.board_core.specs.Told.{Told, device_of, Relates, StoreBy}
@@ -17,13 +17,13 @@ use Rattle.erst_interp.specs.Faithful.{input_limit, with_input, device_after, an
 use Rattle.erst_interp.specs.Machine.{machine_end}
 use Rattle.erst_interp.specs.Run.{IsRun, Keeps, RunCause}
 use Rattle.board_core.specs.Doing.{Seen}
-use Rattle.erst_interp.specs.Steps.{GoesWell}
+use Rattle.erst_interp.specs.Steps.Running.{GoesWell}
 use Rattle.erst_interp.specs.Table.{list_of}
 use Rattle.erst_interp.proofs.BreakLemmas.{off_more}
 use Rattle.erst_interp.proofs.TouchLemmas.{well_more, fails_more}
 use Rattle.erst_driver.specs.declared.step.Step.{Step}
 use Rattle.erst_driver.specs.Operations.{Inside, after_step, after_steps, device_calls, end_by, told_by_step}
-use Rattle.erst_driver.specs.Steps.{Over, Plan, ComesThrough, StoreIn, Tells, CutIn, FailsIn, Acted}
+use Rattle.erst_driver.specs.Steps.Operating.{Over, Plan, ComesThrough, StoreIn, Tells, CutIn, FailsIn, Acted}
 use Rattle.erst_driver.proofs.PlanLemmas.{told_step}
 
 some_is : (x y : Told) → Some x ≡ Some y → x ≡ y

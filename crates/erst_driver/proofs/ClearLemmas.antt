@@ -7,13 +7,13 @@ use Rattle.erst_store.specs.declared.device.CommandStatus.{CommandStatus}
 use Rattle.erst_store.specs.declared.device.CommandStatus.TheVariants.{Success, StoreEmpty, NotFound}
 use Rattle.erst_store.specs.Actions.{execute_operation, set_record_identifier}
 use Rattle.erst_store.specs.Store.{Stored, holds, without}
-use Rattle.erst_store.specs.StoreLemmas.{without-absent}
+use Rattle.erst_store.specs.Steps.StoreLemmas.{without-absent}
 use Rattle.erst_store.specs.Device.{Device, act, busy_device}
 use Rattle.erst_store.specs.DeviceLaws.{IsDevice}
 use Rattle.board_core.specs.Told.{Told, device_of}
 use Rattle.erst_driver.specs.Operations.{actions_of, clear_steps, after_steps}
 use Rattle.erst_driver.specs.Answers.{found_status, answer_of, answer_on_found}
-use Rattle.erst_driver.specs.Steps.{Clears, StoreIn, ComesThrough}
+use Rattle.erst_driver.specs.Steps.Operating.{Clears, StoreIn, ComesThrough}
 use Rattle.erst_driver.proofs.OperationLemmas.{Carries, through_operation, store_after, answer_is}
 
 without-empty : (id : ℕ) (rs : List Stored) → nat_eq (length rs) 0 ≡ true → rs ≡ without id rs

@@ -4,7 +4,7 @@ use Rattle.std.specs.Prelude.{◌⊎◌, IfSome}
 use Rattle.board_core.specs.Told.{Told, device_of}
 use Rattle.erst_store.specs.DeviceLaws.{IsDevice}
 use Rattle.erst_interp.specs.declared.entries.InstructionEntry.{InstructionEntry}
-use Rattle.erst_driver.specs.Steps.{Over, HasDevice, Called}
+use Rattle.erst_driver.specs.Steps.Operating.{Over, HasDevice, Called}
 
 pub device_before : (lists : List (List InstructionEntry)) → (old now : Option Told) → (now ≡ old) ⊎ HasDevice lists old → HasDevice lists now → HasDevice lists old
 device_before lists old now (inl same) device = subst (HasDevice lists) same device

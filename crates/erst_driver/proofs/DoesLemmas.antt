@@ -7,7 +7,7 @@ use Rattle.erst_store.specs.Device.{Device}
 use Rattle.erst_store.specs.Store.{Stored}
 use Rattle.board_core.specs.Cause.{device_call}
 use Rattle.board_core.specs.Clock.{Adds, LeftNow, Passes, Rests}
-use Rattle.board_core.specs.ClockLemmas.{adds_at_rest, rests_stored}
+use Rattle.board_core.specs.Steps.ClockLemmas.{adds_at_rest, rests_stored}
 use Rattle.board_core.specs.Doing.{DeviceCall, Does, FailsActs, Moment, Raises, Seen, TornDevice, after_acts, after_device, broke, ended_by, went_well, reg_read, reg_write, range_read, range_write, put}
 use Rattle.board_core.specs.Stop.{Becomes, InStore, Left}
 use Rattle.board_core.specs.Told.{Relates, Told}
@@ -21,7 +21,7 @@ use Rattle.erst_interp.proofs.MomentLemmas.{here_after}
 use Rattle.erst_driver.specs.declared.refusals.DriverRefused.{DriverRefused}
 use Rattle.erst_driver.specs.declared.refusals.DriverRefused.TheVariants.{Register, Busy, NoMemory, Status as EndedWith}
 use Rattle.erst_driver.specs.declared.step.Step.{Step}
-use Rattle.erst_driver.specs.Steps.{HasCall, Stays, Leaves}
+use Rattle.erst_driver.specs.Steps.Operating.{HasCall, Stays, Leaves}
 use Rattle.erst_driver.specs.Answers.{DoesListing, HasCauseIn, IsMemoryOnly, IsAnswered, refusal_end}
 use Rattle.erst_driver.specs.Operations.{AreInside, Inside, checks, device_calls, end_by, ends, finishes, is_free_in_time, asks, most_checks, without_input}
 

@@ -14,7 +14,7 @@ use Rattle.erst_driver.specs.declared.refusals.DriverRefused.TheVariants.{Regist
 use Rattle.erst_driver.specs.declared.step.Step.{Step}
 use Rattle.erst_driver.specs.Operations.{without_input, checks, is_free_in_time, asks, ends, finishes, actions_of, after_steps, most_checks}
 use Rattle.erst_driver.specs.Answers.{by_status, answer_within, answer_at, answer_of}
-use Rattle.erst_driver.specs.Steps.{Over, IsBeginning, Done, Acted, Acts, Runs, Operates, Answered}
+use Rattle.erst_driver.specs.Steps.Operating.{Over, IsBeginning, Done, Acted, Acts, Runs, Operates, Answered}
 use Rattle.erst_driver.proofs.PlanLemmas.{done_then, fails_then, fails_as, done_as, refused_in_operation, over_both, over_more, over_after, everywhere}
 use Rattle.erst_driver.proofs.WaitLemmas.{checked}
 

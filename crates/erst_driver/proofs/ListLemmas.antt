@@ -5,7 +5,7 @@ use Rattle.std.proofs.lemmas.Option.{slice_get_within, slice_get_cases}
 use Rattle.std.specs.Prelude.{◌⊎◌, slice_get, Result, Ok, Err, IfOk, IfSome}
 use Rattle.std.specs.List.{AllByRecursion}
 use Rattle.erst_store.specs.Actions.{get_record_identifier}
-use Rattle.erst_store.specs.ActionLemmas.{length-ids}
+use Rattle.erst_store.specs.Steps.ActionLemmas.{length-ids}
 use Rattle.erst_store.specs.Store.{Stored, Fits, all_ones, most_records, ids}
 use Rattle.erst_store.specs.Device.{Device, act, after_id}
 use Rattle.erst_store.specs.DeviceLaws.{IsDevice, left_to_list}
@@ -16,14 +16,14 @@ use Rattle.erst_interp.specs.declared.entries.InstructionEntry.{InstructionEntry
 use Rattle.erst_interp.specs.Faithful.{answer_after}
 use Rattle.erst_interp.specs.Run.{Keeps}
 use Rattle.board_core.specs.Doing.{Seen}
-use Rattle.erst_interp.specs.Steps.{GoesWell}
+use Rattle.erst_interp.specs.Steps.Running.{GoesWell}
 use Rattle.erst_interp.proofs.TouchLemmas.{well_more, fails_more, well_both, well_fails}
 use Rattle.erst_driver.specs.declared.refusals.DriverRefused.{DriverRefused}
 use Rattle.erst_driver.specs.declared.refusals.DriverRefused.TheVariants.{Register, Busy, Status, NoMemory}
 use Rattle.erst_driver.specs.declared.step.Step.{Step}
 use Rattle.erst_driver.specs.Operations.{without_input, listings, ids_steps, after_step, after_steps, device_calls, list_calls, told_by}
 use Rattle.erst_driver.specs.Answers.{IsMemoryOnly, HasCauseIn}
-use Rattle.erst_driver.specs.Steps.{Begins, HasCall, Leaves, Stays, Over, HasDevice, Starves, Plan, ComesThrough, StoreIn, Done, CutIn, FailsIn, IsBeginning, Acted, Acts, Quietly, FailsQuietly, EndsListing, ListsOut, Collected, Collects, ListsAll, Tells}
+use Rattle.erst_driver.specs.Steps.Operating.{Begins, HasCall, Leaves, Stays, Over, HasDevice, Starves, Plan, ComesThrough, StoreIn, Done, CutIn, FailsIn, IsBeginning, Acted, Acts, Quietly, FailsQuietly, EndsListing, ListsOut, Collected, Collects, ListsAll, Tells}
 use Rattle.erst_interp.specs.Admission.{IsAdmittedTable}
 use Rattle.erst_driver.proofs.DeviceLemmas.{over_told}
 use Rattle.erst_driver.proofs.DoesLemmas.{has_call}

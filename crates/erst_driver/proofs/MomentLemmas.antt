@@ -5,7 +5,7 @@ use Rattle.ras_base.specs.LittleEndian.{AreBytes, number_at}
 use Rattle.erst_store.specs.Actions.{range_length}
 use Rattle.erst_store.specs.Device.{Device, header_length, length_place}
 use Rattle.erst_store.specs.DeviceLaws.{IsDevice, left_to_list}
-use Rattle.erst_store.specs.KeptLemmas.{IsDevice-range}
+use Rattle.erst_store.specs.Steps.KeptLemmas.{IsDevice-range}
 use Rattle.erst_store.specs.Store.{Stored, most_records, without}
 use Rattle.board_core.specs.Doing.{Act, DeviceCall, Moment, after_acts}
 use Rattle.board_core.specs.Stop.{Becomes, InStore, Left}
@@ -24,7 +24,7 @@ use Rattle.erst_driver.specs.declared.refusals.DriverRefused.{DriverRefused}
 use Rattle.erst_driver.specs.declared.step.Step.{Step}
 use Rattle.erst_driver.specs.Answers.{answer_on_found, found_status, put_status, read_calls, store_after_write, written_id}
 use Rattle.erst_driver.specs.Operations.{AreInside, Inside, actions_of, after_step, after_steps, clear_calls, clear_steps, device_calls, end_by, fetch_calls, ids_steps, list_calls, listings, put_in_range, read_steps, told_by, told_by_step, write_calls, write_steps}
-use Rattle.erst_driver.specs.Steps.{ComesThrough}
+use Rattle.erst_driver.specs.Steps.Operating.{ComesThrough}
 use Rattle.erst_driver.proofs.ActLemmas.{is_device_after}
 use Rattle.erst_driver.proofs.ClearLemmas.{clear_carries}
 use Rattle.erst_driver.proofs.DoesLemmas.{inside_both}

@@ -15,7 +15,7 @@ use Rattle.erst_driver.specs.declared.refusals.DriverRefused.TheVariants.{Regist
 use Rattle.erst_driver.specs.declared.step.Step.{Step}
 use Rattle.erst_driver.specs.Operations.{without_input, checks, is_free_in_time, asks, ends, finishes, actions_of, after_step, after_steps, device_calls, told_by, most_checks}
 use Rattle.erst_driver.specs.Answers.{Answer, by_status, answer_of, Gives, HasCauseIn}
-use Rattle.erst_driver.specs.Steps.{Leaves, Over, Plan, ComesThrough, StoreIn, Done, Operates}
+use Rattle.erst_driver.specs.Steps.Operating.{Leaves, Over, Plan, ComesThrough, StoreIn, Done, Operates}
 use Rattle.erst_driver.proofs.PlanLemmas.{everywhere, over_more, after_both}
 use Rattle.erst_driver.proofs.WaitLemmas.{checked}
 

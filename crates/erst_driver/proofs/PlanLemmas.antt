@@ -11,7 +11,7 @@ use Rattle.erst_interp.specs.declared.entries.InstructionEntry.{InstructionEntry
 use Rattle.erst_interp.specs.Run.{IsCutShort, acts_of}
 use Rattle.erst_interp.specs.Table.{list_of}
 use Rattle.board_core.specs.Doing.{Seen}
-use Rattle.erst_interp.specs.Steps.{GoesWell}
+use Rattle.erst_interp.specs.Steps.Running.{GoesWell}
 use Rattle.erst_interp.proofs.BreakLemmas.{off_as, off_more, off_after}
 use Rattle.erst_interp.proofs.BreakLemmas.{after_both as after_runs}
 use Rattle.erst_interp.proofs.RunLemmas.{end_device}
@@ -20,7 +20,7 @@ use Rattle.erst_driver.specs.declared.refusals.DriverRefused.{DriverRefused}
 use Rattle.erst_driver.specs.declared.refusals.DriverRefused.TheVariants.{Register, Busy, Status, NoMemory}
 use Rattle.erst_driver.specs.declared.step.Step.{Step}
 use Rattle.erst_driver.specs.Operations.{after_step, after_steps, device_calls, end_by, told_by_step, told_by}
-use Rattle.erst_driver.specs.Steps.{Begins, HasCall, Over, Plan, ComesThrough, StoreIn, Tells, Done, CutIn, FailsIn, IsBeginning, Acted, Acts, Runs, Operates}
+use Rattle.erst_driver.specs.Steps.Operating.{Begins, HasCall, Over, Plan, ComesThrough, StoreIn, Tells, Done, CutIn, FailsIn, IsBeginning, Acted, Acts, Runs, Operates}
 
 -- one plan, and then another over the device after it
 abbrev pub both_plans : Plan → Plan → Plan

@@ -16,8 +16,8 @@ use Rattle.board_core.specs.Told.{Told, device_of, Relates}
 use Rattle.erst_interp.specs.declared.entries.InstructionEntry.{InstructionEntry}
 use Rattle.erst_interp.specs.Run.{Keeps, IsCutShort, acts_of}
 use Rattle.board_core.specs.Doing.{DeviceCall, Seen, after_acts, range_read}
-use Rattle.erst_interp.specs.Steps.{Fails}
-use Rattle.erst_interp.specs.Steps.{Stays as Unchanged}
+use Rattle.erst_interp.specs.Steps.Running.{Fails}
+use Rattle.erst_interp.specs.Steps.Running.{Stays as Unchanged}
 use Rattle.erst_interp.proofs.BreakLemmas.{off_more, off_after}
 use Rattle.erst_interp.proofs.BreakLemmas.{after_both as after_runs}
 use Rattle.erst_interp.proofs.TouchLemmas.{well_fails}
@@ -26,7 +26,7 @@ use Rattle.erst_driver.specs.declared.refusals.DriverRefused.{DriverRefused}
 use Rattle.erst_driver.specs.declared.refusals.DriverRefused.TheVariants.{Register, Busy, NoMemory, Status as EndedWith}
 use Rattle.erst_driver.specs.Operations.{is_free_in_time, actions_of, read_steps, after_steps, device_calls, fetch_calls, told_by}
 use Rattle.erst_driver.specs.Answers.{read_calls, Answer, by_status, found_status, answer_of, answer_on_found, Gives, HasCauseIn, HoldsRecord}
-use Rattle.erst_driver.specs.Steps.{Leaves, Stays, Over, HasDevice, StoreIn, ComesThrough, Done, FailsFetch, Answered, Operates, Reads, Fetched}
+use Rattle.erst_driver.specs.Steps.Operating.{Leaves, Stays, Over, HasDevice, StoreIn, ComesThrough, Done, FailsFetch, Answered, Operates, Reads, Fetched}
 use Rattle.erst_driver.proofs.PlanLemmas.{over_device, over_both_device, over_both, over_more, everywhere}
 use Rattle.erst_driver.proofs.DeviceLemmas.{over_told}
 use Rattle.erst_driver.proofs.OperationLemmas.{Carries, through_operation, range_after, answer_is, passes_at}

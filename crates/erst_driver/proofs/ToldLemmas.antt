@@ -13,7 +13,7 @@ use Rattle.erst_interp.proofs.RunLemmas.{end_device}
 use Rattle.erst_driver.proofs.ActLemmas.{is_device_after}
 use Rattle.erst_driver.proofs.PlanLemmas.{told_step}
 use Rattle.ras_base.specs.LittleEndian.{AreBytes, number_at}
-use Rattle.erst_store.specs.KeptLemmas.{IsDevice-range}
+use Rattle.erst_store.specs.Steps.KeptLemmas.{IsDevice-range}
 use Rattle.erst_driver.specs.Answers.{put_status, store_after_write, written_id}
 use Rattle.erst_driver.proofs.ClearLemmas.{clear_store}
 use Rattle.erst_driver.proofs.OperationLemmas.{store_after}

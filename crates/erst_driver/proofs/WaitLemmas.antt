@@ -12,7 +12,7 @@ use Rattle.erst_driver.specs.declared.refusals.DriverRefused.{DriverRefused}
 use Rattle.erst_driver.specs.declared.refusals.DriverRefused.TheVariants.{Busy}
 use Rattle.erst_driver.specs.declared.step.Step.{Step}
 use Rattle.erst_driver.specs.Operations.{without_input, checks, after_step, after_steps}
-use Rattle.erst_driver.specs.Steps.{Over, asks_within, answers_within, IsBeginning, Done, Acted, Acts, Operates}
+use Rattle.erst_driver.specs.Steps.Operating.{Over, asks_within, answers_within, IsBeginning, Done, Acted, Acts, Operates}
 use Rattle.erst_driver.proofs.PlanLemmas.{done_then, done_as, refused_in_operation, over_both, over_more, over_after, everywhere}
 
 abbrev check : Step

@@ -4,7 +4,7 @@ use Rattle.std.proofs.Math.Seq.{take-append_seam}
 use Rattle.std.proofs.lemmas.Bool.Decides.{nat_tests}
 use Rattle.std.specs.Prelude.{◌⊎◌, Ok, Err, IfSome}
 use Rattle.ras_base.specs.LittleEndian.{AreBytes, number_at}
-use Rattle.ras_base.specs.LittleEndianLemmas.{number_at-append}
+use Rattle.ras_base.specs.Steps.LittleEndianLemmas.{number_at-append}
 use Rattle.erst_store.specs.declared.device.Command.TheVariants.{Write}
 use Rattle.erst_store.specs.declared.device.CommandStatus.{CommandStatus}
 use Rattle.erst_store.specs.declared.device.CommandStatus.TheVariants.{Success, NotEnoughSpace}
@@ -12,20 +12,20 @@ use Rattle.erst_store.specs.Actions.{execute_operation, set_record_offset, range
 use Rattle.erst_store.specs.Store.{Stored, with_record, is_reserved, is_full_for}
 use Rattle.erst_store.specs.Device.{Device, act, busy_device, range_with, header_length, length_place, length_at, id_at, record_at, is_record_out, is_write_refused}
 use Rattle.erst_store.specs.DeviceLaws.{IsDevice}
-use Rattle.erst_store.specs.KeptLemmas.{IsDevice-range}
+use Rattle.erst_store.specs.Steps.KeptLemmas.{IsDevice-range}
 use Rattle.board_core.specs.Clock.{Passes, LeftNow}
 use Rattle.board_core.specs.Stop.{Left, InStore}
 use Rattle.board_core.specs.Told.{Told, device_of, Relates, Steps}
 use Rattle.erst_interp.specs.declared.entries.InstructionEntry.{InstructionEntry}
 use Rattle.erst_interp.specs.Run.{Keeps, IsCutShort}
 use Rattle.board_core.specs.Doing.{Seen, range_write}
-use Rattle.erst_interp.specs.Steps.{GoesWell, Fails, Stays}
+use Rattle.erst_interp.specs.Steps.Running.{GoesWell, Fails, Stays}
 use Rattle.erst_interp.proofs.BreakLemmas.{off_more, off_after}
 use Rattle.erst_interp.proofs.TouchLemmas.{well_both, well_fails, fails_more}
 use Rattle.erst_driver.specs.declared.refusals.DriverRefused.TheVariants.{Register, Busy, NoMemory, Status as EndedWith}
 use Rattle.erst_driver.specs.Operations.{actions_of, write_steps, after_steps, device_calls, put_in_range, write_calls}
 use Rattle.erst_driver.specs.Answers.{Answer, answer_of, written_id, is_put_refused, put_status, store_after_write, answer_on_put, Gives, HasCauseIn}
-use Rattle.erst_driver.specs.Steps.{Leaves, Puts, Over, StoreIn, ComesThrough, Tells, Done, Operates, StoreInWrite, Written, FailsWrite, Writes}
+use Rattle.erst_driver.specs.Steps.Operating.{Leaves, Puts, Over, StoreIn, ComesThrough, Tells, Done, Operates, StoreInWrite, Written, FailsWrite, Writes}
 use Rattle.erst_driver.proofs.PlanLemmas.{over_at, over_more, everywhere}
 use Rattle.erst_driver.proofs.OperationLemmas.{Carries, through_operation, answer_is, passes_at}
 

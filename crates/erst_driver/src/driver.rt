@@ -7,7 +7,7 @@ ghost use Rattle.board_core.specs.Stop.{InStore};
 ghost use Rattle.board_core.specs.Told.{Relates, Steps, device_of, with_access};
 ghost use Rattle.board_core.specs.declared.board.Access.TheVariants.{RangeRead};
 ghost use Rattle.erst_store.specs.Actions.{range_length};
-ghost use Rattle.erst_interp.specs.Steps.{Touches, Stays as Unchanged};
+ghost use Rattle.erst_interp.specs.Steps.Running.{Touches, Stays as Unchanged};
 ghost use Rattle.ras_base.specs.LittleEndian.{AreBytes, number_at};
 ghost use Rattle.erst_store.specs.Device.{header_length, length_place};
 ghost use Rattle.erst_store.specs.DeviceLaws.{IsDevice};
@@ -16,7 +16,7 @@ ghost use Rattle.erst_interp.specs.Admission.{IsAdmittedTable};
 ghost use Rattle.erst_interp.specs.Run.{Keeps, IsCutShort, acts_of};
 ghost use Rattle.erst_driver.specs.Operations.{AreInside, Inside, actions_of, asks, finishes, clear_calls, list_calls, write_calls, put_in_range};
 ghost use Rattle.erst_driver.specs.Answers.{read_calls, refusal_end, DoesListing, answer_within, answer_at, answer_of, answer_on_found, Gives, HasCauseIn, HoldsRecord, IsAnswered, IsMemoryOnly, written_id, answer_on_put};
-ghost use Rattle.erst_driver.specs.Steps.{asks_within, answers_within, HasDevice, CalledAs, Acts, Runs, Operates, Reads, ListsOut, Collects, ListsAll, Writes};
+ghost use Rattle.erst_driver.specs.Steps.Operating.{asks_within, answers_within, HasDevice, CalledAs, Acts, Runs, Operates, Reads, ListsOut, Collects, ListsAll, Writes};
 
 use crate::refusals::DriverRefused;
 use crate::step::{Step, clear_steps, read_steps, write_steps};

@@ -10,7 +10,7 @@ use Rattle.erst_interp.specs.declared.entries.InstructionEntry.{InstructionEntry
 use Rattle.erst_interp.specs.declared.refusals.RunRefused.{RunRefused}
 use Rattle.erst_interp.specs.declared.refusals.RunRefused.TheVariants.{Register, Fuel, BadInstruction, BadRegister, BadRange}
 use Rattle.erst_interp.specs.Machine.{End, start}
-use Rattle.erst_interp.specs.Steps.{start_over, end_over, StoreOver}
+use Rattle.erst_interp.specs.Steps.Running.{start_over, end_over, StoreOver}
 use Rattle.erst_interp.specs.Run.{IsRun, StoreInRun, told_after}
 use Rattle.erst_interp.specs.Admission.{IsAdmitted}
 use Rattle.erst_interp.specs.Faithful.{input_limit, device_after, IsFaithful, DoesRun}

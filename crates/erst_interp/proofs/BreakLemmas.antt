@@ -17,10 +17,10 @@ use Rattle.erst_interp.specs.declared.machine.Variables.{Variables}
 use Rattle.erst_interp.specs.declared.machine.Use.TheVariants.{Writes, Changes, Moves}
 use Rattle.erst_interp.specs.declared.refusals.RunRefused.TheVariants.{Register, BadRange}
 use Rattle.erst_interp.specs.Machine.{MachineState, goes, stops, new_variables, with_variables, next, after_register_read, after_register_write, after_field, after_move, with_field, alone, field_in, field_of, moved, is_inside}
-use Rattle.erst_interp.specs.Parts.{given, changed, used_by}
+use Rattle.erst_interp.specs.Steps.Parts.{given, changed, used_by}
 use Rattle.erst_interp.specs.Run.{IsCutShort, acts_of}
-use Rattle.erst_interp.specs.Steps.{BreaksIn, Turns, IsRead, IsFieldRead, IsPlace, state_in, state_of}
-use Rattle.erst_interp.specs.Steps as Steps
+use Rattle.erst_interp.specs.Steps.Running.{BreaksIn, Turns, IsRead, IsFieldRead, IsPlace, state_in, state_of}
+use Rattle.erst_interp.specs.Steps.Running as Steps
 
 -- ---- calls before and after others
 

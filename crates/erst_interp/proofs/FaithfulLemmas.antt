@@ -6,8 +6,8 @@ use Rattle.erst_store.specs.Store.{Stored}
 use Rattle.erst_store.specs.Actions.{set_record_offset, check_busy_status, get_command_status, get_record_identifier, get_record_count}
 use Rattle.erst_store.specs.Device.{Device, act}
 use Rattle.erst_store.specs.DeviceLaws.{IsDevice}
-use Rattle.erst_store.specs.ActionLemmas.{forgets, busy_answer, status_answer, id_answer, count_answer}
-use Rattle.ras_base.specs.ExactLemmas.{nat_exact}
+use Rattle.erst_store.specs.Steps.ActionLemmas.{forgets, busy_answer, status_answer, id_answer, count_answer}
+use Rattle.ras_base.specs.Steps.ExactLemmas.{nat_exact}
 use Rattle.board_core.specs.declared.board.Reg.TheVariants.{Action, Value}
 use Rattle.erst_interp.specs.declared.entries.InstructionEntry.{InstructionEntry}
 use Rattle.erst_interp.specs.Machine.{MachineState, turn, end_from, most_turns, alone}

@@ -13,9 +13,9 @@ use Rattle.erst_interp.specs.declared.refusals.RunRefused.{RunRefused}
 use Rattle.erst_interp.specs.declared.refusals.RunRefused.TheVariants.{Register, Fuel, BadInstruction, BadRegister, BadRange}
 use Rattle.std.specs.Prelude.{Err}
 use Rattle.erst_interp.specs.Machine.{MachineState, Outcome, new_variables, with_field, alone, after_field, after_register_write, after_register_read, field_of}
-use Rattle.erst_interp.specs.Parts.{given, changed, used_by}
+use Rattle.erst_interp.specs.Steps.Parts.{given, changed, used_by}
 use Rattle.board_core.specs.Doing.{Seen}
-use Rattle.erst_interp.specs.Steps.{GoesWell, TouchesAs, Stays, IsRead, IsFieldRead, StoreIn, StoreInTurn, state_in}
+use Rattle.erst_interp.specs.Steps.Running.{GoesWell, TouchesAs, Stays, IsRead, IsFieldRead, StoreIn, StoreInTurn, state_in}
 use Rattle.erst_interp.proofs.TouchLemmas.{well_then_well, well_then_fails, well_more, fails_more}
 
 -- a store may stay, whatever is done

@@ -2,11 +2,11 @@
 use Rattle.std.proofs.Common.{◌≡◌, ◌≢◌, ◌∙◌, ℕ, zero, suc, ◌+◌, ◌-◌, ◌<◌, ◌≤◌, Bool, true, false, nat_eq, List, [], ◌∷◌, ◌++◌, length, map, drop, set, get_or, refl, sym, ap, arith, append_assoc, append-nil, true≢false, if◌then◌else◌, zero-add}
 use Rattle.std.proofs.lemmas.List.FromFn.{get_or-map-range_with_len, length-map-range_with_len}
 use Rattle.std.proofs.lemmas.List.{ext_get_or, get_or-set_same, get_or-set_other, length-set, map-set}
-use Rattle.ras_base.specs.ExactLemmas.{nat_exact, nat_own}
+use Rattle.ras_base.specs.Steps.ExactLemmas.{nat_exact, nat_own}
 use Rattle.erst_interp.specs.declared.entries.InstructionEntry.{InstructionEntry}
 use Rattle.erst_interp.specs.Entries.{entry_of}
 use Rattle.erst_interp.specs.Table.{list_of, lists_of, entries_for, instructions_at}
-use Rattle.erst_interp.specs.Lists.{AreEmpty, with_entry}
+use Rattle.erst_interp.specs.Steps.Lists.{AreEmpty, with_entry}
 
 -- Lists that hold the entries before, and will hold those that follow.
 pub record Hold (all : List InstructionEntry) (lists : List (List InstructionEntry)) (left : List InstructionEntry) : Type 0 where

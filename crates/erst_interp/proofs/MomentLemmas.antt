@@ -20,9 +20,9 @@ use Rattle.erst_interp.specs.declared.refusals.RunRefused.TheVariants.{Fuel, Bad
 use Rattle.erst_interp.specs.Admission.{IsAdmitted}
 use Rattle.erst_interp.specs.Faithful.{device_after, input_limit}
 use Rattle.erst_interp.specs.Machine.{MachineState, Outcome, goes, stops, turn, end_from, machine_end, most_turns, at_entry, after_turn, new_variables, start, after_field, after_move, after_register_read, after_register_write, alone, field_in, is_inside, moved, next, with_field, with_register, with_variables}
-use Rattle.erst_interp.specs.Parts.{changed, given, turn_by, used_by, work_of}
+use Rattle.erst_interp.specs.Steps.Parts.{changed, given, turn_by, used_by, work_of}
 use Rattle.erst_interp.specs.Run.{PassesStore, acts_of, told_after}
-use Rattle.erst_interp.specs.Steps.{state_in, state_of}
+use Rattle.erst_interp.specs.Steps.Running.{state_in, state_of}
 use Rattle.erst_interp.proofs.BreakLemmas.{acts_both}
 use Rattle.erst_interp.proofs.FaithfulLemmas.{done}
 use Rattle.erst_interp.proofs.RunLemmas.{ToldBy, comes_through, here, in_turn, state_at, turn_at, turn_device}

@@ -8,7 +8,7 @@ use Rattle.erst_store.specs.DeviceLaws.{IsDevice}
 use Rattle.erst_interp.specs.declared.entries.Instruction.{Instruction}
 use Rattle.erst_interp.specs.declared.entries.InstructionEntry.{InstructionEntry}
 use Rattle.erst_interp.specs.Admission.{IsAdmitted, is_act, is_constant, is_action, is_whole}
-use Rattle.erst_interp.specs.Parts.{uses_register, is_use, work_of}
+use Rattle.erst_interp.specs.Steps.Parts.{uses_register, is_use, work_of}
 use Rattle.erst_interp.proofs.LeadLemmas.{both_true}
 use Rattle.erst_interp.proofs.RoleLemmas.{constant_is}
 

@@ -2,7 +2,7 @@
 use Rattle.std.proofs.Common.{length, ◌≡◌, ◌∙◌, ℕ, zero, suc, ◌+◌, ◌-◌, ◌*◌, ◌/◌, ◌%◌, ◌^◌, ◌<◌, ◌≤◌, Bool, true, false, ◌&&◌, not, nat_eq, Option, Some, None, refl, sym, ap, subst, arith, true≢false, if◌then◌else◌, bit_and}
 use Rattle.std.proofs.lemmas.Nat.{and_mask, and_assoc, and_comm}
 use Rattle.std.proofs.Math.Nat.{mod-eq_of_lt, mul-one, div-one}
-use Rattle.ras_base.specs.ExactLemmas.{nat_exact}
+use Rattle.ras_base.specs.Steps.ExactLemmas.{nat_exact}
 use Rattle.erst_store.specs.Actions.{execute_operation, check_busy_status}
 use Rattle.board_core.specs.Doing.{reg_read, reg_write}
 use Rattle.board_core.specs.declared.board.Reg.{Reg}

@@ -10,7 +10,7 @@ use Rattle.erst_interp.specs.declared.machine.Variables.{Variables}
 use Rattle.erst_interp.specs.declared.refusals.RunRefused.{RunRefused}
 use Rattle.erst_interp.specs.declared.refusals.RunRefused.TheVariants.{Register, Fuel, BadInstruction, BadRegister, BadRange}
 use Rattle.erst_interp.specs.Machine.{MachineState, Outcome, goes, stops, turn, End, end_from, machine_end, most_turns, at_entry, after_turn, new_variables, after_field, after_move, after_register_read, after_register_write, alone, field_in, is_inside, moved, next, with_field, with_register, with_variables}
-use Rattle.erst_interp.specs.Parts.{changed, given, turn_by, used_by, work_of}
+use Rattle.erst_interp.specs.Steps.Parts.{changed, given, turn_by, used_by, work_of}
 use Rattle.erst_interp.specs.declared.entries.Instruction.{Instruction}
 use Rattle.erst_interp.specs.declared.machine.Use.{Use}
 use Rattle.erst_interp.specs.declared.machine.Use.TheVariants.{Reads, Writes, Changes, Moves}
@@ -20,7 +20,7 @@ use Rattle.erst_store.specs.Actions.{range_address}
 use Rattle.erst_store.specs.Device.{Device}
 use Rattle.erst_interp.specs.Run.{Keeps, PassesStore, IsCutShort, AtNext, AfterTurn, IsRun, acts_of, told_after}
 use Rattle.board_core.specs.Doing.{Seen}
-use Rattle.erst_interp.specs.Steps.{start_over, end_within, StoreWithin, GoesWell, Fails, TouchesAs, Turns, StoreInTurn, state_in, state_of}
+use Rattle.erst_interp.specs.Steps.Running.{start_over, end_within, StoreWithin, GoesWell, Fails, TouchesAs, Turns, StoreInTurn, state_in, state_of}
 use Rattle.erst_interp.proofs.BreakLemmas.{after_both, off_as, off_more}
 use Rattle.erst_interp.proofs.ShiftedLemmas.{end_made, passes_shifted, refused_on, shifted, shifted_outcome, told_on, turn-shifted}
 use Rattle.erst_interp.proofs.TurnLemmas.{by_kind}

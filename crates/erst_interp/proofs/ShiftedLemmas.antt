@@ -17,10 +17,10 @@ use Rattle.erst_interp.specs.declared.machine.Variables.{Variables}
 use Rattle.erst_interp.specs.declared.refusals.RunRefused.{RunRefused}
 use Rattle.erst_interp.specs.declared.refusals.RunRefused.TheVariants.{Register, Fuel, BadInstruction, BadRegister, BadRange}
 use Rattle.erst_interp.specs.Machine.{MachineState, Outcome, goes, stops, turn, End, end_from, at_entry, after_turn, with_variables, with_register, next, after_register_read, after_register_write, after_field, after_move, after_range_read, after_range_write_at, field_in, with_field, alone, moved, is_inside}
-use Rattle.erst_interp.specs.Parts.{turn_by, used_by, taken, given, changed, work_of}
+use Rattle.erst_interp.specs.Steps.Parts.{turn_by, used_by, taken, given, changed, work_of}
 use Rattle.erst_interp.specs.Run.{PassesStore, AtNext, AfterTurn, IsCutShort, acts_of, told_after}
-use Rattle.erst_interp.specs.Steps.{IsFieldRead, Turns, state_in, state_of}
-use Rattle.erst_interp.specs.Steps as Steps
+use Rattle.erst_interp.specs.Steps.Running.{IsFieldRead, Turns, state_in, state_of}
+use Rattle.erst_interp.specs.Steps.Running as Steps
 use Rattle.erst_interp.proofs.BreakLemmas.{after_both, off_after, off_as}
 use Rattle.erst_interp.proofs.TurnLemmas.{by_kind}
 

@@ -2,7 +2,7 @@
 use Rattle.std.proofs.Common.{◌≡◌, ℕ, ◌-◌, ◌+◌, Bool, true, false, Option, Some, None, nat_lt, refl, sym, subst, if◌then◌else◌}
 use Rattle.std.proofs.Common.{inl, inr}
 use Rattle.std.specs.Prelude.{nat_eq, length, List, slice_get}
-use Rattle.erst_store.specs.ActionLemmas.{effect_does}
+use Rattle.erst_store.specs.Steps.ActionLemmas.{effect_does}
 use Rattle.erst_store.specs.declared.device.Command.{Command}
 use Rattle.erst_store.specs.declared.device.Command.TheVariants.{Write, Read, Clear, Dummy}
 use Rattle.erst_store.specs.declared.device.CommandStatus.TheVariants.{NotEnoughSpace, NotFound, StoreEmpty, Success}

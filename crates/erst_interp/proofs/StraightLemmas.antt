@@ -16,7 +16,7 @@ use Rattle.erst_interp.specs.declared.machine.Work.{Work}
 use Rattle.erst_interp.specs.declared.machine.Work as Work
 use Rattle.erst_interp.specs.declared.refusals.RunRefused.{RunRefused}
 use Rattle.erst_interp.specs.declared.refusals.RunRefused.TheVariants.{Register, Fuel, BadInstruction, BadRegister, BadRange}
-use Rattle.erst_interp.specs.Parts.{taken, computed, is_straight, is_straight_by, is_straight_at, is_straight_use, is_straight_computed, GoesOn, work_of}
+use Rattle.erst_interp.specs.Steps.Parts.{taken, computed, is_straight, is_straight_by, is_straight_at, is_straight_use, is_straight_computed, GoesOn, work_of}
 use Rattle.erst_interp.specs.Faithful.{IsRegisterAlone}
 use Rattle.erst_interp.specs.Admission.{is_idle, is_idle_by, is_constant, is_write, is_read, is_action, is_value, is_whole, is_act, is_input, is_free, is_answer, holds_bits, input_bits, answer_bits, AreIdle, BeginsBy, EndsBy, IsAdmitted, takes_input, gives_answer}
 use Rattle.erst_interp.proofs.LeadLemmas.{both_true}

@@ -8,7 +8,7 @@ use Rattle.board_core.specs.Stop.{Left, InStore}
 use Rattle.board_core.specs.Told.{Told, Relates}
 use Rattle.erst_interp.specs.Run.{Keeps}
 use Rattle.board_core.specs.Doing.{Raises, Seen}
-use Rattle.erst_interp.specs.Steps.{GoesWell, Fails, Stays, Touches}
+use Rattle.erst_interp.specs.Steps.Running.{GoesWell, Fails, Stays, Touches}
 
 -- ---- what is told
 

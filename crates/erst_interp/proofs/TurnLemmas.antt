@@ -16,9 +16,9 @@ use Rattle.erst_interp.specs.declared.machine.Work as Work
 use Rattle.erst_interp.specs.declared.refusals.RunRefused.{RunRefused}
 use Rattle.erst_interp.specs.declared.refusals.RunRefused.TheVariants.{Register, Fuel, BadInstruction, BadRegister, BadRange}
 use Rattle.erst_interp.specs.Machine.{MachineState, Outcome, turn, turn_of, with_register}
-use Rattle.erst_interp.specs.Parts.{work_of, turn_by, used_by}
+use Rattle.erst_interp.specs.Steps.Parts.{work_of, turn_by, used_by}
 use Rattle.board_core.specs.Doing.{Seen}
-use Rattle.erst_interp.specs.Steps.{TouchesAs, StoreInTurn, state_in, state_of}
+use Rattle.erst_interp.specs.Steps.Running.{TouchesAs, StoreInTurn, state_in, state_of}
 use Rattle.erst_interp.proofs.TouchLemmas.{well_more, fails_more}
 
 pub by_kind : (i : Instruction) (e : InstructionEntry) (s : MachineState) → turn_of i e s.variables s ≡ turn_by (work_of i) i e s.variables s

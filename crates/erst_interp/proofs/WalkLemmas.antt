@@ -3,7 +3,7 @@ use Rattle.std.proofs.Common.{◌≡◌, ◌∙◌, ℕ, ◌≤◌, Bool, true, 
 use Rattle.std.specs.Prelude.{◌⊎◌}
 use Rattle.std.specs.List.{list_all}
 use Rattle.erst_store.specs.Actions.{execute_operation}
-use Rattle.ras_base.specs.ExactLemmas.{nat_exact}
+use Rattle.ras_base.specs.Steps.ExactLemmas.{nat_exact}
 use Rattle.board_core.specs.declared.board.Reg.{Reg}
 use Rattle.board_core.specs.declared.board.Reg.TheVariants.{Action, Value}
 use Rattle.erst_interp.specs.declared.admission.Awaited.{Awaited}

@@ -1,9 +1,7 @@
 pub mod Refusals
 pub mod Entries
 pub mod Table
-pub mod Lists
 pub mod Machine
-pub mod Parts
 pub mod Run
 pub mod Admission
 pub mod Faithful

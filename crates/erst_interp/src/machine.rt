@@ -2,7 +2,7 @@
 
 ghost use Rattle.std.specs.Prelude.{◌≡◌, ◌+◌, ◌*◌, ◌/◌, ◌%◌, ◌<◌, ◌^◌};
 ghost use Rattle.erst_interp.specs.Machine.{new_variables, next, field_of, alone, with_field, in_place};
-ghost use Rattle.erst_interp.specs.Parts.{work_of, computed, taken, given, changed};
+ghost use Rattle.erst_interp.specs.Steps.Parts.{work_of, computed, taken, given, changed};
 
 use crate::entries::{Instruction, InstructionEntry};
 

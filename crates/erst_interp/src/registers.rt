@@ -6,7 +6,7 @@ ghost use Rattle.board_core.specs.Told.{device_of};
 ghost use Rattle.erst_store.specs.Actions.{range_length};
 ghost use Rattle.erst_store.specs.DeviceLaws.{IsDevice};
 ghost use Rattle.erst_interp.specs.Machine.{after_register_read, after_register_write, after_field, after_move, moved};
-ghost use Rattle.erst_interp.specs.Steps.{Touches, TouchesAs, Stays, IsRead, IsFieldRead, Does, StoreIn, BreaksIn, IsPlace, Moves, state_in};
+ghost use Rattle.erst_interp.specs.Steps.Running.{Touches, TouchesAs, Stays, IsRead, IsFieldRead, Does, StoreIn, BreaksIn, IsPlace, Moves, state_in};
 
 use crate::entries::InstructionEntry;
 use crate::machine::Variables;

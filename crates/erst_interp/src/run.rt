@@ -10,9 +10,9 @@ ghost use Rattle.erst_store.specs.DeviceLaws.{IsDevice};
 ghost use Rattle.erst_interp.specs.Admission.{IsAdmitted};
 ghost use Rattle.erst_interp.specs.Faithful.{input_limit, device_after, DoesRun, IsRegisterAlone};
 ghost use Rattle.erst_interp.specs.Machine.{turn, machine_end};
-ghost use Rattle.erst_interp.specs.Parts.{use_of, is_straight, is_straight_use, GoesOn, uses_register};
+ghost use Rattle.erst_interp.specs.Steps.Parts.{use_of, is_straight, is_straight_use, GoesOn, uses_register};
 ghost use Rattle.erst_interp.specs.Run.{IsRun, Keeps, RunCause, StoreInRun};
-ghost use Rattle.erst_interp.specs.Steps.{end_over, end_within, StoreOver, StoreWithin, Turns, TouchesAs, StoreInTurn, state_in};
+ghost use Rattle.erst_interp.specs.Steps.Running.{end_over, end_within, StoreOver, StoreWithin, Turns, TouchesAs, StoreInTurn, state_in};
 ghost use Rattle.erst_interp.specs.Table.{list_of};
 
 use crate::entries::InstructionEntry;

@@ -3,7 +3,7 @@
 ghost use Rattle.std.specs.Prelude.{◌≡◌, ◌<◌, ◌≤◌, ◌*◌, ℕ, List, length, map, IfOk, OnOk, Err};
 ghost use Rattle.erst_interp.specs.declared.refusals.ErstTableRefused.{ErstTableRefused};
 ghost use Rattle.erst_interp.specs.Refusals.{IsAnswer};
-ghost use Rattle.erst_interp.specs.Lists.{AreEmpty, ReadsTable, HoldsEntries, with_entry};
+ghost use Rattle.erst_interp.specs.Steps.Lists.{AreEmpty, ReadsTable, HoldsEntries, with_entry};
 ghost use Rattle.erst_interp.specs.Table.{list_of, lists_of, instructions_at, erst_table, erst_of};
 
 use crate::entries::{ENTRY_LENGTH, InstructionEntry, entry_at};

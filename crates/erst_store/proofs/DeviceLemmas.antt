@@ -3,14 +3,14 @@ use Rattle.std.proofs.Common.{◌≡◌, ℕ, ◌+◌, ◌<◌, ◌≤◌, Bool,
 use Rattle.std.proofs.lemmas.Bool.{lt-ltb, le-ltb}
 use Rattle.std.proofs.lemmas.List.{length-take-le, length-drop}
 use Rattle.ras_base.specs.LittleEndian.{number_at}
-use Rattle.ras_base.specs.LittleEndianLemmas.{number_at-drop}
+use Rattle.ras_base.specs.Steps.LittleEndianLemmas.{number_at-drop}
 use Rattle.erst_store.specs.declared.store.PutRefused.{PutRefused}
 use Rattle.erst_store.specs.declared.store.PutRefused.TheVariants.{ReservedId, TooLong, StoreFull}
 use Rattle.erst_store.specs.declared.device.CommandStatus.TheVariants.{Success, NotEnoughSpace, NotFound}
 use Rattle.erst_store.specs.Store.{Stored, most_bytes, is_reserved, is_full_for, refusal_of, with_record, holds}
 use Rattle.erst_store.specs.Actions.{range_length}
 use Rattle.erst_store.specs.Device.{Device, length_at, id_at, record_at, is_record_out, is_write_refused, after_write_command, after_clear}
-use Rattle.erst_store.specs.DeviceView.{FoundRecord}
+use Rattle.erst_store.specs.Steps.DeviceView.{FoundRecord}
 
 -- ---- the record in the range
 

@@ -10,12 +10,12 @@ use Rattle.std.proofs.lemmas.List.Concat.{flat_map-cons}
 use Rattle.std.proofs.lemmas.Map.Keys.{IsDistinct-head, IsDistinct-tail}
 use Rattle.ras_base.specs.Chaining.{◌>>=◌}
 use Rattle.ras_base.specs.LittleEndian.{AreBytes, u32_bytes, u64_bytes, number_at}
-use Rattle.ras_base.specs.LittleEndianLemmas.{AreBytes-drop, length-u32_bytes, length-u64_bytes, u32_bytes-number_at, u64_bytes-number_at, number_at-u32_bytes, number_at-u64_bytes}
+use Rattle.ras_base.specs.Steps.LittleEndianLemmas.{AreBytes-drop, length-u32_bytes, length-u64_bytes, u32_bytes-number_at, u64_bytes-number_at, number_at-u32_bytes, number_at-u64_bytes}
 use Rattle.erst_store.specs.declared.reading.StoreRefused.{StoreRefused}
 use Rattle.erst_store.specs.declared.reading.StoreRefused.TheVariants.{Malformed, NoMemory}
 use Rattle.erst_store.specs.Store.{Stored, Fits, IsStore, most_records, most_bytes, all_ones, is_reserved, ids, contents, holds, refusal_of}
 use Rattle.erst_store.specs.StoreFile.{record_bytes, heading, store_bytes, Reads, ReadsBack}
-use Rattle.erst_store.specs.StoreReading.{Fails, Gives, front_number, front_record, may_follow, with_next, records_at, count_at, file_at}
+use Rattle.erst_store.specs.Steps.StoreReading.{Fails, Gives, front_number, front_record, may_follow, with_next, records_at, count_at, file_at}
 
 -- ---- steps that gave a value
 

@@ -1,11 +1,6 @@
 pub mod Store
 pub mod StoreFile
-pub mod StoreReading
-pub mod View
 pub mod Device
 pub mod Actions
 pub mod DeviceLaws
-pub mod DeviceView
-pub mod StoreLemmas
-pub mod ActionLemmas
-pub mod KeptLemmas
+pub mod Steps

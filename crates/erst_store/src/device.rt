@@ -6,7 +6,7 @@ ghost use Rattle.erst_store.specs.Actions.{execute_operation, range_length};
 ghost use Rattle.erst_store.specs.Store.{refusal_of, Answers};
 ghost use Rattle.erst_store.specs.Device.{new_device, act, after_check, after_listing, after_write_command, after_read, after_clear, after_command, range_with_record, range_with, with_put, status_number};
 ghost use Rattle.erst_store.specs.DeviceLaws.{IsDevice, MayChange};
-ghost use Rattle.erst_store.specs.DeviceView.{FindsRecord};
+ghost use Rattle.erst_store.specs.Steps.DeviceView.{FindsRecord};
 
 use crate::actions::{
     BEGIN_CLEAR_OPERATION, BEGIN_DUMMY_WRITE_OPERATION, BEGIN_READ_OPERATION,

@@ -2,7 +2,7 @@
 ghost use Rattle.std.specs.Prelude.{◌≡◌, ◌≤◌, List, [], ◌++◌, length, IfOk, OnOk};
 ghost use Rattle.erst_store.specs.Store.{Stored, IsStore};
 ghost use Rattle.erst_store.specs.StoreFile.{record_bytes, store_bytes, Reads, ReadsBack};
-ghost use Rattle.erst_store.specs.StoreReading.{Gives, front_number, front_record, with_next, records_at, count_at, file_at};
+ghost use Rattle.erst_store.specs.Steps.StoreReading.{Gives, front_number, front_record, with_next, records_at, count_at, file_at};
 
 use crate::store::{PutRefused, Store};
 use ras_base::NoMemory;

@@ -4,7 +4,7 @@ ghost use Rattle.std.specs.List.{position};
 ghost use Rattle.std.specs.Bool.{IsFalse};
 ghost use Rattle.std.specs.Option.{option_map};
 ghost use Rattle.erst_store.specs.Store.{Fits, IsStore, ids, contents, holds, bytes_under, with_record, without, refusal_of, Answers, SameBut};
-ghost use Rattle.erst_store.specs.View.{views, StandsAt, Places, Finds};
+ghost use Rattle.erst_store.specs.Steps.View.{views, StandsAt, Places, Finds};
 
 use ras_base::NoMemory;
 use std::alloc::Global;
@@ -62,7 +62,7 @@ pub struct Store {
 impl Model for Store {
     ghost use Rattle.std.specs.Prelude.{List};
     ghost use Rattle.erst_store.specs.Store.{Stored, IsStore};
-    ghost use Rattle.erst_store.specs.View.{views};
+    ghost use Rattle.erst_store.specs.Steps.View.{views};
 
     ghost Value = { List Stored };
 

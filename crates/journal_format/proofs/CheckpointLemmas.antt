@@ -5,7 +5,7 @@ use Rattle.std.proofs.lemmas.Bool.{leb-true, le-leb, eqb-true}
 use Rattle.std.proofs.lemmas.List.Elements.{All-from_recursion, recursion_from_All}
 use Rattle.ras_base.specs.Chaining.{◌>>=◌}
 use Rattle.ras_base.specs.LittleEndian.{AreBytes, u64_bytes}
-use Rattle.ras_base.specs.LittleEndianLemmas.{length-u64_bytes}
+use Rattle.ras_base.specs.Steps.LittleEndianLemmas.{length-u64_bytes}
 use Rattle.dimm_topology.specs.Labels.{Bytes}
 use Rattle.page_policy.specs.declared.buckets.Limit.{Limit}
 use Rattle.page_policy.specs.declared.buckets.Bucket.{Bucket}
@@ -31,7 +31,7 @@ use Rattle.entry_format.proofs.EntryLemmas.{limit_read}
 use Rattle.journal_format.specs.PayloadReading.{found_in}
 use Rattle.journal_format.specs.Checkpoints.{module_bytes, page_row_bytes, list_bytes, front_bytes, end_bytes, checkpoint_bytes, CanTell, IsCheckpoint}
 use Rattle.journal_format.specs.CheckpointReading.{list_at, CheckpointFront, entry_count_at, front_at, module_at, page_row_at, end_floor_at, floor_in, is_sound, state_with, checkpoint_in, checkpoint_of}
-use Rattle.journal_format.specs.Decoding.{Holds, AreTaken, account_with, with_rows_of}
+use Rattle.journal_format.specs.Steps.Decoding.{Holds, AreTaken, account_with, with_rows_of}
 use Rattle.ras_account.specs.Rows.{has_retired}
 use Rattle.journal_format.proofs.WholeLemmas.{whole_takes, whole_again, found_is}
 use Rattle.journal_format.proofs.DecodingLemmas.{unread}

@@ -3,7 +3,7 @@ use Rattle.std.proofs.Common.{◌≡◌, ℕ, suc, ◌+◌, ◌-◌, ◌<◌, Bo
 use Rattle.std.specs.List.{list_any, IsDistinct, AllByRecursion}
 use Rattle.ras_facts.specs.declared.name.Name.{Name}
 use Rattle.ras_facts.specs.Names.{same_name}
-use Rattle.ras_facts.specs.NameLemmas.{same_name-laws}
+use Rattle.ras_facts.specs.Steps.NameLemmas.{same_name-laws}
 use Rattle.ras_account.specs.declared.limits.TheConstants.{MOST_NAMES, MOST_TOTAL}
 use Rattle.ras_account.specs.Modules.{Module}
 use Rattle.dimm_topology.specs.Labels.{Bytes, same_label}
@@ -16,7 +16,7 @@ use Rattle.std.proofs.lemmas.Cmp.{nat_list_eq_equiv, nat_eq_equiv}
 use Rattle.std.proofs.lemmas.List.{map-append}
 use Rattle.std.proofs.lemmas.List.Sums.{sum_by-append, sum_by-cons}
 use Rattle.ras_account.specs.Fresh.{is_among}
-use Rattle.journal_format.specs.Decoding.{AreNames, AreModules, ArePages}
+use Rattle.journal_format.specs.Steps.Decoding.{AreNames, AreModules, ArePages}
 use Rattle.ras_base.specs.Chaining.{◌>>=◌}
 use Rattle.entry_format.specs.declared.refused.EntryRefused.{EntryRefused}
 use Rattle.entry_format.specs.Reading.{Reader, Gives, Fails, Refuses, many_at, u64_at}

@@ -4,7 +4,7 @@ use Rattle.std.proofs.lemmas.Bool.{le-ltb, lt-ltb, ltb-true, ltb-false}
 use Rattle.std.proofs.lemmas.List.{take_at, drop_at, append_cancel_left}
 use Rattle.ras_base.specs.Prefix.{IsPrefixOf}
 use Rattle.ras_base.specs.LittleEndian.{u32_bytes, number_at}
-use Rattle.ras_base.specs.LittleEndianLemmas.{length-u32_bytes, number_at-u32_bytes, number_at-append}
+use Rattle.ras_base.specs.Steps.LittleEndianLemmas.{length-u32_bytes, number_at-u32_bytes, number_at-append}
 use Rattle.ras_facts.specs.declared.entry.Entry.{Entry}
 use Rattle.ras_facts.specs.Entries.{IsValidEntry}
 use Rattle.entry_format.specs.declared.version.Version.{Version}

@@ -2,7 +2,7 @@
 use Rattle.std.proofs.Common.{◌≡◌, ℕ, ◌+◌, ◌*◌, List, [], ◌∷◌, ◌++◌, length, refl, ap, ◌∙◌, arith, length-append}
 use Rattle.std.specs.List.{flat_map}
 use Rattle.ras_base.specs.LittleEndian.{u64_bytes}
-use Rattle.ras_base.specs.LittleEndianLemmas.{length-u64_bytes}
+use Rattle.ras_base.specs.Steps.LittleEndianLemmas.{length-u64_bytes}
 use Rattle.page_policy.specs.declared.rows.PageRow.{PageRow}
 use Rattle.ras_account.specs.Account.{State}
 use Rattle.entry_format.specs.declared.version.Version.TheVariants.{Two}

@@ -2,6 +2,5 @@ pub mod Links
 pub mod Checkpoints
 pub mod PayloadReading
 pub mod CheckpointReading
-pub mod Fronts
-pub mod Decoding
 pub mod Versions
+pub mod Steps

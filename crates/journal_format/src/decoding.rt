@@ -13,7 +13,7 @@ ghost use Rattle.ras_account.specs.View.{nothing};
 ghost use Rattle.entry_format.specs.Reading.{many_at, name_at};
 ghost use Rattle.journal_format.specs.Checkpoints.{IsCheckpoint};
 ghost use Rattle.journal_format.specs.CheckpointReading.{list_at, module_at, page_row_at, checkpoint_in};
-ghost use Rattle.journal_format.specs.Decoding.{AreNames, AreModules, ArePages, Holds, AreTaken, with_rows_of};
+ghost use Rattle.journal_format.specs.Steps.Decoding.{AreNames, AreModules, ArePages, Holds, AreTaken, with_rows_of};
 
 use crate::CheckpointRefused;
 use crate::row_reading::{floor_in, front_at, module_at, page_row_at};

@@ -7,7 +7,7 @@ ghost use Rattle.ras_account.specs.Accounts.{IsModuleRow};
 ghost use Rattle.entry_format.specs.Reading.{Gives, Tells, u64_at, many_at};
 ghost use Rattle.ras_account.specs.Rows.{row_of};
 ghost use Rattle.journal_format.specs.CheckpointReading.{replace_of, replace_at, bucket_at, replacement_at, module_at, page_state_of, page_state_at, page_row_at, entry_count_at, front_at, end_floor_at, floor_in};
-ghost use Rattle.journal_format.specs.Fronts.{front_of};
+ghost use Rattle.journal_format.specs.Steps.Fronts.{front_of};
 
 use entry_format::{EntryRefused, Version, byte_at, label_at, limit_at, page_number_at, u64_at};
 use mca_status::CLASS_COUNT;

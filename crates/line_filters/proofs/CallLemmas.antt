@@ -11,8 +11,8 @@ use Rattle.ras_exit.specs.Endings.{CallEnding, IfAnswered, IsAnswer, IsLineExit,
 use Rattle.ras_exit.proofs.EndingLemmas.{on_answer, on_cut}
 use Rattle.line_filters.specs.Filter.{Filter}
 use Rattle.line_filters.specs.Filters.{Filters, OfBoth, TakesOf, closing_text, filter_exit, filter_output, script_unprinted}
-use Rattle.line_filters.specs.Reading.{HasTaken}
-use Rattle.line_filters.specs.Steps.{Ends, LinesEnd, exit_of}
+use Rattle.line_filters.specs.Steps.Reading.{HasTaken}
+use Rattle.line_filters.specs.Steps.Filtering.{Ends, LinesEnd, exit_of}
 
 -- what holds at an answer
 answer_holds : (exit : Exit) (P : Type 0) → IsAnswer exit → OnAnswer exit P → P

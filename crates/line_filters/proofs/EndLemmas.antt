@@ -14,8 +14,8 @@ use Rattle.ras_exit.specs.ScriptEnd.{ending_exit}
 use Rattle.ras_exit.proofs.EndingLemmas.{on_answer}
 use Rattle.line_filters.specs.Filter.{Filter, Took}
 use Rattle.line_filters.specs.Filters.{closing_text, end_unprinted, exit_among, exit_unless, filter_exit, filter_output, output_among, refusal_in, script_unprinted, texts_in}
-use Rattle.line_filters.specs.Reading.{HasTaken}
-use Rattle.line_filters.specs.Steps.{Along, LinesEnd, StopsAt}
+use Rattle.line_filters.specs.Steps.Reading.{HasTaken}
+use Rattle.line_filters.specs.Steps.Filtering.{Along, LinesEnd, StopsAt}
 use Rattle.line_filters.proofs.ReadingLemmas.{Gave, given_line, taken_ahead}
 use Rattle.line_filters.proofs.StepLemmas.{AlongBoth}
 

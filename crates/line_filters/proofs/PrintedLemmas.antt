@@ -8,7 +8,7 @@ use Rattle.ras_exit.specs.declared.exit.Exit.{Exit}
 use Rattle.ras_exit.specs.declared.exit.Exit.TheVariants.{PrintFault}
 use Rattle.ras_exit.proofs.PrintLemmas.{not_printed, printed}
 use Rattle.line_filters.specs.Filter.{Filter, Took}
-use Rattle.line_filters.specs.Steps.{Ends, TakesLine}
+use Rattle.line_filters.specs.Steps.Filtering.{Ends, TakesLine}
 
 module _ {X : Type 0} (see : X → Seen) (x y : X) where
   pub takes_printed : (result : Result (Unit {0}) Exit) (number : ℕ) (line : List ℕ) (before after : Filter) (text : List ℕ) → Took line before after [] text → Does see (print_acts text) (one_end print_call result) x y

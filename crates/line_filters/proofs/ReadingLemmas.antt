@@ -3,7 +3,7 @@ use Rattle.std.proofs.Common.{◌≡◌, ℕ, ◌+◌, ◌≤◌, Bool, true, fa
 use Rattle.ras_script.specs.declared.reader.NextRefused.{NextRefused}
 use Rattle.ras_script.specs.declared.reader.TheConstants.{LONGEST_LINE}
 use Rattle.ras_script.specs.Reader.{AreTaken, GivesNext, lines_to_come, Moves, MovesLine, Reader, given_count}
-use Rattle.line_filters.specs.Reading.{HasTaken}
+use Rattle.line_filters.specs.Steps.Reading.{HasTaken}
 
 pub if_known : {T : Type 0} (o : Option T) (P : T → Type 0) → ((x : T) → o ≡ Some x → P x) → IfSome o P
 if_known None P holds = tt

@@ -12,8 +12,8 @@ use Rattle.ras_exit.specs.ScriptEnd.{ending_exit}
 use Rattle.ras_exit.specs.StopLine.{stop_line}
 use Rattle.line_filters.specs.Filter.{Filter, Took}
 use Rattle.line_filters.specs.Filters.{closing_text, end_unprinted, exit_among, exit_unless, output_among, refusal_in, script_unprinted, texts_in}
-use Rattle.line_filters.specs.Reading.{HasTaken}
-use Rattle.line_filters.specs.Steps.{Along}
+use Rattle.line_filters.specs.Steps.Reading.{HasTaken}
+use Rattle.line_filters.specs.Steps.Filtering.{Along}
 use Rattle.line_filters.proofs.ReadingLemmas.{Gave, given_line}
 
 -- ---- what is to come

@@ -1,4 +1,3 @@
 pub mod Filter
 pub mod Filters
-pub mod Reading
 pub mod Steps

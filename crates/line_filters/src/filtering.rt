@@ -7,8 +7,8 @@ ghost use Rattle.ras_exit.specs.Causes.{BoardCause, Causes, SourceCause};
 ghost use Rattle.board_core.specs.Device.{LeavesDevice};
 ghost use Rattle.ras_exit.specs.Endings.{IsAnswer, IsCut, IsLineExit, IsStop};
 ghost use Rattle.line_filters.specs.Filters.{Filters, IsFilterExit, OfBoth, TakesOf, closing_text};
-ghost use Rattle.line_filters.specs.Reading.{HasTaken};
-ghost use Rattle.line_filters.specs.Steps.{Ends, LinesEnd, TakesLine, exit_of};
+ghost use Rattle.line_filters.specs.Steps.Reading.{HasTaken};
+ghost use Rattle.line_filters.specs.Steps.Filtering.{Ends, LinesEnd, TakesLine, exit_of};
 
 use crate::LineFilter;
 use board_core::{Board, Source};

@@ -20,7 +20,7 @@ use Rattle.page_policy.specs.Histories.{page_in, page_history, page_row, page_ro
 use Rattle.row_tables.proofs.TableLemmas.{Contains-list_any, table-more, lookup-table, lookup-updated-own, lookup-updated-other, of_key-own, of_key-unnamed, keys-updated, keys-table, distinct-once, any-distinct}
 use Rattle.std.proofs.lemmas.Map.Views.{list_any-from_Contains}
 use Rattle.std.proofs.lemmas.List.Folds.{list_any-append}
-use Rattle.ras_base.specs.ExactLemmas.{nat_exact, nat_own}
+use Rattle.ras_base.specs.Steps.ExactLemmas.{nat_exact, nat_own}
 use Rattle.page_policy.proofs.PageLemmas.{row_for}
 
 page_row-more : (rs : List PageReport) (r : PageReport) → 0 < length rs → page_row (rs ++ r ∷ []) ≡ row_after (page_row rs) r

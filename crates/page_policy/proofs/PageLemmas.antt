@@ -8,7 +8,7 @@ use Rattle.page_policy.specs.declared.rows.PageRow.{PageRow}
 use Rattle.page_policy.specs.Buckets.{most_count}
 use Rattle.page_policy.specs.Rows.{PageReport, new_row, row_after}
 use Rattle.page_policy.specs.Pages.{pages_after}
-use Rattle.page_policy.specs.AreSmall.{AreSmall}
+use Rattle.page_policy.specs.Steps.AreSmall.{AreSmall}
 
 -- the row that is known of a report's page, or a new one
 abbrev pub row_for : List (ℕ × PageRow) → PageReport → PageRow

@@ -2,4 +2,4 @@ pub mod Buckets
 pub mod Rows
 pub mod Histories
 pub mod Pages
-pub mod AreSmall
+pub mod Steps

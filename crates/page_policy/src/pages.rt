@@ -30,7 +30,7 @@ impl Model for Pages {
     ghost use Rattle.std.specs.Prelude.{ℕ};
     ghost use Rattle.row_tables.specs.Held.{Held};
     ghost use Rattle.page_policy.specs.declared.rows.PageRow.{PageRow};
-    ghost use Rattle.page_policy.specs.AreSmall.{AreSmall};
+    ghost use Rattle.page_policy.specs.Steps.AreSmall.{AreSmall};
 
     ghost Value = { Held ℕ PageRow };
 

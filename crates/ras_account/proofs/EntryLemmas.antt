@@ -14,7 +14,7 @@ use Rattle.ras_account.specs.Continued.{knows, is_fresh_in, account_after, accou
 use Rattle.ras_account.specs.Orders.{orders_along, orders_at}
 use Rattle.ras_account.specs.Numbers.{IsWithin}
 use Rattle.ras_account.specs.View.{View, OrderList, Waiting, WaitsFirst, then_waits, nothing, labels_in, pages_in, added_by}
-use Rattle.ras_account.specs.Taking.{adds_fact, CanTakeFact, TakesFact, Takes, Gives, sightings_at}
+use Rattle.ras_account.specs.Steps.Taking.{adds_fact, CanTakeFact, TakesFact, Takes, Gives, sightings_at}
 use Rattle.ras_account.proofs.ItemLemmas.{names-items, entries-items, total-items}
 use Rattle.ras_account.proofs.NumberLemmas.{adds}
 

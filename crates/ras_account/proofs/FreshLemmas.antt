@@ -8,7 +8,7 @@ use Rattle.ras_facts.specs.declared.name.Name.{Name}
 use Rattle.ras_facts.specs.declared.entry.Entry.{Entry}
 use Rattle.ras_facts.specs.declared.entry.Entry.TheVariants.{Fact, Limit as PageLimit, Retire, ModuleLimit}
 use Rattle.ras_facts.specs.Names.{same_name, boot_of}
-use Rattle.ras_facts.specs.NameLemmas.{same_name-exact}
+use Rattle.ras_facts.specs.Steps.NameLemmas.{same_name-exact}
 use Rattle.ras_account.specs.History.{History, empty, with_entry, with_mark, names_in, floor_after, is_retired}
 use Rattle.ras_account.specs.Fresh.{is_among, is_fresh_behind, fresh_entries}
 use Rattle.ras_account.specs.Account.{account_of, names_of, kept_names}

@@ -20,7 +20,7 @@ use Rattle.ras_facts.specs.declared.entry.Entry.{Entry}
 use Rattle.ras_facts.specs.declared.entry.Entry.TheVariants.{Fact, Limit as PageLimit, Retire, ModuleLimit}
 use Rattle.ras_facts.specs.Names.{same_name}
 use Rattle.ras_facts.specs.Entries.{IsValidEntry}
-use Rattle.ras_facts.specs.NameLemmas.{same_name-exact, same_name-laws}
+use Rattle.ras_facts.specs.Steps.NameLemmas.{same_name-exact, same_name-laws}
 use Rattle.ras_account.specs.History.{History, empty, with_entry, with_mark, with_entries, history_of, followed_by, IsUnmarked, names_in, floor_after, limit_after, module_limit_after, is_retired}
 use Rattle.ras_account.specs.Fresh.{is_among, is_fresh_behind, fresh_entries}
 use Rattle.ras_account.specs.Sightings.{Sighting, sightings, sightings_since_mark, sightings_behind, sightings_in, label_of, sighting_weight, reports_of}

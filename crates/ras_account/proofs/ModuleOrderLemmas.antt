@@ -17,7 +17,7 @@ use Rattle.page_policy.specs.Rows.{report, height, order_to, order_between}
 use Rattle.row_tables.specs.Tables.{added_keys, distinct_keys}
 use Rattle.page_policy.specs.Histories.{page_history, page_row}
 use Rattle.row_tables.proofs.TableLemmas.{added-append, distinct-known, distinct-new, any-distinct}
-use Rattle.ras_base.specs.ExactLemmas.{nat_own}
+use Rattle.ras_base.specs.Steps.ExactLemmas.{nat_own}
 use Rattle.ras_facts.specs.declared.entry.Entry.{Entry}
 use Rattle.ras_account.specs.History.{History, empty, with_entry, with_mark}
 use Rattle.ras_account.specs.Sightings.{Sighting, sightings, sightings_since_mark, sightings_behind, label_of, reports_of}

@@ -6,7 +6,7 @@ use Rattle.std.specs.Option.{option_map_or}
 use Rattle.std.proofs.lemmas.List.Sums.{sum_by-cons}
 use Rattle.indexmap.specs.IndexMap.{set_value_at}
 use Rattle.dimm_topology.specs.Labels.{Bytes, same_label}
-use Rattle.dimm_topology.specs.LabelLemmas.{same_label-exact, same_label-refl}
+use Rattle.dimm_topology.specs.Steps.LabelLemmas.{same_label-exact, same_label-refl}
 use Rattle.page_policy.specs.declared.rows.Order.{Order}
 use Rattle.page_policy.specs.declared.rows.Order as Ordered
 use Rattle.row_tables.specs.Tables.{updated_rows}
@@ -18,7 +18,7 @@ use Rattle.ras_account.specs.Modules.{Module}
 use Rattle.ras_account.specs.Account.{weight_in}
 use Rattle.ras_account.specs.Continued.{new_module, module_after, modules_after, without_bucket}
 use Rattle.ras_account.specs.Orders.{place_of, is_replaced, module_order_in}
-use Rattle.ras_account.specs.Parts.{ModuleList, with_sighting, entry_of, IsCounting, AreModules}
+use Rattle.ras_account.specs.Steps.Parts.{ModuleList, with_sighting, entry_of, IsCounting, AreModules}
 use Rattle.ras_account.specs.Rows.{row_of}
 
 abbrev Rows : Type 0

@@ -17,8 +17,8 @@ use Rattle.ras_account.specs.Continued.{account_after, account_after_all}
 use Rattle.ras_account.specs.Numbers.{fresh_entries_in, numbers_with, AreWithin, are_past}
 use Rattle.ras_account.specs.View.{View, Waiting, nothing}
 use Rattle.ras_account.specs.Accounts.{IsAccount}
-use Rattle.ras_account.specs.Parts.{NameList, ModuleList}
-use Rattle.ras_account.specs.Reserving.{with_fresh, Shadows, Noted, IsNoting}
+use Rattle.ras_account.specs.Steps.Parts.{NameList, ModuleList}
+use Rattle.ras_account.specs.Steps.Reserving.{with_fresh, Shadows, Noted, IsNoting}
 use Rattle.ras_account.proofs.StateLemmas.{of_parts, view_of_parts}
 use Rattle.ras_account.proofs.ReserveLemmas.{fresh-snoc, after-snoc}
 

@@ -9,7 +9,7 @@ use Rattle.std.proofs.lemmas.List.Sums.{sum_by-append}
 use Rattle.dimm_topology.specs.Labels.{same_label}
 use Rattle.row_tables.specs.Tables.{added_keys}
 use Rattle.row_tables.proofs.TableLemmas.{added-append}
-use Rattle.ras_base.specs.ExactLemmas.{nat_exact, nat_own}
+use Rattle.ras_base.specs.Steps.ExactLemmas.{nat_exact, nat_own}
 use Rattle.ras_facts.specs.declared.name.Name.{Name}
 use Rattle.ras_facts.specs.declared.items.Item.{Item}
 use Rattle.ras_facts.specs.declared.entry.Entry.{Entry}

@@ -4,7 +4,7 @@ use Rattle.std.specs.Prelude.{option_to_list}
 use Rattle.std.specs.List.{filter_map, cons_option}
 use Rattle.std.proofs.lemmas.List.Elements.{filter-append, filter_map-append}
 use Rattle.ras_base.specs.Places.{places}
-use Rattle.ras_base.specs.PlacesLemmas.{places-snoc}
+use Rattle.ras_base.specs.Steps.PlacesLemmas.{places-snoc}
 use Rattle.page_policy.specs.declared.rows.Order.{Order}
 use Rattle.page_policy.specs.declared.rows.Order as Ordered
 use Rattle.page_policy.specs.declared.rows.PageState.{PageState}
@@ -14,7 +14,7 @@ use Rattle.row_tables.specs.Tables.{distinct_keys}
 use Rattle.dimm_topology.specs.Labels.{same_label}
 use Rattle.page_policy.specs.Histories.{page_in, page_history, page_row, order_behind, orders_of}
 use Rattle.row_tables.proofs.TableLemmas.{of_key-own}
-use Rattle.ras_base.specs.ExactLemmas.{nat_exact, nat_own}
+use Rattle.ras_base.specs.Steps.ExactLemmas.{nat_exact, nat_own}
 use Rattle.ras_account.specs.History.{History, empty, with_entry, with_mark}
 use Rattle.ras_account.specs.Sightings.{Sighting, sightings, sightings_since_mark, sightings_behind, label_of, report_of, reports_of}
 use Rattle.ras_account.specs.Orders.{page_order, module_order, trips_first, item_orders, orders_behind, orders, place_of}

@@ -28,9 +28,9 @@ use Rattle.ras_account.specs.Account.{State, names_of, kept_names}
 use Rattle.ras_account.specs.Continued.{knows, is_fresh_in, account_after_fresh, account_with_count, account_after, account_after_all}
 use Rattle.ras_account.specs.Numbers.{fresh_entries_in, items_of}
 use Rattle.ras_account.specs.View.{labels_in, pages_in}
-use Rattle.ras_account.specs.Parts.{NameList, ModuleList, all_names, all_labels}
-use Rattle.ras_account.specs.Taking.{is_news, weights_in}
-use Rattle.ras_account.specs.Reserving.{in_force_after, greatest, NotesItems, with_fresh, Shadows}
+use Rattle.ras_account.specs.Steps.Parts.{NameList, ModuleList, all_names, all_labels}
+use Rattle.ras_account.specs.Steps.Taking.{is_news, weights_in}
+use Rattle.ras_account.specs.Steps.Reserving.{in_force_after, greatest, NotesItems, with_fresh, Shadows}
 use Rattle.ras_account.proofs.KeyLemmas.{same_label-exact, same_label-refl}
 use Rattle.ras_account.proofs.FreshLemmas.{is_retired-max, among_kept, names_of-append}
 use Rattle.ras_account.proofs.ItemLemmas.{names-items, floor-items, limit-items, module_limit-items}

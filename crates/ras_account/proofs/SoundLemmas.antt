@@ -28,7 +28,7 @@ use Rattle.ras_facts.specs.declared.entry.Entry.TheVariants.{Fact, Limit as Page
 use Rattle.ras_facts.specs.Names.{same_name}
 use Rattle.ras_facts.specs.Valid.{IsValidName, IsValidItem, IsPage}
 use Rattle.ras_facts.specs.Entries.{IsValidEntry}
-use Rattle.ras_facts.specs.NameLemmas.{same_name-laws}
+use Rattle.ras_facts.specs.Steps.NameLemmas.{same_name-laws}
 use Rattle.ras_account.specs.declared.limits.TheConstants.{MOST_ENTRIES, MOST_TOTAL}
 use Rattle.ras_account.specs.History.{empty, is_retired}
 use Rattle.ras_account.specs.Fresh.{is_among}

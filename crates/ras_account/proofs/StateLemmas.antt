@@ -20,7 +20,7 @@ use Rattle.ras_account.specs.Orders.{page_order_in, module_order_in, orders_alon
 use Rattle.ras_account.specs.View.{View, OrderList}
 use Rattle.page_policy.specs.declared.rows.Order.{Order}
 use Rattle.ras_account.specs.Accounts.{IsAccount}
-use Rattle.ras_account.specs.Taking.{is_news, holds_name, CanCountName, Gives}
+use Rattle.ras_account.specs.Steps.Taking.{is_news, holds_name, CanCountName, Gives}
 use Rattle.ras_account.proofs.AccountLemmas.{account_of-entry}
 use Rattle.ras_account.proofs.FreshLemmas.{is_fresh_in-account_of}
 use Rattle.ras_account.proofs.SoundLemmas.{name-sound}

@@ -12,14 +12,14 @@ use Rattle.page_policy.specs.Rows.{report}
 use Rattle.row_tables.specs.Tables.{added_keys}
 use Rattle.row_tables.specs.Held.{is_ready}
 use Rattle.page_policy.proofs.HistoryLemmas.{keys-rows_after}
-use Rattle.ras_base.specs.ExactLemmas.{nat_own}
+use Rattle.ras_base.specs.Steps.ExactLemmas.{nat_own}
 use Rattle.ras_facts.specs.declared.items.Item.{Item}
 use Rattle.ras_facts.specs.Valid.{IsValidItem}
 use Rattle.ras_account.specs.Sightings.{Sighting}
 use Rattle.ras_account.specs.Continued.{pages_after, account_after_item, account_after_items}
 use Rattle.ras_account.specs.Orders.{page_order_in, module_order_in, orders_along}
 use Rattle.ras_account.specs.View.{View, Waiting, OrderList, labels_in, pages_in}
-use Rattle.ras_account.specs.Taking.{left_pages, sighting_in, view_after_item, item_orders_in, IsNext, Gives, AreNext, sightings_at, TakesItems, IsAmid}
+use Rattle.ras_account.specs.Steps.Taking.{left_pages, sighting_in, view_after_item, item_orders_in, IsNext, Gives, AreNext, sightings_at, TakesItems, IsAmid}
 use Rattle.ras_account.proofs.KeyLemmas.{same_label-refl}
 use Rattle.ras_account.proofs.AccountLemmas.{at_page}
 use Rattle.ras_account.proofs.ItemLemmas.{with_key, labels-after}

@@ -9,8 +9,5 @@ pub mod Asked
 pub mod Numbers
 pub mod Rows
 pub mod View
-pub mod Parts
-pub mod Taking
 pub mod Accounts
-pub mod Reserving
-pub mod Refusals
+pub mod Steps

@@ -15,7 +15,7 @@ ghost use Rattle.ras_account.specs.Numbers.{IsWithin};
 ghost use Rattle.ras_account.specs.View.{Waiting, nothing, then_waits, WaitsFirst, added_by, IsReservedFor};
 ghost use Rattle.ras_account.specs.Accounts.{IsAccount};
 ghost use Rattle.ras_account.specs.Rows.{row_of};
-ghost use Rattle.ras_account.specs.Taking.{SetsLimit, holds_name, name_waits_first, IsNext, view_after_item, item_orders_in, sighting_in, Gives, AreNext, TakesItems, orders_of_items_at, CanTakeFact, TakesFact, Takes, CanCountName, view_after_name, pages_after_item};
+ghost use Rattle.ras_account.specs.Steps.Taking.{SetsLimit, holds_name, name_waits_first, IsNext, view_after_item, item_orders_in, sighting_in, Gives, AreNext, TakesItems, orders_of_items_at, CanTakeFact, TakesFact, Takes, CanCountName, view_after_name, pages_after_item};
 
 use crate::in_force::InForce;
 use crate::modules::Modules;

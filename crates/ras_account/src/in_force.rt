@@ -1,7 +1,7 @@
 //! What is in force: the floor, and the limits for pages and modules.
 ghost use Rattle.std.specs.Prelude.{◌≡◌};
-ghost use Rattle.ras_account.specs.Taking.{is_news};
-ghost use Rattle.ras_account.specs.Reserving.{in_force_after};
+ghost use Rattle.ras_account.specs.Steps.Taking.{is_news};
+ghost use Rattle.ras_account.specs.Steps.Reserving.{in_force_after};
 
 use page_policy::Limit;
 use ras_facts::Entry;

@@ -11,7 +11,7 @@ ghost use Rattle.ras_account.specs.Account.{weight_in};
 ghost use Rattle.ras_account.specs.Continued.{module_after, new_module, sums_after, without_bucket};
 ghost use Rattle.page_policy.specs.Rows.{is_corrected};
 ghost use Rattle.ras_account.specs.Orders.{module_order_in};
-ghost use Rattle.ras_account.specs.Parts.{all_labels, is_next_label, with_sighting, IsCounting};
+ghost use Rattle.ras_account.specs.Steps.Parts.{all_labels, is_next_label, with_sighting, IsCounting};
 ghost use Rattle.ras_account.specs.Rows.{row_of};
 
 use crate::MOST_TOTAL;
@@ -125,7 +125,7 @@ pub(crate) struct Modules {
 
 impl Model for Modules {
     ghost use Rattle.std.specs.Prelude.{map};
-    ghost use Rattle.ras_account.specs.Parts.{ModuleList, entry_of, AreModules};
+    ghost use Rattle.ras_account.specs.Steps.Parts.{ModuleList, entry_of, AreModules};
 
     ghost Value = { ModuleList };
 

@@ -8,7 +8,7 @@ ghost use Rattle.ras_account.specs.History.{is_retired};
 ghost use Rattle.ras_account.specs.Fresh.{is_among};
 ghost use Rattle.ras_account.specs.Account.{kept_names};
 ghost use Rattle.ras_account.specs.Rows.{has_retired};
-ghost use Rattle.ras_account.specs.Parts.{all_names};
+ghost use Rattle.ras_account.specs.Steps.Parts.{all_names};
 
 use page_policy::RowRefused;
 use ras_base::NoMemory;
@@ -26,7 +26,7 @@ pub(crate) struct Names {
 
 impl Model for Names {
     ghost use Rattle.std.specs.Map.{keys_of};
-    ghost use Rattle.ras_account.specs.Parts.{NameList};
+    ghost use Rattle.ras_account.specs.Steps.Parts.{NameList};
 
     ghost Value = { NameList };
 

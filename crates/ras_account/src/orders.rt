@@ -1,6 +1,6 @@
 //! The orders that entries give.
 ghost use Rattle.std.specs.Prelude.{◌≡◌, ◌+◌, ◌<◌, ◌≤◌, ◌↔◌, ◌++◌, [], ◌∷◌, IsTrue, Some, IfOk, option_to_list, length, slice_get};
-ghost use Rattle.ras_account.specs.Taking.{Gives};
+ghost use Rattle.ras_account.specs.Steps.Taking.{Gives};
 
 use page_policy::Order;
 use ras_base::NoMemory;

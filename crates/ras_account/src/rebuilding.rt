@@ -36,7 +36,7 @@ pub enum PushRefused {
 }
 
 impl From<RowRefused> for PushRefused {
-    ghost use Rattle.ras_account.specs.Refusals.{push_refused};
+    ghost use Rattle.ras_account.specs.Steps.Refusals.{push_refused};
 
     ghost from_gives = { λ refused e. e ≡ push_refused refused };
 

@@ -8,7 +8,7 @@ ghost use Rattle.ras_account.specs.Account.{State};
 ghost use Rattle.ras_account.specs.Numbers.{HasRoomFor, HasNoRoomFor};
 ghost use Rattle.ras_account.specs.View.{nothing, added_by};
 ghost use Rattle.ras_account.specs.Continued.{account_after};
-ghost use Rattle.ras_account.specs.Reserving.{NotesItems, with_fresh, Shadows, Noted};
+ghost use Rattle.ras_account.specs.Steps.Reserving.{NotesItems, with_fresh, Shadows, Noted};
 
 use crate::in_force::InForce;
 use crate::modules::Modules;

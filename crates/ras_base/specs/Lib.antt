@@ -1,10 +1,7 @@
 pub mod AcpiTable
 pub mod Places
-pub mod PlacesLemmas
 pub mod Prefix
-pub mod PrefixLemmas
 pub mod Bits
 pub mod Chaining
 pub mod LittleEndian
-pub mod LittleEndianLemmas
-pub mod ExactLemmas
+pub mod Steps

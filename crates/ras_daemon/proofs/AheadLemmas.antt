@@ -20,9 +20,9 @@ use Rattle.ras_exit.specs.declared.exit.Exit.TheVariants.{SourceFault}
 use Rattle.ras_run.specs.Places.{Start}
 use Rattle.ras_daemon.specs.Ahead.{TakesAhead, end_of_event, events_in, is_event_line}
 use Rattle.ras_exit.specs.Telling.{PrintsPart}
-use Rattle.ras_daemon.specs.Doing.{Ends}
+use Rattle.ras_daemon.specs.Steps.Doing.{Ends}
 use Rattle.ras_daemon.specs.RunOutput.{run_output}
-use Rattle.ras_daemon.specs.Running.{EndsAhead, ReadAhead, first_size, lines_from, outputs}
+use Rattle.ras_daemon.specs.Steps.Running.{EndsAhead, ReadAhead, first_size, lines_from, outputs}
 use Rattle.ras_daemon.specs.Script.{reads_in}
 use Rattle.ras_daemon.proofs.SaidLemmas.{Printed}
 use Rattle.ras_daemon.proofs.CountLemmas.{count-first, events_among}

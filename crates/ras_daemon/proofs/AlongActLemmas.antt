@@ -7,7 +7,7 @@ use Rattle.board_core.specs.Stop.{Left}
 use Rattle.board_core.specs.Told.{Told}
 use Rattle.board_core.proofs.DoingLemmas.{after-append, moment_parts}
 use Rattle.ras_base.specs.Places.{places, places_behind}
-use Rattle.ras_base.specs.PlacesLemmas.{places-snoc}
+use Rattle.ras_base.specs.Steps.PlacesLemmas.{places-snoc}
 use Rattle.ras_events.specs.Reports.{NumberedLine, Place, event_at}
 use Rattle.ras_exit.specs.declared.exit.Exit.{Exit}
 use Rattle.ras_run.specs.LineActs.{AreFollowing, AreLineActs, AreUnlessRefused, CanAsk, HoldsAfter, asking_acts}
@@ -18,9 +18,9 @@ use Rattle.ras_run.specs.Moments.{CourseMoment, course_at}
 use Rattle.ras_run.specs.Taking.{IsAccepted, LineMoment}
 use Rattle.ras_run.proofs.LineLawLemmas.{line_holds, line_moment, line_out}
 use Rattle.ras_run.proofs.SomeActLemmas.{some_acts}
-use Rattle.ras_daemon.specs.Doing.{AreLinesActs}
+use Rattle.ras_daemon.specs.Steps.Doing.{AreLinesActs}
 use Rattle.ras_daemon.specs.RunActs.{AreActsAlong, AreDoneAlong, script_asked}
-use Rattle.ras_daemon.specs.Running.{AreAccepted, AreFirst, LinesMoment, outputs}
+use Rattle.ras_daemon.specs.Steps.Running.{AreAccepted, AreFirst, LinesMoment, outputs}
 use Rattle.ras_daemon.specs.Script.{reads_of}
 use Rattle.ras_daemon.proofs.FirstLinesLemmas.{first-before}
 use Rattle.ras_daemon.proofs.PlaceLemmas.{accepted-snoc, line_refused, outputs-snoc, script-asked}

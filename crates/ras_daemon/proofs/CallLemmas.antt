@@ -28,13 +28,13 @@ use Rattle.ras_daemon.specs.RunActs.{DidRun}
 use Rattle.ras_daemon.specs.RunOutput.{closing_line, run_output}
 use Rattle.ras_daemon.specs.RunStatus.{run_exit, start_of}
 use Rattle.board_core.specs.Doing.{Seen}
-use Rattle.ras_daemon.specs.Doing.{Comes, DoesNotOpen, DoesRun, Opens}
+use Rattle.ras_daemon.specs.Steps.Doing.{Comes, DoesNotOpen, DoesRun, Opens}
 use Rattle.ras_daemon.proofs.RunLemmas.{disk_failed, opening_at, run_ends, run_stops}
 use Rattle.ras_daemon.proofs.AheadLemmas.{ahead_told}
 use Rattle.ras_daemon.proofs.DidLemmas.{opened_first, run_did}
 use Rattle.ras_daemon.proofs.FewLinksLemmas.{run-few}
 use Rattle.ras_daemon.specs.StoreDuring.{store_at_end}
-use Rattle.ras_daemon.specs.Running.{AreAll, AreFirst, EndsEarly, EndsIn, EndsAhead, EndsSo, OpenMoment, RunEnds, RunMoment, lines_from, outputs}
+use Rattle.ras_daemon.specs.Steps.Running.{AreAll, AreFirst, EndsEarly, EndsIn, EndsAhead, EndsSo, OpenMoment, RunEnds, RunMoment, lines_from, outputs}
 use Rattle.ras_daemon.specs.Script.{line_after}
 use Rattle.ras_daemon.proofs.HeadlineLemmas.{closing-quiet, headline, headline-nothing, headline-since, moment-prints}
 use Rattle.ras_daemon.proofs.ScriptLemmas.{takes_stops}

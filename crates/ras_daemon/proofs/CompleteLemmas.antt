@@ -23,7 +23,7 @@ use Rattle.ras_daemon.specs.Promises.{Caused, IsQuiet, IsQuietBoard, Ran}
 use Rattle.ras_daemon.specs.RunActs.{DidAll, DidRun}
 use Rattle.ras_daemon.specs.RunOutput.{closing_line, run_output}
 use Rattle.ras_daemon.specs.RunStatus.{run_exit}
-use Rattle.ras_daemon.specs.Running.{AreAll, outputs}
+use Rattle.ras_daemon.specs.Steps.Running.{AreAll, outputs}
 use Rattle.ras_daemon.specs.Runs.{event_count}
 use Rattle.ras_daemon.specs.Script.{events_of}
 use Rattle.ras_daemon.proofs.CallLemmas.{text-so}

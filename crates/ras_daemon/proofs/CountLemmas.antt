@@ -3,7 +3,7 @@ use Rattle.std.proofs.Common.{◌≡◌, ℕ, ◌+◌, false, List, [], ◌∷�
 use Rattle.std.specs.Prelude.{filter}
 use Rattle.std.specs.List.{AllByRecursion, flat_map}
 use Rattle.ras_base.specs.Places.{places, places_behind}
-use Rattle.ras_base.specs.PlacesLemmas.{places-snoc}
+use Rattle.ras_base.specs.Steps.PlacesLemmas.{places-snoc}
 use Rattle.ras_account.specs.Accounts.{IsAccount}
 use Rattle.ras_account.specs.Continued.{account_after_all}
 use Rattle.ras_facts.specs.declared.entry.Entry.{Entry}
@@ -16,7 +16,7 @@ use Rattle.ras_run.specs.Places.{Start, account_at}
 use Rattle.ras_run.specs.Status.{places_before_refusal}
 use Rattle.ras_daemon.specs.Headline.{account_with}
 use Rattle.ras_daemon.specs.RunOutput.{output_upto}
-use Rattle.ras_daemon.specs.Running.{AreFirst, outputs}
+use Rattle.ras_daemon.specs.Steps.Running.{AreFirst, outputs}
 use Rattle.ras_daemon.specs.Script.{events_of, is_event}
 use Rattle.ras_daemon.proofs.EventLemmas.{Tells, tells-first}
 use Rattle.ras_daemon.proofs.ListLemmas.{all-weaker, flat_map-passing, take-passing}

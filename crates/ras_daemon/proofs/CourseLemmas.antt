@@ -27,7 +27,7 @@ use Rattle.ras_run.specs.Status.{refusal_at}
 use Rattle.ras_run.specs.Taking.{IsAccepted}
 use Rattle.ras_run.proofs.PlaceLemmas.{store-snoc}
 use Rattle.ras_daemon.specs.Headline.{laid_with}
-use Rattle.ras_daemon.specs.Running.{AreAccepted, AreAll, AreFirst, StoreAtEnd}
+use Rattle.ras_daemon.specs.Steps.Running.{AreAccepted, AreAll, AreFirst, StoreAtEnd}
 use Rattle.ras_daemon.specs.Script.{is_event, line_after, reads_of}
 use Rattle.ras_daemon.specs.StoreDuring.{KnownBy, KnowsReadable, store_at_end}
 use Rattle.ras_daemon.proofs.CountLemmas.{events_among}

@@ -22,10 +22,10 @@ use Rattle.ras_exit.proofs.EndingLemmas.{memory_ran_out}
 use Rattle.ras_base.specs.Places.{places}
 use Rattle.ras_run.specs.LineActs.{HoldsAfter}
 use Rattle.ras_run.specs.Places.{Start}
-use Rattle.ras_daemon.specs.Doing.{DoesRun, Opens}
+use Rattle.ras_daemon.specs.Steps.Doing.{DoesRun, Opens}
 use Rattle.ras_daemon.specs.Promises.{HasOpened}
 use Rattle.ras_texts.specs.Orders.{standing_lines}
-use Rattle.ras_daemon.specs.Running.{EndsAhead, ReadAhead, lines_from, outputs}
+use Rattle.ras_daemon.specs.Steps.Running.{EndsAhead, ReadAhead, lines_from, outputs}
 use Rattle.ras_daemon.specs.Script.{reads_in, reads_of}
 use Rattle.ras_daemon.specs.RunActs.{AreRunActs, AreRunCalls, AreScriptActs, DidAll, DidOf, DidRun, ListsAccesses, TookAll, last_acts, orders_acts, script_asked}
 use Rattle.ras_daemon.specs.RunStatus.{run_exit}

@@ -52,7 +52,7 @@ use Rattle.ras_run.specs.Output.{event_done, event_text_at, output_at, text_at}
 use Rattle.ras_run.specs.Places.{Start, account_at, lacks_room_for, polled_at, standing_at, store_at}
 use Rattle.ras_run.specs.Status.{counting_refusal, event_refusal}
 use Rattle.ras_run.specs.Taking.{IsAccepted}
-use Rattle.ras_daemon.specs.Running.{AreFirst}
+use Rattle.ras_daemon.specs.Steps.Running.{AreFirst}
 use Rattle.ras_daemon.specs.Runs.{IsNoPoll}
 use Rattle.ras_daemon.specs.Script.{is_event}
 use Rattle.text_laws.proofs.DoneLemmas.{no_lines_quiet}

@@ -2,7 +2,7 @@
 use Rattle.std.proofs.Common.{◌≡◌, ℕ, List, [], ◌∷◌, ◌++◌, sym, ap, subst, ◌∙◌, inl, inr}
 use Rattle.std.specs.List.{AllByRecursion}
 use Rattle.board_core.specs.Clock.{Adds, Always, LeftNow, Rests}
-use Rattle.board_core.specs.ClockLemmas.{adds_none, adds_weaker, always_goes_on}
+use Rattle.board_core.specs.Steps.ClockLemmas.{adds_none, adds_weaker, always_goes_on}
 use Rattle.board_core.specs.Doing.{Act, Moment, Seen, after_acts}
 use Rattle.board_core.specs.Stop.{Left}
 use Rattle.board_core.specs.Told.{Told}
@@ -19,10 +19,10 @@ use Rattle.ras_run.specs.Taking.{IsAccepted}
 use Rattle.ras_run.proofs.LineFewLemmas.{asking_few, few_same, line_few, line_few_done, print_few, printed_few}
 use Rattle.ras_run.proofs.LineLawLemmas.{line_holds}
 use Rattle.ras_texts.specs.Orders.{standing_lines}
-use Rattle.ras_daemon.specs.Doing.{AreAllAsked, DoesFirst, DoesPart, DoesRun, DoesScript, IsLastBy, KeepsStore, MayAsk, TakesScript}
+use Rattle.ras_daemon.specs.Steps.Doing.{AreAllAsked, DoesFirst, DoesPart, DoesRun, DoesScript, IsLastBy, KeepsStore, MayAsk, TakesScript}
 use Rattle.ras_daemon.specs.RunActs.{AreDoneAlong, AreScriptActs, orders_acts}
 use Rattle.ras_daemon.specs.RunOutput.{closing_line}
-use Rattle.ras_daemon.specs.Running.{AreFirst}
+use Rattle.ras_daemon.specs.Steps.Running.{AreFirst}
 use Rattle.ras_daemon.proofs.AlongActLemmas.{along_done}
 use Rattle.ras_daemon.proofs.ScriptLemmas.{IsLast, asked_none, left_at_end, printed_holds}
 

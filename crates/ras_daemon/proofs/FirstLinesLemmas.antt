@@ -3,7 +3,7 @@ use Rattle.std.proofs.Common.{◌≡◌, ℕ, Bool, true, false, List, [], ◌�
 use Rattle.std.specs.Prelude.{if◌then◌else◌, unwrap_or}
 use Rattle.std.specs.List.{AllByRecursion, cons_option, filter_map, flat_map}
 use Rattle.ras_base.specs.Places.{places, places_behind}
-use Rattle.ras_base.specs.PlacesLemmas.{places_behind-append, places-snoc}
+use Rattle.ras_base.specs.Steps.PlacesLemmas.{places_behind-append, places-snoc}
 use Rattle.ras_account.specs.Account.{State}
 use Rattle.ras_account.specs.Continued.{account_after_all}
 use Rattle.ras_facts.specs.declared.entry.Entry.{Entry}
@@ -26,7 +26,7 @@ use Rattle.ras_run.specs.Status.{counting_refusal, event_refusal, places_before_
 use Rattle.ras_run.specs.Taking.{IsAccepted}
 use Rattle.ras_daemon.specs.RunOutput.{closing_line}
 use Rattle.ras_daemon.specs.RunStatus.{first_among, refusal_among, run_exit}
-use Rattle.ras_daemon.specs.Running.{AreAccepted, AreAll, AreFirst}
+use Rattle.ras_daemon.specs.Steps.Running.{AreAccepted, AreAll, AreFirst}
 use Rattle.ras_exit.specs.ScriptEnd.{script_exit}
 use Rattle.ras_daemon.specs.Script.{reads_of}
 

@@ -7,9 +7,9 @@ use Rattle.std.proofs.lemmas.List.Elements.{filter-append}
 use Rattle.board_core.specs.Clock.{Clock, LeftNow}
 use Rattle.board_core.specs.Stop.{Left}
 use Rattle.ras_base.specs.Places.{places, places_behind}
-use Rattle.ras_base.specs.PlacesLemmas.{places-snoc}
+use Rattle.ras_base.specs.Steps.PlacesLemmas.{places-snoc}
 use Rattle.ras_base.specs.Prefix.{IsPrefixOf}
-use Rattle.ras_base.specs.PrefixLemmas.{IsPrefixOf-trans}
+use Rattle.ras_base.specs.Steps.PrefixLemmas.{IsPrefixOf-trans}
 use Rattle.ras_account.specs.Account.{State}
 use Rattle.ras_account.specs.Accounts.{IsAccount}
 use Rattle.ras_account.specs.Continued.{account_after_all}
@@ -28,7 +28,7 @@ use Rattle.ras_exit.specs.Telling.{PrintsPart}
 use Rattle.ras_daemon.specs.Headline.{AtOpening, Headline, StopsRecover, account_with, laid_with, last_laid_with}
 use Rattle.ras_daemon.specs.RunOutput.{closing_line, lines_output, output_upto, run_output}
 use Rattle.ras_daemon.specs.RunStatus.{run_exit}
-use Rattle.ras_daemon.specs.Running.{AreAccepted, AreAll, AreFirst, AtEnd, AtLine, AtStart, BetweenLines, OpenMoment, RunMoment, lines_from, outputs}
+use Rattle.ras_daemon.specs.Steps.Running.{AreAccepted, AreAll, AreFirst, AtEnd, AtLine, AtStart, BetweenLines, OpenMoment, RunMoment, lines_from, outputs}
 use Rattle.ras_daemon.specs.Script.{events_of, is_event, line_after, reads_of}
 use Rattle.ras_daemon.specs.StoreDuring.{KeepsOthers, KeepsRecords, KnownBy, KnowsReadable, OnPoll, StoreDuring}
 use Rattle.ras_daemon.proofs.CountLemmas.{account-first, count-first, events_among, output-first, tells-last}

@@ -11,7 +11,7 @@ use Rattle.ras_facts.specs.declared.entry.Entry.{Entry}
 use Rattle.ras_facts.specs.declared.entry.Entry.TheVariants.{Fact, Limit as PageLimit, Retire, ModuleLimit}
 use Rattle.ras_facts.specs.declared.fact.Fact.{Fact as FactOf}
 use Rattle.ras_facts.specs.declared.name.Name.{Name}
-use Rattle.ras_facts.specs.NameLemmas.{same_name-laws, same_name-refl}
+use Rattle.ras_facts.specs.Steps.NameLemmas.{same_name-laws, same_name-refl}
 use Rattle.ras_facts.specs.Names.{same_name}
 use Rattle.ras_account.specs.Account.{State, account_of, names_of}
 use Rattle.ras_account.specs.Continued.{account_after, account_after_all, is_fresh_in}

@@ -9,7 +9,7 @@ use Rattle.cper_records.specs.declared.refusals.Unreadable.{Unreadable as Why}
 use Rattle.dimm_topology.specs.declared.row.Row.{Row}
 use Rattle.erst_driver.specs.Operations.{is_free_in_time}
 use Rattle.erst_store.specs.Store.{Stored, bytes_under, is_full_for, is_reserved, most_bytes, refusal_of, with_record}
-use Rattle.erst_store.specs.StoreLemmas.{found-with_record, under-with_record}
+use Rattle.erst_store.specs.Steps.StoreLemmas.{found-with_record, under-with_record}
 use Rattle.erst_store.specs.declared.store.PutRefused.{PutRefused}
 use Rattle.erst_store.specs.declared.store.PutRefused.TheVariants.{ReservedId, StoreFull, TooLong}
 use Rattle.ras_base.specs.Places.{places, places_behind}
@@ -53,7 +53,7 @@ use Rattle.ras_run.specs.Status.{event_refusal}
 use Rattle.ras_run.specs.Taking.{IsAccepted}
 use Rattle.ras_run.proofs.PlaceLemmas.{account-snoc, store-snoc}
 use Rattle.ras_daemon.specs.Headline.{last_laid_with, laid_with}
-use Rattle.ras_daemon.specs.Running.{AreFirst}
+use Rattle.ras_daemon.specs.Steps.Running.{AreFirst}
 use Rattle.ras_daemon.specs.StoreDuring.{KeepsOthers, KeepsRecords, KnownBy, KnowsReadable, OnPoll, PutsAnew, StoreDuring}
 use Rattle.ras_daemon.proofs.CountLemmas.{events_among}
 use Rattle.ras_daemon.proofs.EventLemmas.{of-panic, tabled}

@@ -20,7 +20,7 @@ use Rattle.ras_exit.specs.declared.exit.Exit.TheVariants.{Done, SourceFault}
 use Rattle.ras_run.specs.declared.run.Run.{Run}
 use Rattle.ras_run.specs.Places.{Start}
 use Rattle.ras_exit.specs.Endings.{IsStop}
-use Rattle.ras_daemon.specs.Running.{EndsAhead, ReadAhead, first_size, outputs}
+use Rattle.ras_daemon.specs.Steps.Running.{EndsAhead, ReadAhead, first_size, outputs}
 use Rattle.ras_daemon.specs.Script.{reads_in, reads_of}
 use Rattle.ras_daemon.proofs.AlongActLemmas.{acts_along, along_prints}
 use Rattle.ras_daemon.proofs.GrowLemmas.{Grows}

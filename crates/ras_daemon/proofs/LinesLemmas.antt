@@ -25,9 +25,9 @@ use Rattle.ras_run.specs.LineActs.{AreBegun, CanAsk, HoldsAfter, asking_acts}
 use Rattle.ras_run.specs.Places.{IsBoardAfter, Start}
 use Rattle.ras_run.specs.Status.{refusal_at}
 use Rattle.ras_run.specs.Taking.{IsRunAfter, TakesLine}
-use Rattle.ras_daemon.specs.Doing.{AreAllAsked, AreLinesActs, AsksBy, DoesFirst, DoesLines, IsAsked, MayAsk}
+use Rattle.ras_daemon.specs.Steps.Doing.{AreAllAsked, AreLinesActs, AsksBy, DoesFirst, DoesLines, IsAsked, MayAsk}
 use Rattle.ras_daemon.specs.RunActs.{AreDoneAlong, asked_acts, script_asked}
-use Rattle.ras_daemon.specs.Running.{AreAccepted, AreAll, AreFirst}
+use Rattle.ras_daemon.specs.Steps.Running.{AreAccepted, AreAll, AreFirst}
 use Rattle.ras_exit.specs.ScriptEnd.{ending_exit}
 use Rattle.ras_daemon.specs.Script.{reads_in, reads_of}
 use Rattle.ras_daemon.proofs.AlongActLemmas.{IsDoneAt, acts_along, along_begun, along_done, asks_alone, done-snoc, line_begun}

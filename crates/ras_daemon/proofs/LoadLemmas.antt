@@ -14,7 +14,7 @@ use Rattle.ras_load.specs.LoadScript.{load_script}
 use Rattle.ras_run.specs.Places.{Start, account_at}
 use Rattle.ras_daemon.specs.Loading.{load_account, nothing_there}
 use Rattle.ras_daemon.specs.RunStatus.{start_of}
-use Rattle.ras_daemon.specs.Running.{RunEnds}
+use Rattle.ras_daemon.specs.Steps.Running.{RunEnds}
 use Rattle.ras_daemon.specs.Script.{reads_of}
 use Rattle.ras_daemon.proofs.FirstLinesLemmas.{done-all}
 

@@ -8,7 +8,7 @@ use Rattle.std.specs.Option.{option_map_or}
 use Rattle.std.proofs.lemmas.Bool.Decides.{nat_tests}
 use Rattle.std.proofs.lemmas.List.Elements.{recursion_from_All}
 use Rattle.ras_base.specs.LittleEndian.{u32_bytes, u64_bytes}
-use Rattle.ras_base.specs.LittleEndianLemmas.{length-u16_bytes, length-u32_bytes, length-u64_bytes}
+use Rattle.ras_base.specs.Steps.LittleEndianLemmas.{length-u16_bytes, length-u32_bytes, length-u64_bytes}
 use Rattle.dimm_topology.specs.Labels.{Bytes, is_label_or_none, same_label}
 use Rattle.page_policy.specs.declared.buckets.Bucket.{Bucket}
 use Rattle.page_policy.specs.declared.rows.PageRow.{PageRow}

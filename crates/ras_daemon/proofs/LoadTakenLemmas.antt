@@ -7,7 +7,7 @@ use Rattle.std.specs.Option.{option_map, option_map_or}
 use Rattle.std.proofs.lemmas.List.{map-append}
 use Rattle.std.proofs.lemmas.List.Elements.{filter_map-append}
 use Rattle.ras_base.specs.Places.{places}
-use Rattle.ras_base.specs.PlacesLemmas.{places-snoc}
+use Rattle.ras_base.specs.Steps.PlacesLemmas.{places-snoc}
 use Rattle.mca_status.specs.Classes.{class_of_rows}
 use Rattle.dimm_topology.specs.declared.row.Row.{Row as RowOf}
 use Rattle.dimm_topology.specs.declared.row.Row.TheVariants.{Cpu, Module}

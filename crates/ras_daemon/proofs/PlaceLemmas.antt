@@ -5,7 +5,7 @@ use Rattle.std.proofs.lemmas.List.{map-append, length-map}
 use Rattle.std.proofs.lemmas.Grind.{flat_map-append}
 use Rattle.board_core.specs.Told.{Told}
 use Rattle.ras_base.specs.Places.{places, places_behind}
-use Rattle.ras_base.specs.PlacesLemmas.{places-snoc, places_behind-append}
+use Rattle.ras_base.specs.Steps.PlacesLemmas.{places-snoc, places_behind-append}
 use Rattle.ras_events.specs.Reports.{NumberedLine, Place, event_at}
 use Rattle.ras_script.specs.Line.{line_of}
 use Rattle.ras_script.specs.Lines.{Ending, Lines, script_lines}
@@ -17,7 +17,7 @@ use Rattle.ras_run.specs.Status.{places_before_refusal, refusal_at}
 use Rattle.ras_run.specs.Taking.{IsAccepted}
 use Rattle.ras_daemon.specs.RunActs.{asked_acts, script_asked}
 use Rattle.ras_daemon.specs.RunStatus.{refusal_among}
-use Rattle.ras_daemon.specs.Running.{AreAccepted, AreAll, AreFirst, outputs}
+use Rattle.ras_daemon.specs.Steps.Running.{AreAccepted, AreAll, AreFirst, outputs}
 use Rattle.ras_exit.specs.ScriptEnd.{ending_exit, script_exit}
 use Rattle.ras_daemon.specs.Script.{reads_in, reads_of}
 

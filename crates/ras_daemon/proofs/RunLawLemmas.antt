@@ -9,7 +9,7 @@ use Rattle.std.proofs.lemmas.List.Concat.{flat_map-append}
 use Rattle.std.proofs.lemmas.List.Elements.{filter-append, recursion_from_All}
 use Rattle.ras_base.specs.Places.{places, places_behind}
 use Rattle.ras_base.specs.Prefix.{IsPrefixOf}
-use Rattle.ras_base.specs.PrefixLemmas.{IsPrefixOf-trans}
+use Rattle.ras_base.specs.Steps.PrefixLemmas.{IsPrefixOf-trans}
 use Rattle.page_policy.specs.Histories.{AreOnceInOrder, state_in, state_under}
 use Rattle.page_policy.specs.declared.rows.Order.{Order}
 use Rattle.page_policy.proofs.OrderLemmas.{once_in_order, state-under}
@@ -46,7 +46,7 @@ use Rattle.ras_run.specs.Status.{places_before_refusal, refusal_at}
 use Rattle.ras_account.specs.Modules.{Module, has_tripped}
 use Rattle.ras_account.proofs.ModuleOrderLemmas.{module-orders}
 use Rattle.dimm_topology.specs.Labels.{Bytes, same_label}
-use Rattle.ras_base.specs.PlacesLemmas.{places_behind-append}
+use Rattle.ras_base.specs.Steps.PlacesLemmas.{places_behind-append}
 use Rattle.ras_script.specs.declared.line.Line.{Line}
 use Rattle.ras_script.specs.declared.line.LineRefused.{LineRefused}
 use Rattle.ras_script.specs.Line.{line_of}

@@ -8,7 +8,7 @@ use Rattle.board_core.specs.declared.board.FileNo.TheVariants.{Zero, One}
 use Rattle.std.specs.Result.{result_unwrap_or}
 use Rattle.board_core.specs.Cause.{disk_call}
 use Rattle.board_core.specs.Clock.{Clock, Adds, LeftNow}
-use Rattle.board_core.specs.ClockLemmas.{adds_both, adds_none, adds_weaker}
+use Rattle.board_core.specs.Steps.ClockLemmas.{adds_both, adds_none, adds_weaker}
 use Rattle.board_core.specs.Device.{LeavesDevice}
 use Rattle.board_core.specs.Doing.{Seen}
 use Rattle.board_core.specs.Stop.{Left}
@@ -37,12 +37,12 @@ use Rattle.ras_exit.specs.StopLine.{stop_line}
 use Rattle.ras_exit.specs.Telling.{Tells}
 use Rattle.ras_run.specs.Files.{KeepsFiles, files_refusal, refusal_exit}
 use Rattle.ras_run.specs.Taking.{IsReady, Opens, Prints}
-use Rattle.ras_daemon.specs.Doing.{Comes, ComesScript, DoesRun, Ends, Opens as OpensRun, TakesScript}
+use Rattle.ras_daemon.specs.Steps.Doing.{Comes, ComesScript, DoesRun, Ends, Opens as OpensRun, TakesScript}
 use Rattle.ras_daemon.specs.Promises.{EndsRefused, OverRefused, Refuses}
 use Rattle.ras_daemon.specs.Headline.{AtOpening, OverRun}
 use Rattle.ras_daemon.specs.RunOutput.{closing_line}
 use Rattle.ras_daemon.specs.RunStatus.{start_of}
-use Rattle.ras_daemon.specs.Running.{EndsAhead, EndsIn, IsStart, OpenMoment, RunEnds, RunMoment, lines_from}
+use Rattle.ras_daemon.specs.Steps.Running.{EndsAhead, EndsIn, IsStart, OpenMoment, RunEnds, RunMoment, lines_from}
 use Rattle.ras_daemon.specs.declared.word.Task.{Task}
 use Rattle.ras_daemon.specs.declared.word.Task.TheVariants.{Run}
 use Rattle.ras_daemon.proofs.SaidLemmas.{Printed, before_at, says_printed}

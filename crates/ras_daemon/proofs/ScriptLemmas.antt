@@ -4,7 +4,7 @@ use Rattle.std.specs.Prelude.{◌≢◌, ◌⊎◌, is_some}
 use Rattle.std.specs.Option.{option_map}
 use Rattle.board_core.specs.Cause.{Kind}
 use Rattle.board_core.specs.Clock.{Adds, Rests}
-use Rattle.board_core.specs.ClockLemmas.{adds_none, adds_weaker}
+use Rattle.board_core.specs.Steps.ClockLemmas.{adds_none, adds_weaker}
 use Rattle.board_core.specs.Doing.{Act, FailsActs, GoesWell, Moment, Seen, after_acts}
 use Rattle.board_core.specs.Stop.{Left, Begins, InOut}
 use Rattle.board_core.specs.Told.{Relates, Steps, Told}
@@ -29,11 +29,11 @@ use Rattle.ras_run.specs.Status.{places_before_refusal, refusal_at}
 use Rattle.ras_run.proofs.LineLawLemmas.{asking_moment, line_still}
 use Rattle.ras_run.proofs.SomeActLemmas.{some_acts}
 use Rattle.ras_texts.specs.Orders.{standing_lines}
-use Rattle.ras_daemon.specs.Doing.{AreAllAsked, AreLinesActs, DoesFirst, DoesPart, DoesScript, IsAsked, IsLastBy, KeepsStore, MayAsk, TakesScript}
+use Rattle.ras_daemon.specs.Steps.Doing.{AreAllAsked, AreLinesActs, DoesFirst, DoesPart, DoesScript, IsAsked, IsLastBy, KeepsStore, MayAsk, TakesScript}
 use Rattle.ras_daemon.specs.RunActs.{AreActsAlong, AreDoneAlong, AreScriptActs, DidOf, TookAll, last_acts, orders_acts, script_asked}
 use Rattle.ras_daemon.specs.RunOutput.{closing_line}
 use Rattle.ras_daemon.specs.RunStatus.{run_exit}
-use Rattle.ras_daemon.specs.Running.{AreAll, AreFirst, EndsEarly, EndsIn, EndsSo, LinesMoment, OpenMoment, RunEnds, StoreAtEnd, lines_from, outputs}
+use Rattle.ras_daemon.specs.Steps.Running.{AreAll, AreFirst, EndsEarly, EndsIn, EndsSo, LinesMoment, OpenMoment, RunEnds, StoreAtEnd, lines_from, outputs}
 use Rattle.ras_daemon.specs.Script.{reads_of}
 use Rattle.ras_daemon.proofs.AlongActLemmas.{acts_along, along_begun, along_done, along_moment, along_prints, line_begun, moment_in}
 use Rattle.ras_daemon.proofs.FirstLinesLemmas.{closing-same, first-before}

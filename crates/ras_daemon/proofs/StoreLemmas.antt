@@ -8,7 +8,7 @@ use Rattle.erst_store.specs.Store.{Stored, bytes_under, is_full_for, refusal_of,
 use Rattle.erst_store.specs.declared.store.PutRefused.{PutRefused}
 use Rattle.erst_driver.specs.Operations.{is_free_in_time}
 use Rattle.ras_base.specs.Places.{places, places_behind}
-use Rattle.ras_base.specs.PlacesLemmas.{places_behind-append}
+use Rattle.ras_base.specs.Steps.PlacesLemmas.{places_behind-append}
 use Rattle.ras_account.specs.Accounts.{IsAccount}
 use Rattle.ras_script.specs.declared.line.Line.{Line}
 use Rattle.ras_script.specs.declared.line.Line.TheVariants as asks
@@ -28,7 +28,7 @@ use Rattle.ras_run.specs.Places.{Start, store_at}
 use Rattle.ras_run.specs.Status.{event_refusal, put_refusal, refusal_at}
 use Rattle.ras_run.specs.Taking.{IsAccepted}
 use Rattle.ras_daemon.specs.Headline.{last_laid_with, laid_with, lines_with}
-use Rattle.ras_daemon.specs.Running.{AreAccepted, AreFirst}
+use Rattle.ras_daemon.specs.Steps.Running.{AreAccepted, AreFirst}
 use Rattle.ras_daemon.specs.Script.{begun_of, begun_with, first_line, is_event, line_after, places_begun, reads_of}
 use Rattle.ras_daemon.proofs.CountLemmas.{events_among, first-events}
 use Rattle.ras_daemon.proofs.EventLemmas.{IsNotPoll, IsUnpolled, line-unpolled, of-line, of-panic, tabled}

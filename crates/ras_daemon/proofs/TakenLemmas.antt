@@ -17,11 +17,11 @@ use Rattle.ras_exit.proofs.PrintLemmas.{none_still}
 use Rattle.ras_run.specs.declared.run.Run.{Run}
 use Rattle.ras_run.specs.Places.{Start, account_at}
 use Rattle.ras_run.specs.Taking.{IsPrintExit}
-use Rattle.ras_daemon.specs.Doing.{AreAllAsked, AreLinesActs, AsksBy, DoesFirst, DoesLines, DoesPart, DoesScript, Ends, IsLastBy, MayAsk, Says, TakesScript}
+use Rattle.ras_daemon.specs.Steps.Doing.{AreAllAsked, AreLinesActs, AsksBy, DoesFirst, DoesLines, DoesPart, DoesScript, Ends, IsLastBy, MayAsk, Says, TakesScript}
 use Rattle.ras_daemon.specs.RunActs.{AreDoneAlong, AreScriptActs, last_acts, orders_acts, script_asked}
 use Rattle.ras_daemon.specs.RunOutput.{closing_line}
 use Rattle.ras_daemon.specs.RunStatus.{run_exit}
-use Rattle.ras_daemon.specs.Running.{AreFirst}
+use Rattle.ras_daemon.specs.Steps.Running.{AreFirst}
 use Rattle.ras_daemon.specs.Script.{reads_of}
 use Rattle.ras_daemon.proofs.ScriptLemmas.{script_begun}
 

@@ -9,6 +9,5 @@ pub mod Promises
 pub mod Ahead
 pub mod RunActs
 pub mod Runs
-pub mod Running
-pub mod Doing
 pub mod Loading
+pub mod Steps

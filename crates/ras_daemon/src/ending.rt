@@ -4,7 +4,7 @@ ghost use Rattle.std.specs.Prelude.{◌≡◌, ◌⊎◌, IfOk};
 ghost use Rattle.board_core.specs.Device.{LeavesDevice};
 ghost use Rattle.board_core.specs.Doing.{looks};
 ghost use Rattle.ras_exit.specs.Endings.{IsAnswer};
-ghost use Rattle.ras_daemon.specs.Doing.{Ends, Says};
+ghost use Rattle.ras_daemon.specs.Steps.Doing.{Ends, Says};
 ghost use Rattle.ras_daemon.specs.RunOutput.{closing_line};
 
 use board_core::Board;

@@ -3,12 +3,12 @@
 ghost use Rattle.std.specs.Prelude.{◌≡◌, ℕ, List, [], Some};
 ghost use Rattle.board_core.specs.Doing.{looks};
 ghost use Rattle.board_core.specs.Told.{Told};
-ghost use Rattle.line_filters.specs.Steps.{exit_of};
+ghost use Rattle.line_filters.specs.Steps.Filtering.{exit_of};
 ghost use Rattle.ras_run.specs.LineActs.{HoldsAfter};
 ghost use Rattle.ras_run.specs.Places.{Start};
 ghost use Rattle.ras_run.specs.Taking.{IsReady, IsRunAfter};
 ghost use Rattle.ras_daemon.specs.Ahead.{TakesBy};
-ghost use Rattle.ras_daemon.specs.Doing.{ComesLines, EndsLines};
+ghost use Rattle.ras_daemon.specs.Steps.Doing.{ComesLines, EndsLines};
 
 use board_core::{Board, Source};
 use ras_exit::{Exit, Reason};

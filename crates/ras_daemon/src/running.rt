@@ -8,10 +8,10 @@ ghost use Rattle.ras_run.specs.Places.{Start};
 ghost use Rattle.ras_run.specs.Taking.{IsReady};
 ghost use Rattle.ras_daemon.specs.Ahead.{TakesBy};
 ghost use Rattle.ras_daemon.specs.Commands.{IsRunExit};
-ghost use Rattle.ras_daemon.specs.Doing.{Comes, ComesScript};
+ghost use Rattle.ras_daemon.specs.Steps.Doing.{Comes, ComesScript};
 ghost use Rattle.ras_daemon.specs.Headline.{OverRun};
 ghost use Rattle.ras_daemon.specs.Promises.{Caused, OverRefused, Refuses};
-ghost use Rattle.ras_daemon.specs.Running.{IsStart};
+ghost use Rattle.ras_daemon.specs.Steps.Running.{IsStart};
 
 use crate::Task;
 use crate::ending::end_run;

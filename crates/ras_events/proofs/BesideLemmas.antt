@@ -9,7 +9,7 @@ use Rattle.ras_facts.specs.declared.name.Name.{Name}
 use Rattle.ras_facts.specs.declared.entry.Entry.{Entry}
 use Rattle.ras_facts.specs.declared.entry.Entry.TheVariants.{Fact, Limit, Retire, ModuleLimit}
 use Rattle.ras_facts.specs.Names.{same_name}
-use Rattle.ras_facts.specs.NameLemmas.{same_name-exact}
+use Rattle.ras_facts.specs.Steps.NameLemmas.{same_name-exact}
 use Rattle.ras_reports.specs.declared.details.Detail.{Detail}
 use Rattle.ras_account.specs.Account.{State, names_of}
 use Rattle.ras_account.specs.History.{is_retired}
@@ -20,7 +20,7 @@ use Rattle.ras_account.specs.Numbers.{fresh_entries_in}
 use Rattle.ras_account.proofs.ItemLemmas.{names-items, floor-items}
 use Rattle.ras_texts.specs.Reports.{entry_lines}
 use Rattle.ras_texts.specs.Text.{repeat_line}
-use Rattle.ras_events.specs.Beside.{AreAlike, is_news_beside}
+use Rattle.ras_events.specs.Steps.Beside.{AreAlike, is_news_beside}
 use Rattle.ras_events.specs.Sizes.{IsFact}
 
 -- an account continued by an entry that is fresh or not

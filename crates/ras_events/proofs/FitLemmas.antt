@@ -4,7 +4,7 @@ use Rattle.std.specs.List.{concat, list_any, AllByRecursion}
 use Rattle.std.specs.Option.{option_map_or}
 use Rattle.std.proofs.lemmas.List.Elements.{All-from_recursion}
 use Rattle.ras_base.specs.LittleEndian.{u32_bytes}
-use Rattle.ras_base.specs.LittleEndianLemmas.{length-u32_bytes}
+use Rattle.ras_base.specs.Steps.LittleEndianLemmas.{length-u32_bytes}
 use Rattle.apei_sources.specs.declared.blocks.TheConstants.{BLOCK_HEADER_LENGTH}
 use Rattle.apei_sources.specs.declared.refusals.BlockRefused.{BlockRefused}
 use Rattle.apei_sources.specs.declared.refusals.BlockRefused.TheVariants.{Short, Section}

@@ -13,7 +13,7 @@ use Rattle.ras_texts.specs.Text.{repeat_line}
 use Rattle.ras_texts.specs.Unreadable.{unreadable_line}
 use Rattle.ras_events.specs.declared.made.Piece.{Piece}
 use Rattle.ras_events.specs.declared.made.Piece.TheVariants.{Counted, Unread}
-use Rattle.ras_events.specs.Beside.{AreAlike, KeepsNews, TellsEntry, is_news_beside}
+use Rattle.ras_events.specs.Steps.Beside.{AreAlike, KeepsNews, TellsEntry, is_news_beside}
 use Rattle.ras_events.specs.Making.{entries_in, entry_in}
 use Rattle.ras_events.specs.Preparing.{text_along}
 use Rattle.ras_events.proofs.BesideLemmas.{IsBeside, beside}

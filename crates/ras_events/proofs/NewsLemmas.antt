@@ -3,7 +3,7 @@ use Rattle.std.proofs.Common.{◌≡◌, ℕ, ◌+◌, ◌≤◌, Bool, true, fa
 use Rattle.std.specs.List.{AllByRecursion, flat_map}
 use Rattle.std.proofs.lemmas.List.Elements.{All-from_recursion, recursion_from_All}
 use Rattle.ras_base.specs.LittleEndian.{u32_bytes}
-use Rattle.ras_base.specs.LittleEndianLemmas.{length-u32_bytes}
+use Rattle.ras_base.specs.Steps.LittleEndianLemmas.{length-u32_bytes}
 use Rattle.ras_facts.specs.declared.entry.Entry.{Entry}
 use Rattle.ras_facts.specs.Entries.{IsValidEntry}
 use Rattle.ras_account.specs.Account.{State}

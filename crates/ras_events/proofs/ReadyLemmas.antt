@@ -9,7 +9,7 @@ use Rattle.ras_account.specs.View.{View, added_by}
 use Rattle.ras_account.proofs.NumberLemmas.{stays-within}
 use Rattle.ras_texts.specs.OrderRoom.{HasOrderRoom}
 use Rattle.ras_events.specs.declared.preparing.News.{News}
-use Rattle.ras_events.specs.Beside.{IsNewsOf}
+use Rattle.ras_events.specs.Steps.Beside.{IsNewsOf}
 use Rattle.ras_events.specs.Preparing.{CanTake, IsReady, news_entries}
 
 module _ (account : View) (news : List Entry) (waits : account.waiting ≡ added_by account.state news) (within : HasRoomFor account.state news) (valid : All IsValidEntry news) where

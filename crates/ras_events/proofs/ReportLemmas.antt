@@ -5,7 +5,7 @@ use Rattle.std.proofs.lemmas.List.Concat.{flat_map-append}
 use Rattle.std.specs.List.{cons_option, filter_map, flat_map}
 use Rattle.std.specs.Option.{option_map_or}
 use Rattle.ras_base.specs.Places.{places, places_behind}
-use Rattle.ras_base.specs.PlacesLemmas.{places_behind-append}
+use Rattle.ras_base.specs.Steps.PlacesLemmas.{places_behind-append}
 use Rattle.apei_sources.specs.Hest.{Sources, hest_of}
 use Rattle.apei_sources.specs.declared.refusals.TableRefused.{TableRefused}
 use Rattle.ras_script.specs.declared.line.Line.{Line}

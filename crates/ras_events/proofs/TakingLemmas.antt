@@ -14,7 +14,7 @@ use Rattle.ras_account.specs.Numbers.{IsWithin, StaysWithin}
 use Rattle.ras_account.specs.Orders.{orders_along, orders_at, page_order_in, module_order_in}
 use Rattle.ras_account.specs.View.{OrderList, View, WaitsFirst, IsReservedFor, added_by}
 use Rattle.ras_account.proofs.NumberLemmas.{added_by-cons}
-use Rattle.ras_events.specs.Beside.{CanTakeAll, IsTaking}
+use Rattle.ras_events.specs.Steps.Beside.{CanTakeAll, IsTaking}
 use Rattle.ras_events.specs.Preparing.{orders_along_entries}
 
 -- ---- how many orders an entry gives

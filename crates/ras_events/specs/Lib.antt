@@ -5,5 +5,5 @@ pub mod Sizes
 pub mod Texts
 pub mod Reports
 pub mod Preparing
-pub mod Beside
 pub mod Repeats
+pub mod Steps

@@ -5,7 +5,7 @@ ghost use Rattle.std.specs.Prelude.{◌≡◌, [], ◌∷◌, IfOk, OnOk};
 ghost use Rattle.ras_account.specs.Account.{names_of};
 ghost use Rattle.ras_account.specs.Fresh.{is_among};
 ghost use Rattle.ras_account.specs.Numbers.{fresh_entries_in};
-ghost use Rattle.ras_events.specs.Beside.{AreAlike, TellsEntry, has_name_of, is_news_beside};
+ghost use Rattle.ras_events.specs.Steps.Beside.{AreAlike, TellsEntry, has_name_of, is_news_beside};
 ghost use Rattle.ras_events.specs.Making.{entries_in};
 ghost use Rattle.ras_events.specs.Preparing.{text_along};
 

@@ -9,7 +9,7 @@ ghost use Rattle.ras_account.specs.View.{added_by};
 ghost use Rattle.journal_format.specs.Links.{payload_bytes};
 ghost use Rattle.ras_texts.specs.OrderRoom.{HasOrderRoom};
 ghost use Rattle.ras_texts.specs.Orders.{order_lines};
-ghost use Rattle.ras_events.specs.Beside.{CanTakeAll, IsLinked, IsNewsOf};
+ghost use Rattle.ras_events.specs.Steps.Beside.{CanTakeAll, IsLinked, IsNewsOf};
 ghost use Rattle.ras_events.specs.Preparing.{CanTake, IsPrepared, IsReady, news_entries};
 ghost use Rattle.ras_events.specs.Making.{entries_in};
 ghost use Rattle.ras_events.specs.Preparing.{orders_along_entries};

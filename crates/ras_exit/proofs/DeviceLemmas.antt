@@ -2,7 +2,7 @@
 -- board tells.
 use Rattle.std.proofs.Common.{◌≡◌, ℕ, List, Option, None, Some, ap, refl, ◌∙◌}
 use Rattle.board_core.specs.Clock.{Clock, LeftNow, Passes, Adds}
-use Rattle.board_core.specs.ClockLemmas.{adds_after, adds_both, adds_none, adds_weaker}
+use Rattle.board_core.specs.Steps.ClockLemmas.{adds_after, adds_both, adds_none, adds_weaker}
 use Rattle.board_core.specs.Stop.{Left, InOut}
 use Rattle.board_core.specs.Told.{Told, Relates, Steps, FailsPrint, after_print}
 use Rattle.board_core.specs.Device.{KeepsDevice, LeavesDevice}

@@ -3,7 +3,7 @@ use Rattle.std.proofs.Common.{◌≡◌, ℕ, ◌==◌, true, false, List, [], �
 use Rattle.std.proofs.lemmas.Bool.Decides.{nat_tests}
 use Rattle.board_core.specs.Cause.{Faults, Kind, print_call}
 use Rattle.board_core.specs.Clock.{Adds, Rests}
-use Rattle.board_core.specs.ClockLemmas.{adds_weaker}
+use Rattle.board_core.specs.Steps.ClockLemmas.{adds_weaker}
 use Rattle.board_core.specs.Stop.{Begins, InOut, Left}
 use Rattle.board_core.specs.Told.{FailsPrint, Relates, Steps, Told, after_print}
 use Rattle.board_core.specs.Doing.{Act, Does, FailsActs, Moment, Seen, after_acts, one_end, prints, went_well, GoesWell}

@@ -3,4 +3,4 @@ pub mod Reported
 pub mod Valid
 pub mod Entries
 pub mod Names
-pub mod NameLemmas
+pub mod Steps

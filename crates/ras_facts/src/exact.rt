@@ -1,6 +1,6 @@
 //! Names that are equal are the same name.
 
-ghost use Rattle.ras_facts.specs.NameLemmas.{name-exact};
+ghost use Rattle.ras_facts.specs.Steps.NameLemmas.{name-exact};
 
 use crate::Name;
 use ras_base::ExactEq;

@@ -1,3 +1,3 @@
 pub mod BoardState
-pub mod JournalFiles
 pub mod KeptDevice
+pub mod Steps

@@ -2,7 +2,7 @@
 ghost use Rattle.std.specs.Prelude.{◌≡◌, ◌+◌, ◌≤◌, length, take, drop, None, OnOk, IfOk, IsOk};
 ghost use Rattle.board_core.specs.Cause.{FailsAs, device_call, disk_call, print_call, put_failure};
 ghost use Rattle.board_core.specs.Clock.{untold};
-ghost use Rattle.board_core.specs.ClockLemmas.{not_told};
+ghost use Rattle.board_core.specs.Steps.ClockLemmas.{not_told};
 ghost use Rattle.board_core.specs.Told.{register_in, after_reg_write, after_range_write};
 ghost use Rattle.erst_store.specs.Actions.{range_length};
 ghost use Rattle.erst_store.specs.Device.{Device, act};

@@ -1,7 +1,7 @@
 //! The journal's files, `rasd.0` and `rasd.1`.
 ghost use Rattle.std.specs.Prelude.{◌≡◌, ◌≤◌, length, None, IfOk, OnOk, IsNone, IsSome};
 ghost use Rattle.std.specs.Io.{ReadsAtMost};
-ghost use Rattle.ras_host.specs.JournalFiles.{Opens, file_in};
+ghost use Rattle.ras_host.specs.Steps.JournalFiles.{Opens, file_in};
 
 use crate::system::{open, read_at, read_journal};
 use board_core::FileNo;

@@ -7,7 +7,7 @@ use Rattle.std.proofs.lemmas.Bool.Decides.{nat_tests}
 use Rattle.std.proofs.lemmas.List.{length-take, length-take-le, length-drop, length-append, get_or-take, take_at, drop_at, drop_more, take-take, take-append-drop, take-append-le, append-nil}
 use Rattle.ras_base.specs.Chaining.{◌>>=◌}
 use Rattle.ras_base.specs.LittleEndian.{u32_bytes, number_at}
-use Rattle.ras_base.specs.LittleEndianLemmas.{length-u32_bytes, number_at-u32_bytes}
+use Rattle.ras_base.specs.Steps.LittleEndianLemmas.{length-u32_bytes, number_at-u32_bytes}
 use Rattle.board_core.specs.Told.{overlay, Torn}
 use Rattle.ras_facts.specs.declared.entry.Entry.{Entry}
 use Rattle.journal_format.specs.Links.{payload_bytes, link_bytes}

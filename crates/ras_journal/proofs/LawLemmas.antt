@@ -7,7 +7,7 @@ use Rattle.std.proofs.lemmas.List.Sums.{fold-append}
 use Rattle.std.proofs.lemmas.Option.{option_and_then_some}
 use Rattle.std.proofs.Math.Seq.{take-append-add}
 use Rattle.ras_base.specs.LittleEndian.{AreBytes, u32_bytes, u64_bytes, number_at}
-use Rattle.ras_base.specs.LittleEndianLemmas.{length-u32_bytes, length-u64_bytes, number_at-u32_bytes, number_at-u64_bytes, number_at-take, number_at-lt, u32_bytes-number_at, AreBytes-take, AreBytes-drop}
+use Rattle.ras_base.specs.Steps.LittleEndianLemmas.{length-u32_bytes, length-u64_bytes, number_at-u32_bytes, number_at-u64_bytes, number_at-take, number_at-lt, u32_bytes-number_at, AreBytes-take, AreBytes-drop}
 use Rattle.ras_facts.specs.declared.entry.Entry.{Entry}
 use Rattle.ras_account.specs.Account.{State}
 use Rattle.ras_account.specs.declared.limits.TheConstants.{MOST_NAMES, MOST_ENTRIES, MOST_TOTAL}

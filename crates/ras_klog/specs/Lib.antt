@@ -1,5 +1,4 @@
 pub mod Reading
-pub mod Words
 pub mod Groups
 pub mod Steps
 pub mod Texts

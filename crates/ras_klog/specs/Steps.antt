@@ -45,3 +45,4 @@ abbrev pub outs_to_end : ℕ → ℕ → Stage → List KlogLine → List KlogOu
 outs_to_end boot cap stage [] = some_out (out_at_end stage)
 outs_to_end boot cap stage (line ∷ lines) =
     some_out (out_at boot cap stage line) ++ outs_to_end boot cap (stage_after stage line) lines
+pub mod Words

@@ -3,7 +3,7 @@
 ghost use Rattle.std.specs.Prelude.{◌≡◌, ◌≤◌, IfSome};
 ghost use Rattle.std.specs.Option.{option_map};
 ghost use Rattle.ras_klog.specs.Reading.{after_marker, bank_of, check_of, colon_number, is_vendor_and_model, klog_line_of, named, parts_of, processor_line_of, start_line_of, told_by_words, tsc_of};
-ghost use Rattle.ras_klog.specs.Words.{words_in};
+ghost use Rattle.ras_klog.specs.Steps.Words.{words_in};
 
 use crate::words::{Words, position_of};
 use memchr::memmem;

@@ -4,7 +4,7 @@ ghost use Rattle.std.specs.Prelude.{◌≡◌, ◌<◌, ◌==◌, [], ◌∷◌,
 ghost use Rattle.std.specs.List.{list_all, position};
 ghost use Rattle.std.specs.Option.{option_map_or};
 ghost use Rattle.ras_klog.specs.Reading.{parts_of, is_empty};
-ghost use Rattle.ras_klog.specs.Words.{words_in};
+ghost use Rattle.ras_klog.specs.Steps.Words.{words_in};
 
 // The words of a text that are left: what stands between single spaces, empty words too.
 #[derive(Clone, Copy)]

@@ -2,7 +2,7 @@
 use Rattle.std.proofs.Common.{◌≡◌, ℕ, List, [], ◌++◌, Option, None, Some, IfSome, option_map, Result, Ok, Err, refl, sym, ap, subst, ◌∙◌, inl, inr, append-nil}
 use Rattle.board_core.specs.Cause.{Faults, FailsAs, disk_call}
 use Rattle.board_core.specs.Clock.{Clock, Adds, LeftNow, Rests}
-use Rattle.board_core.specs.ClockLemmas.{adds_both, adds_weaker}
+use Rattle.board_core.specs.Steps.ClockLemmas.{adds_both, adds_weaker}
 use Rattle.board_core.specs.Stop.{Left, Begins, InOut}
 use Rattle.board_core.specs.Told.{FailsPrint, Relates, Steps, Told, after_print}
 use Rattle.board_core.proofs.DoingLemmas.{broke_faults, well_faults}
@@ -21,7 +21,7 @@ use Rattle.ras_exit.specs.Endings.{IsCut}
 use Rattle.ras_exit.specs.StopLine.{stop_line}
 use Rattle.ras_exit.proofs.DeviceLemmas.{StoreIsLeft, device_by}
 use Rattle.ras_exit.proofs.EndingLemmas.{on_answer, on_cut}
-use Rattle.ras_listing.specs.Answering.{IsCutBy, IsReportAnswer, IsSaid, unrecovered}
+use Rattle.ras_listing.specs.Steps.Answering.{IsCutBy, IsReportAnswer, IsSaid, unrecovered}
 use Rattle.ras_listing.specs.Reporting.{ReportMoment, Reports, report_exit, report_output}
 
 -- ---- what is said

@@ -1,2 +1,2 @@
 pub mod Reporting
-pub mod Answering
+pub mod Steps

@@ -10,7 +10,7 @@ ghost use Rattle.ras_texts.specs.Listing.{listing_lines};
 ghost use Rattle.ras_texts.specs.Text.{end_line};
 ghost use Rattle.ras_exit.specs.Causes.{BoardCause};
 ghost use Rattle.board_core.specs.Device.{LeavesDevice};
-ghost use Rattle.ras_listing.specs.Answering.{IsCutBy, IsReportAnswer, IsSaid, unrecovered};
+ghost use Rattle.ras_listing.specs.Steps.Answering.{IsCutBy, IsReportAnswer, IsSaid, unrecovered};
 ghost use Rattle.ras_listing.specs.Reporting.{IsReportExit, ReportMoment, Reports, report_output};
 
 use board_core::Board;

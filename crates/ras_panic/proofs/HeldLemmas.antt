@@ -5,7 +5,7 @@ use Rattle.std.specs.Option.{option_map, option_map_or, option_and_then}
 use Rattle.std.specs.Str.{bytes_eq}
 use Rattle.std.proofs.lemmas.Slice.Eq.{bytes_eq-Decides}
 use Rattle.ras_base.specs.LittleEndian.{AreBytes}
-use Rattle.ras_base.specs.LittleEndianLemmas.{AreBytes-drop, AreBytes-take}
+use Rattle.ras_base.specs.Steps.LittleEndianLemmas.{AreBytes-drop, AreBytes-take}
 use Rattle.mca_status.specs.Registers.{valid, uncorrected, context_corrupt, recovers_in_software, signaled, enabled, action_required}
 use Rattle.mca_status.specs.Classes.{class_of_rows}
 use Rattle.mca_status.proofs.RowLemmas.{class_by}

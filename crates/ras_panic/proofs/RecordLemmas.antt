@@ -1,7 +1,7 @@
 -- A panic record is a record that holds its report.
 use Rattle.std.proofs.Common.{◌≡◌, ◌<◌, ◌^◌, ℕ, IsTrue, List, [], ◌++◌, length, Ok, refl, subst}
 use Rattle.ras_base.specs.LittleEndian.{u16_bytes, u32_bytes, u64_bytes, number_at}
-use Rattle.ras_base.specs.LittleEndianLemmas.{number_at-u64_bytes}
+use Rattle.ras_base.specs.Steps.LittleEndianLemmas.{number_at-u64_bytes}
 use Rattle.cper_sections.specs.Guids.{memory_guid, processor_guid, x64_guid, section_type_of}
 use Rattle.cper_sections.specs.Sections.{section_of}
 use Rattle.cper_records.specs.Header.{record_id}

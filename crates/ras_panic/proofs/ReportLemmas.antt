@@ -4,7 +4,7 @@ use Rattle.std.proofs.Common.{◌≡◌, ◌∙◌, ℕ, ◌+◌, ◌==◌, ◌&
 use Rattle.std.specs.List.{list_all}
 use Rattle.std.proofs.lemmas.List.{take-append-drop, drop-drop, drop_more, length-drop}
 use Rattle.ras_base.specs.LittleEndian.{AreBytes, u16_bytes, u64_bytes, number_at}
-use Rattle.ras_base.specs.LittleEndianLemmas.{number_at-lt, number_at-u16_bytes, number_at-u64_bytes, u16_bytes-number_at, u64_bytes-number_at}
+use Rattle.ras_base.specs.Steps.LittleEndianLemmas.{number_at-lt, number_at-u16_bytes, number_at-u64_bytes, u16_bytes-number_at, u64_bytes-number_at}
 use Rattle.mca_status.specs.Registers.{valid}
 use Rattle.ras_facts.specs.declared.bank.BankReport.{BankReport}
 use Rattle.ras_facts.specs.Facts.{status_in}

@@ -6,7 +6,7 @@ use Rattle.std.proofs.lemmas.Grind.{flat_map-append}
 use Rattle.std.proofs.lemmas.List.Elements.{All-append, All-from_recursion, filter_map-append}
 use Rattle.std.proofs.lemmas.List.FromFn.{length-map-range_with_len}
 use Rattle.ras_base.specs.LittleEndian.{u32_bytes}
-use Rattle.ras_base.specs.LittleEndianLemmas.{length-u32_bytes}
+use Rattle.ras_base.specs.Steps.LittleEndianLemmas.{length-u32_bytes}
 use Rattle.ras_base.specs.Prefix.{IsPrefixOf}
 use Rattle.mca_status.specs.declared.classes.Class.{Class}
 use Rattle.mca_status.specs.Classes.{class_of_rows}
@@ -37,7 +37,7 @@ use Rattle.ras_records.specs.declared.looking.Looked.{Looked}
 use Rattle.ras_events.specs.declared.made.Piece.TheVariants.{Unread}
 use Rattle.ras_events.specs.Making.{entries_in, entry_in, piece_of_report}
 use Rattle.ras_events.specs.Sizes.{IsFact, IsFit}
-use Rattle.ras_records.specs.Reading.{ReachesTo}
+use Rattle.ras_records.specs.Steps.Reading.{ReachesTo}
 
 -- ---- a record that was read is no longer than the buffer
 

@@ -1,3 +1,3 @@
 pub mod Each
 pub mod Polls
-pub mod Reading
+pub mod Steps

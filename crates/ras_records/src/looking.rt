@@ -14,7 +14,7 @@ ghost use Rattle.erst_driver.specs.Answers.{DoesListing, HasCauseIn, read_calls}
 ghost use Rattle.ras_events.specs.Making.{piece_of};
 ghost use Rattle.ras_records.specs.Each.{each_calls};
 ghost use Rattle.ras_records.specs.Polls.{IsBounded, Looks, look_calls};
-ghost use Rattle.ras_records.specs.Reading.{ReachesTo};
+ghost use Rattle.ras_records.specs.Steps.Reading.{ReachesTo};
 
 use board_core::Board;
 use cper_records::read_stored;

@@ -13,12 +13,12 @@ use Rattle.ras_journal.specs.File.{FileFront, front_of}
 use Rattle.ras_journal.specs.Recovered.{JournalFile, in_file, greater, generation_in, journal_of, recovered}
 use Rattle.ras_recover.specs.declared.refused.OpenRefused.{OpenRefused}
 use Rattle.ras_recover.specs.declared.refused.OpenRefused.TheVariants.{Disk, TooLong, Damaged, NoMemory}
-use Rattle.ras_recover.specs.Looking.{AreReads}
+use Rattle.ras_recover.specs.Steps.Looking.{AreReads}
 use Rattle.ras_recover.specs.DiskCalls.{Calls}
 use Rattle.ras_recover.specs.OpeningCalls.{ReadsStanding, ReadsBoth}
 use Rattle.ras_recover.specs.Recovering.{Refuses, open_failure}
 use Rattle.ras_recover.specs.DiskCalls.{ReadsPlace}
-use Rattle.ras_recover.specs.Windows.{LooksAt}
+use Rattle.ras_recover.specs.Steps.Windows.{LooksAt}
 use Rattle.ras_recover.proofs.CallsLemmas.{relates_then, relates_weaker, calls_then, calls_weaker, both_read_alone, any_left, any_right}
 use Rattle.ras_recover.proofs.KeepingLemmas.{keeps_then, same_faults, before}
 use Rattle.ras_recover.proofs.PairLemmas.{zero_fails, one_fails, both_read, recovers_fails}

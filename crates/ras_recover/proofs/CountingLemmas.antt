@@ -9,7 +9,7 @@ use Rattle.board_core.specs.Cause.{Kind}
 use Rattle.board_core.specs.Doing.{Act, FailsActs, after_acts, calls, calls_of, device, prints, through}
 use Rattle.board_core.specs.Told.{Told, FailsThrough, overlay, file_of, with_file, after_write_through}
 use Rattle.ras_recover.specs.DiskCalls.{with_calls}
-use Rattle.ras_recover.specs.Looking.{WritesIn}
+use Rattle.ras_recover.specs.Steps.Looking.{WritesIn}
 
 -- all are writes of this file with their syncs
 abbrev pub AreThrough : FileNo → List Act → Type 0

@@ -2,7 +2,7 @@
 use Rattle.std.proofs.Common.{List, [], Option, refl, sym, subst, append-nil}
 use Rattle.board_core.specs.declared.board.DiskCall.{DiskCall}
 use Rattle.board_core.specs.Clock.{Adds, Rests}
-use Rattle.board_core.specs.ClockLemmas.{adds_none, adds_weaker}
+use Rattle.board_core.specs.Steps.ClockLemmas.{adds_none, adds_weaker}
 use Rattle.board_core.specs.Doing.{Act, Does, Ended, FailsActs, IsMade, Moment, Seen, after_acts, broke, calls_of, gave_up, went_well}
 use Rattle.board_core.specs.Stop.{Left}
 use Rattle.board_core.specs.Told.{Relates, Steps, Told}

@@ -4,8 +4,8 @@ use Rattle.std.proofs.Common.{◌≡◌, ◌≢◌, ◌∙◌, ℕ, ◌+◌, ◌
 use Rattle.std.specs.Prelude.{Bool, true, false, slice_index}
 use Rattle.std.proofs.lemmas.Bool.Decides.{nat_tests}
 use Rattle.board_core.specs.declared.board.FileNo.{FileNo}
-use Rattle.board_core.specs.ClockLemmas.{file_in-with}
-use Rattle.board_core.specs.DiskLemmas.{length-overlay}
+use Rattle.board_core.specs.Steps.ClockLemmas.{file_in-with}
+use Rattle.board_core.specs.Steps.DiskLemmas.{length-overlay}
 use Rattle.board_core.specs.Stop.{Left, InFile, with_file_in}
 use Rattle.board_core.specs.Doing.{Moment, after_acts}
 use Rattle.board_core.specs.Told.{Told, Torn, after_write_through, overlay, file_of}

@@ -12,7 +12,7 @@ use Rattle.ras_recover.specs.declared.window.SizedFile.{SizedFile}
 use Rattle.ras_recover.specs.declared.window.Window.{Window}
 use Rattle.ras_recover.specs.declared.place.ReadRefused.{ReadRefused}
 use Rattle.ras_recover.specs.declared.place.ReadRefused.TheVariants.{Disk, Damaged, NoMemory}
-use Rattle.ras_recover.specs.Windows.{end_of, Spans, IsWindowOf, Sees, IsAnswer, LinkHeld}
+use Rattle.ras_recover.specs.Steps.Windows.{end_of, Spans, IsWindowOf, Sees, IsAnswer, LinkHeld}
 use Rattle.ras_recover.proofs.KeepingLemmas.{before}
 use Rattle.ras_recover.proofs.ReadingLemmas.{walk_on, walk_ends, walk_breaks, walk_over}
 use Rattle.ras_recover.proofs.WindowLemmas.{damage_near, field_piece, early, next_held, next_from, at_front, next_behind}

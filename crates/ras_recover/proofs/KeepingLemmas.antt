@@ -6,7 +6,7 @@ use Rattle.board_core.specs.declared.board.FileNo.TheVariants.{Zero, One}
 use Rattle.board_core.specs.declared.board.DiskCall.{DiskCall}
 use Rattle.board_core.specs.declared.board.DiskCall.TheVariants.{Sync}
 use Rattle.board_core.specs.Clock.{Clock, LeftNow, After, Passes, IsSynced}
-use Rattle.board_core.specs.ClockLemmas.{adds_after, adds_both, adds_weaker, adds_none, synced_over, rests_synced}
+use Rattle.board_core.specs.Steps.ClockLemmas.{adds_after, adds_both, adds_weaker, adds_none, synced_over, rests_synced}
 use Rattle.board_core.specs.Stop.{Left, Same}
 use Rattle.board_core.specs.Told.{Told, Steps, Relates, MayList, with_call, file_of}
 use Rattle.board_core.specs.Cause.{Faults, disk_call, with_count, FailsAs}

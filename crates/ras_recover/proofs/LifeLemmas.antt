@@ -2,7 +2,7 @@
 use Rattle.std.proofs.Common.{◌≡◌, ◌∙◌, ℕ, ◌≤◌, List, [], ◌∷◌, ◌++◌, length, Option, None, Some, Ok, refl, sym, ap, subst, arith, inl, inr}
 use Rattle.std.proofs.lemmas.List.Sums.{fold-append}
 use Rattle.board_core.specs.Clock.{Clock, LeftNow, Adds}
-use Rattle.board_core.specs.ClockLemmas.{adds_weaker}
+use Rattle.board_core.specs.Steps.ClockLemmas.{adds_weaker}
 use Rattle.board_core.specs.Doing.{Seen, after_acts}
 use Rattle.board_core.specs.Stop.{Left}
 use Rattle.board_core.specs.Told.{Told}

@@ -10,8 +10,8 @@ use Rattle.board_core.specs.Told.{Told}
 use Rattle.ras_recover.specs.declared.place.ReadRefused.{ReadRefused}
 use Rattle.ras_recover.specs.declared.place.ReadRefused.TheVariants.{Disk, Damaged, NoMemory}
 use Rattle.ras_recover.specs.DiskCalls.{ReadsPlace}
-use Rattle.ras_recover.specs.Looking.{AreReads, ReadsPart}
-use Rattle.ras_recover.specs.Windows.{Looks, read_failure}
+use Rattle.ras_recover.specs.Steps.Looking.{AreReads, ReadsPart}
+use Rattle.ras_recover.specs.Steps.Windows.{Looks, read_failure}
 use Rattle.ras_recover.proofs.CallsLemmas.{calls_joined, calls_seen, both_read_alone, any_left, any_right}
 use Rattle.ras_recover.proofs.KeepingLemmas.{keeps_then, same_faults}
 

@@ -4,7 +4,7 @@ use Rattle.std.specs.Prelude.{All, Bool, true, false, IfSome, OnOk}
 use Rattle.std.proofs.lemmas.List.{append-nil}
 use Rattle.std.proofs.lemmas.List.Elements.{All-cons, All-nil}
 use Rattle.ras_base.specs.Prefix.{IsPrefixOf}
-use Rattle.ras_base.specs.PrefixLemmas.{IsPrefixOf-append, IsPrefixOf-refl, IsPrefixOf-trans}
+use Rattle.ras_base.specs.Steps.PrefixLemmas.{IsPrefixOf-append, IsPrefixOf-refl, IsPrefixOf-trans}
 use Rattle.board_core.specs.declared.board.FileNo.{FileNo}
 use Rattle.board_core.specs.declared.board.FileNo.TheVariants.{Zero, One}
 use Rattle.board_core.specs.declared.board.DiskCall.{DiskCall}
@@ -24,7 +24,7 @@ use Rattle.ras_recover.specs.declared.refused.OpenRefused.{OpenRefused}
 use Rattle.ras_recover.specs.declared.refused.OpenRefused.TheVariants.{Damaged, Disk, NoMemory, TooLong}
 use Rattle.ras_recover.specs.DiskCalls.{Calls, IsReading, ReadsPlace, Makes, IsBeginning, with_calls}
 use Rattle.ras_recover.specs.Recovering.{open_failure, refusal_end}
-use Rattle.ras_recover.specs.Looking.{AreSyncs, AreReads, WritesIn}
+use Rattle.ras_recover.specs.Steps.Looking.{AreSyncs, AreReads, WritesIn}
 use Rattle.ras_recover.specs.Opening.{HoldsNone, opening_acts}
 use Rattle.ras_recover.specs.OpeningCalls.{IsRecovery, IsRecoveryOf, IsOpening, MakesOpening, ReadsBoth, ReadsStanding, ReadsTo, AfterRecovery, AfterOpening}
 use Rattle.ras_recover.proofs.CallsLemmas.{relates_then, relates_weaker, relates_if, relates_steps, calls_then, calls_weaker, calls_seen, both_read_alone, one_reads, any_left, any_right, makes_calls, makes_weaker}

@@ -4,10 +4,10 @@ use Rattle.std.specs.Prelude.{Bool, true, false, if◌then◌else◌, nat_lt, If
 use Rattle.std.specs.Option.{option_map}
 use Rattle.ras_base.specs.Chaining.{◌>>=◌}
 use Rattle.ras_base.specs.LittleEndian.{u64_bytes}
-use Rattle.ras_base.specs.LittleEndianLemmas.{length-u64_bytes}
+use Rattle.ras_base.specs.Steps.LittleEndianLemmas.{length-u64_bytes}
 use Rattle.board_core.specs.declared.board.FileNo.TheVariants.{Zero, One}
 use Rattle.board_core.specs.Clock.{Clock, LeftNow, Adds, Rests}
-use Rattle.board_core.specs.ClockLemmas.{adds_weaker, adds_both, adds_none}
+use Rattle.board_core.specs.Steps.ClockLemmas.{adds_weaker, adds_both, adds_none}
 use Rattle.board_core.specs.Doing.{Act, Does, Ended, GoesWell, IsMade, Moment, Seen, after_acts, broke, gave_up, went_well}
 use Rattle.board_core.specs.Stop.{Left, with_file_in}
 use Rattle.board_core.specs.Told.{Told}
@@ -27,7 +27,7 @@ use Rattle.ras_journal.proofs.FormattingLemmas.{absent}
 use Rattle.ras_journal.proofs.JournalLemmas.{both_whole, both_parts, recovers_of, at_of}
 use Rattle.ras_journal.proofs.PairLemmas.{none_stands}
 use Rattle.ras_recover.specs.Formatting.{behind_gate, formatting_acts}
-use Rattle.ras_recover.specs.Looking.{standing_begun}
+use Rattle.ras_recover.specs.Steps.Looking.{standing_begun}
 use Rattle.ras_recover.specs.Opening.{FormatsFirst, Opening, HoldsNone, IsOpened, acts_behind, first_standing, opening_acts, standing_opened}
 use Rattle.ras_recover.specs.Recovering.{Keeps, RestsHere}
 use Rattle.ras_recover.proofs.FewLemmas.{formatting_few}

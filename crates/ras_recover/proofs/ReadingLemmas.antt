@@ -6,7 +6,7 @@ use Rattle.std.specs.Option.{option_and_then}
 use Rattle.std.proofs.lemmas.Bool.Decides.{nat_tests}
 use Rattle.std.proofs.lemmas.List.{drop-drop, length-drop, take_all}
 use Rattle.ras_base.specs.LittleEndian.{AreBytes, number_at}
-use Rattle.ras_base.specs.LittleEndianLemmas.{AreBytes-take, AreBytes-drop, number_at-take}
+use Rattle.ras_base.specs.Steps.LittleEndianLemmas.{AreBytes-take, AreBytes-drop, number_at-take}
 use Rattle.ras_facts.specs.declared.entry.Entry.{Entry}
 use Rattle.ras_facts.specs.Entries.{IsValidEntry}
 use Rattle.ras_account.specs.Account.{State}

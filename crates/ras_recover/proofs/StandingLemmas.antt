@@ -23,10 +23,10 @@ use Rattle.ras_recover.specs.declared.place.ReadRefused.{ReadRefused}
 use Rattle.ras_recover.specs.declared.place.ReadRefused.TheVariants.{Disk, Damaged, NoMemory}
 use Rattle.ras_recover.specs.declared.window.SizedFile.{SizedFile}
 use Rattle.ras_recover.specs.declared.window.Window.{Window}
-use Rattle.ras_recover.specs.Looking.{AreReads, ReadsPart}
+use Rattle.ras_recover.specs.Steps.Looking.{AreReads, ReadsPart}
 use Rattle.ras_recover.specs.DiskCalls.{Calls}
 use Rattle.ras_recover.specs.OpeningCalls.{ReadsStanding}
-use Rattle.ras_recover.specs.Windows.{end_of, Spans, IsWindowOf, Sees, IsAnswer, IsBroken, FrontHeld, LooksAt, Looks, read_failure}
+use Rattle.ras_recover.specs.Steps.Windows.{end_of, Spans, IsWindowOf, Sees, IsAnswer, IsBroken, FrontHeld, LooksAt, Looks, read_failure}
 use Rattle.ras_recover.proofs.CallsLemmas.{relates_if, relates_weaker, calls_weaker}
 use Rattle.ras_recover.proofs.HoldingLemmas.{rest_is}
 use Rattle.ras_recover.proofs.KeepingLemmas.{before}

@@ -3,11 +3,11 @@ use Rattle.std.proofs.Common.{◌≡◌, ◌∙◌, ℕ, ◌+◌, ◌≤◌, ◌
 use Rattle.std.specs.Prelude.{Bool, true, false, nat_lt, if◌then◌else◌}
 use Rattle.std.proofs.lemmas.Bool.Decides.{nat_tests}
 use Rattle.ras_base.specs.LittleEndian.{u64_bytes}
-use Rattle.ras_base.specs.LittleEndianLemmas.{length-u64_bytes}
+use Rattle.ras_base.specs.Steps.LittleEndianLemmas.{length-u64_bytes}
 use Rattle.board_core.specs.declared.board.FileNo.{FileNo}
 use Rattle.board_core.specs.declared.board.FileNo.TheVariants.{Zero, One}
 use Rattle.board_core.specs.Doing.{Moment}
-use Rattle.board_core.specs.ClockLemmas.{file_in-with}
+use Rattle.board_core.specs.Steps.ClockLemmas.{file_in-with}
 use Rattle.board_core.specs.Stop.{Left, InFile, file_in, with_file_in}
 use Rattle.board_core.specs.Told.{Told}
 use Rattle.ras_account.specs.Account.{State}

@@ -11,7 +11,7 @@ use Rattle.ras_journal.specs.Fields.{part, field, some_or, number_of, is_open_of
 use Rattle.ras_journal.specs.File.{FileFront, has_open_gate, with_link, front_behind_link, first_front, next_front}
 use Rattle.ras_journal.specs.Recovered.{is_shut}
 use Rattle.ras_journal.proofs.PartLemmas.{part_within, field_same, field_cut}
-use Rattle.ras_recover.specs.Windows.{IsHeld, LinkHeld, FrontHeld}
+use Rattle.ras_recover.specs.Steps.Windows.{IsHeld, LinkHeld, FrontHeld}
 use Rattle.ras_recover.proofs.ReadingLemmas.{field_made_of}
 
 -- ---- a field in a piece

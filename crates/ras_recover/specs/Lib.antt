@@ -1,12 +1,9 @@
 pub mod DiskCalls
 pub mod Formatting
 pub mod Switching
-pub mod Reading
 pub mod Recovering
 pub mod Opening
 pub mod OpeningCalls
 pub mod OpeningActs
-pub mod Looking
 pub mod Life
-pub mod Windows
-pub mod Pair
+pub mod Steps

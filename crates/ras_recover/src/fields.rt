@@ -3,7 +3,7 @@ ghost use Rattle.std.specs.Prelude.{◌≡◌, ◌+◌, ◌^◌, ◌<◌, ◌≤
 ghost use Rattle.journal_format.specs.CheckpointReading.{checkpoint_of};
 ghost use Rattle.ras_account.specs.View.{nothing, View};
 ghost use Rattle.ras_journal.specs.Fields.{part, field, version_of, generation_of, number_of, is_open_of};
-ghost use Rattle.ras_recover.specs.Reading.{Answers};
+ghost use Rattle.ras_recover.specs.Steps.Reading.{Answers};
 
 use crate::place::Unread;
 use entry_format::Version;

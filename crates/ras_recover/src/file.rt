@@ -5,7 +5,7 @@ ghost use Rattle.entry_format.specs.declared.version.Version.{Version};
 ghost use Rattle.ras_journal.specs.Fields.{field, number_of, version_of};
 ghost use Rattle.ras_journal.specs.File.{has_open_gate, first_front};
 ghost use Rattle.ras_journal.specs.Recovered.{is_shut};
-ghost use Rattle.ras_recover.specs.Reading.{Answers, front_at};
+ghost use Rattle.ras_recover.specs.Steps.Reading.{Answers, front_at};
 
 use crate::fields::{checkpoint_at, checkpoint_count_at, generation_at, version_at};
 use crate::place::{Place, Unread};

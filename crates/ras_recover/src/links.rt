@@ -9,7 +9,7 @@ ghost use Rattle.ras_account.specs.View.{nothing};
 ghost use Rattle.journal_format.specs.PayloadReading.{payload_of};
 ghost use Rattle.ras_journal.specs.Fields.{field, number_of, is_open_of, stays_within};
 ghost use Rattle.ras_journal.specs.File.{front_behind_link, next_front};
-ghost use Rattle.ras_recover.specs.Reading.{Answers, front_at};
+ghost use Rattle.ras_recover.specs.Steps.Reading.{Answers, front_at};
 
 use crate::fields::{is_open_at, part, payload_count_at};
 use crate::place::{Place, Unread};

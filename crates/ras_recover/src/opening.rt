@@ -12,7 +12,7 @@ ghost use Rattle.ras_account.specs.View.{nothing};
 ghost use Rattle.ras_journal.specs.Recovered.{Refusal, recovered, is_shut};
 ghost use Rattle.ras_recover.specs.Formatting.{behind_gate, formatting_acts};
 ghost use Rattle.ras_recover.specs.Recovering.{Refuses, Tells, open_end, open_failure};
-ghost use Rattle.ras_recover.specs.Looking.{standing_begun};
+ghost use Rattle.ras_recover.specs.Steps.Looking.{standing_begun};
 ghost use Rattle.ras_recover.specs.Opening.{Opening, IsOpened, standing_opened};
 ghost use Rattle.ras_recover.specs.OpeningActs.{FailsOpening};
 ghost use Rattle.ras_recover.specs.OpeningCalls.{AfterOpening, AfterRecovery, MakesOpening};

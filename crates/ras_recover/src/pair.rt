@@ -7,11 +7,11 @@ ghost use Rattle.ras_journal.specs.declared.limits.TheConstants.{LONGEST_FILE};
 ghost use Rattle.ras_journal.specs.File.{front_of, account_by};
 ghost use Rattle.ras_journal.specs.Recovered.{in_file, greater, generation_in, is_shut, journal_of, recovered, standing_of, position_of};
 ghost use Rattle.ras_account.specs.Account.{State};
-ghost use Rattle.ras_recover.specs.Reading.{front_at};
+ghost use Rattle.ras_recover.specs.Steps.Reading.{front_at};
 ghost use Rattle.ras_recover.specs.OpeningCalls.{ReadsStanding, ReadsBoth};
 ghost use Rattle.ras_recover.specs.Recovering.{Tells, open_failure};
-ghost use Rattle.ras_recover.specs.Windows.{LooksAt};
-ghost use Rattle.ras_recover.specs.Pair.{AreRead};
+ghost use Rattle.ras_recover.specs.Steps.Windows.{LooksAt};
+ghost use Rattle.ras_recover.specs.Steps.Pair.{AreRead};
 
 use crate::OpenRefused;
 use crate::place::{Place, ReadRefused};

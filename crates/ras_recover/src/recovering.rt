@@ -7,7 +7,7 @@ ghost use Rattle.ras_account.specs.View.{nothing};
 ghost use Rattle.ras_journal.specs.declared.limits.TheConstants.{LONGEST_FILE};
 ghost use Rattle.ras_journal.specs.Recovered.{Refusal, too_long, is_shut, recovered, position_of};
 ghost use Rattle.ras_recover.specs.DiskCalls.{Calls, IsReading};
-ghost use Rattle.ras_recover.specs.Looking.{AreSyncs, AreReads};
+ghost use Rattle.ras_recover.specs.Steps.Looking.{AreSyncs, AreReads};
 ghost use Rattle.ras_recover.specs.OpeningCalls.{AfterRecovery, IsRecoveryOf, ReadsBoth};
 ghost use Rattle.ras_recover.specs.Recovering.{Refuses, Tells, Keeps, RestsHere, UnlessDisk, open_failure};
 

@@ -6,10 +6,10 @@ ghost use Rattle.ras_account.specs.View.{nothing};
 ghost use Rattle.ras_journal.specs.declared.limits.TheConstants.{LONGEST_FILE};
 ghost use Rattle.ras_journal.specs.File.{next_front, whole_front, front_of};
 ghost use Rattle.ras_journal.specs.Recovered.{is_shut};
-ghost use Rattle.ras_recover.specs.Looking.{ReadsPart};
+ghost use Rattle.ras_recover.specs.Steps.Looking.{ReadsPart};
 ghost use Rattle.ras_recover.specs.OpeningCalls.{ReadsStanding};
-ghost use Rattle.ras_recover.specs.Reading.{front_at};
-ghost use Rattle.ras_recover.specs.Windows.{end_of, Spans, Sees, IsAnswer, IsNoDamage, Looks, LooksAt, read_failure, LinkHeld, FrontHeld, IsBegun, IsBroken};
+ghost use Rattle.ras_recover.specs.Steps.Reading.{front_at};
+ghost use Rattle.ras_recover.specs.Steps.Windows.{end_of, Spans, Sees, IsAnswer, IsNoDamage, Looks, LooksAt, read_failure, LinkHeld, FrontHeld, IsBegun, IsBroken};
 
 use crate::file::{first_place, front_len, has_open_gate, is_shut};
 use crate::links::{link_len, next_place};

@@ -2,8 +2,8 @@
 ghost use Rattle.std.specs.Prelude.{◌≡◌, ◌+◌, ◌-◌, ◌≤◌, [], length, drop, min, IfSome, IfErr, OnOk};
 ghost use Rattle.board_core.specs.Told.{file_of};
 ghost use Rattle.ras_journal.specs.declared.limits.TheConstants.{LONGEST_FILE};
-ghost use Rattle.ras_recover.specs.Looking.{ReadsPart};
-ghost use Rattle.ras_recover.specs.Windows.{end_of, Spans, Sees, IsNoDamage, Looks, read_failure};
+ghost use Rattle.ras_recover.specs.Steps.Looking.{ReadsPart};
+ghost use Rattle.ras_recover.specs.Steps.Windows.{end_of, Spans, Sees, IsNoDamage, Looks, read_failure};
 
 use crate::place::ReadRefused;
 use board_core::{Board, Failed, FileNo};

@@ -26,7 +26,7 @@ use Rattle.ras_exit.proofs.PrintLemmas.{as_part}
 use Rattle.ras_records.specs.Each.{each_answer, each_calls}
 use Rattle.ras_records.specs.Polls.{is_busy_for_reads, readable_ids}
 use Rattle.ras_records.proofs.ClearingLemmas.{clears_answer}
-use Rattle.ras_run.specs.Clearing.{CanClear, clearing_acts}
+use Rattle.ras_run.specs.Steps.Clearing.{CanClear, clearing_acts}
 use Rattle.ras_run.specs.Status.{driver_exit}
 use Rattle.ras_run.proofs.PrintActLemmas.{print_off}
 

@@ -3,7 +3,7 @@ use Rattle.std.proofs.Common.{◌≡◌, ℕ, List, [], ◌∷◌, ◌++◌, Res
 use Rattle.std.proofs.lemmas.List.Sums.{fold-append}
 use Rattle.erst_store.specs.Store.{Stored}
 use Rattle.ras_base.specs.Places.{places}
-use Rattle.ras_base.specs.PlacesLemmas.{places-snoc}
+use Rattle.ras_base.specs.Steps.PlacesLemmas.{places-snoc}
 use Rattle.ras_account.specs.Continued.{account_after, account_after_all}
 use Rattle.ras_account.specs.Numbers.{fresh_entries_in}
 use Rattle.ras_journal.specs.declared.standing.Standing.{Standing}

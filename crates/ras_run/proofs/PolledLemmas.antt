@@ -34,7 +34,7 @@ use Rattle.ras_records.specs.Polls.{HasLooked, Looks, is_busy_for_reads, look_ca
 use Rattle.ras_records.proofs.ClearingLemmas.{calls_keep}
 use Rattle.ras_records.proofs.QuietLemmas.{look_begun, look_device, look_here, look_moment}
 use Rattle.ras_texts.specs.Text.{done_line}
-use Rattle.ras_run.specs.Clearing.{CanClear, clearing_acts}
+use Rattle.ras_run.specs.Steps.Clearing.{CanClear, clearing_acts}
 use Rattle.ras_run.specs.LineActs.{news_acts, polled_acts}
 use Rattle.ras_run.specs.Places.{has_no_room_for}
 use Rattle.ras_run.specs.Status.{counting_refusal, driver_exit, polling_refusal}

@@ -2,7 +2,7 @@
 use Rattle.std.proofs.Common.{◌≡◌, ℕ, List, [], ◌∷◌, ◌++◌, Option, None, Some, IfSome, Result, Ok, Err, OnOk, refl, sym, subst}
 use Rattle.board_core.specs.Cause.{print_call}
 use Rattle.board_core.specs.Clock.{Clock}
-use Rattle.board_core.specs.ClockLemmas.{not_told}
+use Rattle.board_core.specs.Steps.ClockLemmas.{not_told}
 use Rattle.board_core.specs.Stop.{Left}
 use Rattle.board_core.specs.Told.{Relates, Told, Steps}
 use Rattle.board_core.specs.Doing.{Act, DeviceCall, Does, GoesWell, Seen, after_acts, one_end}

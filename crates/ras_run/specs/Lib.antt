@@ -6,4 +6,4 @@ pub mod Moments
 pub mod Taking
 pub mod LineCalls
 pub mod LineActs
-pub mod Clearing
+pub mod Steps

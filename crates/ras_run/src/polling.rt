@@ -13,7 +13,7 @@ ghost use Rattle.ras_exit.specs.Causes.{BoardCause, Causes};
 ghost use Rattle.ras_exit.specs.Endings.{AnyFault, EndsBy, IsStop, ending_of};
 ghost use Rattle.ras_ledger.specs.declared.ledger.Ledger.{Ledger};
 ghost use Rattle.ras_records.specs.Polls.{look_calls, readable_ids};
-ghost use Rattle.ras_run.specs.Clearing.{CanClear, clearing_acts};
+ghost use Rattle.ras_run.specs.Steps.Clearing.{CanClear, clearing_acts};
 ghost use Rattle.ras_run.specs.LineActs.{DoesAsking, polled_acts};
 ghost use Rattle.ras_run.specs.Status.{polling_refusal};
 ghost use Rattle.ras_run.specs.Taking.{CountsMade, CountsPolled, IsReady, LedgerStands};

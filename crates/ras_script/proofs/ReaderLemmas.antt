@@ -6,7 +6,7 @@ use Rattle.std.proofs.Math.Seq.{take-append_seam}
 use lib.Seq.{take-add}
 use Rattle.ras_script.specs.Lines.{Lines, lines_within, with_line, no_line, script_ended, line_too_long, script_too_long}
 use Rattle.ras_script.specs.Reader.{Reader, given_count, lines_to_come, AreTaken, Moves, MovesLine, GivesNext}
-use Rattle.ras_script.specs.ReaderSteps.{FeedAt, Finds, IsHeld}
+use Rattle.ras_script.specs.Steps.ReaderSteps.{FeedAt, Finds, IsHeld}
 use Rattle.ras_script.specs.SplittingLaws.{Lacks}
 use Rattle.ras_script.specs.declared.reader.NextRefused.{NextRefused}
 use Rattle.ras_script.specs.declared.reader.NextRefused.TheVariants.{Source, LineTooLong, TooLong}

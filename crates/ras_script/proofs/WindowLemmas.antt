@@ -4,7 +4,7 @@ use Rattle.std.proofs.Common.{◌≡◌, ℕ, ◌+◌, ◌-◌, ◌≤◌, List,
 use Rattle.std.proofs.lemmas.List.{append-nil, take_at, drop_at, take-append-le, drop-take, drop-drop, length-take-le, take-append-drop}
 use Rattle.board_core.specs.Takes.{Takes}
 use Rattle.ras_script.specs.Reader.{AreTaken}
-use Rattle.ras_script.specs.ReaderSteps.{Gains}
+use Rattle.ras_script.specs.Steps.ReaderSteps.{Gains}
 use borrow.Rule.Slice.PartMut.{put_mid, post_of}
 use lib.Seq.{take-add}
 

@@ -9,6 +9,5 @@ pub mod SplittingLaws
 pub mod LineLaws
 pub mod Lines
 pub mod Reader
-pub mod ReaderSteps
-pub mod Window
 pub mod LinesLaws
+pub mod Steps

@@ -6,7 +6,7 @@ ghost use Rattle.ras_script.specs.Lines.{lines_within, with_line};
 ghost use Rattle.ras_script.specs.LinesLaws.{AreLinesOf};
 ghost use Rattle.ras_script.specs.Splitting.{lines_of};
 ghost use Rattle.ras_script.specs.Reader.{GivesNext, MovesLine, Moves, HasSourceCause, IsLine, lines_to_come, given_count};
-ghost use Rattle.ras_script.specs.ReaderSteps.{FeedAt, Finds, IsHeld};
+ghost use Rattle.ras_script.specs.Steps.ReaderSteps.{FeedAt, Finds, IsHeld};
 ghost use Rattle.ras_script.specs.SplittingLaws.{Lacks};
 ghost use Rattle.ras_script.specs.declared.reader.NextRefused.TheVariants as RefusedFor;
 
@@ -80,7 +80,7 @@ impl Model for LineReader {
 
     ghost Value = { Reader };
 
-    ghost use Rattle.ras_script.specs.Window.{line_in, held_in};
+    ghost use Rattle.ras_script.specs.Steps.Window.{line_in, held_in};
     ghost use Rattle.ras_script.specs.declared.reader.TheConstants.{LONGEST_SCRIPT};
 
     ghost view = { λ r. record { line = line_in r.window; held = held_in r.window; taken = r.taken } };

@@ -3,7 +3,7 @@
 ghost use Rattle.std.specs.Prelude.{◌≡◌, ◌+◌, ◌<◌, ◌≤◌, [], ◌++◌, length, take, drop, slice_range, vec_len, IfOk, OnErr, OnOk, MatchOption};
 ghost use Rattle.board_core.specs.Cause.{HasCause};
 ghost use Rattle.board_core.specs.Takes.{Takes};
-ghost use Rattle.ras_script.specs.ReaderSteps.{FeedAt, Gains};
+ghost use Rattle.ras_script.specs.Steps.ReaderSteps.{FeedAt, Gains};
 ghost use Rattle.ras_script.specs.SplittingLaws.{Lacks};
 ghost use Rattle.ras_script.specs.declared.window.TheConstants.{BUFFER_BYTES};
 
@@ -32,7 +32,7 @@ pub(crate) struct Window {
 }
 
 impl Window {
-    ghost use Rattle.ras_script.specs.Window.{line_in, held_in};
+    ghost use Rattle.ras_script.specs.Steps.Window.{line_in, held_in};
 
     pub(crate) fn new(alloc: Global) -> Result<Window, NoMemory>
         ensures line { IfOk result (λ window. line_in window ≡ []) }

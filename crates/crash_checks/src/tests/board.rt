@@ -3,7 +3,7 @@
 ghost use Rattle.std.specs.Prelude.{◌≡◌, None, IfOk, OnErr, IsErr};
 ghost use Rattle.board_core.specs.Cause.{HasCause};
 ghost use Rattle.board_core.specs.Clock.{untold};
-ghost use Rattle.board_core.specs.ClockLemmas.{not_told};
+ghost use Rattle.board_core.specs.Steps.ClockLemmas.{not_told};
 
 use board_core::{Access, Board, BoardPut, DiskCall, Failed, FileNo, MemBoard, Pick, Reg};
 use erst_store::Store;

@@ -1,7 +1,7 @@
 -- One such entry settles it.
 use Rattle.std.proofs.Common.{◌≡◌, ◌∙◌, ◌+◌, ◌-◌, List, ℕ, sym, ap, arith, true}
 use Rattle.apei_sources.specs.Entries.{has_entry, is_refused, rest_of}
-use Rattle.apei_sources.specs.Cut.{AreInside}
+use Rattle.apei_sources.specs.Steps.Cut.{AreInside}
 use Rattle.apei_sources.proofs.CutLemmas.{next_inside, one_refused, not_refused, none_refused}
 use Rattle.apei_sources.proofs.entries.is_some_refused.Goals as goal
 

@@ -2,7 +2,7 @@
 use Rattle.std.proofs.Common.{◌≡◌, ◌-◌}
 use Rattle.std.specs.List.{list_any}
 use Rattle.apei_sources.specs.Entries.{is_refused}
-use Rattle.apei_sources.specs.Cut.{cut, AreInside}
+use Rattle.apei_sources.specs.Steps.Cut.{cut, AreInside}
 use Rattle.apei_sources.proofs.entries.is_some_refused.Given as goal
 
 abbrev pub invariant-loop-done : goal.invariant-loop-done

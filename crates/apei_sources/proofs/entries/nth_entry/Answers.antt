@@ -1,7 +1,7 @@
 -- The entry at the place that is asked for is the first of those that are left.
 use Rattle.std.proofs.Common.{◌≡◌, ◌∙◌, ◌+◌, ◌-◌, List, ℕ, arith, true}
 use Rattle.apei_sources.specs.Entries.{has_entry, rest_of}
-use Rattle.apei_sources.specs.Cut.{AreInside}
+use Rattle.apei_sources.specs.Steps.Cut.{AreInside}
 use Rattle.apei_sources.proofs.CutLemmas.{next_inside, next_left, at_last}
 use Rattle.apei_sources.proofs.entries.nth_entry.Goals as goal
 

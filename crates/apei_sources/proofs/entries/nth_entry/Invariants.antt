@@ -1,6 +1,6 @@
 -- The entry that is asked for is among those that are left.
 use Rattle.std.proofs.Common.{◌≡◌, ◌-◌, [], get_or}
-use Rattle.apei_sources.specs.Cut.{cut, AreInside}
+use Rattle.apei_sources.specs.Steps.Cut.{cut, AreInside}
 use Rattle.apei_sources.proofs.entries.nth_entry.Given as goal
 
 abbrev pub invariant-loop-passed : goal.invariant-loop-passed

@@ -1,6 +1,6 @@
 use Rattle.std.proofs.Common.{length, arith}
 use Rattle.board_core.specs.MemBoard.{calls_of, settled_disk}
-use Rattle.board_core.specs.MomentLemmas.{now_only, now_counts}
+use Rattle.board_core.specs.Steps.MomentLemmas.{now_only, now_counts}
 use Rattle.board_core.proofs.DiskModelLemmas.{while_printing, while_acting}
 use Rattle.board_core.proofs.laws.disk_model_words.Goals as goal
 

@@ -1,7 +1,7 @@
 -- The events so far are parted at the last sync among them.
 use Rattle.std.proofs.Common.{◌≤◌, take, drop}
-use Rattle.board_core.specs.FileHistory.{ArePartedAtSync}
-use Rattle.board_core.specs.History.{changes_of}
+use Rattle.board_core.specs.Steps.FileHistory.{ArePartedAtSync}
+use Rattle.board_core.specs.Steps.History.{changes_of}
 use Rattle.board_core.proofs.leaving.events_to_last_sync.Given as goal
 
 abbrev pub invariant-loop-place : goal.invariant-loop-place

@@ -1,7 +1,7 @@
 -- What the events so far wrote is set.
 use Rattle.std.proofs.Common.{take}
-use Rattle.board_core.specs.FileHistory.{ranges_of}
-use Rattle.board_core.specs.History.{changes_of}
+use Rattle.board_core.specs.Steps.FileHistory.{ranges_of}
+use Rattle.board_core.specs.Steps.History.{changes_of}
 use Rattle.board_core.specs.Pick.{IsFilled}
 use Rattle.board_core.proofs.leaving.fill.Given as goal
 

@@ -1,7 +1,7 @@
 -- The bytes are those after the events so far.
 use Rattle.std.proofs.Common.{◌≡◌, take}
-use Rattle.board_core.specs.FileHistory.{bytes_after_all}
-use Rattle.board_core.specs.History.{changes_of}
+use Rattle.board_core.specs.Steps.FileHistory.{bytes_after_all}
+use Rattle.board_core.specs.Steps.History.{changes_of}
 use Rattle.board_core.proofs.leaving.repeat.Given as goal
 
 abbrev pub invariant-loop-event : goal.invariant-loop-event

@@ -1,6 +1,6 @@
 use Rattle.std.proofs.Common.{List, sym, ap, ◌∙◌}
 use Rattle.cper_pcie.specs.Reports.{Found}
-use Rattle.cper_pcie.specs.Steps.{sections_in}
+use Rattle.cper_pcie.specs.Steps.Filtering.{sections_in}
 use Rattle.cper_pcie.proofs.ReportLemmas.{took-next, took-same}
 use Rattle.cper_pcie.proofs.counted.take_sections.Goals as goal
 use Rattle.cper_pcie.proofs.counted.take_sections.Goals.{then-is_pcie+in_ok-take_section, else-is_pcie}

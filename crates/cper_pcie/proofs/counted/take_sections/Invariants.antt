@@ -1,5 +1,5 @@
 -- The PCI Express sections among the first ones were taken.
-use Rattle.cper_pcie.specs.Steps.{sections_in}
+use Rattle.cper_pcie.specs.Steps.Filtering.{sections_in}
 use Rattle.cper_pcie.proofs.ReportLemmas.{TookFirst}
 use Rattle.cper_pcie.proofs.counted.take_sections.Given as goal
 

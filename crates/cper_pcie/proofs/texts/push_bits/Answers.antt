@@ -1,7 +1,7 @@
 use Rattle.std.proofs.Common.{◌≡◌, ℕ, Bool, List, sym, subst, ap, ◌∙◌, arith}
 use Rattle.ras_base.specs.Bits.{is_set}
 use Rattle.cper_pcie.specs.Texts.{bit_name}
-use Rattle.cper_pcie.specs.TextSteps.{bit_names_of}
+use Rattle.cper_pcie.specs.Steps.TextSteps.{bit_names_of}
 use Rattle.cper_pcie.proofs.TextLemmas.{Names, names-more, names-same, names-none, names-some}
 use Rattle.cper_pcie.proofs.texts.push_bits.Goals as goal
 use Rattle.cper_pcie.proofs.texts.push_bits.Goals.{then-is_set+in_ok-push_next_bit, else-is_set}

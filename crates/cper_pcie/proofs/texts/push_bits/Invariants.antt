@@ -1,7 +1,7 @@
 -- The names so far are those of the bits so far.
 use Rattle.ras_base.specs.Bits.{is_set}
 use Rattle.cper_pcie.specs.Texts.{bit_name}
-use Rattle.cper_pcie.specs.TextSteps.{bit_names_of}
+use Rattle.cper_pcie.specs.Steps.TextSteps.{bit_names_of}
 use Rattle.cper_pcie.proofs.TextLemmas.{Names}
 use Rattle.cper_pcie.proofs.texts.push_bits.Given as goal
 

@@ -1,7 +1,7 @@
 use Rattle.erst_interp.proofs.FieldLemmas.{stays_in, write_by}
 use Rattle.erst_interp.proofs.TouchLemmas.{read_then}
 use Rattle.erst_interp.specs.Machine.{after_register_write, after_field}
-use Rattle.erst_interp.specs.Steps.{StoreIn}
+use Rattle.erst_interp.specs.Steps.Running.{StoreIn}
 use Rattle.erst_interp.proofs.registers.write_field.Goals as goal
 
 pub returns-clause-touches : goal.returns-clause-touches

@@ -3,8 +3,8 @@ use Rattle.erst_interp.proofs.FieldLemmas.{stays_in_turn, change_by}
 use Rattle.erst_interp.proofs.TouchLemmas.{read_then_well, read_then_fails}
 use Rattle.erst_interp.specs.declared.machine.Use.TheVariants.{Changes}
 use Rattle.erst_interp.specs.Machine.{after_field}
-use Rattle.erst_interp.specs.Parts.{used_by}
-use Rattle.erst_interp.specs.Steps.{StoreIn, StoreInTurn}
+use Rattle.erst_interp.specs.Steps.Parts.{used_by}
+use Rattle.erst_interp.specs.Steps.Running.{StoreIn, StoreInTurn}
 use Rattle.erst_interp.proofs.run.change_field.Goals as goal
 
 pub returns-in-Ok-write_field-clause-touches : goal.returns-in-Ok-write_field-clause-touches

@@ -1,8 +1,8 @@
 use Rattle.erst_interp.proofs.ShiftedLemmas.{move_refused}
 use Rattle.erst_interp.proofs.FieldLemmas.{stays_in_turn, more_in_turn, refused_after}
 use Rattle.erst_interp.specs.declared.machine.Use.TheVariants.{Moves}
-use Rattle.erst_interp.specs.Parts.{used_by}
-use Rattle.erst_interp.specs.Steps.{StoreInTurn}
+use Rattle.erst_interp.specs.Steps.Parts.{used_by}
+use Rattle.erst_interp.specs.Steps.Running.{StoreInTurn}
 use Rattle.erst_interp.proofs.run.move_data.Goals as goal
 
 pub returns-in-Err-clause-touches : goal.returns-in-Err-clause-touches

@@ -2,10 +2,10 @@
 use Rattle.std.proofs.Common.{◌≡◌, ◌-◌}
 use Rattle.std.specs.Prelude.{◌⊎◌, IfSome, IsTrue}
 use Rattle.std.specs.List.{list_all}
-use Rattle.erst_interp.specs.Parts.{is_straight}
+use Rattle.erst_interp.specs.Steps.Parts.{is_straight}
 use Rattle.board_core.specs.Told.{device_of}
 use Rattle.erst_store.specs.DeviceLaws.{IsDevice}
-use Rattle.erst_interp.specs.Steps.{GoesWell, StoreWithin}
+use Rattle.erst_interp.specs.Steps.Running.{GoesWell, StoreWithin}
 use Rattle.erst_interp.proofs.RunLemmas.{Way}
 use Rattle.erst_interp.proofs.ReachLemmas.{Reaches}
 use Rattle.board_core.specs.Doing.{looks}

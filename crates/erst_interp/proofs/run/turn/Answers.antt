@@ -1,6 +1,6 @@
 use Rattle.erst_interp.specs.Machine.{turn}
-use Rattle.erst_interp.specs.Parts.{used_by}
-use Rattle.erst_interp.specs.Steps.{StoreInTurn, state_in}
+use Rattle.erst_interp.specs.Steps.Parts.{used_by}
+use Rattle.erst_interp.specs.Steps.Running.{StoreInTurn, state_in}
 use Rattle.erst_interp.proofs.TurnLemmas.{turn_uses, turn_same, touches_more}
 use Rattle.erst_interp.proofs.run.turn.Goals as goal
 

@@ -1,5 +1,5 @@
 use Rattle.std.proofs.Common.{arith}
-use Rattle.erst_store.specs.ActionLemmas.{kept, one, forgets, busy_answer, status_answer, id_answer, count_answer, listed, anew, identifier_there, size_there}
+use Rattle.erst_store.specs.Steps.ActionLemmas.{kept, one, forgets, busy_answer, status_answer, id_answer, count_answer, listed, anew, identifier_there, size_there}
 use Rattle.erst_store.proofs.laws.action_laws.Goals as goal
 
 pub returns-clause-kept : goal.returns-clause-kept

@@ -1,6 +1,6 @@
 use Rattle.std.proofs.Common.{refl}
 use Rattle.erst_store.specs.Device.{with_put}
-use Rattle.erst_store.specs.KeptLemmas.{IsDevice-new, IsDevice-act, IsDevice-value, IsDevice-range, IsDevice-put}
+use Rattle.erst_store.specs.Steps.KeptLemmas.{IsDevice-new, IsDevice-act, IsDevice-value, IsDevice-range, IsDevice-put}
 use Rattle.erst_store.proofs.laws.device_laws.Goals as goal
 
 pub returns-clause-new : goal.returns-clause-new

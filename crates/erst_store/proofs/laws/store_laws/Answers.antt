@@ -1,5 +1,5 @@
-use Rattle.ras_base.specs.ExactLemmas.{nat_apart}
-use Rattle.erst_store.specs.StoreLemmas.{found-with_record, under-with_record}
+use Rattle.ras_base.specs.Steps.ExactLemmas.{nat_apart}
+use Rattle.erst_store.specs.Steps.StoreLemmas.{found-with_record, under-with_record}
 use Rattle.erst_store.proofs.laws.store_laws.Goals as goal
 
 pub returns-clause-own : goal.returns-clause-own

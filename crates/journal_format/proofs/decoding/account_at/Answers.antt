@@ -2,7 +2,7 @@ use Rattle.std.proofs.Common.{◌≡◌, ◌∙◌, ap}
 use Rattle.std.proofs.lemmas.Result.{err_from_is_err_and}
 use Rattle.ras_account.specs.Account.{State}
 use Rattle.entry_format.specs.declared.refused.EntryRefused.TheVariants.{Bad}
-use Rattle.journal_format.specs.Decoding.{with_rows_of}
+use Rattle.journal_format.specs.Steps.Decoding.{with_rows_of}
 use Rattle.journal_format.specs.CheckpointReading.{CheckpointFront}
 use Rattle.journal_format.proofs.CheckpointLemmas.{holds_make, holds_of, unread_front}
 use Rattle.journal_format.proofs.decoding.account_at.Goals as goal

@@ -7,7 +7,7 @@ use Rattle.entry_format.specs.declared.refused.EntryRefused.TheVariants.{Bad}
 use Rattle.entry_format.specs.Reading.{many_at}
 use Rattle.journal_format.specs.CheckpointReading.{module_at}
 use Rattle.entry_format.proofs.LoopLemmas.{goes_on, ends, is_done}
-use Rattle.journal_format.specs.Decoding.{AreModules}
+use Rattle.journal_format.specs.Steps.Decoding.{AreModules}
 use Rattle.journal_format.proofs.DecodingLemmas.{refused_amid, unread_amid, same_row, module_put}
 use Rattle.journal_format.proofs.decoding.many_modules_at.Goals as goal
 

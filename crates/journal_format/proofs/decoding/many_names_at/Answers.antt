@@ -4,7 +4,7 @@ use Rattle.ras_account.specs.Account.{State}
 use Rattle.entry_format.specs.declared.refused.EntryRefused.TheVariants.{Bad}
 use Rattle.entry_format.specs.Reading.{many_at, name_at}
 use Rattle.entry_format.proofs.LoopLemmas.{goes_on, ends, is_done, is_failed}
-use Rattle.journal_format.specs.Decoding.{AreNames}
+use Rattle.journal_format.specs.Steps.Decoding.{AreNames}
 use Rattle.journal_format.proofs.DecodingLemmas.{refused_amid, unread_amid, same_row, name_put}
 use Rattle.journal_format.proofs.decoding.many_names_at.Goals as goal
 

@@ -5,7 +5,7 @@ use Rattle.entry_format.specs.declared.refused.EntryRefused.TheVariants.{Bad}
 use Rattle.entry_format.specs.Reading.{many_at}
 use Rattle.journal_format.specs.CheckpointReading.{page_row_at}
 use Rattle.entry_format.proofs.LoopLemmas.{goes_on, ends, is_done, is_failed}
-use Rattle.journal_format.specs.Decoding.{ArePages}
+use Rattle.journal_format.specs.Steps.Decoding.{ArePages}
 use Rattle.journal_format.proofs.DecodingLemmas.{refused_amid, unread_amid, same_row, page_put}
 use Rattle.journal_format.proofs.decoding.many_pages_at.Goals as goal
 

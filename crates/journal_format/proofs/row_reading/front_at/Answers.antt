@@ -3,7 +3,7 @@ use Rattle.page_policy.specs.Buckets.{IsLimit}
 use Rattle.ras_account.specs.declared.limits.TheConstants.{MOST_ENTRIES}
 use Rattle.entry_format.proofs.LoopLemmas.{is_given}
 use Rattle.journal_format.specs.CheckpointReading.{front_at}
-use Rattle.journal_format.specs.Fronts.{front_of}
+use Rattle.journal_format.specs.Steps.Fronts.{front_of}
 use Rattle.journal_format.proofs.DecodingLemmas.{read_is}
 use Rattle.journal_format.proofs.CheckpointLemmas.{spell_front, TellsFront, front_read, front_is}
 use Rattle.journal_format.proofs.row_reading.front_at.Goals as goal

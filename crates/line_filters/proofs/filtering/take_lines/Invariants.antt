@@ -3,7 +3,7 @@ use Rattle.board_core.specs.Told.{Told}
 use Rattle.ras_script.specs.declared.reader.TheConstants.{LONGEST_SCRIPT}
 use Rattle.ras_script.specs.Reader.{given_count}
 use Rattle.board_core.specs.Device.{LeavesDevice}
-use Rattle.line_filters.specs.Reading.{HasTaken}
+use Rattle.line_filters.specs.Steps.Reading.{HasTaken}
 use Rattle.line_filters.proofs.StepLemmas.{AlongBoth}
 use Rattle.line_filters.proofs.filtering.take_lines.Given as goal
 

@@ -3,7 +3,7 @@ use Rattle.board_core.specs.Doing.{looks}
 use Rattle.ras_exit.specs.Endings.{is_answer}
 use Rattle.ras_exit.specs.StopLine.{stop_line}
 use Rattle.ras_exit.specs.declared.exit.Exit.TheVariants.{ErstBusy}
-use Rattle.ras_daemon.specs.Doing.{Says}
+use Rattle.ras_daemon.specs.Steps.Doing.{Says}
 use Rattle.ras_daemon.specs.RunOutput.{closing_line}
 use Rattle.ras_daemon.proofs.ending.end_run.Goals as goal
 

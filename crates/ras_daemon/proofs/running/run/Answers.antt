@@ -3,7 +3,7 @@ use Rattle.board_core.specs.Doing.{looks}
 use Rattle.ras_exit.specs.declared.exit.Exit.TheVariants.{NoMemory}
 use Rattle.ras_recover.specs.OpeningCalls.{AfterOpening}
 use Rattle.ras_exit.proofs.DeviceLemmas.{device_goes_on}
-use Rattle.ras_daemon.specs.Doing.{Comes}
+use Rattle.ras_daemon.specs.Steps.Doing.{Comes}
 use Rattle.ras_daemon.specs.Promises.{Refuses}
 use Rattle.ras_daemon.specs.RunStatus.{start_of}
 use Rattle.ras_daemon.proofs.FewLemmas.{takes_no_byte}

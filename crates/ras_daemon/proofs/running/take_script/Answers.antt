@@ -1,7 +1,7 @@
 use Rattle.std.proofs.Common.{[], subst, inl, inr, ◌≡◌, Err, sym, ◌∙◌, ap, refl}
 use Rattle.board_core.specs.Doing.{Does, GoesWell, after_acts, looks}
 use Rattle.board_core.specs.Cause.{Faults}
-use Rattle.line_filters.specs.Steps.{exit_of}
+use Rattle.line_filters.specs.Steps.Filtering.{exit_of}
 use Rattle.ras_exit.specs.Acts.{end_of, print_acts}
 use Rattle.ras_exit.specs.Causes.{BoardCause, Causes}
 use Rattle.ras_exit.specs.Endings.{ending_of}
@@ -9,7 +9,7 @@ use Rattle.ras_exit.specs.declared.exit.Exit.TheVariants.{SourceFault}
 use Rattle.ras_run.specs.Taking.{IsRunAfter}
 use Rattle.ras_texts.specs.Orders.{standing_lines}
 use Rattle.ras_daemon.specs.RunActs.{orders_acts}
-use Rattle.ras_daemon.specs.Running.{EndsAhead, lines_from}
+use Rattle.ras_daemon.specs.Steps.Running.{EndsAhead, lines_from}
 use Rattle.ras_daemon.proofs.AheadLemmas.{ahead_end, fault_before}
 use Rattle.ras_daemon.proofs.SaidLemmas.{before_at, done_before, ends_causes, ends_exit, ends_printed, orders_causes, print_exit, print_not_done}
 use Rattle.ras_daemon.proofs.FewLemmas.{takes_as, takes_no_byte}

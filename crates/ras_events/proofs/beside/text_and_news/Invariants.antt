@@ -1,6 +1,6 @@
 -- The lines and the news are those of the pieces so far.
 use Rattle.std.specs.Vec.Iter.{into_iter_items, into_iter_len}
-use Rattle.ras_events.specs.Beside.{KeepsNews}
+use Rattle.ras_events.specs.Steps.Beside.{KeepsNews}
 use Rattle.ras_events.proofs.beside.text_and_news.Given as goal
 
 abbrev pub invariant-loop-piece : goal.invariant-loop-piece

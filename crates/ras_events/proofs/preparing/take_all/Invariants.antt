@@ -1,6 +1,6 @@
 -- What was taken so far and what is left come to the same as all.
 use Rattle.std.specs.Vec.Iter.{into_iter_items, into_iter_len}
-use Rattle.ras_events.specs.Beside.{IsTaking}
+use Rattle.ras_events.specs.Steps.Beside.{IsTaking}
 use Rattle.ras_events.proofs.preparing.take_all.Given as goal
 
 abbrev pub invariant-loop-entry : goal.invariant-loop-entry

@@ -1,5 +1,5 @@
 use Rattle.std.proofs.Common.{Err, Ok, sym, ◌∙◌}
-use Rattle.board_core.specs.ClockLemmas.{adds_at_rest, rests_printed}
+use Rattle.board_core.specs.Steps.ClockLemmas.{adds_at_rest, rests_printed}
 use Rattle.board_core.specs.Doing.{looks, prints}
 use Rattle.board_core.specs.Stop.{Begins, InOut}
 use Rattle.board_core.proofs.DoingLemmas.{does_act}

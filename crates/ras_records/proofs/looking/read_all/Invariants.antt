@@ -3,7 +3,7 @@ use Rattle.std.proofs.Common.{◌≡◌, IfSome}
 use Rattle.board_core.specs.Doing.{looks}
 use Rattle.board_core.specs.Told.{Relates}
 use Rattle.erst_interp.specs.Run.{Keeps}
-use Rattle.ras_records.specs.Reading.{ReachesTo}
+use Rattle.ras_records.specs.Steps.Reading.{ReachesTo}
 use Rattle.ras_records.proofs.ReadingLemmas.{ReadTo}
 use Rattle.ras_records.proofs.looking.read_all.Given as goal
 

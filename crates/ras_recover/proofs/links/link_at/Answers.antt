@@ -1,5 +1,5 @@
 use Rattle.std.proofs.Common.{refl, sym}
-use Rattle.ras_recover.specs.Reading.{front_at}
+use Rattle.ras_recover.specs.Steps.Reading.{front_at}
 use Rattle.ras_recover.proofs.ReadingLemmas.{link_unread, link_counted, link_past}
 use Rattle.ras_recover.proofs.links.link_at.Goals as goal
 

@@ -1,5 +1,5 @@
 use Rattle.std.proofs.Common.{◌∙◌, Ok, Err, sym}
-use Rattle.ras_recover.specs.Reading.{front_at}
+use Rattle.ras_recover.specs.Steps.Reading.{front_at}
 use Rattle.ras_recover.proofs.HoldingLemmas.{seen_before}
 use Rattle.ras_recover.proofs.StandingLemmas.{begun_some, open_there}
 use Rattle.ras_recover.proofs.walking.first_in.Goals as goal

@@ -1,7 +1,7 @@
 use Rattle.std.proofs.Common.{◌∙◌, ◌+◌, ℕ, Option, Ok, Err, None, Some, refl, sym, ap, arith}
 use Rattle.std.specs.Option.{option_map}
 use Rattle.ras_account.specs.Account.{State}
-use Rattle.ras_recover.specs.Reading.{front_at}
+use Rattle.ras_recover.specs.Steps.Reading.{front_at}
 use Rattle.ras_recover.proofs.HoldingLemmas.{next_before, goes_next, goes_end, goes_over, goes_wrong, wrong_before}
 use Rattle.ras_recover.proofs.LooksLemmas.{looks_on, looks_as, looks_refused}
 use Rattle.ras_recover.proofs.walking.last_in.Goals as goal

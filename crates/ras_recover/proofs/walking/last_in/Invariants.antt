@@ -1,8 +1,8 @@
 use Rattle.std.proofs.Common.{◌≡◌, Ok}
 use Rattle.ras_account.specs.View.{nothing}
-use Rattle.ras_recover.specs.Looking.{ReadsPart}
-use Rattle.ras_recover.specs.Reading.{front_at}
-use Rattle.ras_recover.specs.Windows.{end_of, Spans, Sees, Looks, read_failure}
+use Rattle.ras_recover.specs.Steps.Looking.{ReadsPart}
+use Rattle.ras_recover.specs.Steps.Reading.{front_at}
+use Rattle.ras_recover.specs.Steps.Windows.{end_of, Spans, Sees, Looks, read_failure}
 use Rattle.ras_recover.proofs.HoldingLemmas.{GoesOn}
 use Rattle.ras_recover.proofs.walking.last_in.Given as goal
 

@@ -1,4 +1,4 @@
-use Rattle.ras_recover.specs.Reading.{front_at}
+use Rattle.ras_recover.specs.Steps.Reading.{front_at}
 use Rattle.ras_recover.proofs.HoldingLemmas.{seen_before, next_told, damaged_told}
 use Rattle.ras_recover.proofs.walking.next_in.Goals as goal
 

@@ -2,8 +2,8 @@ use Rattle.std.proofs.Common.{◌≡◌, Ok, Err, length, ap, arith}
 use Rattle.std.specs.Option.{option_map}
 use Rattle.ras_recover.specs.declared.place.Place.{Place}
 use Rattle.ras_recover.specs.declared.walking.FileRead.{FileRead}
-use Rattle.ras_recover.specs.Reading.{front_at}
-use Rattle.ras_recover.specs.Windows.{end_of}
+use Rattle.ras_recover.specs.Steps.Reading.{front_at}
+use Rattle.ras_recover.specs.Steps.Windows.{end_of}
 use Rattle.ras_recover.proofs.LooksLemmas.{looks_on}
 use Rattle.ras_recover.proofs.StandingLemmas.{file_absent, file_whole, file_wrong, file_unbegun, walks_before, gate_before, no_gate, all_read, unread_at}
 use Rattle.ras_recover.proofs.walking.read_file.Goals as goal

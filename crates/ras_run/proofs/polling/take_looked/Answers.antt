@@ -6,7 +6,7 @@ use Rattle.ras_account.specs.Numbers.{fresh_entries_in}
 use Rattle.ras_events.specs.Making.{entries_in}
 use Rattle.ras_events.specs.Preparing.{event_text_in, news_entries}
 use Rattle.ras_texts.specs.Text.{done_line}
-use Rattle.ras_run.specs.Clearing.{CanClear, clearing_acts}
+use Rattle.ras_run.specs.Steps.Clearing.{CanClear, clearing_acts}
 use Rattle.ras_run.specs.LineActs.{news_acts}
 use Rattle.ras_run.proofs.CountLemmas.{made_counted, news_kept, news_kept_not, text_told}
 use Rattle.ras_run.proofs.NewsLemmas.{can_keep}

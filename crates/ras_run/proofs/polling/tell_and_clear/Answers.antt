@@ -8,7 +8,7 @@ use Rattle.ras_exit.specs.Acts.{print_acts}
 use Rattle.ras_records.specs.Each.{each_calls}
 use Rattle.ras_exit.specs.declared.exit.Exit.{Exit}
 use Rattle.ras_exit.proofs.PrintLemmas.{as_part}
-use Rattle.ras_run.specs.Clearing.{clearing_acts}
+use Rattle.ras_run.specs.Steps.Clearing.{clearing_acts}
 use Rattle.ras_run.proofs.ClearLemmas.{cleared_does, failed_does, failed_ends, print_fails}
 use Rattle.ras_run.proofs.StandsLemmas.{ready_called, ready_print}
 use Rattle.ras_run.proofs.polling.tell_and_clear.Goals as goal

@@ -1,5 +1,5 @@
 use Rattle.std.proofs.Common.{sym, ◌∙◌}
-use Rattle.cper_pcie.specs.Steps.{sections_in}
+use Rattle.cper_pcie.specs.Steps.Filtering.{sections_in}
 use Rattle.cper_pcie.proofs.CountedLemmas.{counted-none, text-none}
 use Rattle.cper_pcie.proofs.counted.Counted.take.Goals as goal
 

@@ -1,5 +1,5 @@
 use Rattle.std.proofs.Common.{length, sym, ap, ◌∙◌}
-use Rattle.cper_pcie.specs.Steps.{sections_in}
+use Rattle.cper_pcie.specs.Steps.Filtering.{sections_in}
 use Rattle.cper_pcie.proofs.ReportLemmas.{record-count}
 use Rattle.cper_pcie.proofs.reports.Sections.count.Goals as goal
 

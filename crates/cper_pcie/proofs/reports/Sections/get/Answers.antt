@@ -3,7 +3,7 @@ use Rattle.std.specs.Prelude.{slice_get}
 use Rattle.apei_sources.specs.Blocks.{entry_at}
 use Rattle.cper_records.specs.Header.{section_count}
 use Rattle.cper_pcie.specs.Reports.{block_section, record_section}
-use Rattle.cper_pcie.specs.Steps.{sections_in}
+use Rattle.cper_pcie.specs.Steps.Filtering.{sections_in}
 use Rattle.cper_pcie.proofs.ReportLemmas.{record-at, record-below, block-at, block-below, found-is}
 use Rattle.cper_pcie.proofs.reports.Sections.get.Goals as goal
 

@@ -1,6 +1,6 @@
 use Rattle.std.proofs.Common.{sym, ◌∙◌}
 use Rattle.cper_pcie.specs.Reports.{is_pcie}
-use Rattle.cper_pcie.specs.Steps.{sections_in}
+use Rattle.cper_pcie.specs.Steps.Filtering.{sections_in}
 use Rattle.cper_pcie.proofs.ReportLemmas.{any-next, any-there}
 use Rattle.cper_pcie.proofs.reports.Sections.has_pcie.Goals as goal
 

@@ -1,7 +1,7 @@
 use Rattle.std.proofs.Common.{◌<◌, ◌+◌, ◌^◌, List, Option, sym, ap, subst, ◌∙◌, arith}
 use Rattle.std.specs.List.{AllByRecursion}
 use Rattle.cper_pcie.specs.Along.{totals_with}
-use Rattle.cper_pcie.specs.Steps.{IsFew}
+use Rattle.cper_pcie.specs.Steps.Filtering.{IsFew}
 use Rattle.cper_pcie.specs.Totals.{Totals}
 use Rattle.cper_pcie.specs.declared.counts.ErrorCounts.{ErrorCounts}
 use Rattle.cper_pcie.specs.declared.section.PcieDevice.{PcieDevice}

@@ -1,6 +1,6 @@
 -- So many checks were made, and the device was busy at each.
 use Rattle.erst_driver.proofs.WaitLemmas.{Waiting}
-use Rattle.erst_driver.specs.Steps.{Called}
+use Rattle.erst_driver.specs.Steps.Operating.{Called}
 use Rattle.board_core.specs.Doing.{looks}
 use Rattle.erst_driver.proofs.driver.Driver.check.Given as goal
 

@@ -4,7 +4,7 @@ use Rattle.board_core.specs.Told.{device_of}
 use Rattle.erst_driver.proofs.DoesLemmas.{at_told, does_to_store, has_call, over_each}
 use Rattle.erst_driver.proofs.ToldLemmas.{clear_after, clear_inside}
 use Rattle.erst_store.specs.Store.{without}
-use Rattle.erst_driver.specs.Steps.{Clears}
+use Rattle.erst_driver.specs.Steps.Operating.{Clears}
 use Rattle.erst_driver.specs.Answers.{answer_of}
 use Rattle.erst_driver.specs.Operations.{actions_of, clear_calls, clear_steps}
 use Rattle.erst_driver.proofs.DeviceLemmas.{over_told}

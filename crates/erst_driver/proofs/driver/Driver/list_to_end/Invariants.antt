@@ -1,6 +1,6 @@
 -- So many identifiers were listed, and none was the end.
 use Rattle.erst_driver.proofs.ListLemmas.{Listing}
-use Rattle.erst_driver.specs.Steps.{Called}
+use Rattle.erst_driver.specs.Steps.Operating.{Called}
 use Rattle.board_core.specs.Doing.{looks}
 use Rattle.erst_driver.proofs.driver.Driver.list_to_end.Given as goal
 

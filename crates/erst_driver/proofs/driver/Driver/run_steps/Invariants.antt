@@ -1,7 +1,7 @@
 -- The steps so far were done.
 use Rattle.std.proofs.Common.{take}
-use Rattle.erst_driver.specs.Steps.{Done}
-use Rattle.erst_driver.specs.Steps.{Called}
+use Rattle.erst_driver.specs.Steps.Operating.{Done}
+use Rattle.erst_driver.specs.Steps.Operating.{Called}
 use Rattle.board_core.specs.Doing.{looks}
 use Rattle.erst_driver.proofs.driver.Driver.run_steps.Given as goal
 

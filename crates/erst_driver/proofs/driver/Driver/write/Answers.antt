@@ -1,7 +1,7 @@
 use Rattle.std.proofs.Common.{inl, inr}
 use Rattle.board_core.specs.Doing.{looks}
 use Rattle.board_core.specs.Told.{device_of}
-use Rattle.erst_driver.specs.Steps.{Puts}
+use Rattle.erst_driver.specs.Steps.Operating.{Puts}
 use Rattle.erst_driver.specs.Answers.{store_after_write}
 use Rattle.erst_driver.specs.Operations.{write_calls}
 use Rattle.erst_driver.proofs.DoesLemmas.{at_told, does_nothing_else, does_to_store, over_each}

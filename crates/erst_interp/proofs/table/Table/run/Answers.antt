@@ -7,7 +7,7 @@ use Rattle.erst_interp.specs.declared.entries.InstructionEntry.{InstructionEntry
 use Rattle.erst_interp.specs.Admission.{IsAdmitted}
 use Rattle.erst_interp.specs.Machine.{machine_end}
 use Rattle.erst_interp.specs.Run.{StoreInRun, IsRun}
-use Rattle.erst_interp.specs.Steps.{StoreOver}
+use Rattle.erst_interp.specs.Steps.Running.{StoreOver}
 use Rattle.erst_interp.proofs.AdmittedRunLemmas.{does_run, store_alone, stores_run}
 use Rattle.erst_interp.proofs.ReachLemmas.{admitted_uses}
 use Rattle.erst_interp.proofs.StraightLemmas.{admitted_straight}

@@ -1,7 +1,7 @@
 use Rattle.std.proofs.Common.{◌≡◌, ◌∙◌, length, ap, sym, arith}
 use Rattle.erst_store.specs.Actions.{range_length}
-use Rattle.erst_store.specs.KeptLemmas.{IsDevice-filled, AreBytes-range_with_record, length-range_with_record}
-use Rattle.erst_store.specs.StoreLemmas.{bytes_at}
+use Rattle.erst_store.specs.Steps.KeptLemmas.{IsDevice-filled, AreBytes-range_with_record, length-range_with_record}
+use Rattle.erst_store.specs.Steps.StoreLemmas.{bytes_at}
 use Rattle.erst_store.proofs.device.Dev.read_record.Goals as goal
 
 pub invariant_of-self : goal.invariant_of-self

@@ -1,7 +1,7 @@
 use Rattle.std.proofs.Common.{arith, ◌≡◌, Some, slice_get}
 use Rattle.erst_store.specs.Store.{contents}
-use Rattle.erst_store.specs.View.{views}
-use Rattle.erst_store.specs.StoreLemmas.{got_bytes, short-at, length-views}
+use Rattle.erst_store.specs.Steps.View.{views}
+use Rattle.erst_store.specs.Steps.StoreLemmas.{got_bytes, short-at, length-views}
 use Rattle.erst_store.proofs.store.Store.bytes.Goals as goal
 
 pub returns-clause-there : goal.returns-clause-there

@@ -1,4 +1,4 @@
-use Rattle.erst_store.specs.StoreLemmas.{found-at, found-none}
+use Rattle.erst_store.specs.Steps.StoreLemmas.{found-at, found-none}
 use Rattle.erst_store.proofs.store.Store.find.Goals as goal
 
 pub returns-in-Some : goal.returns-in-Some

@@ -1,5 +1,5 @@
 use Rattle.std.proofs.Common.{arith}
-use Rattle.erst_store.specs.StoreLemmas.{got_id, length-views}
+use Rattle.erst_store.specs.Steps.StoreLemmas.{got_id, length-views}
 use Rattle.erst_store.proofs.store.Store.id.Goals as goal
 
 pub returns : goal.returns

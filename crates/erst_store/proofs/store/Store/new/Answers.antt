@@ -1,4 +1,4 @@
-use Rattle.erst_store.specs.StoreLemmas.{IsStore-nil}
+use Rattle.erst_store.specs.Steps.StoreLemmas.{IsStore-nil}
 use Rattle.erst_store.proofs.store.Store.new.Goals as goal
 
 pub invariant_of-result : goal.invariant_of-result

@@ -1,4 +1,4 @@
-use Rattle.erst_store.specs.StoreLemmas.{placed}
+use Rattle.erst_store.specs.Steps.StoreLemmas.{placed}
 use Rattle.erst_store.proofs.store.Store.place.Goals as goal
 
 pub returns-clause-place : goal.returns-clause-place

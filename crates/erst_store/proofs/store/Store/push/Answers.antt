@@ -1,4 +1,4 @@
-use Rattle.erst_store.specs.StoreLemmas.{IsStore-pushed, views-push}
+use Rattle.erst_store.specs.Steps.StoreLemmas.{IsStore-pushed, views-push}
 use Rattle.erst_store.proofs.store.Store.push.Goals as goal
 
 pub invariant_of-self-2 : goal.invariant_of-self-2

@@ -1,4 +1,4 @@
-use Rattle.erst_store.specs.StoreLemmas.{found-with_record, others-with_record}
+use Rattle.erst_store.specs.Steps.StoreLemmas.{found-with_record, others-with_record}
 use Rattle.erst_store.proofs.store.Store.put.Goals as goal
 
 pub returns-in_ok-replace-in-Some-place-clause-found : goal.returns-in_ok-replace-in-Some-place-clause-found

@@ -1,4 +1,4 @@
-use Rattle.erst_store.specs.StoreLemmas.{without-absent}
+use Rattle.erst_store.specs.Steps.StoreLemmas.{without-absent}
 use Rattle.erst_store.proofs.store.Store.remove.Goals as goal
 
 pub returns-in-None-clause-rest : goal.returns-in-None-clause-rest

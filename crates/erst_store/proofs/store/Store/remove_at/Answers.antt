@@ -1,4 +1,4 @@
-use Rattle.erst_store.specs.StoreLemmas.{IsStore-removed, removed_is}
+use Rattle.erst_store.specs.Steps.StoreLemmas.{IsStore-removed, removed_is}
 use Rattle.erst_store.proofs.store.Store.remove_at.Goals as goal
 
 pub invariant_of-self : goal.invariant_of-self

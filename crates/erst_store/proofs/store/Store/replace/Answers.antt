@@ -1,5 +1,5 @@
 use Rattle.std.proofs.Common.{arith}
-use Rattle.erst_store.specs.StoreLemmas.{IsStore-set, views-set}
+use Rattle.erst_store.specs.Steps.StoreLemmas.{IsStore-set, views-set}
 use Rattle.erst_store.proofs.store.Store.replace.Goals as goal
 
 pub invariant_of-self : goal.invariant_of-self

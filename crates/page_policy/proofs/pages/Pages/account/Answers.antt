@@ -1,6 +1,6 @@
 use Rattle.std.proofs.Common.{ℕ, ◌≡◌, ◌≤◌, nat_eq, ◌∙◌, sym, ap, subst, unwrap_or}
 use Rattle.std.specs.Map.{keys_of, lookup}
-use Rattle.ras_base.specs.ExactLemmas.{nat_apart}
+use Rattle.ras_base.specs.Steps.ExactLemmas.{nat_apart}
 use Rattle.row_tables.specs.Tables.{added_keys}
 use Rattle.row_tables.specs.Held.{Held, with_row}
 use Rattle.page_policy.specs.declared.rows.PageRow.{PageRow}

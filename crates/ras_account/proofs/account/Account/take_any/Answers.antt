@@ -5,7 +5,7 @@ use Rattle.ras_facts.specs.Entries.{IsValidEntry}
 use Rattle.ras_account.specs.Continued.{is_fresh_in, account_after}
 use Rattle.ras_account.specs.Numbers.{IsWithin}
 use Rattle.ras_account.specs.View.{WaitsFirst, added_by}
-use Rattle.ras_account.specs.Taking.{Takes}
+use Rattle.ras_account.specs.Steps.Taking.{Takes}
 use Rattle.ras_account.proofs.EntryLemmas.{can_take, takes_fact}
 use Rattle.ras_account.proofs.account.Account.take_any.Goals as goal
 

@@ -3,7 +3,7 @@ use Rattle.page_policy.specs.declared.rows.Order.{Order}
 use Rattle.ras_facts.specs.declared.items.Item.{Item}
 use Rattle.ras_account.specs.Orders.{orders_along}
 use Rattle.ras_account.specs.View.{View}
-use Rattle.ras_account.specs.Taking.{sightings_at, Gives}
+use Rattle.ras_account.specs.Steps.Taking.{sightings_at, Gives}
 use Rattle.ras_account.proofs.StateLemmas.{orders-named}
 use Rattle.ras_account.proofs.account.Account.take_fact.Goals as goal
 

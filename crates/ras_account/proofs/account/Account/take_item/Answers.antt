@@ -4,7 +4,7 @@ use Rattle.ras_account.specs.Account.{State}
 use Rattle.ras_account.specs.Continued.{account_after_item}
 use Rattle.ras_account.specs.View.{View}
 use Rattle.ras_account.specs.Accounts.{IsAccount}
-use Rattle.ras_account.specs.Taking.{sighting_in, view_after_item, item_orders_in, Gives}
+use Rattle.ras_account.specs.Steps.Taking.{sighting_in, view_after_item, item_orders_in, Gives}
 use Rattle.ras_account.proofs.SoundLemmas.{item-sound}
 use Rattle.ras_account.proofs.StateLemmas.{of_parts, view_of_parts, two-given}
 use Rattle.ras_account.proofs.account.Account.take_item.Goals as goal

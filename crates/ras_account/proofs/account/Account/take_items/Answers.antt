@@ -1,6 +1,6 @@
 use Rattle.std.proofs.Common.{◌≡◌, ◌+◌, ◌∷◌, List, drop, subst}
 use Rattle.ras_facts.specs.declared.items.Item.{Item}
-use Rattle.ras_account.specs.Taking.{IsAmid}
+use Rattle.ras_account.specs.Steps.Taking.{IsAmid}
 use Rattle.ras_account.proofs.StateLemmas.{drop-at}
 use Rattle.ras_account.proofs.TakingLemmas.{amid-is_next, amid-more}
 use Rattle.ras_account.proofs.account.Account.take_items.Goals as goal

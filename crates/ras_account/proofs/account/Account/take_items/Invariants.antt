@@ -1,5 +1,5 @@
 use Rattle.std.proofs.Common.{drop}
-use Rattle.ras_account.specs.Taking.{IsAmid}
+use Rattle.ras_account.specs.Steps.Taking.{IsAmid}
 use Rattle.ras_account.proofs.account.Account.take_items.Given as goal
 
 -- what was taken so far and what is left come to the same as all

@@ -1,5 +1,5 @@
 use Rattle.std.proofs.Common.{take}
-use Rattle.ras_account.specs.Reserving.{IsNoting}
+use Rattle.ras_account.specs.Steps.Reserving.{IsNoting}
 use Rattle.ras_account.proofs.account.Account.tally_of.Given as goal
 
 -- the entries so far were noted

@@ -11,7 +11,7 @@ use Rattle.ras_account.specs.Account.{weight_in}
 use Rattle.ras_account.specs.Sightings.{Sighting, label_of}
 use Rattle.ras_account.specs.Continued.{new_module, module_after}
 use Rattle.ras_account.specs.Orders.{module_order_in}
-use Rattle.ras_account.specs.Parts.{ModuleList, with_sighting, is_next_label, IsCounting}
+use Rattle.ras_account.specs.Steps.Parts.{ModuleList, with_sighting, is_next_label, IsCounting}
 use Rattle.ras_account.proofs.ModuleRowLemmas.{seen_modules, row_for, module_in, counted, order-after, keys-entry_of, label-row_for, counting-row_for, sums-row_for, are-with_row}
 use Rattle.ras_account.proofs.modules.Modules.count.Goals as goal
 

@@ -1,7 +1,7 @@
 use Rattle.std.proofs.Common.{◌++◌, [], ◌∷◌, ◌∙◌, sym, ap}
 use Rattle.dimm_topology.specs.Labels.{same_label}
 use Rattle.row_tables.specs.Tables.{added_keys}
-use Rattle.ras_account.specs.Parts.{ModuleList, all_labels}
+use Rattle.ras_account.specs.Steps.Parts.{ModuleList, all_labels}
 use Rattle.ras_account.proofs.ModuleRowLemmas.{keys-entry_of}
 use Rattle.ras_account.proofs.modules.Modules.let_wait.Goals as goal
 

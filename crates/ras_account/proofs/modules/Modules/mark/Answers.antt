@@ -4,7 +4,7 @@ use Rattle.dimm_topology.specs.Labels.{Bytes}
 use Rattle.indexmap.specs.IndexMap.{set_value_at}
 use Rattle.ras_account.specs.Modules.{Module}
 use Rattle.ras_account.specs.Continued.{without_bucket}
-use Rattle.ras_account.specs.Parts.{ModuleList, entry_of, AreModules}
+use Rattle.ras_account.specs.Steps.Parts.{ModuleList, entry_of, AreModules}
 use Rattle.ras_account.proofs.ModuleRowLemmas.{mark_first, mark-step, length-mark_first, are-marked, all-marked}
 use Rattle.ras_account.proofs.modules.Modules.mark.Goals as goal
 

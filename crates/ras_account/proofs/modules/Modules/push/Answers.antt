@@ -2,7 +2,7 @@ use Rattle.std.proofs.Common.{◌≡◌, ◌∙◌, sym, ap}
 use Rattle.std.specs.List.{list_any}
 use Rattle.std.specs.Map.{keys_of}
 use Rattle.dimm_topology.specs.Labels.{same_label}
-use Rattle.ras_account.specs.Parts.{ModuleList}
+use Rattle.ras_account.specs.Steps.Parts.{ModuleList}
 use Rattle.ras_account.proofs.ModuleRowLemmas.{keys-entry_of, after-push}
 use Rattle.ras_account.proofs.modules.Modules.push.Goals as goal
 

@@ -1,5 +1,5 @@
 use Rattle.std.proofs.Common.{◌∙◌, sym, ap, slice_get}
-use Rattle.ras_account.specs.Parts.{ModuleList}
+use Rattle.ras_account.specs.Steps.Parts.{ModuleList}
 use Rattle.ras_account.proofs.ModuleRowLemmas.{row-at}
 use Rattle.ras_account.proofs.modules.Modules.row.Goals as goal
 

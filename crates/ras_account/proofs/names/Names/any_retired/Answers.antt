@@ -1,7 +1,7 @@
 use Rattle.std.proofs.Common.{sym, ap, ◌∙◌}
 use Rattle.std.specs.Map.{keys_of}
 use Rattle.ras_account.specs.History.{is_retired}
-use Rattle.ras_account.specs.Parts.{NameList}
+use Rattle.ras_account.specs.Steps.Parts.{NameList}
 use Rattle.ras_account.specs.Rows.{has_retired}
 use Rattle.ras_account.proofs.StateLemmas.{any-at, none-more}
 use Rattle.ras_account.proofs.names.Names.any_retired.Goals as goal

@@ -1,6 +1,6 @@
 use Rattle.std.proofs.Common.{◌∙◌, sym}
 use Rattle.std.specs.List.{list_any}
-use Rattle.ras_facts.specs.NameLemmas.{eq-same_name}
+use Rattle.ras_facts.specs.Steps.NameLemmas.{eq-same_name}
 use Rattle.ras_account.proofs.names.Names.push.Goals as goal
 
 pub returns-clause-repeated : goal.returns-clause-repeated

@@ -3,7 +3,7 @@ use Rattle.std.specs.Map.{keys_of}
 use Rattle.row_tables.proofs.HeldLemmas.{keys-filter}
 use Rattle.ras_account.specs.History.{is_retired}
 use Rattle.ras_account.specs.Account.{kept_names}
-use Rattle.ras_account.specs.Parts.{NameList}
+use Rattle.ras_account.specs.Steps.Parts.{NameList}
 use Rattle.ras_account.proofs.names.Names.retire.Goals as goal
 
 pub returns-clause-held : goal.returns-clause-held

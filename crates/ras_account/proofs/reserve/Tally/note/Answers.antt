@@ -1,7 +1,7 @@
 use Rattle.std.proofs.Common.{sym, subst, OnOk, arith}
 use Rattle.ras_facts.specs.declared.entry.Entry.{Entry}
 use Rattle.ras_account.specs.Continued.{account_after}
-use Rattle.ras_account.specs.Reserving.{with_fresh, Shadows}
+use Rattle.ras_account.specs.Steps.Reserving.{with_fresh, Shadows}
 use Rattle.ras_account.proofs.ReserveLemmas.{shadows-setting}
 use Rattle.ras_account.proofs.reserve.Tally.note.Goals as goal
 

@@ -1,6 +1,6 @@
 use Rattle.std.proofs.Common.{List, refl, sym, ◌∙◌, subst, Result, Ok, Err, OnOk, arith}
 use Rattle.ras_facts.specs.declared.items.Item.{Item}
-use Rattle.ras_account.specs.Reserving.{NotesItems}
+use Rattle.ras_account.specs.Steps.Reserving.{NotesItems}
 use Rattle.ras_account.proofs.ReserveLemmas.{shadows-fact}
 use Rattle.ras_account.proofs.reserve.Tally.note_fact.Goals as goal
 

@@ -1,7 +1,7 @@
 use Rattle.std.proofs.Common.{◌≡◌, ◌+◌, ◌++◌, ◌∷◌, [], List, take, sym, ap, subst, ◌∙◌}
 use Rattle.std.proofs.lemmas.List.{take_more}
 use Rattle.ras_facts.specs.declared.items.Item.{Item}
-use Rattle.ras_account.specs.Reserving.{NotesItems}
+use Rattle.ras_account.specs.Steps.Reserving.{NotesItems}
 use Rattle.ras_account.proofs.ReserveLemmas.{notes-none, notes-more}
 use Rattle.ras_account.proofs.reserve.Tally.note_items.Goals as goal
 

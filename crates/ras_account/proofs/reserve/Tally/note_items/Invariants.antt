@@ -1,5 +1,5 @@
 use Rattle.std.proofs.Common.{take}
-use Rattle.ras_account.specs.Reserving.{NotesItems}
+use Rattle.ras_account.specs.Steps.Reserving.{NotesItems}
 use Rattle.ras_account.proofs.reserve.Tally.note_items.Given as goal
 
 -- the items so far were noted

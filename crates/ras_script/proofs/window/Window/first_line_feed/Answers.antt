@@ -1,6 +1,6 @@
 use Rattle.std.proofs.Common.{◌+◌, ◌∙◌, ap, slice_range, arith, ℕ}
 use Rattle.std.proofs.lemmas.List.{length-take, length-drop}
-use Rattle.ras_script.specs.Window.{held_in}
+use Rattle.ras_script.specs.Steps.Window.{held_in}
 use Rattle.ras_script.proofs.WindowLemmas.{dropped}
 use Rattle.ras_script.proofs.ReaderLemmas.{feed_none, feed_found}
 use Rattle.ras_script.proofs.window.Window.first_line_feed.Goals as goal

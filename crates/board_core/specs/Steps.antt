@@ -1,0 +1,8 @@
+-- What only proofs use: no public clause comes to it.
+pub mod ClockLemmas
+pub mod DiskLemmas
+pub mod MomentLemmas
+pub mod MemBoardCalls
+pub mod ChangeLemmas
+pub mod FileHistory
+pub mod History

@@ -1,0 +1,138 @@
+-- How a law on what stops leave goes on over one call, and over several.
+use Rattle.std.specs.Prelude.{◌≡◌, ℕ, ◌≤◌, List, Option, None, Some, refl}
+use Rattle.std.proofs.Common.{sym, ◌∙◌, ap, subst, inl, inr, arith}
+use Rattle.std.specs.Option.{option_map}
+use Rattle.erst_store.specs.Store.{Stored}
+use Rattle.board_core.specs.declared.board.DiskCall.{DiskCall}
+use Rattle.board_core.specs.declared.board.FileNo.{FileNo}
+use Rattle.board_core.specs.declared.board.FileNo.TheVariants.{Zero, One}
+use Rattle.board_core.specs.Clock.{Clock, LeftNow, After, Passes, Leads, IsSynced, IsStored, Adds, Rests, Always}
+use Rattle.board_core.specs.Stop.{Left, file_in, with_file_in, Same, InFile, InStore, InOut, Appends}
+use Rattle.board_core.specs.Told.{Told, file_of, with_call, after_print, Steps}
+
+-- a board that tells nothing tells not this
+pub not_told : (t : Told) → None ≡ Some t → ⊥
+not_told t e = cc
+
+-- One call
+
+-- Whatever a stop during a call or after it leaves has a property, where every Left that its step
+-- leads to has it.
+pub adds_after : (Step : Left → Left → Type 0) (P : Left → Type 0) (old new : Clock) → Passes Step old new → ((left : Left) → After old Step left → P left) → Adds P old new
+adds_after Step P old new passes leads = record {
+  later = passes.later;
+  each = λ t left within may. elim (passes.each t left within may) [ inl before ↦ inl before | inr after ↦ inr (leads left after) ];
+}
+
+-- the same where a stop before the call leaves just what is told
+pub at_rest : (Step : Left → Left → Type 0) (t : Told) (told : Option Told) (old : Clock) (left : Left) → Rests t told old → After old Step left → Step t.here left
+at_rest Step t told old left rests after = subst (λ (l : Left). Step l left) (rests.only after.from after.was) after.by
+
+pub adds_at_rest : (Step : Left → Left → Type 0) (P : Left → Type 0) (t : Told) (told : Option Told) (old new : Clock) → Rests t told old → Passes Step old new
+    → ((left : Left) → Step t.here left → P left) → Adds P old new
+adds_at_rest Step P t told old new rests passes leads = adds_after Step P old new passes (λ left after. leads left (at_rest Step t told old left rests after))
+
+-- Several calls
+
+pub adds_none : (P : Left → Type 0) (clock : Clock) → Adds P clock clock
+adds_none P clock = record { later = omega arith; each = λ t left within may. inl may }
+
+pub adds_both : (P : Left → Type 0) (a b c : Clock) → Adds P a b → Adds P b c → Adds P a c
+adds_both P a b c first second = record {
+  later = (let x : a.now ≤ b.now = first.later in let y : b.now ≤ c.now = second.later in omega arith);
+  each = λ t left within may. (let x : a.now ≤ b.now = first.later in elim (second.each t left (omega arith) may) [ inl before ↦ first.each t left within before | inr has ↦ inr has ]);
+}
+
+pub adds_weaker : (P Q : Left → Type 0) (old new : Clock) → Adds P old new → ((left : Left) → P left → Q left) → Adds Q old new
+adds_weaker P Q old new adds weaker = record {
+  later = adds.later;
+  each = λ t left within may. elim (adds.each t left within may) [ inl before ↦ inl before | inr has ↦ inr (weaker left has) ];
+}
+
+-- A law on all that a stop since moment t leaves goes on over calls that add nothing else.
+pub always_goes_on : (P : Left → Type 0) (t : ℕ) (old new : Clock) → Always old t P → t ≤ old.now → Adds P old new → Always new t P
+always_goes_on P t old new always within adds left may = elim (adds.each t left within may) [ inl before ↦ always left before | inr has ↦ has ]
+
+-- Since the present moment a stop leaves what is told.
+pub always_at_rest : (P : Left → Type 0) (t : Told) (told : Option Told) (clock : Clock) → Rests t told clock → P t.here → Always clock clock.now P
+always_at_rest P t told clock rests has left now = subst P (sym (rests.only left now)) has
+
+-- What is told, and nothing else
+
+pub file_in-with : (file : FileNo) (bytes : List ℕ) (left : Left) → file_in file (with_file_in file bytes left) ≡ bytes
+file_in-with Zero bytes left = refl
+file_in-with One bytes left = refl
+
+-- A call that goes on by a step of what is told, and whose Lefts go on alike.
+pub rests_on : (step : Told → Told) (Step : Left → Left → Type 0) (t : Told) (told_old told_new : Option Told) (old new : Clock) → Rests t told_old old → Steps step told_old told_new
+    → Leads Step old new → ((left : Left) → Step t.here left → left ≡ (step t).here) → Rests (step t) told_new new
+rests_on step Step t told_old told_new old new rests steps leads same = record {
+  is = steps ∙ ap (λ (told : Option Told). option_map step told) rests.is;
+  only = λ left now. same left (at_rest Step t told_old old left rests (leads left now));
+}
+
+-- a call that changes neither files nor text
+pub rests_listed : (call : DiskCall) (t : Told) (told_old told_new : Option Told) (old new : Clock) → Rests t told_old old → Steps (with_call call) told_old told_new → Passes Same old new → Rests (with_call call t) told_new new
+rests_listed call t told_old told_new old new rests steps passes = rests_on (with_call call) Same t told_old told_new old new rests steps passes.ends (λ left is. is)
+
+-- a print that ended well
+pub rests_printed : (piece : List ℕ) (t : Told) (told_old told_new : Option Told) (old new : Clock) → Rests t told_old old → Steps (after_print piece) told_old told_new → Leads (InOut (Appends piece)) old new → Rests (after_print piece t) told_new new
+rests_printed piece t told_old told_new old new rests steps leads = rests_on (after_print piece) (InOut (Appends piece)) t told_old told_new old new rests steps leads
+    (λ left by. by.rest ∙ ap (λ text. record t.here { out = text }) by.step)
+
+-- a sync that ended well, of a file of which a stop left this or that
+pub synced_over : (file : FileNo) (bytes : List ℕ) (old new : Clock) → IsSynced file bytes old → Passes Same old new → IsSynced file bytes new
+synced_over file bytes old new synced passes left now =
+    let after : After old Same left = passes.ends left now in
+    subst (λ (l : Left). file_in file l ≡ bytes) (sym after.by) (synced after.from after.was)
+
+all_same : (t : Told) (left : Left) → left.file0 ≡ t.here.file0 → left.file1 ≡ t.here.file1 → left.store ≡ t.here.store → left.out ≡ t.here.out → left ≡ t.here
+all_same t left zero one store out =
+    ap (λ bytes. record left { file0 = bytes }) zero
+    ∙ (ap (λ bytes. record left { file0 = t.here.file0; file1 = bytes }) one
+    ∙ (ap (λ (records : List Stored). record left { file0 = t.here.file0; file1 = t.here.file1; store = records }) store
+    ∙ ap (λ text. record t.here { out = text }) out))
+
+-- A file was changed and then synced, where a stop left just what was told.
+pub rests_through : (file : FileNo) (Step : List ℕ → List ℕ → Type 0) (t there : Told) (told_old told_new : Option Told) (old mid new : Clock) → Rests t told_old old
+    → Passes (InFile file Step) old mid → Passes Same mid new → IsSynced file (file_of file there) new → told_new ≡ Some there
+    → there.here ≡ with_file_in file (file_of file there) t.here → Rests there told_new new
+rests_through file Step t there told_old told_new old mid new rests writes syncs synced is frame = record {
+  is = is;
+  only = λ left now.
+      (let from : After mid Same left = syncs.ends left now in
+      let wrote : InFile file Step t.here from.from = at_rest (InFile file Step) t told_old old from.from rests (writes.ends from.from from.was) in
+      let left_is : left ≡ with_file_in file wrote.bytes t.here = from.by ∙ wrote.rest in
+      let bytes_are : wrote.bytes ≡ file_of file there = sym (file_in-with file wrote.bytes t.here) ∙ (ap (file_in file) (sym left_is) ∙ synced left now) in
+      left_is ∙ (ap (λ bytes. with_file_in file bytes t.here) bytes_are ∙ sym frame));
+}
+
+-- Both files are synced: a stop leaves just what is told. (That the store and the text are told are
+-- laws of the board.)
+pub rests_synced : (t : Told) (told : Option Told) (clock : Clock) → told ≡ Some t → IsSynced Zero t.here.file0 clock → IsSynced One t.here.file1 clock
+    → IsStored t.here.store clock → ((left : Left) → LeftNow clock left → left.out ≡ t.here.out) → Rests t told clock
+rests_synced t told clock is zero one store out = record {
+  is = is;
+  only = λ left now. all_same t left (zero left now) (one left now) (store left now) (out left now);
+}
+
+-- A call of the device that changed nothing but its store, of which a stop leaves what is told.
+pub rests_stored : (Step : List Stored → List Stored → Type 0) (t there : Told) (told_old told_new : Option Told) (old new : Clock) → Rests t told_old old → told_new ≡ Some there
+    → Passes (InStore Step) old new → IsStored there.here.store new → there.here ≡ record t.here { store = there.here.store } → Rests there told_new new
+rests_stored Step t there told_old told_new old new rests is passes stored frame = record {
+  is = is;
+  only = λ left now.
+      (let by : InStore Step t.here left = at_rest (InStore Step) t told_old old left rests (passes.ends left now) in
+      let store_is : by.store ≡ there.here.store = sym (ap (λ (l : Left). l.store) by.rest) ∙ stored left now in
+      by.rest ∙ (ap (λ (records : List Stored). record t.here { store = records }) store_is ∙ sym frame));
+}
+
+-- A write and a sync of one file, of which the sync may have been left out.
+
+pub adds_synced : (Step : Left → Left → Type 0) (old mid new : Clock) → Passes Step old mid → Passes Same mid new → Adds (After old Step) old new
+adds_synced Step old mid new writes syncs = adds_both (After old Step) old mid new
+    (adds_after Step (After old Step) old mid writes (λ left after. after))
+    (adds_after Same (After old Step) mid new syncs (λ left after. subst (After old Step) (sym after.by) (writes.ends after.from after.was)))
+
+pub adds_from_rest : (Step : Left → Left → Type 0) (t : Told) (told : Option Told) (old new : Clock) → Rests t told old → Adds (After old Step) old new → Adds (Step t.here) old new
+adds_from_rest Step t told old new rests adds = adds_weaker (After old Step) (Step t.here) old new adds (λ left after. at_rest Step t told old left rests after)

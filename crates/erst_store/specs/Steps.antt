@@ -1,0 +1,7 @@
+-- What only proofs use: no public clause comes to it.
+pub mod StoreReading
+pub mod View
+pub mod DeviceView
+pub mod StoreLemmas
+pub mod ActionLemmas
+pub mod KeptLemmas

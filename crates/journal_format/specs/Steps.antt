@@ -1,0 +1,3 @@
+-- What only proofs use: no public clause comes to it.
+pub mod Fronts
+pub mod Decoding

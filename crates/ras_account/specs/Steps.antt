@@ -1,0 +1,5 @@
+-- What only proofs use: no public clause comes to it.
+pub mod Parts
+pub mod Taking
+pub mod Reserving
+pub mod Refusals

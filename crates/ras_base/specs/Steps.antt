@@ -1,0 +1,5 @@
+-- What only proofs use: no public clause comes to it.
+pub mod PlacesLemmas
+pub mod PrefixLemmas
+pub mod LittleEndianLemmas
+pub mod ExactLemmas

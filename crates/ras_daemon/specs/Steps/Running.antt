@@ -1,0 +1,178 @@
+-- How far a run has come among its lines, and what stops leave of it.
+use Rattle.std.specs.Prelude.{◌≡◌, ℕ, ◌⊎◌, List, [], ◌∷◌, ◌++◌, Option, ⊤, ◌+◌, ◌≤◌, length, IsSomeAnd, Some}
+use Rattle.std.specs.List.{AllByRecursion, flat_map}
+use Rattle.board_core.specs.Clock.{Clock, LeftNow}
+use Rattle.board_core.specs.Stop.{Left, Begins}
+use Rattle.board_core.specs.Told.{Told}
+use Rattle.erst_store.specs.Store.{Stored}
+use Rattle.ras_base.specs.Places.{places}
+use Rattle.ras_account.specs.Accounts.{IsAccount}
+use Rattle.ras_journal.specs.Recovered.{Recovers}
+use Rattle.ras_ledger.specs.declared.ledger.Ledger.{Ledger}
+use Rattle.ras_events.specs.Reports.{NumberedLine, event_at}
+use Rattle.ras_script.specs.declared.reader.TheConstants.{LONGEST_LINE}
+use Rattle.ras_script.specs.Splitting.{lines_of}
+use Rattle.ras_script.specs.SplittingLaws.{script_of}
+use Rattle.ras_texts.specs.Orders.{standing_lines}
+use Rattle.ras_exit.specs.declared.exit.Exit.{Exit}
+use Rattle.ras_exit.specs.Endings.{CallEnding, answered, ending_of, faulted}
+use Rattle.ras_exit.specs.ScriptEnd.{script_exit}
+use Rattle.ras_run.specs.Output.{output_at}
+use Rattle.ras_run.specs.Moments.{CourseMoment, course_at, refused_store}
+use Rattle.ras_run.specs.Places.{IsBoardAfter, Start, account_at, store_at}
+use Rattle.ras_run.specs.Status.{places_before_refusal, refusal_at}
+use Rattle.ras_run.specs.Taking.{IsAccepted}
+use Rattle.ras_daemon.specs.Headline.{AtOpening}
+use Rattle.ras_daemon.specs.RunOutput.{closing_line}
+use Rattle.text_laws.specs.DoneLines.{ended_lines}
+use Rattle.ras_daemon.specs.Ahead.{events_in}
+use Rattle.ras_daemon.specs.RunStatus.{run_exit}
+use Rattle.ras_daemon.specs.Script.{reads_in, reads_of}
+
+-- each of these lines is accepted at its place
+abbrev pub AreAccepted : Start → List NumberedLine → Type 0
+AreAccepted start reads = AllByRecursion (IsAccepted start) (places reads)
+
+-- what they print
+abbrev pub outputs : Start → List NumberedLine → List ℕ
+outputs start reads = flat_map (output_at start) (places reads)
+
+-- the first lines of a script, each of which is accepted
+pub record AreFirst (start : Start) (script : List ℕ) (before : List NumberedLine) : Type 0 where
+  pub rest : List NumberedLine
+  pub splits : before ++ rest ≡ reads_of script
+  pub accepted : AreAccepted start before
+
+-- those before the line at which a run ends
+pub record AreAll (start : Start) (script : List ℕ) (exit : Exit) (before : List NumberedLine) : Type 0 where
+  pub first : AreFirst start script before
+  pub all : places_before_refusal start (places (reads_of script)) ≡ places before
+  pub exit_is : run_exit start script ≡ exit
+
+-- ---- what a stop leaves; the text is that before the lines
+
+-- between two lines, or while the next one is taken or refused
+pub record BetweenLines (start : Start) (script : List ℕ) (out : List ℕ) (left : Left) : Type 0 where
+  pub before : List NumberedLine
+  pub first : AreFirst start script before
+  pub recovers : Recovers (account_at start before) left
+  pub store : left.store ≡ store_at start before
+  pub text : left.out ≡ out ++ outputs start before
+
+pub record AtLine (start : Start) (script : List ℕ) (out : List ℕ) (left : Left) : Type 0 where
+  pub before : List NumberedLine
+  pub read : NumberedLine
+  pub rest : List NumberedLine
+  pub splits : before ++ read ∷ rest ≡ reads_of script
+  pub accepted : AreAccepted start before
+  pub course : CourseMoment (IsAccepted start (before, read)) (course_at start (before, read)) (out ++ outputs start before) left
+
+abbrev pub LinesMoment : Start → List ℕ → List ℕ → Left → Type 0
+LinesMoment start script out left = BetweenLines start script out left ⊎ AtLine start script out left
+
+-- The store at the end of a run: what these lines left, if none is refused; or what the line behind
+-- them left, which is refused.
+pub record LeftByRefused (start : Start) (script : List ℕ) (before : List NumberedLine) (exit : Exit) (store : List Stored) : Type 0 where
+  pub read : NumberedLine
+  pub rest : List NumberedLine
+  pub splits : before ++ read ∷ rest ≡ reads_of script
+  pub refused : refusal_at start (before, read) ≡ Some exit
+  pub is : store ≡ refused_store exit (event_at (before, read)) (store_at start before)
+
+abbrev pub StoreAtEnd : Start → List ℕ → List NumberedLine → Exit → List Stored → Type 0
+StoreAtEnd start script before exit store =
+    ((exit ≡ script_exit script) × (store ≡ store_at start before)) ⊎ LeftByRefused start script before exit store
+
+-- while the orders that stand at the start are printed, and while the last line is
+pub record AtStart (start : Start) (out : List ℕ) (left : Left) : Type 0 where
+  pub recovers : Recovers start.account left
+  pub store : left.store ≡ start.store
+  pub text : Begins (standing_lines start.account) out left.out
+
+pub record AtEnd (start : Start) (script : List ℕ) (out : List ℕ) (left : Left) : Type 0 where
+  pub before : List NumberedLine
+  pub exit : Exit
+  pub all : AreAll start script exit before
+  pub recovers : Recovers (account_at start before) left
+  pub store : StoreAtEnd start script before exit left.store
+  pub text : Begins (closing_line (account_at start before) exit) (out ++ outputs start before) left.out
+
+-- the text that stands before the lines
+abbrev pub lines_from : Start → List ℕ → List ℕ
+lines_from start out = out ++ standing_lines start.account
+
+-- once the journal is open
+abbrev pub OpenMoment : Start → List ℕ → List ℕ → Left → Type 0
+OpenMoment start script out left =
+    AtStart start out left
+    ⊎ (LinesMoment start script (lines_from start out) left ⊎ AtEnd start script (lines_from start out) left)
+
+-- What a stop leaves of a run: what one at its start may have left, or what stands at a moment of
+-- it. Once the journal is open, what it holds is an account.
+abbrev pub RunMoment : Clock → Start → List ℕ → Left → Left → Type 0
+RunMoment clock start script here left =
+    LeftNow clock left
+    ⊎ (AtOpening start here.out left ⊎ (IsAccount start.account × OpenMoment start script here.out left))
+
+-- a ledger with which a run begins so, on a board that tells this
+pub record IsStart (start : Start) (ledger : Ledger) (t : Told) : Type 0 where
+  pub account : ledger.account.state ≡ start.account
+  pub standing : ledger.journal.standing ≡ start.standing
+  pub board : IsBoardAfter start [] t
+
+-- ---- how a run ends; the text is that before it
+
+-- If memory ran out or the source failed, some first lines were taken, or not even the orders at
+-- the start were printed.
+pub record EndsEarly (start : Start) (script out : List ℕ) (now : Told) : Type 0 where
+  pub before : List NumberedLine
+  pub first : AreFirst start script before
+  pub recovers : Recovers (account_at start before) now.here
+  pub store : now.here.store ≡ store_at start before
+  pub text :
+      (IsAccount start.account
+      × (now.here.out ≡ out ++ (standing_lines start.account ++ outputs start before)))
+      ⊎ ((now.here.out ≡ out) × (before ≡ []))
+
+-- And if a run comes to an answer, its last line was printed.
+pub record EndsSo (start : Start) (script : List ℕ) (exit : Exit) (out : List ℕ) (now : Told) : Type 0 where
+  pub before : List NumberedLine
+  pub all : AreAll start script exit before
+  pub account : IsAccount start.account
+  pub recovers : Recovers (account_at start before) now.here
+  pub store : StoreAtEnd start script before exit now.here.store
+  pub text : now.here.out ≡ out ++ (standing_lines start.account ++ (outputs start before ++ closing_line (account_at start before) exit))
+
+abbrev pub EndsIn : Start → List ℕ → Exit → CallEnding → List ℕ → Told → Type 0
+EndsIn start script exit answered out now = EndsSo start script exit out now
+EndsIn start script exit (faulted kind) out now = ⊤
+EndsIn start script exit ending out now = EndsEarly start script out now
+
+abbrev pub RunEnds : Start → List ℕ → Exit → List ℕ → Told → Type 0
+RunEnds start script exit out now = EndsIn start script exit (ending_of exit) out now
+
+-- ---- how far the source was read
+
+-- how long the first of these lines is, with its line feed
+abbrev pub first_size : List (List ℕ) → ℕ
+first_size [] = 0
+first_size (line ∷ lines) = length line + 1
+
+-- Lines of a script were done: what they print is printed, after a text. What was taken of the
+-- script reaches at most 40,001 bytes past the line after them. If the source failed, they are
+-- all that were taken with their line feeds.
+pub record ReadAhead (Fault : Type 0) (start : Start) (script from left : List ℕ) (now : Told) : Type 0 where
+  pub done : List (List ℕ)
+  pub more : List (List ℕ)
+  pub lines : lines_of script ≡ done ++ more
+  pub first : AreFirst start script (reads_in done)
+  pub text : (part : List ℕ) × (now.here.out ≡ (from ++ outputs start (reads_in done)) ++ part)
+  pub bound : length script ≤ length (script_of done) + first_size more + (LONGEST_LINE + 1) + length left
+  pub taken : List ℕ
+  pub splits : taken ++ left ≡ script
+  pub whole : Fault → events_in (ended_lines taken) ≤ events_in done
+
+-- the same if source and board tell at the end
+abbrev pub EndsAhead : Type 0 → Start → List ℕ → List ℕ → Option (List ℕ) → Option Told → Type 0
+EndsAhead Fault start script from left told =
+    IsSomeAnd left (λ rest. IsSomeAnd told (ReadAhead Fault start script from rest))

@@ -1,0 +1,80 @@
+-- The entries of an event, each judged by the account before the event.
+use Rattle.std.specs.Prelude.{◌≡◌, ℕ, ◌+◌, ◌≤◌, ◌⊎◌, Bool, false, ◌&&◌, not, if◌then◌else◌, List, [], ◌∷◌, ◌++◌, length, All, IfSome}
+use Rattle.std.specs.List.{sum_by, AllByRecursion}
+use Rattle.ras_facts.specs.declared.entry.Entry.{Entry}
+use Rattle.ras_facts.specs.declared.entry.Entry.TheVariants.{Fact}
+use Rattle.ras_facts.specs.Entries.{IsValidEntry, most_orders}
+use Rattle.ras_reports.specs.declared.details.Detail.{Detail}
+use Rattle.ras_account.specs.Account.{State, names_of}
+use Rattle.ras_account.specs.Fresh.{is_among}
+use Rattle.ras_account.specs.Continued.{account_after_all, is_fresh_in}
+use Rattle.ras_account.specs.Numbers.{StaysWithin, fresh_entries_in}
+use Rattle.ras_account.specs.View.{OrderList, View, IsReservedFor}
+use Rattle.journal_format.specs.Links.{link_bytes}
+use Rattle.ras_texts.specs.Reports.{entry_lines}
+use Rattle.ras_texts.specs.OrderRoom.{HasOrderRoom}
+use Rattle.ras_texts.specs.Text.{done_line, repeat_line}
+use Rattle.ras_events.specs.declared.beside.TextAndNews.{TextAndNews}
+use Rattle.ras_events.specs.declared.preparing.News.{News}
+use Rattle.ras_events.specs.declared.preparing.Prepared.{Prepared}
+use Rattle.ras_events.specs.declared.made.Piece.{Piece}
+use Rattle.ras_events.specs.Making.{entries_in}
+use Rattle.ras_events.specs.Preparing.{news_entries, orders_along_entries, text_along}
+use Rattle.ras_events.specs.Sizes.{IsFact}
+
+-- entries are facts, or one alone
+abbrev pub AreAlike : List Entry → Type 0
+AreAlike entries = All IsFact entries ⊎ (length entries ≤ 1)
+
+-- whether one of some entries has the name of an entry that is a fact
+abbrev pub has_name_of : List Entry → Entry → Bool
+has_name_of entries (Fact fact) = is_among (names_of entries) fact.name
+has_name_of entries other = false
+
+-- whether an entry of an event is news by the account before the event and the event's news so far
+abbrev pub is_news_beside : State → List Entry → Entry → Bool
+is_news_beside account news entry = is_fresh_in account entry && not (has_name_of news entry)
+
+-- a text and news with an entry, which is news or a repeat
+pub record TellsEntry (is_news : Bool) (account : State) (details : List Detail) (entry : Entry) (old new : List ℕ) (before after : List Entry) : Type 0 where
+  pub text : new ≡ old ++ (if is_news then entry_lines details account entry else repeat_line account entry)
+  pub news : after ≡ (if is_news then before ++ entry ∷ [] else before)
+
+-- the pieces so far and those that are left, with the news and the lines of the former
+pub record KeepsNews (account : State) (all taken left : List Piece) (number : ℕ) (news : List Entry) (text : List ℕ) : Type 0 where
+  pub pieces : taken ++ left ≡ all
+  pub count : number ≡ length left
+  pub news_are : news ≡ fresh_entries_in account (entries_in taken)
+  pub text_is : text ≡ text_along account taken
+
+-- the news of an event: some entries, their link, and room for so many orders
+pub record IsNewsOf (room : ℕ) (news : News) : Type 0 where
+  pub some : 1 ≤ length news.entries.items
+  pub link : news.link ≡ link_bytes news.entries.items
+  pub none : news.orders.orders ≡ []
+  pub room_is : news.orders.room ≡ room
+
+-- an event with the text and the news that it tells has its link, room for the orders, and the line
+-- that it ends with
+pub record IsLinked (number : ℕ) (told : TextAndNews) (event : Prepared) : Type 0 where
+  pub entries : news_entries event.news ≡ told.news.items
+  pub news : IfSome event.news (IsNewsOf (sum_by most_orders told.news.items))
+  pub text : event.text.items ≡ told.text.items
+  pub room : HasOrderRoom (sum_by most_orders told.news.items) event.text
+  pub done : event.done.items ≡ done_line number
+
+-- these entries can be taken in turn, with room for their orders
+pub record CanTakeAll (account : View) (orders : OrderList) (entries : List Entry) : Type 0 where
+  pub reserved : IsReservedFor account entries
+  pub valid : AllByRecursion IsValidEntry entries
+  pub within : StaysWithin account.state entries
+  pub room : sum_by most_orders entries ≤ orders.room
+
+-- in the midst of taking entries: what was taken so far, and what is left to take, come to the same
+-- as all
+pub record IsTaking (start now : View) (before after : OrderList) (all left : List Entry) (number : ℕ) : Type 0 where
+  pub count : number ≡ length left
+  pub can : CanTakeAll now after left
+  pub state : account_after_all now.state left ≡ account_after_all start.state all
+  pub orders : after.orders ++ orders_along_entries now.state left ≡ before.orders ++ orders_along_entries start.state all
+  pub given : after.room + length after.orders ≡ before.room + length before.orders

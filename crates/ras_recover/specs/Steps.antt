@@ -1,0 +1,5 @@
+-- What only proofs use: no public clause comes to it.
+pub mod Reading
+pub mod Looking
+pub mod Windows
+pub mod Pair

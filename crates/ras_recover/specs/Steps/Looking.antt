@@ -1,0 +1,45 @@
+-- Disk calls that are made while all else that is told stays, or all but a file.
+use Rattle.std.specs.Prelude.{◌≡◌, ℕ, ◌+◌, ◌-◌, ◌^◌, ◌≤◌, ◌<◌, min, Bool, List, [], ◌∷◌, length, All, Any, Result, OnOk}
+use Rattle.ras_base.specs.Prefix.{IsPrefixOf}
+use Rattle.board_core.specs.declared.board.FileNo.{FileNo}
+use Rattle.board_core.specs.declared.board.FileNo.TheVariants.{Zero, One}
+use Rattle.board_core.specs.declared.board.DiskCall.{DiskCall}
+use Rattle.board_core.specs.declared.board.DiskCall.TheVariants.{Sync}
+use Rattle.board_core.specs.Told.{Told, with_file}
+use Rattle.ras_account.specs.Account.{State}
+use Rattle.entry_format.specs.declared.version.Version.TheVariants.{Two}
+use Rattle.journal_format.specs.Checkpoints.{checkpoint_bytes}
+use Rattle.ras_journal.specs.declared.standing.Standing.{Standing}
+use Rattle.ras_recover.specs.DiskCalls.{IsReading, ReadsPlace, with_calls}
+
+-- both files were synced, or the syncs ended early
+pub record AreSyncs {T E : Type 0} (result : Result T E) (calls : List DiskCall) : Type 0 where
+  pub begins : IsPrefixOf calls (Sync Zero ∷ Sync One ∷ [])
+  pub done : OnOk result (calls ≡ Sync Zero ∷ Sync One ∷ [])
+
+-- Size and ReadAt calls, of which this holds where all went well
+pub record AreReads {T E : Type 0} (result : Result T E) (Done : List DiskCall → Type 0) (calls : List DiskCall) : Type 0 where
+  pub alone : All IsReading calls
+  pub done : OnOk result (Done calls)
+
+-- each place of a file from one on and before another was read
+abbrev pub ReadsPart : FileNo → ℕ → ℕ → List DiskCall → Type 0
+ReadsPart file from end calls = (place : ℕ) → from ≤ place → place < end → Any (ReadsPlace file place) calls
+
+-- such calls were made, and nothing but this file is told anew
+pub record WritesIn (file : FileNo) (Are : List DiskCall → Type 0) (old new : Told) : Type 0 where
+  pub bytes : List ℕ
+  pub made : List DiskCall
+  pub is : new ≡ with_calls made (with_file file bytes old)
+  pub are : Are made
+
+-- where the journal stands behind the checkpoint of this account, with numbers of 64 bits
+abbrev pub standing_begun : State → Bool → Standing
+standing_begun account shut = record {
+  file = Zero;
+  version = Two;
+  generation = 1;
+  length = min (2 ^ 64 - 1) (25 + min (2 ^ 64 - 1) (length (checkpoint_bytes Two account)));
+  links = 0;
+  shut = shut;
+}

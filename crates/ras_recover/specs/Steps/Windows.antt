@@ -1,0 +1,97 @@
+-- The piece of a journal file that is held while the file is read.
+use Rattle.std.specs.Prelude.{◌≡◌, ℕ, ◌+◌, ◌≤◌, ◌<◌, ◌⊎◌, min, List, length, take, drop, Option, None, Some, Result, Ok, Err, IfSome, true, false}
+use Rattle.board_core.specs.declared.board.DiskCall.{DiskCall}
+use Rattle.board_core.specs.Cause.{Faults, disk_call, FailsAs}
+use Rattle.board_core.specs.Clock.{Clock}
+use Rattle.board_core.specs.Told.{Told, Relates, file_of}
+use Rattle.ras_journal.specs.declared.limits.TheConstants.{LONGEST_FILE}
+use Rattle.ras_journal.specs.Fields.{field, number_of, is_open_of, version_of}
+use Rattle.ras_journal.specs.File.{FileFront, has_open_gate, first_front}
+use Rattle.entry_format.specs.declared.version.Version.{Version}
+use Rattle.ras_recover.specs.declared.place.ReadRefused.{ReadRefused}
+use Rattle.ras_recover.specs.declared.place.ReadRefused.TheVariants.{Disk, Damaged, NoMemory}
+use Rattle.ras_recover.specs.declared.window.SizedFile.{SizedFile}
+use Rattle.ras_recover.specs.declared.window.Window.{Window}
+use Rattle.ras_recover.specs.Steps.Looking.{AreReads}
+use Rattle.ras_recover.specs.DiskCalls.{Calls}
+use Rattle.ras_recover.specs.Recovering.{Keeps}
+
+-- the place behind the bytes that are held
+abbrev pub end_of : Window → ℕ
+end_of window = window.start + length window.bytes.items
+
+-- A place lies in the window or at its end, and the window within the file, which isn't too long.
+pub record Spans (file : SizedFile) (place : ℕ) (window : Window) : Type 0 where
+  pub from : window.start ≤ place
+  pub upto : place ≤ end_of window
+  pub within : end_of window ≤ file.size
+  pub short : file.size ≤ LONGEST_FILE
+
+-- the window holds what stands there in a file of these bytes
+pub record IsWindowOf (file : SizedFile) (window : Window) (bytes : List ℕ) : Type 0 where
+  pub size : file.size ≡ length bytes
+  pub held : window.bytes.items ≡ take (length window.bytes.items) (drop window.start bytes)
+
+-- where a board tells
+abbrev pub Sees : SizedFile → Option Told → Window → Type 0
+Sees file told window = IfSome told (λ t. IsWindowOf file window (file_of file.no t))
+
+-- What is answered is what the file holds, seen so, or the place of its damage, unless a disk call
+-- failed or memory ran out.
+abbrev pub IsAnswer : {T A : Type 0} → (T → A) → Result T ReadRefused → Result A ℕ → Type 0
+IsAnswer view (Ok x) read = read ≡ Ok (view x)
+IsAnswer view (Err (Damaged place)) read = read ≡ Err place
+IsAnswer view (Err Disk) read = Unit {0}
+IsAnswer view (Err NoMemory) read = Unit {0}
+
+-- a disk call failed or memory ran out
+abbrev pub IsNoDamage : ReadRefused → Type 0
+IsNoDamage Disk = Unit {0}
+IsNoDamage (Damaged place) = ⊥
+IsNoDamage NoMemory = Unit {0}
+
+-- The file stands, and this is its front up to its first gate; or it doesn't stand.
+abbrev pub IsBegun : Option ℕ → List ℕ → Option FileFront → Type 0
+IsBegun taken bytes None = has_open_gate bytes ≡ false
+IsBegun taken bytes (Some front) = (has_open_gate bytes ≡ true) × (first_front taken bytes ≡ Ok front)
+
+-- The file stands, and is damaged here before its first gate.
+abbrev pub IsBroken : Option ℕ → List ℕ → ReadRefused → Type 0
+IsBroken taken bytes Disk = Unit {0}
+IsBroken taken bytes (Damaged place) = (has_open_gate bytes ≡ true) × (first_front taken bytes ≡ Err place)
+IsBroken taken bytes NoMemory = Unit {0}
+
+-- ---- calls that only read
+
+-- Only a disk call that failed is a fault of the disk.
+abbrev pub read_failure : {T : Type 0} → Result T ReadRefused → Result (Unit {0}) ReadRefused
+read_failure (Ok x) = Ok tt
+read_failure (Err Disk) = Err Disk
+read_failure (Err (Damaged place)) = Ok tt
+read_failure (Err NoMemory) = Ok tt
+
+-- Size and ReadAt calls alone were made, of which this holds where all went well.
+pub record LooksAt {T E : Type 0} (failure : Result T E → Result (Unit {0}) E) (result : Result T E) (Done : Told → List DiskCall → Type 0)
+    (told_old : Option Told) (old : Clock) (before : Faults) (told_new : Option Told) (new : Clock) (now : Faults) : Type 0 where
+  pub keeps : Keeps told_old old told_new new
+  pub calls : Relates (λ t. Calls (AreReads result (Done t)) t) told_old told_new
+  pub cause : FailsAs disk_call before now (failure result)
+
+abbrev pub Looks : {T E : Type 0} → (Result T E → Result (Unit {0}) E) → Result T E → (List DiskCall → Type 0) → Option Told → Clock → Faults → Option Told → Clock → Faults → Type 0
+Looks failure result Done told_old old before told_new new now = LooksAt failure result (λ t. Done) told_old old before told_new new now
+
+-- ---- pieces that suffice
+
+-- A field of so many bytes at a place is held, where so many bytes are, or the file's end cuts it.
+abbrev pub IsHeld : ℕ → ℕ → List ℕ → Type 0
+IsHeld count held bytes = (count ≤ held) ⊎ (length bytes < count)
+
+-- of these bytes behind a gate so many suffice for its link
+pub record LinkHeld (held : ℕ) (bytes : List ℕ) : Type 0 where
+  pub gate : min 5 (length bytes) ≤ held
+  pub payload : (count : ℕ) → field is_open_of 0 1 bytes ≡ Ok true → field (number_of 4) 1 4 bytes ≡ Ok count → IsHeld (5 + count) held bytes
+
+-- of these bytes of a file so many suffice for its checkpoint
+pub record FrontHeld (held : ℕ) (bytes : List ℕ) : Type 0 where
+  pub fields : min 25 (length bytes) ≤ held
+  pub checkpoint : (count : ℕ) (version : Version) → has_open_gate bytes ≡ true → field version_of 1 8 bytes ≡ Ok version → field (number_of 8) 17 8 bytes ≡ Ok count → IsHeld (25 + count) held bytes

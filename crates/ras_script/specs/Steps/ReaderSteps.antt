@@ -1,0 +1,39 @@
+-- The steps of a reader of lines.
+use Rattle.std.specs.Prelude.{◌≡◌, ℕ, ◌+◌, ◌<◌, ◌≤◌, List, [], ◌∷◌, ◌++◌, length, take, drop, Option, None, Some, IfSome, Result, Ok, Err}
+use Rattle.ras_script.specs.declared.reader.TheConstants.{LONGEST_SCRIPT, LONGEST_LINE}
+use Rattle.ras_script.specs.declared.reader.NextRefused.{NextRefused}
+use Rattle.ras_script.specs.declared.reader.NextRefused.TheVariants.{Source, LineTooLong, TooLong}
+use Rattle.ras_script.specs.Reader.{Reader, AreTaken}
+use Rattle.ras_script.specs.SplittingLaws.{Lacks}
+
+-- the first line feed of a text stands at this place
+pub record FeedAt (place : ℕ) (text : List ℕ) : Type 0 where
+  pub before : Lacks 10 (take place text)
+  pub inside : place < length text
+  pub parts : text ≡ take place text ++ 10 ∷ drop (place + 1) text
+
+-- `count` more bytes are held, which were taken from a source; none only at its end.
+pub record Gains (count : ℕ) (old new : List ℕ) (before now : Option (List ℕ)) : Type 0 where
+  pub bytes : List ℕ
+  pub size : length bytes ≡ count
+  pub held : new ≡ old ++ bytes
+  pub taken : AreTaken bytes before now
+  pub ends : count ≡ 0 → IfSome before (λ left. left ≡ [])
+
+-- what a reader holds is no more than its buffer, than what it took, and than it may take
+pub record IsHeld (reader : Reader) : Type 0 where
+  pub buffer : length reader.held ≤ LONGEST_LINE + 1
+  pub known : length reader.held ≤ reader.taken
+  pub few : reader.taken ≤ LONGEST_SCRIPT + 1
+  pub allowed : reader.taken ≤ LONGEST_SCRIPT + length reader.held
+
+-- what a search for the next line's end finds, if the source has these bytes left
+abbrev pub Finds : Result (Option ℕ) NextRefused → Reader → Option (List ℕ) → Type 0
+Finds (Ok (Some place)) reader left = FeedAt place reader.held
+Finds (Ok None) reader left =
+    Lacks 10 reader.held × (length reader.held ≤ LONGEST_LINE) × (reader.taken ≤ LONGEST_SCRIPT)
+    × IfSome left (λ rest. rest ≡ [])
+Finds (Err LineTooLong) reader left = Lacks 10 reader.held × (LONGEST_LINE < length reader.held)
+Finds (Err TooLong) reader left =
+    Lacks 10 reader.held × (length reader.held ≤ LONGEST_LINE) × (reader.taken ≡ LONGEST_SCRIPT + 1)
+Finds (Err Source) reader left = Lacks 10 reader.held
