@@ -3,7 +3,7 @@ use Rattle.std.proofs.Common.{◌≡◌, ℕ, zero, suc, ◌+◌, ◌-◌, ◌<�
 use Rattle.apei_sources.specs.declared.refusals.TableRefused.{TableRefused}
 use Rattle.apei_sources.specs.declared.refusals.TableRefused.TheVariants.{Short, Signature, Length, Sum, SourceType, SourceOut, RepeatedId, NoMemory}
 use Rattle.ras_base.specs.Chaining.{◌>>=◌}
-use Rattle.apei_sources.specs.Refusals.{Answers}
+use Rattle.apei_sources.specs.Refusals.{AnswersTable}
 use Rattle.apei_sources.specs.Steps.Answering.{Fails}
 use Rattle.apei_sources.specs.Sources.{source_of, size_at}
 use Rattle.apei_sources.specs.Hest.{Sources, type_with_id, followed, sources_in, source_count, hest_table, hest_of}
@@ -103,7 +103,7 @@ pub hest_read : (bytes table : List ℕ) → hest_table bytes ≡ Ok table
 unfolding hest_of
 hest_read bytes table is = rw is refl
 
-pub answers : (why : TableRefused) (answer : Result Sources TableRefused) → Fails why answer → Answers (Err why) answer
+pub answers : (why : TableRefused) (answer : Result Sources TableRefused) → Fails why answer → AnswersTable (Err why) answer
 answers Short answer is = is
 answers Signature answer is = is
 answers Length answer is = is

@@ -23,7 +23,7 @@ block_number Blocks.TheVariants.EntryOut = 2
 block_number Blocks.TheVariants.Section = 3
 
 -- the answer is this one, or memory ran out
-abbrev pub Answers : {X : Type 0} → Result X TableRefused → Result X TableRefused → Type 0
-Answers (Ok value) answer = answer ≡ Ok value
-Answers (Err Tables.TheVariants.NoMemory) answer = Unit {0}
-Answers (Err why) answer = answer ≡ Err why
+abbrev pub AnswersTable : {X : Type 0} → Result X TableRefused → Result X TableRefused → Type 0
+AnswersTable (Ok value) answer = answer ≡ Ok value
+AnswersTable (Err Tables.TheVariants.NoMemory) answer = Unit {0}
+AnswersTable (Err why) answer = answer ≡ Err why

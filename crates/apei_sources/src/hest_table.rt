@@ -4,7 +4,7 @@ ghost use Rattle.std.specs.Prelude.{◌≡◌, ◌≤◌, ◌↔◌, ℕ, [], le
 ghost use Rattle.std.specs.List.{IsDistinct};
 ghost use Rattle.std.specs.Map.{keys_of};
 ghost use Rattle.apei_sources.specs.declared.refusals.TableRefused.{TableRefused};
-ghost use Rattle.apei_sources.specs.Refusals.{Answers};
+ghost use Rattle.apei_sources.specs.Refusals.{AnswersTable};
 ghost use Rattle.apei_sources.specs.Steps.Answering.{Gives};
 ghost use Rattle.apei_sources.specs.Sources.{source_of};
 ghost use Rattle.apei_sources.specs.Hest.{type_with_id, followed, sources_in, hest_table, hest_of};
@@ -51,7 +51,7 @@ impl Model for Hest {
 /// bytes are there is `SourceOut`. `NoMemory` comes for want of memory alone, and never where the
 /// table is refused before its sources.
 pub fn read_hest(alloc: Global, bytes: &[u8]) -> Result<Hest, TableRefused>
-    ensures answer { Answers result (hest_of bytes.now) }
+    ensures answer { AnswersTable result (hest_of bytes.now) }
     ensures front { (why : TableRefused) → hest_table bytes.now ≡ Err why → result ≡ Err why }
 {
     let table = table_at(bytes, b"HEST", HEST_FIXED_LENGTH)?;

@@ -3,7 +3,7 @@ use Rattle.std.proofs.Common.{◌≡◌, ℕ, ◌+◌, ◌≤◌, ◌⊎◌, max
 use Rattle.erst_store.specs.Store.{Stored}
 use Rattle.board_core.specs.declared.board.FileNo.{FileNo}
 use Rattle.board_core.specs.declared.board.FileNo.TheVariants.{Zero, One}
-use Rattle.board_core.specs.CallsMade.{IsMade, AreMade, Keeps, range_in, ranges_in}
+use Rattle.board_core.specs.CallsMade.{IsMade, AreMade, KeepsDisk, range_in, ranges_in}
 use Rattle.board_core.specs.Clock.{Clock, LeftNow, After, Passes, IsSynced}
 use Rattle.board_core.specs.Steps.DiskLemmas.{torn_more, settled_left, begins_none, nothing_begins, outside_front, greatest_length-more}
 use Rattle.board_core.specs.DiskModel.{Range, greatest_length, DiskFile, Disk, MayLeave, MayLeaveFile, MayLeaveSince, Call, writes, syncs, stores, prints, rests, after, after_all}
@@ -16,7 +16,7 @@ use Rattle.board_core.specs.Told.{Torn}
 -- together
 
 -- what a call leads to, for a disk that keeps what a stop before it may have left
-after_call : (call : Call) (disk : Disk) (old new : Clock) → Keeps disk old → IsMade call old new → Keeps (after call disk) new
+after_call : (call : Call) (disk : Disk) (old new : Clock) → KeepsDisk disk old → IsMade call old new → KeepsDisk (after call disk) new
 after_call (writes Zero place count) disk old new keeps made left now =
     let from : After old (InFile Zero (Torn place count)) left = made.ends left now in
     let may : MayLeave disk rests from.from = keeps from.from from.was in
@@ -50,7 +50,7 @@ after_call rests disk old new keeps made left now =
     rw from.by (keeps from.from from.was)
 
 -- what a stop during a call leaves
-during_call : (call : Call) (disk : Disk) (old new : Clock) (t : ℕ) (left : Left) → Keeps disk old → IsMade call old new → t ≤ old.now → new.may_leave_since t left
+during_call : (call : Call) (disk : Disk) (old new : Clock) (t : ℕ) (left : Left) → KeepsDisk disk old → IsMade call old new → t ≤ old.now → new.may_leave_since t left
     → old.may_leave_since t left ⊎ (MayLeave disk call left ⊎ MayLeave (after call disk) rests left)
 during_call (writes Zero place count) disk old new t left keeps made within since =
     elim (made.each t left within since) [
@@ -100,12 +100,12 @@ first_counts disk [] left may = may
 first_counts disk (call ∷ calls) left may = inl (call_more disk call left may)
 
 module _ {B : Type 0} (clock : B → Clock) where
-  pub after_calls : (calls : List Call) (disk : Disk) (first last : B) → Keeps disk (clock first) → AreMade clock calls first last → Keeps (after_all calls disk) (clock last)
-  after_calls [] disk first last keeps made = subst (λ (b : B). Keeps disk (clock b)) (sym made) keeps
+  pub after_calls : (calls : List Call) (disk : Disk) (first last : B) → KeepsDisk disk (clock first) → AreMade clock calls first last → KeepsDisk (after_all calls disk) (clock last)
+  after_calls [] disk first last keeps made = subst (λ (b : B). KeepsDisk disk (clock b)) (sym made) keeps
   after_calls (call ∷ calls) disk first last keeps made =
       after_calls calls (after call disk) made.0 last (after_call call disk (clock first) (clock made.0) keeps made.1) made.2
 
-  during_calls : (calls : List Call) (disk : Disk) (first last : B) (t : ℕ) (left : Left) → Keeps disk (clock first) → AreMade clock calls first last → t ≤ (clock first).now → (clock last).may_leave_since t left
+  during_calls : (calls : List Call) (disk : Disk) (first last : B) (t : ℕ) (left : Left) → KeepsDisk disk (clock first) → AreMade clock calls first last → t ≤ (clock first).now → (clock last).may_leave_since t left
       → (clock first).may_leave_since t left ⊎ MayLeaveSince disk calls 0 left
   during_calls [] disk first last t left keeps made within since = inl (subst (λ (b : B). (clock b).may_leave_since t left) made since)
   during_calls (call ∷ calls) disk first last t left keeps made within since =
@@ -120,7 +120,7 @@ module _ {B : Type 0} (clock : B → Clock) where
         | inr later_calls ↦ inr (inr later_calls)
       ]
 
-  pub since_calls : (calls : List Call) (disk : Disk) (first last : B) (left : Left) → Keeps disk (clock first) → AreMade clock calls first last → (clock last).may_leave_since (clock first).now left → MayLeaveSince disk calls 0 left
+  pub since_calls : (calls : List Call) (disk : Disk) (first last : B) (left : Left) → KeepsDisk disk (clock first) → AreMade clock calls first last → (clock last).may_leave_since (clock first).now left → MayLeaveSince disk calls 0 left
   since_calls calls disk first last left keeps made since =
       elim (during_calls calls disk first last (clock first).now left keeps made (omega arith) since) [
         | inl before ↦ first_counts disk calls left (keeps left before)

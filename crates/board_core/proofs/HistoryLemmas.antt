@@ -6,7 +6,7 @@ use Rattle.std.specs.declared.alloc.AllocError.{AllocError}
 use Rattle.erst_store.specs.Device.{Device}
 use Rattle.board_core.specs.declared.board.FileNo.{FileNo}
 use Rattle.board_core.specs.declared.board.FileNo.TheVariants.{Zero, One}
-use Rattle.board_core.specs.declared.history.Event.{Event}
+use Rattle.board_core.specs.declared.history.MemChange.{MemChange}
 use Rattle.board_core.specs.Steps.History.{change_of, changes_of, held_with}
 use Rattle.board_core.specs.MemBoard.{Held, Change, wrote, synced, acted, printed, DeviceChange, device_step, after_change, after_changes}
 use Rattle.board_core.specs.Steps.ChangeLemmas.{after_changes-more}
@@ -17,7 +17,7 @@ one_more changes new change first held so_far is =
     ap (λ xs. after_changes xs first) is ∙ (after_changes-more changes change first ∙ ap (after_change change) so_far)
 
 -- what was begun with, by what is held and the events so far
-module _ (file0 file1 : List ℕ) (device : Device) (out : List ℕ) (events more : List Event) (first : Held) (so_far : after_changes (changes_of events) first ≡ held_with file0 file1 device out) where
+module _ (file0 file1 : List ℕ) (device : Device) (out : List ℕ) (events more : List MemChange) (first : Held) (so_far : after_changes (changes_of events) first ≡ held_with file0 file1 device out) where
   same : more ≡ events → after_changes (changes_of more) first ≡ held_with file0 file1 device out
   same is = ap (λ xs. after_changes (changes_of xs) first) is ∙ so_far
 
@@ -44,14 +44,14 @@ module _ (file0 file1 : List ℕ) (device : Device) (out : List ℕ) (events mor
       one_more (changes_of events) (changes_of more) (printed bytes) first (held_with file0 file1 device out) so_far is ∙ ap (λ xs. held_with file0 file1 device xs) (sym appended)
   printed_out (Err error) bytes new appended is none nothing = same nothing ∙ ap (λ xs. held_with file0 file1 device xs) (sym none)
 
-  one_event : (event : Event) → more ≡ events ++ event ∷ [] → after_changes (changes_of more) first ≡ after_change (change_of event) (held_with file0 file1 device out)
+  one_event : (event : MemChange) → more ≡ events ++ event ∷ [] → after_changes (changes_of more) first ≡ after_change (change_of event) (held_with file0 file1 device out)
   one_event event is =
       one_more (changes_of events) (changes_of more) (change_of event) first (held_with file0 file1 device out) so_far (ap changes_of is ∙ map_push change_of events event)
 
-  pub synced_file : (event : Event) (file : FileNo) → change_of event ≡ synced file → more ≡ events ++ event ∷ [] → after_changes (changes_of more) first ≡ held_with file0 file1 device out
+  pub synced_file : (event : MemChange) (file : FileNo) → change_of event ≡ synced file → more ≡ events ++ event ∷ [] → after_changes (changes_of more) first ≡ held_with file0 file1 device out
   synced_file event file of is = one_event event is ∙ ap (λ (change : Change). after_change change (held_with file0 file1 device out)) of
 
-  pub device_acted : (event : Event) (change : DeviceChange) (new : Device) → change_of event ≡ acted change → more ≡ events ++ event ∷ [] → new ≡ device_step change device
+  pub device_acted : (event : MemChange) (change : DeviceChange) (new : Device) → change_of event ≡ acted change → more ≡ events ++ event ∷ [] → new ≡ device_step change device
       → after_changes (changes_of more) first ≡ held_with file0 file1 new out
   device_acted event change new of is made =
       one_event event is

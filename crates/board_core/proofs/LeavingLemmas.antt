@@ -5,7 +5,7 @@ use Rattle.std.proofs.lemmas.List.{length-take, map_more, map_push, flat_map_mor
 use Rattle.erst_store.specs.Store.{Stored}
 use Rattle.board_core.specs.declared.board.FileNo.{FileNo}
 use Rattle.board_core.specs.declared.board.FileNo.TheVariants.{Zero, One}
-use Rattle.board_core.specs.declared.history.Event.{Event}
+use Rattle.board_core.specs.declared.history.MemChange.{MemChange}
 use Rattle.board_core.specs.declared.history.MemFile.{MemFile}
 use Rattle.board_core.specs.declared.pick.Pick.{Pick}
 use Rattle.board_core.specs.declared.pick.Pick.TheVariants.{Old, New, Fill}
@@ -31,11 +31,11 @@ disk_after_all-more number (x ∷ xs) change bytes file = disk_after_all-more nu
 pub ranges_of-more : (number : FileNo) (changes : List Change) (change : Change) → ranges_of number (changes ++ change ∷ []) ≡ ranges_of number changes ++ range_of number change
 ranges_of-more number changes change = sym (flat_map_more (range_of number) [] changes change)
 
-pub changes_more : (events : List Event) (i : ℕ) (event : Event) → i < length events → event ≡ get_or events i event → changes_of (take (i + 1) events) ≡ changes_of (take i events) ++ change_of event ∷ []
+pub changes_more : (events : List MemChange) (i : ℕ) (event : MemChange) → i < length events → event ≡ get_or events i event → changes_of (take (i + 1) events) ≡ changes_of (take i events) ++ change_of event ∷ []
 changes_more events i event within is = map_more change_of events i event within ∙ ap (λ e. changes_of (take i events) ++ change_of e ∷ []) (sym is)
 
 -- The bytes go on by one event.
-pub repeated : (number : FileNo) (events : List Event) (i : ℕ) (event : Event) (first so_far next : List ℕ) → i < length events → event ≡ get_or events i event
+pub repeated : (number : FileNo) (events : List MemChange) (i : ℕ) (event : MemChange) (first so_far next : List ℕ) → i < length events → event ≡ get_or events i event
     → so_far ≡ bytes_after_all number (changes_of (take i events)) first → next ≡ bytes_after number (change_of event) so_far → next ≡ bytes_after_all number (changes_of (take (i + 1) events)) first
 repeated number events i event first so_far next within is invariant step =
     step ∙ (ap (bytes_after number (change_of event)) invariant
@@ -72,7 +72,7 @@ filled_more byte xs ys first so_far next before step = record {
   set_at k below (inr inside) (inr outside) = step.filled k (omega (arith, before.size)) inside
   set_at k below (inl inside) (inr outside) = step.others k outside ∙ before.filled k below inside
 
-pub filled_on : (byte : ℕ) (number : FileNo) (events : List Event) (i : ℕ) (event : Event) (first so_far next : List ℕ) → i < length events → event ≡ get_or events i event
+pub filled_on : (byte : ℕ) (number : FileNo) (events : List MemChange) (i : ℕ) (event : MemChange) (first so_far next : List ℕ) → i < length events → event ≡ get_or events i event
     → IsFilled byte (ranges_of number (changes_of (take i events))) first so_far → IsFilled byte (range_of number (change_of event)) so_far next
     → IsFilled byte (ranges_of number (changes_of (take (i + 1) events))) first next
 filled_on byte number events i event first so_far next within is before step =
@@ -105,7 +105,7 @@ other_disk_after One (acted change) bytes kept written other = rw append-nil ref
 other_disk_after Zero (printed piece) bytes kept written other = rw append-nil refl
 other_disk_after One (printed piece) bytes kept written other = rw append-nil refl
 
-module _ (number : FileNo) (events : List Event) (i : ℕ) (event : Event) (within : i < length events) (is : event ≡ get_or events i event) where
+module _ (number : FileNo) (events : List MemChange) (i : ℕ) (event : MemChange) (within : i < length events) (is : event ≡ get_or events i event) where
   more : changes_of (take (i + 1) events) ≡ changes_of (take i events) ++ change_of event ∷ []
   more = changes_more events i event within is
 
@@ -171,7 +171,7 @@ pub picked_one : (pick : Pick) (past : Past) (now taken : List ℕ) → (held_of
 picked_one pick past now taken is may = rw (one_of past.changes past.first (settled_disk past.first.here), is) may
 
 -- the past that these fields of a board stand for
-abbrev pub past_with : MemFile → MemFile → List Stored → ℕ → List Event → Past
+abbrev pub past_with : MemFile → MemFile → List Stored → ℕ → List MemChange → Past
 past_with zero one store slow events = record { first = new_held (first_bytes zero) (first_bytes one) store slow; changes = changes_of events }
 
 -- What is picked may be left.

@@ -22,8 +22,8 @@ AreMade clock [] first last = last ≡ first
 AreMade {B} clock (call ∷ calls) first last = (next : B) × IsMade call (clock first) (clock next) × AreMade clock calls next last
 
 -- A stop now leaves only what the disk model says of this disk.
-abbrev pub Keeps : Disk → Clock → Type 0
-Keeps disk clock = (left : Left) → LeftNow clock left → MayLeave disk rests left
+abbrev pub KeepsDisk : Disk → Clock → Type 0
+KeepsDisk disk clock = (left : Left) → LeftNow clock left → MayLeave disk rests left
 
 -- the ranges of a file that these calls wrote
 abbrev pub range_in : FileNo → Call → List Range

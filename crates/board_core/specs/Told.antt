@@ -2,7 +2,7 @@
 use Rattle.std.specs.Prelude.{◌≡◌, ℕ, ◌+◌, ◌-◌, ◌≤◌, ◌⊎◌, min, max, List, [], ◌∷◌, ◌++◌, length, take, drop, Option, None, Some, Result, Ok, Err}
 use Rattle.std.specs.Option.{option_map}
 use Rattle.erst_store.specs.declared.store.PutRefused.{PutRefused}
-use Rattle.erst_store.specs.Store.{Stored, refusal_of, Answers}
+use Rattle.erst_store.specs.Store.{Stored, refusal_of, AnswersRefusal}
 use Rattle.erst_store.specs.Device.{Device, Volatile, device_with, volatile_of, act, with_put, range_with}
 use Rattle.board_core.specs.declared.board.FileNo.{FileNo}
 use Rattle.board_core.specs.declared.board.DiskCall.{DiskCall}
@@ -53,7 +53,7 @@ abbrev pub after_print : List ℕ → Told → Told
 after_print bytes t = record t { here = record t.here { out = t.here.out ++ bytes } }
 
 -- what a read of n bytes from a place gives in the front of a buffer
-pub record Reads (place n : ℕ) (buffer file : List ℕ) : Type 0 where
+pub record ReadsBytes (place n : ℕ) (buffer file : List ℕ) : Type 0 where
   pub count : n ≡ min (length buffer) (length file - place)
   pub bytes : take n buffer ≡ take n (drop place file)
 
@@ -99,7 +99,7 @@ after_put id bytes d = unless_refused (refusal_of id bytes d.store) (with_put id
 -- A put answers its refusal. Where there is none, it goes well, or memory runs out, or it fails.
 abbrev pub AnswersPut : Result (Unit {0}) BoardPut → Option PutRefused → Type 0
 AnswersPut (Ok done) refusal = refusal ≡ None
-AnswersPut (Err (Refused cause)) refusal = Answers {X = Unit {0}} (Err cause) refusal
+AnswersPut (Err (Refused cause)) refusal = AnswersRefusal {X = Unit {0}} (Err cause) refusal
 AnswersPut (Err Failed) refusal = Unit {0}
 
 -- A put that is refused changes nothing at all.

@@ -9,7 +9,7 @@ ghost use Rattle.board_core.specs.declared.board.DiskCall.TheVariants.{Size, Rea
 ghost use Rattle.board_core.specs.Cause.{Faults, disk_call, device_call, print_call, FailsAs, put_failure};
 ghost use Rattle.board_core.specs.Clock.{Clock, LeftNow, Passes, PassesAtRefusal, Leads, IsSynced};
 ghost use Rattle.board_core.specs.Stop.{Left, Same, InFile, InStore, InOut, Begins, Appends};
-ghost use Rattle.board_core.specs.Told.{Told, Steps, Relates, file_of, with_call, after_write, after_print, Reads, Torn, MayList, FailsWrite, FailsPrint};
+ghost use Rattle.board_core.specs.Told.{Told, Steps, Relates, file_of, with_call, after_write, after_print, ReadsBytes, Torn, MayList, FailsWrite, FailsPrint};
 ghost use Rattle.board_core.specs.Told.{device_of, on_device, with_access, register_in, after_reg_write, after_range_write, after_put, AnswersPut, KeepsAtRefusal, StoreBy, MayListAccess, MayAct, FailsAccess};
 
 use crate::Failed;
@@ -86,12 +86,12 @@ pub trait Board {
         ensures stops { Passes Same (clock self.old) (clock self.new) }
         ensures cause { FailsAs disk_call (faults self.old) (faults self.new) result };
 
-    /// Reads the bytes from `place` on into the front of `buf` and answers their number: fewer than
+    /// ReadsBytes the bytes from `place` on into the front of `buf` and answers their number: fewer than
     /// `buf` has room for only where the file ends.
     fn read_at(&mut self, file: FileNo, place: u64, buf: &mut [u8]) -> Result<usize, Failed>
         ensures within { IfOk result (λ n. n ≤ length buf.old) }
         ensures read { IfOk result
-            (λ n. IfSome (told self.old) (λ t. Reads place n buf.new (file_of file t))) }
+            (λ n. IfSome (told self.old) (λ t. ReadsBytes place n buf.new (file_of file t))) }
         ensures told { OnOk result
             (Steps (with_call (ReadAt file place (length buf.old))) (told self.old)
             (told self.new)) }
@@ -129,7 +129,7 @@ pub trait Board {
             (λ t. IsSynced file (file_of file t) (clock self.new))) }
         ensures cause { FailsAs disk_call (faults self.old) (faults self.new) result };
 
-    /// Reads a register of the device.
+    /// ReadsBytes a register of the device.
     fn reg_read(&mut self, reg: Reg) -> Result<u64, Failed>
         ensures value { IfOk result (λ n. IfSome (told self.old) (λ t. n
             ≡ register_in reg (device_of t))) }

@@ -5,14 +5,14 @@ ghost use Rattle.board_core.specs.MemBoard.{wrote, printed};
 ghost use Rattle.board_core.specs.Told.{overlay};
 
 use crate::FileNo;
-use crate::history::{Event, MemFile};
+use crate::history::{MemChange, MemFile};
 use std::alloc::{AllocError, Global};
 
 /// Keeps the bytes and what the file began with, and writes them.
 pub fn write(
     alloc: Global,
     file: &mut MemFile,
-    events: &mut Vec<Event>,
+    events: &mut Vec<MemChange>,
     number: FileNo,
     place: u64,
     bytes: &[u8],
@@ -29,7 +29,7 @@ pub fn write(
     events.reserve(1)?;
     keep_first(alloc, file)?;
     overlay_bytes(&mut file.bytes, place as usize, bytes)?;
-    events.push(Event::Wrote(number, place, kept))?;
+    events.push(MemChange::Wrote(number, place, kept))?;
     Ok(())
 }
 
@@ -49,7 +49,7 @@ fn keep_first(alloc: Global, file: &mut MemFile) -> Result<(), AllocError>
 pub fn print(
     alloc: Global,
     out: &mut Vec<u8>,
-    events: &mut Vec<Event>,
+    events: &mut Vec<MemChange>,
     bytes: &[u8],
 ) -> Result<(), AllocError>
     ensures out { OnOk result (out.new.items ≡ out.old.items ++ bytes.now) }
@@ -61,7 +61,7 @@ pub fn print(
     let kept = Vec::from_slice(alloc, bytes)?;
     events.reserve(1)?;
     out.extend_from_slice(bytes)?;
-    events.push(Event::Printed(kept))?;
+    events.push(MemChange::Printed(kept))?;
     Ok(())
 }
 

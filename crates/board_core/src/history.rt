@@ -3,7 +3,7 @@
 ghost use Rattle.std.specs.Prelude.{◌≡◌, ℕ, ◌+◌, ◌≤◌, ◌++◌, [], ◌∷◌, List, length, take, drop, IfOk, OnOk, OnErr};
 ghost use Rattle.erst_store.specs.Actions.{range_length};
 ghost use Rattle.erst_store.specs.DeviceLaws.{IsDevice};
-ghost use Rattle.erst_store.specs.Store.{refusal_of, Answers};
+ghost use Rattle.erst_store.specs.Store.{refusal_of, AnswersRefusal};
 ghost use Rattle.board_core.specs.MemBoard.{Past, new_past, new_held, with_change, past_after, wrote, synced, acted, printed, wrote_register, wrote_range, put_record, device_in, disk_of, held_of};
 ghost use Rattle.board_core.specs.Pick.{IsPicked};
 ghost use Rattle.board_core.specs.Stop.{file_in, with_file_in};
@@ -31,7 +31,7 @@ pub struct History {
     out: Vec<u8>,
     first_store: Store,
     slow: u64,
-    events: Vec<Event>,
+    events: Vec<MemChange>,
 }
 
 /// A file in memory: its bytes, and once something was written those that it began with.
@@ -41,9 +41,9 @@ pub struct MemFile {
     pub first: Option<Vec<u8>>,
 }
 
-/// Something that was done.
+/// A change of the board, as it is remembered.
 #[derive(Drop)]
-pub enum Event {
+pub enum MemChange {
     /// Bytes were written at a place of a file.
     Wrote(FileNo, u64, Vec<u8>),
     /// A file was synced.
@@ -196,7 +196,7 @@ impl History {
         ensures ok { OnOk result (self.new ≡ with_change (synced file) self.old) }
         ensures err { OnErr result (self.new ≡ self.old) }
     {
-        self.events.push(Event::Synced(file))?;
+        self.events.push(MemChange::Synced(file))?;
         Ok(())
     }
 
@@ -208,7 +208,7 @@ impl History {
     {
         self.events.reserve(1)?;
         write_register(&mut self.device, reg, value)?;
-        self.events.push(Event::WroteRegister(reg, value))?;
+        self.events.push(MemChange::WroteRegister(reg, value))?;
         Ok(())
     }
 
@@ -220,7 +220,7 @@ impl History {
         ensures err { OnErr result (self.new ≡ self.old) }
     {
         let kept = Vec::from_slice(self.alloc, bytes)?;
-        self.events.push(Event::WroteRange(place, kept))?;
+        self.events.push(MemChange::WroteRange(place, kept))?;
         self.device.range_write(place, bytes);
         Ok(())
     }
@@ -231,14 +231,14 @@ impl History {
         ensures past { IfOk result (λ put. self.new
             ≡ past_after put (acted (put_record id bytes.now)) self.old) }
         ensures answers { IfOk result
-            (λ put. Answers put (refusal_of id bytes.now (held_of self.old).here.store)) }
+            (λ put. AnswersRefusal put (refusal_of id bytes.now (held_of self.old).here.store)) }
         ensures kept { OnErr result (self.new ≡ self.old) }
     {
         let kept = Vec::from_slice(self.alloc, bytes)?;
         self.events.reserve(1)?;
         match self.device.put(id, bytes) {
             Ok(()) => {
-                self.events.push(Event::Put(id, kept))?;
+                self.events.push(MemChange::Put(id, kept))?;
                 Ok(Ok(()))
             }
             Err(refused) => Ok(Err(refused)),

@@ -2,7 +2,7 @@
 ghost use Rattle.std.specs.Prelude.{◌≡◌, ℕ, ◌≤◌, ◌↔◌, List, [], ◌∷◌, ◌++◌, length};
 ghost use Rattle.erst_store.specs.Store.{Stored};
 ghost use Rattle.board_core.specs.declared.board.FileNo.{FileNo};
-ghost use Rattle.board_core.specs.CallsMade.{AreMade, Keeps, ranges_in};
+ghost use Rattle.board_core.specs.CallsMade.{AreMade, KeepsDisk, ranges_in};
 ghost use Rattle.board_core.specs.Clock.{LeftNow, IsSynced};
 ghost use Rattle.board_core.specs.DiskModel.{Range, Disk, MayLeave, MayLeaveFile, MayLeaveSince, Call, rests, after_all, greatest_length};
 ghost use Rattle.board_core.specs.MemBoard.{Past, DeviceChange, device_step, with_change, acted, printed, clock_of, disk_of, held_of, device_in};
@@ -26,12 +26,13 @@ pub fn disk_model<B: Board>()
     // Both files, the record store and the printed text together: a stop leaves what the disk model
     // says of one and the same moment.
     ensures together { (disk : Disk) (calls : List Call) (first last : B)
-        → Keeps disk (B.clock first) → AreMade B.clock calls first last
+        → KeepsDisk disk (B.clock first) → AreMade B.clock calls first last
         → (left : Left) → (B.clock last).may_leave_since (B.clock first).now left
         → MayLeaveSince disk calls 0 left }
-    ensures after { (disk : Disk) (calls : List Call) (first last : B) → Keeps disk (B.clock first)
+    ensures after { (disk : Disk) (calls : List Call) (first last : B)
+        → KeepsDisk disk (B.clock first)
         → AreMade B.clock calls first last
-        → Keeps (after_all calls disk) (B.clock last) }
+        → KeepsDisk (after_all calls disk) (B.clock last) }
 {}
 
 /// What the words of the disk model come to.

@@ -6,14 +6,14 @@ ghost use Rattle.board_core.specs.MemBoard.{synced, settled_file};
 ghost use Rattle.board_core.specs.Pick.{IsFilled, IsPicked};
 
 use crate::events::overlay_bytes;
-use crate::history::{Event, MemFile};
+use crate::history::{MemChange, MemFile};
 use crate::{FileNo, Pick};
 use std::alloc::AllocError;
 
 /// The file of this number as it is picked, where these events made it what it is.
 pub fn picked_bytes(
     file: MemFile,
-    events: &[Event],
+    events: &[MemChange],
     number: FileNo,
     pick: Pick,
 ) -> Result<Vec<u8>, AllocError>
@@ -38,7 +38,7 @@ pub fn picked_bytes(
 }
 
 // How many events lead up to the last sync of a file and with it: none where it wasn't synced.
-fn events_to_last_sync(events: &[Event], number: FileNo) -> usize
+fn events_to_last_sync(events: &[MemChange], number: FileNo) -> usize
     ensures within { result ≤ length events.now }
     ensures parted { ArePartedAtSync number (changes_of (take result events.now))
         (changes_of (drop result events.now)) (changes_of events.now) }
@@ -52,17 +52,17 @@ fn events_to_last_sync(events: &[Event], number: FileNo) -> usize
     count
 }
 
-fn syncs(event: &Event, number: FileNo) -> bool
+fn syncs(event: &MemChange, number: FileNo) -> bool
     ensures { IsTrue result ↔ (change_of event.now ≡ synced number) }
 {
     match event {
-        Event::Synced(file) => *file == number,
+        MemChange::Synced(file) => *file == number,
         _ => false,
     }
 }
 
 // Writes again what these events wrote into a file.
-fn repeat(bytes: &mut Vec<u8>, events: &[Event], number: FileNo) -> Result<(), AllocError>
+fn repeat(bytes: &mut Vec<u8>, events: &[MemChange], number: FileNo) -> Result<(), AllocError>
     ensures { OnOk result (bytes.new.items ≡ bytes_after_all number (changes_of events.now)
         bytes.old.items) }
 {
@@ -73,11 +73,11 @@ fn repeat(bytes: &mut Vec<u8>, events: &[Event], number: FileNo) -> Result<(), A
 }
 
 // No write began past the file's end.
-fn repeat_one(bytes: &mut Vec<u8>, event: &Event, number: FileNo) -> Result<(), AllocError>
+fn repeat_one(bytes: &mut Vec<u8>, event: &MemChange, number: FileNo) -> Result<(), AllocError>
     ensures { OnOk result (bytes.new.items ≡ bytes_after number (change_of event.now) bytes.old.items) }
 {
     match event {
-        Event::Wrote(file, place, written) if *file == number => {
+        MemChange::Wrote(file, place, written) if *file == number => {
             let place = (*place as usize).min(bytes.len());
             overlay_bytes(bytes, place, written)
         }
@@ -86,7 +86,7 @@ fn repeat_one(bytes: &mut Vec<u8>, event: &Event, number: FileNo) -> Result<(), 
 }
 
 // Sets each byte that these events wrote into a file.
-fn fill(bytes: &mut [u8], events: &[Event], number: FileNo, byte: u8)
+fn fill(bytes: &mut [u8], events: &[MemChange], number: FileNo, byte: u8)
     ensures { IsFilled byte (ranges_of number (changes_of events.now)) bytes.old bytes.new }
 {
     for event in events {
@@ -94,11 +94,11 @@ fn fill(bytes: &mut [u8], events: &[Event], number: FileNo, byte: u8)
     }
 }
 
-fn fill_one(bytes: &mut [u8], event: &Event, number: FileNo, byte: u8)
+fn fill_one(bytes: &mut [u8], event: &MemChange, number: FileNo, byte: u8)
     ensures { IsFilled byte (range_of number (change_of event.now)) bytes.old bytes.new }
 {
     match event {
-        Event::Wrote(file, place, written) if *file == number => {
+        MemChange::Wrote(file, place, written) if *file == number => {
             fill_range(bytes, *place as usize, written.len(), byte);
         }
         _ => {}

@@ -24,4 +24,4 @@ pub use mem_board::MemBoard;
 pub use mem_source::MemSource;
 pub use pick::Pick;
 pub use source::{Failed, Source};
-pub use through::{print, put, write_through};
+pub use through::{put, write_through};

@@ -1,11 +1,11 @@
-//! Calls of a board that do one act each: a write that is on the disk once it has ended well, a
-//! print, and a put.
+//! Calls of a board that do one act each: a write that is on the disk once it has ended well, and a
+//! put.
 ghost use Rattle.std.specs.Prelude.{◌≤◌, ◌∷◌, [], length, IfSome};
 ghost use Rattle.erst_store.specs.DeviceLaws.{IsDevice};
 ghost use Rattle.erst_store.specs.Store.{refusal_of};
-ghost use Rattle.board_core.specs.Cause.{device_call, disk_call, print_call, put_failure};
+ghost use Rattle.board_core.specs.Cause.{device_call, disk_call, put_failure};
 ghost use Rattle.board_core.specs.Clock.{Adds, After};
-ghost use Rattle.board_core.specs.Doing.{Does, looks, one_end, prints, put_acts, through};
+ghost use Rattle.board_core.specs.Doing.{Does, looks, one_end, put_acts, through};
 ghost use Rattle.board_core.specs.Stop.{InFile};
 ghost use Rattle.board_core.specs.Told.{AnswersPut, Torn, device_of, file_of};
 
@@ -33,16 +33,6 @@ pub fn write_through<B: Board>(
 {
     board.write_at(file, place, bytes)?;
     board.sync(file)
-}
-
-/// Prints `bytes` by one call.
-///
-/// `Failed` comes only if the print failed; then a beginning of them, maybe nothing, is printed.
-pub fn print<B: Board>(bytes: &[u8], board: &mut B) -> Result<(), Failed>
-    ensures does { Does (looks B.told B.clock B.faults) (prints bytes.now ∷ [])
-        (one_end print_call result) board.old board.new }
-{
-    board.print(bytes)
 }
 
 /// Puts a record into the store from outside, by one call.

@@ -30,8 +30,8 @@ pub record IsRecord (own : List ℕ) : Type 0 where
   pub readable : (i : ℕ) → i < section_count own → IsOk (section_at own i)
 
 -- so many of the first bytes have a header, and this holds of them
-abbrev pub Begins : List ℕ → (List ℕ → Type 0) → Type 0
-Begins bytes Holds = (own : List ℕ) × (IsPrefixOf own bytes × HasHeader own × Holds own)
+abbrev pub BeginsWithHeader : List ℕ → (List ℕ → Type 0) → Type 0
+BeginsWithHeader bytes Holds = (own : List ℕ) × (IsPrefixOf own bytes × HasHeader own × Holds own)
 
 -- one of the sections is such a one
 abbrev pub HasSection : List ℕ → (ℕ → Type 0) → Type 0
@@ -44,8 +44,8 @@ IsNoRecord bytes Signature = (HEADER_LENGTH ≤ length bytes) × IsFalse (has_si
 IsNoRecord bytes Length =
     (HEADER_LENGTH ≤ length bytes) × IsTrue (has_signatures bytes)
     × ((record_length bytes < HEADER_LENGTH) ⊎ (length bytes < record_length bytes))
-IsNoRecord bytes DescriptorOut = Begins bytes (λ own. length own < descriptor_at (section_count own))
+IsNoRecord bytes DescriptorOut = BeginsWithHeader bytes (λ own. length own < descriptor_at (section_count own))
 IsNoRecord bytes SectionOut =
-    Begins bytes (λ own. HasDescriptors own × HasSection own (λ i. length own < section_end own i))
+    BeginsWithHeader bytes (λ own. HasDescriptors own × HasSection own (λ i. length own < section_end own i))
 IsNoRecord bytes Section =
-    Begins bytes (λ own. HasDescriptors own × HasSections own × HasSection own (λ i. IsErr (section_at own i)))
+    BeginsWithHeader bytes (λ own. HasDescriptors own × HasSections own × HasSection own (λ i. IsErr (section_at own i)))

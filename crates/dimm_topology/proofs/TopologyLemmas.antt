@@ -12,7 +12,7 @@ use Rattle.dimm_topology.specs.declared.row.Row.TheVariants.{Cpu, Module, Range,
 use Rattle.dimm_topology.specs.declared.topology.TopologyRefused.{TopologyRefused}
 use Rattle.dimm_topology.specs.Rows.{is_range_over, overlap, names_module, is_labelled, is_module_of, socket_of}
 use Rattle.dimm_topology.specs.Owners.{owner_of_address, socket_by_rows}
-use Rattle.dimm_topology.specs.Refusals.{SharesAddress, Answers, row_refusal}
+use Rattle.dimm_topology.specs.Refusals.{SharesAddress, AnswersRow, row_refusal}
 use Rattle.dimm_topology.specs.Topology.{IsApart, IsTopology, is_upright}
 use Rattle.dimm_topology.proofs.OwnerLemmas.{overlap_at, none_over}
 
@@ -122,7 +122,7 @@ not_over address row rows free owned = by (is_range_over address row) refl
     by true e = let none = rw (none_over address row rows e free) at owned in cc
 
 -- a range that is taken leaves the owners of the other ranges' addresses
-pub range_keeps : (result : Result (Unit {0}) TopologyRefused) (old new : List Row) (row : Row) → Answers result (row_refusal old row)
+pub range_keeps : (result : Result (Unit {0}) TopologyRefused) (old new : List Row) (row : Row) → AnswersRow result (row_refusal old row)
     → OnOk result (new ≡ old ++ row ∷ []) → OnErr result (new ≡ old) → (address : ℕ) → IsSome (owner_of_address old address) → owner_of_address new address ≡ owner_of_address old address
 range_keeps (Err refused) old new row answer ok err address owned = rw err refl
 range_keeps (Ok done) old new row answer ok err address owned =

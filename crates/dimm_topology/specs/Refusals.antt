@@ -23,10 +23,10 @@ topology_number NoMemory = None
 
 -- a call answers this refusal where there is one; where there is none, it takes the row or finds no
 -- memory
-abbrev pub Answers : Result (Unit {0}) TopologyRefused → Option TopologyRefused → Type 0
-Answers (Ok done) refusal = refusal ≡ None
-Answers (Err NoMemory) refusal = refusal ≡ None
-Answers (Err refused) refusal = refusal ≡ Some refused
+abbrev pub AnswersRow : Result (Unit {0}) TopologyRefused → Option TopologyRefused → Type 0
+AnswersRow (Ok done) refusal = refusal ≡ None
+AnswersRow (Err NoMemory) refusal = refusal ≡ None
+AnswersRow (Err refused) refusal = refusal ≡ Some refused
 
 -- some address is in a held range and from `first` to `last`
 abbrev pub SharesAddress : List Row → ℕ → ℕ → Type 0

@@ -6,7 +6,7 @@ ghost use Rattle.std.specs.Option.{option_copied};
 ghost use Rattle.dimm_topology.specs.declared.row.Row.{Row};
 ghost use Rattle.dimm_topology.specs.Labels.{is_label_or_none};
 ghost use Rattle.dimm_topology.specs.Rows.{names_module, labels_of_rows, overlap, is_at, names, is_range_over, is_module_label};
-ghost use Rattle.dimm_topology.specs.Refusals.{row_refusal, topology_number, Answers, SharesAddress};
+ghost use Rattle.dimm_topology.specs.Refusals.{row_refusal, topology_number, AnswersRow, SharesAddress};
 ghost use Rattle.dimm_topology.specs.Owners.{owner_by_rows, owner_of_address, owner_at, socket_by_rows, channel_of, bank_location, section_location, ranges_over};
 ghost use Rattle.dimm_topology.specs.Topology.{is_upright, IsApart, IsTopology};
 
@@ -95,7 +95,7 @@ impl Topology {
     ///
     /// `Full` comes exactly where `MOST_ROWS` rows are held. The rows stay after a refusal.
     pub fn add_cpu(&mut self, cpu: u16, socket: u8) -> Result<(), TopologyRefused>
-        ensures answer { Answers result (row_refusal self.old (Row.Cpu cpu socket)) }
+        ensures answer { AnswersRow result (row_refusal self.old (Row.Cpu cpu socket)) }
         ensures ok { OnOk result (self.new ≡ self.old ++ Row.Cpu cpu socket ∷ []) }
         ensures err { OnErr result (self.new ≡ self.old) }
 
@@ -121,7 +121,7 @@ impl Topology {
         bank: u8,
         channel: u8,
     ) -> Result<(), TopologyRefused>
-        ensures answer { Answers result
+        ensures answer { AnswersRow result
             (row_refusal self.old (Row.Module label socket bank channel)) }
         ensures ok { OnOk result (self.new
             ≡ self.old ++ Row.Module label socket bank channel ∷ []) }
@@ -147,7 +147,7 @@ impl Topology {
     /// are held. The rows stay after a refusal.
     pub fn add_range(&mut self, label: Label, first: u64, last: u64) -> Result<(), TopologyRefused>
         requires { first ≤ last }
-        ensures answer { Answers result (row_refusal self.old (Row.Range label first last)) }
+        ensures answer { AnswersRow result (row_refusal self.old (Row.Range label first last)) }
         ensures ok { OnOk result (self.new ≡ self.old ++ Row.Range label first last ∷ []) }
         ensures err { OnErr result (self.new ≡ self.old) }
 
@@ -173,7 +173,7 @@ impl Topology {
         card: u16,
         module: u16,
     ) -> Result<(), TopologyRefused>
-        ensures answer { Answers result
+        ensures answer { AnswersRow result
             (row_refusal self.old (Row.Place label node card «module»)) }
         ensures ok { OnOk result (self.new ≡ self.old ++ Row.Place label node card «module» ∷ []) }
         ensures err { OnErr result (self.new ≡ self.old) }
@@ -251,7 +251,7 @@ impl Topology {
     /// `Full` exactly where `MOST_ROWS` rows are held. The rows stay after a refusal.
     pub fn add(&mut self, row: Row) -> Result<(), TopologyRefused>
         requires { IsTrue (is_upright row) }
-        ensures answer { Answers result (row_refusal self.old row) }
+        ensures answer { AnswersRow result (row_refusal self.old row) }
         ensures ok { OnOk result (self.new ≡ self.old ++ row ∷ []) }
         ensures err { OnErr result (self.new ≡ self.old) }
         ensures topology { IsTopology self.old }

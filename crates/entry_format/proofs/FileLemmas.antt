@@ -14,7 +14,7 @@ use Rattle.entry_format.specs.declared.refused.EntryRefused.{EntryRefused}
 use Rattle.entry_format.specs.declared.refused.EntryRefused.TheVariants as why
 use Rattle.entry_format.specs.Spelling.{entry_bytes, entries_bytes}
 use Rattle.entry_format.specs.File.{IsEntryOf, AreEntriesOf}
-use Rattle.entry_format.specs.Reading.{Gives, many_at, whole_at, entry_at}
+use Rattle.entry_format.specs.Reading.{ReadsUnlessMemory, many_at, whole_at, entry_at}
 use Rattle.entry_format.proofs.CodecLemmas.{Reads, bind_ok, ok_is, many_read}
 use Rattle.entry_format.proofs.EntryLemmas.{entry_read, entry_not_empty}
 
@@ -86,7 +86,7 @@ list_again version count bytes es are len =
     rw (ap (many_at (entry_at version) count) (are.spelled ∙ sym (append-nil (entries_bytes es))) ∙ read) refl
 
 abbrev Seen : Version → Result (Vec Entry) EntryRefused → List ℕ → ℕ → Type 0
-Seen version r bytes count = Gives (λ v. v.items) r (list_at version count bytes)
+Seen version r bytes count = ReadsUnlessMemory (λ v. v.items) r (list_at version count bytes)
 
 pub list_found : (version : Version) (bytes : List ℕ) (count : ℕ) (r : Result (Vec Entry) EntryRefused) → AreBytes bytes → Seen version r bytes count → IfOk r (λ v. AreEntriesOf version v.items bytes)
 list_found version bytes count (Ok v) fits seen = (list_takes version count bytes v.items fits seen).0

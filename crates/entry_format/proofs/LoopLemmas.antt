@@ -3,14 +3,14 @@ use Rattle.std.proofs.Common.{◌≡◌, ℕ, suc, ◌-◌, ◌+◌, ◌≤◌, 
 use Rattle.ras_base.specs.Chaining.{◌>>=◌}
 use Rattle.entry_format.specs.declared.refused.EntryRefused.{EntryRefused}
 use Rattle.entry_format.specs.declared.refused.EntryRefused.TheVariants.{Bad, NoMemory}
-use Rattle.entry_format.specs.Reading.{Reader, Fails, Gives, Refuses, Tells, many_at}
+use Rattle.entry_format.specs.Reading.{Reader, FailsUnlessMemory, ReadsUnlessMemory, RefusesExactly, ReadsExactly, many_at}
 
 -- what a function that takes no memory returned, in the words for those that may
-pub is_failed : {Y : Type 0} (e : EntryRefused) (read : Result Y EntryRefused) → Refuses e read → Fails e read
+pub is_failed : {Y : Type 0} (e : EntryRefused) (read : Result Y EntryRefused) → RefusesExactly e read → FailsUnlessMemory e read
 is_failed NoMemory read refused = tt
 is_failed Bad read refused = refused
 
-pub is_given : {X Y : Type 0} (view : X → Y) (result : Result X EntryRefused) (read : Result Y EntryRefused) → Tells view result read → Gives view result read
+pub is_given : {X Y : Type 0} (view : X → Y) (result : Result X EntryRefused) (read : Result Y EntryRefused) → ReadsExactly view result read → ReadsUnlessMemory view result read
 is_given view (Ok x) read told = told
 is_given view (Err e) read told = is_failed e read told
 
@@ -37,15 +37,15 @@ fails : {A : Type 0} (r : Reader A) (front : List A) (n : ℕ) (bytes : List ℕ
 unfolding many_at
 fails r front n bytes h = rw h refl
 
-pub ends : {A : Type 0} (r : Reader A) (e : EntryRefused) (front : List A) (count i : ℕ) (bytes : List ℕ) (total : Result (List A × List ℕ) EntryRefused) → i < count → Fails e (r bytes)
-    → with_front front (many_at r (count - i) bytes) ≡ total → Fails e total
+pub ends : {A : Type 0} (r : Reader A) (e : EntryRefused) (front : List A) (count i : ℕ) (bytes : List ℕ) (total : Result (List A × List ℕ) EntryRefused) → i < count → FailsUnlessMemory e (r bytes)
+    → with_front front (many_at r (count - i) bytes) ≡ total → FailsUnlessMemory e total
 ends r NoMemory front count i bytes total lt h so_far = tt
 ends r Bad front count i bytes total lt h so_far =
     let k : count - i ≡ suc (count - (i + 1)) = omega arith in
     sym so_far ∙ rw k (fails r front (count - (i + 1)) bytes h)
 
-pub refuses : {A : Type 0} (r : Reader A) (e : EntryRefused) (front : List A) (count i : ℕ) (bytes : List ℕ) (total : Result (List A × List ℕ) EntryRefused) → i < count → Refuses e (r bytes)
-    → with_front front (many_at r (count - i) bytes) ≡ total → Refuses e total
+pub refuses : {A : Type 0} (r : Reader A) (e : EntryRefused) (front : List A) (count i : ℕ) (bytes : List ℕ) (total : Result (List A × List ℕ) EntryRefused) → i < count → RefusesExactly e (r bytes)
+    → with_front front (many_at r (count - i) bytes) ≡ total → RefusesExactly e total
 refuses r NoMemory front count i bytes total lt h so_far = h
 refuses r Bad front count i bytes total lt h so_far = ends r Bad front count i bytes total lt h so_far
 

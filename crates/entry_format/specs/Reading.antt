@@ -26,22 +26,22 @@ abbrev pub Reader : Type 0 → Type 0
 Reader A = List ℕ → Result (A × List ℕ) EntryRefused
 
 -- what a function returned, seen by view, is what reading gives, unless memory ran out
-abbrev pub Fails : {Y : Type 0} → EntryRefused → Result Y EntryRefused → Type 0
-Fails NoMemory read = Unit {0}
-Fails Bad read = read ≡ Err Bad
+abbrev pub FailsUnlessMemory : {Y : Type 0} → EntryRefused → Result Y EntryRefused → Type 0
+FailsUnlessMemory NoMemory read = Unit {0}
+FailsUnlessMemory Bad read = read ≡ Err Bad
 
-abbrev pub Gives : {X Y : Type 0} → (X → Y) → Result X EntryRefused → Result Y EntryRefused → Type 0
-Gives view (Ok x) read = read ≡ Ok (view x)
-Gives view (Err e) read = Fails e read
+abbrev pub ReadsUnlessMemory : {X Y : Type 0} → (X → Y) → Result X EntryRefused → Result Y EntryRefused → Type 0
+ReadsUnlessMemory view (Ok x) read = read ≡ Ok (view x)
+ReadsUnlessMemory view (Err e) read = FailsUnlessMemory e read
 
 -- the same of a function that takes no memory: it refuses exactly what isn't there to be read
-abbrev pub Refuses : {Y : Type 0} → EntryRefused → Result Y EntryRefused → Type 0
-Refuses NoMemory read = ⊥
-Refuses Bad read = read ≡ Err Bad
+abbrev pub RefusesExactly : {Y : Type 0} → EntryRefused → Result Y EntryRefused → Type 0
+RefusesExactly NoMemory read = ⊥
+RefusesExactly Bad read = read ≡ Err Bad
 
-abbrev pub Tells : {X Y : Type 0} → (X → Y) → Result X EntryRefused → Result Y EntryRefused → Type 0
-Tells view (Ok x) read = read ≡ Ok (view x)
-Tells view (Err e) read = Refuses e read
+abbrev pub ReadsExactly : {X Y : Type 0} → (X → Y) → Result X EntryRefused → Result Y EntryRefused → Type 0
+ReadsExactly view (Ok x) read = read ≡ Ok (view x)
+ReadsExactly view (Err e) read = RefusesExactly e read
 
 -- ---- how readers are put together
 

@@ -3,7 +3,7 @@
 //! Each function reads one at the front of the bytes, and gives the bytes after it too. It answers
 //! `Bad` if none stands there, and takes no memory, so that it never answers `NoMemory`.
 ghost use Rattle.std.specs.Prelude.{◌≡◌};
-ghost use Rattle.entry_format.specs.Reading.{Tells, u16_at, u32_at, u64_at, byte_at, bytes_at};
+ghost use Rattle.entry_format.specs.Reading.{ReadsExactly, u16_at, u32_at, u64_at, byte_at, bytes_at};
 
 use crate::EntryRefused;
 use ras_base::little_endian;
@@ -11,7 +11,7 @@ use ras_base::little_endian;
 // A number of 2 bytes.
 #[tactic(auto, unfolding(crate::specs::Reading::u16_at))]
 pub(crate) fn u16_at(bytes: &[u8]) -> Result<(u16, &[u8]), EntryRefused>
-    ensures { Tells (λ x. (x.0, x.1.now)) result (u16_at bytes.now) }
+    ensures { ReadsExactly (λ x. (x.0, x.1.now)) result (u16_at bytes.now) }
 {
     if bytes.len() < 2 {
         return Err(EntryRefused::Bad);
@@ -23,7 +23,7 @@ pub(crate) fn u16_at(bytes: &[u8]) -> Result<(u16, &[u8]), EntryRefused>
 /// there, and `NoMemory` never.
 #[tactic(auto, unfolding(crate::specs::Reading::u32_at))]
 pub fn u32_at(bytes: &[u8]) -> Result<(u32, &[u8]), EntryRefused>
-    ensures { Tells (λ x. (x.0, x.1.now)) result (u32_at bytes.now) }
+    ensures { ReadsExactly (λ x. (x.0, x.1.now)) result (u32_at bytes.now) }
 {
     if bytes.len() < 4 {
         return Err(EntryRefused::Bad);
@@ -35,7 +35,7 @@ pub fn u32_at(bytes: &[u8]) -> Result<(u32, &[u8]), EntryRefused>
 /// there, and `NoMemory` never.
 #[tactic(auto, unfolding(crate::specs::Reading::u64_at))]
 pub fn u64_at(bytes: &[u8]) -> Result<(u64, &[u8]), EntryRefused>
-    ensures { Tells (λ x. (x.0, x.1.now)) result (u64_at bytes.now) }
+    ensures { ReadsExactly (λ x. (x.0, x.1.now)) result (u64_at bytes.now) }
 {
     if bytes.len() < 8 {
         return Err(EntryRefused::Bad);
@@ -47,7 +47,7 @@ pub fn u64_at(bytes: &[u8]) -> Result<(u64, &[u8]), EntryRefused>
 /// never.
 #[tactic(auto, unfolding(crate::specs::Reading::byte_at))]
 pub fn byte_at(bytes: &[u8]) -> Result<(u8, &[u8]), EntryRefused>
-    ensures { Tells (λ x. (x.0, x.1.now)) result (byte_at bytes.now) }
+    ensures { ReadsExactly (λ x. (x.0, x.1.now)) result (byte_at bytes.now) }
 {
     match bytes {
         [] => Err(EntryRefused::Bad),
@@ -58,7 +58,7 @@ pub fn byte_at(bytes: &[u8]) -> Result<(u8, &[u8]), EntryRefused>
 // This many bytes.
 #[tactic(auto, unfolding(crate::specs::Reading::bytes_at))]
 pub(crate) fn bytes_at(count: usize, bytes: &[u8]) -> Result<(&[u8], &[u8]), EntryRefused>
-    ensures { Tells (λ x. (x.0.now, x.1.now)) result (bytes_at count bytes.now) }
+    ensures { ReadsExactly (λ x. (x.0.now, x.1.now)) result (bytes_at count bytes.now) }
 {
     match bytes.split_at_checked(count) {
         Some((front, rest)) => Ok((front, rest)),

@@ -1,7 +1,7 @@
 //! Items from bytes.
 ghost use Rattle.std.specs.Prelude.{◌≡◌};
 ghost use Rattle.dimm_topology.specs.Labels.{is_label_or_none};
-ghost use Rattle.entry_format.specs.Reading.{Gives, Tells, some_or_bad, if_passes, class_of, class_at, label_at, page_number_at, page_at, weight_at, item_at, many_at, items_at};
+ghost use Rattle.entry_format.specs.Reading.{ReadsUnlessMemory, ReadsExactly, some_or_bad, if_passes, class_of, class_at, label_at, page_number_at, page_at, weight_at, item_at, many_at, items_at};
 
 use crate::EntryRefused;
 use crate::fields::{byte_at, bytes_at, u16_at, u64_at};
@@ -33,7 +33,7 @@ fn class_of(number: u8) -> Option<ItemClass>
 // A class.
 #[tactic(auto, unfolding(crate::specs::Reading::class_at))]
 fn class_at(bytes: &[u8]) -> Result<(ItemClass, &[u8]), EntryRefused>
-    ensures { Tells (λ x. (x.0, x.1.now)) result (class_at bytes.now) }
+    ensures { ReadsExactly (λ x. (x.0, x.1.now)) result (class_at bytes.now) }
 {
     let (number, rest) = byte_at(bytes)?;
     match class_of(number) {
@@ -44,7 +44,7 @@ fn class_at(bytes: &[u8]) -> Result<(ItemClass, &[u8]), EntryRefused>
 
 // The label of these bytes; no bytes are none.
 fn label_of(alloc: Global, text: &[u8]) -> Result<Label, EntryRefused>
-    ensures { Gives (λ label. label) result (some_or_bad (if_passes is_label_or_none text.now)) }
+    ensures { ReadsUnlessMemory (λ label. label) result (some_or_bad (if_passes is_label_or_none text.now)) }
 {
     if text.is_empty() {
         return Ok(Label::none());
@@ -60,7 +60,7 @@ fn label_of(alloc: Global, text: &[u8]) -> Result<Label, EntryRefused>
 /// comes exactly if none stands there, and `NoMemory` if memory runs out.
 #[tactic(auto, unfolding(crate::specs::Reading::label_at))]
 pub fn label_at(alloc: Global, bytes: &[u8]) -> Result<(Label, &[u8]), EntryRefused>
-    ensures { Gives (λ x. (x.0, x.1.now)) result (label_at bytes.now) }
+    ensures { ReadsUnlessMemory (λ x. (x.0, x.1.now)) result (label_at bytes.now) }
 {
     let (length, rest) = byte_at(bytes)?;
     let (text, rest) = bytes_at(usize::from(length), rest)?;
@@ -72,7 +72,7 @@ pub fn label_at(alloc: Global, bytes: &[u8]) -> Result<(Label, &[u8]), EntryRefu
 /// there, and `NoMemory` never.
 #[tactic(auto, unfolding(crate::specs::Reading::page_number_at))]
 pub fn page_number_at(bytes: &[u8]) -> Result<(u64, &[u8]), EntryRefused>
-    ensures { Tells (λ x. (x.0, x.1.now)) result (page_number_at bytes.now) }
+    ensures { ReadsExactly (λ x. (x.0, x.1.now)) result (page_number_at bytes.now) }
 {
     let (page, rest) = u64_at(bytes)?;
     if page < PAGES {
@@ -85,7 +85,7 @@ pub fn page_number_at(bytes: &[u8]) -> Result<(u64, &[u8]), EntryRefused>
 // A page after its flag.
 #[tactic(auto, unfolding(crate::specs::Reading::page_at, crate::specs::Reading::some_page_at))]
 fn page_at(bytes: &[u8]) -> Result<(Option<u64>, &[u8]), EntryRefused>
-    ensures { Tells (λ x. (x.0, x.1.now)) result (page_at bytes.now) }
+    ensures { ReadsExactly (λ x. (x.0, x.1.now)) result (page_at bytes.now) }
 {
     let (flag, rest) = byte_at(bytes)?;
     match flag {
@@ -101,7 +101,7 @@ fn page_at(bytes: &[u8]) -> Result<(Option<u64>, &[u8]), EntryRefused>
 // A weight.
 #[tactic(auto, unfolding(crate::specs::Reading::weight_at))]
 fn weight_at(bytes: &[u8]) -> Result<(u16, &[u8]), EntryRefused>
-    ensures { Tells (λ x. (x.0, x.1.now)) result (weight_at bytes.now) }
+    ensures { ReadsExactly (λ x. (x.0, x.1.now)) result (weight_at bytes.now) }
 {
     let (weight, rest) = u16_at(bytes)?;
     if 1 <= weight && weight <= MOST_WEIGHT {
@@ -114,7 +114,7 @@ fn weight_at(bytes: &[u8]) -> Result<(u16, &[u8]), EntryRefused>
 // An item.
 #[tactic(auto, unfolding(crate::specs::Reading::item_at))]
 fn item_at(alloc: Global, bytes: &[u8]) -> Result<(Item, &[u8]), EntryRefused>
-    ensures { Gives (λ x. (x.0, x.1.now)) result (item_at bytes.now) }
+    ensures { ReadsUnlessMemory (λ x. (x.0, x.1.now)) result (item_at bytes.now) }
 {
     let (class, rest) = class_at(bytes)?;
     let (label, rest) = match label_at(alloc, rest) {
@@ -134,7 +134,7 @@ fn item_at(alloc: Global, bytes: &[u8]) -> Result<(Item, &[u8]), EntryRefused>
 
 // This many items.
 fn many_items_at(alloc: Global, count: u16, bytes: &[u8]) -> Result<(Items, &[u8]), EntryRefused>
-    ensures { Gives (λ x. (x.0, x.1.now)) result (many_at item_at count bytes.now) }
+    ensures { ReadsUnlessMemory (λ x. (x.0, x.1.now)) result (many_at item_at count bytes.now) }
 {
     let mut items = Items::new(alloc);
     let mut rest = bytes;
@@ -152,7 +152,7 @@ fn many_items_at(alloc: Global, count: u16, bytes: &[u8]) -> Result<(Items, &[u8
 // Items after their number.
 #[tactic(auto, unfolding(crate::specs::Reading::items_at))]
 pub(crate) fn items_at(alloc: Global, bytes: &[u8]) -> Result<(Items, &[u8]), EntryRefused>
-    ensures { Gives (λ x. (x.0, x.1.now)) result (items_at bytes.now) }
+    ensures { ReadsUnlessMemory (λ x. (x.0, x.1.now)) result (items_at bytes.now) }
 {
     let (count, rest) = u16_at(bytes)?;
     many_items_at(alloc, count, rest)

@@ -1,7 +1,7 @@
 //! A list of entries from bytes.
 ghost use Rattle.std.specs.Prelude.{◌≡◌, ◌≢◌, ℕ, List, length, IfOk, IsOkAnd};
 ghost use Rattle.entry_format.specs.File.{AreEntriesOf};
-ghost use Rattle.entry_format.specs.Reading.{Gives, many_at, whole_at, entry_at};
+ghost use Rattle.entry_format.specs.Reading.{ReadsUnlessMemory, many_at, whole_at, entry_at};
 
 use crate::reading::entry_at;
 use crate::{EntryRefused, Version};
@@ -15,7 +15,7 @@ fn many_entries_at(
     count: u32,
     bytes: &[u8],
 ) -> Result<(Vec<Entry>, &[u8]), EntryRefused>
-    ensures { Gives (λ x. (x.0.items, x.1.now)) result (many_at (entry_at version) count bytes.now) }
+    ensures { ReadsUnlessMemory (λ x. (x.0.items, x.1.now)) result (many_at (entry_at version) count bytes.now) }
 {
     let mut entries = Vec::new(alloc);
     let mut rest = bytes;
@@ -34,7 +34,7 @@ fn whole_list(
     count: u32,
     bytes: &[u8],
 ) -> Result<Vec<Entry>, EntryRefused>
-    ensures { Gives (λ entries. entries.items) result (whole_at (many_at (entry_at version) count) bytes.now) }
+    ensures { ReadsUnlessMemory (λ entries. entries.items) result (whole_at (many_at (entry_at version) count) bytes.now) }
 {
     let (entries, rest) = many_entries_at(alloc, version, count, bytes)?;
     if rest.is_empty() {

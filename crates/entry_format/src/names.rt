@@ -1,6 +1,6 @@
 //! Names from bytes.
 ghost use Rattle.std.specs.Prelude.{◌≡◌};
-ghost use Rattle.entry_format.specs.Reading.{Tells, bank_name_at, record_name_at, block_name_at, boot_name_at, name_at};
+ghost use Rattle.entry_format.specs.Reading.{ReadsExactly, bank_name_at, record_name_at, block_name_at, boot_name_at, name_at};
 
 use crate::EntryRefused;
 use crate::fields::{byte_at, u16_at, u64_at};
@@ -18,7 +18,7 @@ pub(crate) const BOOT: u8 = 4;
 // The name of a bank's report, after its kind.
 #[tactic(auto, unfolding(crate::specs::Reading::bank_name_at))]
 fn bank_name_at(bytes: &[u8]) -> Result<(Name, &[u8]), EntryRefused>
-    ensures { Tells (λ x. (x.0, x.1.now)) result (bank_name_at bytes.now) }
+    ensures { ReadsExactly (λ x. (x.0, x.1.now)) result (bank_name_at bytes.now) }
 {
     let (boot, rest) = u64_at(bytes)?;
     let (cpu, rest) = u16_at(rest)?;
@@ -36,7 +36,7 @@ fn bank_name_at(bytes: &[u8]) -> Result<(Name, &[u8]), EntryRefused>
 // The name of a record, after its kind.
 #[tactic(auto, unfolding(crate::specs::Reading::record_name_at))]
 fn record_name_at(bytes: &[u8]) -> Result<(Name, &[u8]), EntryRefused>
-    ensures { Tells (λ x. (x.0, x.1.now)) result (record_name_at bytes.now) }
+    ensures { ReadsExactly (λ x. (x.0, x.1.now)) result (record_name_at bytes.now) }
 {
     let (id, rest) = u64_at(bytes)?;
     Ok((Name::Record { id }, rest))
@@ -45,7 +45,7 @@ fn record_name_at(bytes: &[u8]) -> Result<(Name, &[u8]), EntryRefused>
 // The name of a block, after its kind.
 #[tactic(auto, unfolding(crate::specs::Reading::block_name_at))]
 fn block_name_at(bytes: &[u8]) -> Result<(Name, &[u8]), EntryRefused>
-    ensures { Tells (λ x. (x.0, x.1.now)) result (block_name_at bytes.now) }
+    ensures { ReadsExactly (λ x. (x.0, x.1.now)) result (block_name_at bytes.now) }
 {
     let (boot, rest) = u64_at(bytes)?;
     let (source, rest) = u16_at(rest)?;
@@ -61,7 +61,7 @@ fn block_name_at(bytes: &[u8]) -> Result<(Name, &[u8]), EntryRefused>
 // The name of a boot's error region, after its kind.
 #[tactic(auto, unfolding(crate::specs::Reading::boot_name_at))]
 fn boot_name_at(bytes: &[u8]) -> Result<(Name, &[u8]), EntryRefused>
-    ensures { Tells (λ x. (x.0, x.1.now)) result (boot_name_at bytes.now) }
+    ensures { ReadsExactly (λ x. (x.0, x.1.now)) result (boot_name_at bytes.now) }
 {
     let (boot, rest) = u64_at(bytes)?;
     Ok((Name::Boot { boot }, rest))
@@ -71,7 +71,7 @@ fn boot_name_at(bytes: &[u8]) -> Result<(Name, &[u8]), EntryRefused>
 /// there, and `NoMemory` never.
 #[tactic(auto, unfolding(crate::specs::Reading::name_at))]
 pub fn name_at(bytes: &[u8]) -> Result<(Name, &[u8]), EntryRefused>
-    ensures { Tells (λ x. (x.0, x.1.now)) result (name_at bytes.now) }
+    ensures { ReadsExactly (λ x. (x.0, x.1.now)) result (name_at bytes.now) }
 {
     let (kind, rest) = byte_at(bytes)?;
     match kind {

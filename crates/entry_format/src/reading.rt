@@ -1,6 +1,6 @@
 //! One entry from bytes.
 ghost use Rattle.std.specs.Prelude.{◌≡◌};
-ghost use Rattle.entry_format.specs.Reading.{Gives, Tells, fact_at, limit_at, module_limit_entry_at, entry_at};
+ghost use Rattle.entry_format.specs.Reading.{ReadsUnlessMemory, ReadsExactly, fact_at, limit_at, module_limit_entry_at, entry_at};
 
 use crate::fields::{byte_at, u64_at};
 use crate::items::items_at;
@@ -22,7 +22,7 @@ pub(crate) const MODULE_LIMIT: u8 = 4;
 // A fact.
 #[tactic(auto, unfolding(crate::specs::Reading::fact_at))]
 fn fact_at(alloc: Global, bytes: &[u8]) -> Result<(Fact, &[u8]), EntryRefused>
-    ensures { Gives (λ x. (x.0, x.1.now)) result (fact_at bytes.now) }
+    ensures { ReadsUnlessMemory (λ x. (x.0, x.1.now)) result (fact_at bytes.now) }
 {
     let (name, rest) = name_at(bytes)?;
     let (seconds, rest) = u64_at(rest)?;
@@ -39,7 +39,7 @@ fn fact_at(alloc: Global, bytes: &[u8]) -> Result<(Fact, &[u8]), EntryRefused>
 /// there, and `NoMemory` never.
 #[tactic(auto, unfolding(crate::specs::Reading::limit_at))]
 pub fn limit_at(bytes: &[u8]) -> Result<(Limit, &[u8]), EntryRefused>
-    ensures { Tells (λ x. (x.0, x.1.now)) result (limit_at bytes.now) }
+    ensures { ReadsExactly (λ x. (x.0, x.1.now)) result (limit_at bytes.now) }
 {
     let (capacity, rest) = u64_at(bytes)?;
     let (period, rest) = u64_at(rest)?;
@@ -52,7 +52,7 @@ pub fn limit_at(bytes: &[u8]) -> Result<(Limit, &[u8]), EntryRefused>
 // A limit of modules, which only version 2 has.
 #[tactic(auto, unfolding(crate::specs::Reading::module_limit_entry_at))]
 fn module_limit_entry_at(version: Version, bytes: &[u8]) -> Result<(Entry, &[u8]), EntryRefused>
-    ensures { Tells (λ x. (x.0, x.1.now)) result (module_limit_entry_at version bytes.now) }
+    ensures { ReadsExactly (λ x. (x.0, x.1.now)) result (module_limit_entry_at version bytes.now) }
 {
     match version {
         Version::One => Err(EntryRefused::Bad),
@@ -70,7 +70,7 @@ pub(crate) fn entry_at(
     version: Version,
     bytes: &[u8],
 ) -> Result<(Entry, &[u8]), EntryRefused>
-    ensures { Gives (λ x. (x.0, x.1.now)) result (entry_at version bytes.now) }
+    ensures { ReadsUnlessMemory (λ x. (x.0, x.1.now)) result (entry_at version bytes.now) }
 {
     let (kind, rest) = byte_at(bytes)?;
     match kind {

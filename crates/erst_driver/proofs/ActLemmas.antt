@@ -15,7 +15,7 @@ use Rattle.erst_interp.specs.declared.refusals.RunRefused.TheVariants.{Register,
 use Rattle.erst_interp.specs.Admission.{takes_input, IsAdmitted, IsAdmittedTable}
 use Rattle.erst_interp.specs.Faithful.{input_limit, with_input, device_after, answer_after, ActsOn, DoesRun, IsRegisterAlone}
 use Rattle.erst_interp.specs.Machine.{machine_end}
-use Rattle.erst_interp.specs.Run.{IsRun, Keeps, RunCause}
+use Rattle.erst_interp.specs.Run.{IsRun, KeepsButDevice, RunCause}
 use Rattle.board_core.specs.Doing.{Seen}
 use Rattle.erst_interp.specs.Steps.Running.{GoesWell}
 use Rattle.erst_interp.specs.Table.{list_of}
@@ -51,7 +51,7 @@ is_device_after s d inside device =
     by true = IsDevice-value s.input d device (input_fits s.action s.input inside.input)
     by false = device
 
-module _ (lists : List (List InstructionEntry)) (s : Step) (a b : Seen) (kept : Relates Keeps a.told b.told)
+module _ (lists : List (List InstructionEntry)) (s : Step) (a b : Seen) (kept : Relates KeepsButDevice a.told b.told)
     (stops : Passes (InStore (StoreBy (device_after s.action s.input) a.told)) a.clock b.clock) where
   store_in : (x y : List Stored) → StoreBy (device_after s.action s.input) a.told x y → StoreIn (λ d. s ∷ []) a.told x y
   unfolding ComesThrough

@@ -22,7 +22,7 @@ use Rattle.erst_driver.specs.declared.refusals.DriverRefused.{DriverRefused}
 use Rattle.erst_driver.specs.declared.refusals.DriverRefused.TheVariants.{Register, Busy, NoMemory, Status as EndedWith}
 use Rattle.erst_driver.specs.declared.step.Step.{Step}
 use Rattle.erst_driver.specs.Steps.Operating.{HasCall, Stays, Leaves}
-use Rattle.erst_driver.specs.Answers.{DoesListing, HasCauseIn, IsMemoryOnly, IsAnswered, refusal_end}
+use Rattle.erst_driver.specs.Answers.{DoesListing, HasCauseIn, IsMemoryOnly, IsAnswered, driver_end}
 use Rattle.erst_driver.specs.Operations.{AreInside, Inside, checks, device_calls, end_by, ends, finishes, is_free_in_time, asks, most_checks, without_input}
 
 -- ---- lists of calls
@@ -112,7 +112,7 @@ module _ {X : Type 0} (see : X → Seen) (calls : List DeviceCall) (Step : List 
       by (Some u) fails = fails
 
   pub does_operation : {T : Type 0} (result : Result T DriverRefused) → Leaves result t (see b).told calls → HasCauseIn result (see a).faults (see b).faults → IsAnswered result
-      → Does see (acts_of calls) (ended_by refusal_end result) a b
+      → Does see (acts_of calls) (ended_by driver_end result) a b
   does_operation (Ok done) told cause answered = went told cause
   does_operation (Err Register) cut cause answered = broken cut cause
   does_operation (Err Busy) told cause answered = went told cause
@@ -161,7 +161,7 @@ module _ {X : Type 0} (see : X → Seen) (a b : X)
         subst (λ (l : Left). Moment (acts_of calls) t l) (sym (by.rest ∙ ap (λ (store : List Stored). record t.here { store = store }) same)) (moment_before calls t has)
 
     pub does_quietly : {T : Type 0} (result : Result T DriverRefused) → Leaves result t (see b).told calls → HasCauseIn result (see a).faults (see b).faults → IsAnswered result
-        → Does see (acts_of calls) (ended_by refusal_end result) a b
+        → Does see (acts_of calls) (ended_by driver_end result) a b
     does_quietly result told cause answered = does_operation see calls (Stays (see a).told) t a b is law passes stays_moments result told cause answered
 
     pub quietly_went : (see b).told ≡ Some (after_acts (acts_of calls) t) → (see b).faults ≡ (see a).faults → Does see (acts_of calls) went_well a b
@@ -184,7 +184,7 @@ module _ {X : Type 0} (see : X → Seen) (a b : X)
   -- one before which nothing was done that the store shows
   pub does_nothing_else : {T : Type 0} (calls : List DeviceCall) (t : Told) → (see a).told ≡ Some t → HasCall calls → Passes (InStore (λ x y. y ≡ x)) (see a).clock (see b).clock
       → (result : Result T DriverRefused) → Leaves result t (see b).told calls → HasCauseIn result (see a).faults (see b).faults → IsAnswered result
-      → Does see (acts_of calls) (ended_by refusal_end result) a b
+      → Does see (acts_of calls) (ended_by driver_end result) a b
   does_nothing_else calls t is has passes result told cause answered = does_operation see calls (λ x y. y ≡ x) t a b is law passes
       (λ left by. subst (λ (l : Left). Moment (acts_of calls) t l) (sym (by.rest ∙ ap (λ (store : List Stored). record t.here { store = store }) by.step)) (moment_before calls t has))
       result told cause answered
@@ -200,5 +200,5 @@ module _ {X : Type 0} (see : X → Seen) (a b : X)
     ]
 
     pub does_to_store : {T : Type 0} (result : Result T DriverRefused) → Leaves result t (see b).told calls → HasCauseIn result (see a).faults (see b).faults → IsAnswered result
-        → Does see (acts_of calls) (ended_by refusal_end result) a b
+        → Does see (acts_of calls) (ended_by driver_end result) a b
     does_to_store result told cause answered = does_operation see calls (Step (see a).told) t a b is law passes store_moments result told cause answered

@@ -14,7 +14,7 @@ use Rattle.board_core.specs.Stop.{Left, InStore}
 use Rattle.board_core.specs.Told.{Told, device_of, Relates}
 use Rattle.erst_interp.specs.declared.entries.InstructionEntry.{InstructionEntry}
 use Rattle.erst_interp.specs.Faithful.{answer_after}
-use Rattle.erst_interp.specs.Run.{Keeps}
+use Rattle.erst_interp.specs.Run.{KeepsButDevice}
 use Rattle.board_core.specs.Doing.{Seen}
 use Rattle.erst_interp.specs.Steps.Running.{GoesWell}
 use Rattle.erst_interp.proofs.TouchLemmas.{well_more, fails_more, well_both, well_fails}
@@ -426,7 +426,7 @@ module _ {X : Type 0} (view : X → List ℕ) (lists : List (List InstructionEnt
   all_refused (Err (Status code)) all = absurd all
   all_refused (Err NoMemory) all = tt
 
-  pub all_kept : (result : Result X DriverRefused) → ListsAll view lists result a b → Relates Keeps a.told b.told
+  pub all_kept : (result : Result X DriverRefused) → ListsAll view lists result a b → Relates KeepsButDevice a.told b.told
   all_kept (Ok found) all = all.done.well.kept
   all_kept (Err Register) all = all.fails.kept
   all_kept (Err Busy) all = absurd all

@@ -9,12 +9,12 @@ use Rattle.board_core.specs.Clock.{Clock, LeftNow, After, Passes}
 use Rattle.board_core.specs.Stop.{Left, InStore}
 use Rattle.board_core.specs.Told.{Told, device_of, Relates}
 use Rattle.erst_interp.specs.declared.entries.InstructionEntry.{InstructionEntry}
-use Rattle.erst_interp.specs.Run.{Keeps}
+use Rattle.erst_interp.specs.Run.{KeepsButDevice}
 use Rattle.board_core.specs.Doing.{Seen}
 use Rattle.erst_driver.specs.declared.refusals.DriverRefused.TheVariants.{Register, Busy, Status as EndedWith, NoMemory}
 use Rattle.erst_driver.specs.declared.step.Step.{Step}
 use Rattle.erst_driver.specs.Operations.{without_input, checks, is_free_in_time, asks, ends, finishes, actions_of, after_step, after_steps, device_calls, told_by, most_checks}
-use Rattle.erst_driver.specs.Answers.{Answer, by_status, answer_of, Gives, HasCauseIn}
+use Rattle.erst_driver.specs.Answers.{Answer, by_status, answer_of, AnswersAs, HasCauseIn}
 use Rattle.erst_driver.specs.Steps.Operating.{Leaves, Over, Plan, ComesThrough, StoreIn, Done, Operates}
 use Rattle.erst_driver.proofs.PlanLemmas.{everywhere, over_more, after_both}
 use Rattle.erst_driver.proofs.WaitLemmas.{checked}
@@ -42,7 +42,7 @@ module _ (T S : List Stored → List Stored → Type 0) (told : Option Told) (ol
   }
 
 module _ (lists : List (List InstructionEntry)) (plan : Plan) (answer : Device → Answer) (a b : Seen) where
-  pub gives_of : (result : Answer) → Operates lists plan answer result a b → Over (λ t. Gives result (answer (device_of t))) a.told
+  pub gives_of : (result : Answer) → Operates lists plan answer result a b → Over (λ t. AnswersAs result (answer (device_of t))) a.told
   gives_of (Ok tt) operates = operates.answers
   gives_of (Err Register) operates = everywhere _ a.told (λ t. tt)
   gives_of (Err Busy) operates = operates.answers
@@ -50,8 +50,8 @@ module _ (lists : List (List InstructionEntry)) (plan : Plan) (answer : Device �
   gives_of (Err NoMemory) operates = absurd operates
 
   pub gives_as : (other : Device → Answer) → ((d : Device) → answer d ≡ other d) → (result : Answer) → Operates lists plan answer result a b
-      → Over (λ t. Gives result (other (device_of t))) a.told
-  gives_as other same result operates = over_more _ _ a.told (gives_of result operates) (λ t is. subst (λ (x : Answer). Gives result x) (same (device_of t)) is)
+      → Over (λ t. AnswersAs result (other (device_of t))) a.told
+  gives_as other same result operates = over_more _ _ a.told (gives_of result operates) (λ t is. subst (λ (x : Answer). AnswersAs result x) (same (device_of t)) is)
 
   leaves : (result : Answer) → Done lists plan a b → Over (λ t. b.told ≡ Some (told_by lists (plan (device_of t)) t)) a.told
   leaves result done = over_more _ _ a.told done.tells (λ t tells. tells.told)
@@ -63,7 +63,7 @@ module _ (lists : List (List InstructionEntry)) (plan : Plan) (answer : Device �
   leaves_of (Err (EndedWith code)) operates = leaves (Err Busy) operates.done
   leaves_of (Err NoMemory) operates = absurd operates
 
-  pub kept_of : (result : Answer) → Operates lists plan answer result a b → Relates Keeps a.told b.told
+  pub kept_of : (result : Answer) → Operates lists plan answer result a b → Relates KeepsButDevice a.told b.told
   kept_of (Ok tt) operates = operates.done.well.kept
   kept_of (Err Register) operates = operates.fails.kept
   kept_of (Err Busy) operates = operates.done.well.kept

@@ -14,7 +14,7 @@ use Rattle.board_core.specs.Clock.{Passes, LeftNow}
 use Rattle.board_core.specs.Stop.{Left, InStore}
 use Rattle.board_core.specs.Told.{Told, device_of, Relates}
 use Rattle.erst_interp.specs.declared.entries.InstructionEntry.{InstructionEntry}
-use Rattle.erst_interp.specs.Run.{Keeps, IsCutShort, acts_of}
+use Rattle.erst_interp.specs.Run.{KeepsButDevice, IsCutShort, acts_of}
 use Rattle.board_core.specs.Doing.{DeviceCall, Seen, after_acts, range_read}
 use Rattle.erst_interp.specs.Steps.Running.{Fails}
 use Rattle.erst_interp.specs.Steps.Running.{Stays as Unchanged}
@@ -25,7 +25,7 @@ use Rattle.erst_driver.specs.declared.step.Step.{Step}
 use Rattle.erst_driver.specs.declared.refusals.DriverRefused.{DriverRefused}
 use Rattle.erst_driver.specs.declared.refusals.DriverRefused.TheVariants.{Register, Busy, NoMemory, Status as EndedWith}
 use Rattle.erst_driver.specs.Operations.{is_free_in_time, actions_of, read_steps, after_steps, device_calls, fetch_calls, told_by}
-use Rattle.erst_driver.specs.Answers.{read_calls, Answer, by_status, found_status, answer_of, answer_on_found, Gives, HasCauseIn, HoldsRecord}
+use Rattle.erst_driver.specs.Answers.{read_calls, Answer, by_status, found_status, answer_of, answer_on_found, AnswersAs, HasCauseIn, HoldsRecord}
 use Rattle.erst_driver.specs.Steps.Operating.{Leaves, Stays, Over, HasDevice, StoreIn, ComesThrough, Done, FailsFetch, Answered, Operates, Reads, Fetched}
 use Rattle.erst_driver.proofs.PlanLemmas.{over_device, over_both_device, over_both, over_more, everywhere}
 use Rattle.erst_driver.proofs.DeviceLemmas.{over_told}
@@ -201,7 +201,7 @@ module _ (lists : List (List InstructionEntry)) (id : ℕ) (buffer : List ℕ) (
   gives_on : (why : DriverRefused) → Over (λ t. Err why ≡ answer_of (read_steps id) (device_of t)) a.told → Over (λ t. Err why ≡ answer_on_found id (device_of t)) a.told
   gives_on why answers = over_device _ _ a.told answers (λ t device is. is ∙ read_answers id (device_of t) device)
 
-  pub read_gives : (result : Answer) → Reads lists (read_steps id) buffer result a b → Over (λ t. Gives result (answer_on_found id (device_of t))) a.told
+  pub read_gives : (result : Answer) → Reads lists (read_steps id) buffer result a b → Over (λ t. AnswersAs result (answer_on_found id (device_of t))) a.told
   read_gives (Ok tt) reads = over_device _ _ a.told reads.answers (λ t device is. is ∙ read_answers id (device_of t) device)
   read_gives (Err Register) reads = everywhere _ a.told (λ t. tt)
   read_gives (Err Busy) reads = gives_on Busy reads.answers
@@ -227,7 +227,7 @@ module _ (lists : List (List InstructionEntry)) (id : ℕ) (buffer : List ℕ) (
   read_told (Err (EndedWith code)) reads = told_on (EndedWith code) reads.done reads.answers
   read_told (Err NoMemory) reads = absurd reads
 
-  pub read_kept : (result : Answer) → Reads lists (read_steps id) buffer result a b → Relates Keeps a.told b.told
+  pub read_kept : (result : Answer) → Reads lists (read_steps id) buffer result a b → Relates KeepsButDevice a.told b.told
   read_kept (Ok tt) reads = reads.well.kept
   read_kept (Err Register) reads = reads.fails.kept
   read_kept (Err Busy) reads = reads.done.well.kept

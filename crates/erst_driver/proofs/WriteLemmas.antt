@@ -17,14 +17,14 @@ use Rattle.board_core.specs.Clock.{Passes, LeftNow}
 use Rattle.board_core.specs.Stop.{Left, InStore}
 use Rattle.board_core.specs.Told.{Told, device_of, Relates, Steps}
 use Rattle.erst_interp.specs.declared.entries.InstructionEntry.{InstructionEntry}
-use Rattle.erst_interp.specs.Run.{Keeps, IsCutShort}
+use Rattle.erst_interp.specs.Run.{KeepsButDevice, IsCutShort}
 use Rattle.board_core.specs.Doing.{Seen, range_write}
 use Rattle.erst_interp.specs.Steps.Running.{GoesWell, Fails, Stays}
 use Rattle.erst_interp.proofs.BreakLemmas.{off_more, off_after}
 use Rattle.erst_interp.proofs.TouchLemmas.{well_both, well_fails, fails_more}
 use Rattle.erst_driver.specs.declared.refusals.DriverRefused.TheVariants.{Register, Busy, NoMemory, Status as EndedWith}
 use Rattle.erst_driver.specs.Operations.{actions_of, write_steps, after_steps, device_calls, put_in_range, write_calls}
-use Rattle.erst_driver.specs.Answers.{Answer, answer_of, written_id, is_put_refused, put_status, store_after_write, answer_on_put, Gives, HasCauseIn}
+use Rattle.erst_driver.specs.Answers.{Answer, answer_of, written_id, is_put_refused, put_status, store_after_write, answer_on_put, AnswersAs, HasCauseIn}
 use Rattle.erst_driver.specs.Steps.Operating.{Leaves, Puts, Over, StoreIn, ComesThrough, Tells, Done, Operates, StoreInWrite, Written, FailsWrite, Writes}
 use Rattle.erst_driver.proofs.PlanLemmas.{over_at, over_more, everywhere}
 use Rattle.erst_driver.proofs.OperationLemmas.{Carries, through_operation, answer_is, passes_at}
@@ -126,7 +126,7 @@ module _ (bytes : List ℕ) (long : header_length ≤ length bytes) (short : len
     gives result written = over_more _ _ a.told written.answers (λ t is. is ∙ answer_is write_steps (device_of (put_in_range bytes t)) (put_status (written_id bytes) t.here.store)
         (store_after_write bytes t.here.store) (write_carries t))
 
-    pub write_gives : (result : Answer) → Writes lists bytes result a b → Over (λ t. Gives result (answer_on_put (written_id bytes) (device_of t))) a.told
+    pub write_gives : (result : Answer) → Writes lists bytes result a b → Over (λ t. AnswersAs result (answer_on_put (written_id bytes) (device_of t))) a.told
     write_gives (Ok done) writes = gives (Ok done) writes
     write_gives (Err Register) writes = everywhere _ a.told (λ t. tt)
     write_gives (Err Busy) writes = gives (Err Busy) writes
@@ -153,7 +153,7 @@ module _ (bytes : List ℕ) (lists : List (List InstructionEntry)) (a b : Seen) 
   write_told (Err (EndedWith code)) writes = over_more _ _ a.told writes.tells (λ t tells. tells.told)
   write_told (Err NoMemory) writes = absurd writes
 
-  pub write_kept : (result : Answer) → Writes lists bytes result a b → Relates Keeps a.told b.told
+  pub write_kept : (result : Answer) → Writes lists bytes result a b → Relates KeepsButDevice a.told b.told
   write_kept (Ok done) writes = writes.well.kept
   write_kept (Err Register) writes = writes.fails.kept
   write_kept (Err Busy) writes = writes.well.kept

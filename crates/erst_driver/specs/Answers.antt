@@ -74,14 +74,14 @@ answer_on_put id d =
 -- ---- what holds unless a call of the board failed
 
 -- This is answered.
-abbrev pub Gives : Answer → Answer → Type 0
-Gives (Err Register) answer = Unit {0}
-Gives result answer = result ≡ answer
+abbrev pub AnswersAs : Answer → Answer → Type 0
+AnswersAs (Err Register) answer = Unit {0}
+AnswersAs result answer = result ≡ answer
 
 -- Register comes if a call of the device failed; all other answers come once all is done.
-abbrev pub refusal_end : DriverRefused → Ended
-refusal_end Register = broke device_call
-refusal_end why = went_well
+abbrev pub driver_end : DriverRefused → Ended
+driver_end Register = broke device_call
+driver_end why = went_well
 
 -- Some of these calls were done, from the first on, and then memory ran out.
 pub record DoesSome {X : Type 0} (see : X → Seen) (calls : List DeviceCall) (old new : X) : Type 0 where
@@ -92,7 +92,7 @@ pub record DoesSome {X : Type 0} (see : X → Seen) (calls : List DeviceCall) (o
 
 abbrev pub DoesListing : {X T : Type 0} → (X → Seen) → List DeviceCall → Result T DriverRefused → X → X → Type 0
 DoesListing see calls (Err NoMemory) old new = DoesSome see calls old new
-DoesListing see calls result old new = Does see (acts_of calls) (ended_by refusal_end result) old new
+DoesListing see calls result old new = Does see (acts_of calls) (ended_by driver_end result) old new
 
 -- Register comes exactly if the count of device calls that failed rose. With any other answer
 -- all counts are as they were.

@@ -13,9 +13,9 @@ ghost use Rattle.erst_store.specs.Device.{header_length, length_place};
 ghost use Rattle.erst_store.specs.DeviceLaws.{IsDevice};
 ghost use Rattle.erst_store.specs.Store.{ids, most_records};
 ghost use Rattle.erst_interp.specs.Admission.{IsAdmittedTable};
-ghost use Rattle.erst_interp.specs.Run.{Keeps, IsCutShort, acts_of};
+ghost use Rattle.erst_interp.specs.Run.{KeepsButDevice, IsCutShort, acts_of};
 ghost use Rattle.erst_driver.specs.Operations.{AreInside, Inside, actions_of, asks, finishes, clear_calls, list_calls, write_calls, put_in_range};
-ghost use Rattle.erst_driver.specs.Answers.{read_calls, refusal_end, DoesListing, answer_within, answer_at, answer_of, answer_on_found, Gives, HasCauseIn, HoldsRecord, IsAnswered, IsMemoryOnly, written_id, answer_on_put};
+ghost use Rattle.erst_driver.specs.Answers.{read_calls, driver_end, DoesListing, answer_within, answer_at, answer_of, answer_on_found, AnswersAs, HasCauseIn, HoldsRecord, IsAnswered, IsMemoryOnly, written_id, answer_on_put};
 ghost use Rattle.erst_driver.specs.Steps.Operating.{asks_within, answers_within, HasDevice, CalledAs, Acts, Runs, Operates, Reads, ListsOut, Collects, ListsAll, Writes};
 
 use crate::refusals::DriverRefused;
@@ -79,11 +79,11 @@ impl Driver {
     /// as it was.
     pub fn clear<B: Board>(&self, id: u64, board: &mut B) -> Result<(), DriverRefused>
         ensures does { IfSome (B.told board.old) (λ t. Does (looks B.told B.clock B.faults)
-            (acts_of (clear_calls self.now id (device_of t))) (ended_by refusal_end result)
+            (acts_of (clear_calls self.now id (device_of t))) (ended_by driver_end result)
             board.old board.new) }
         ensures answers { IfSome (B.told board.old)
-            (λ t. Gives result (answer_on_found id (device_of t))) }
-        ensures kept { Relates Keeps (B.told board.old) (B.told board.new) }
+            (λ t. AnswersAs result (answer_on_found id (device_of t))) }
+        ensures kept { Relates KeepsButDevice (B.told board.old) (B.told board.new) }
         ensures cause { HasCauseIn result (B.faults board.old) (B.faults board.new) }
         ensures refused { IsAnswered result }
         ensures device { IfSome (B.told board.old) (λ t. IsDevice (device_of t)) }
@@ -108,13 +108,13 @@ impl Driver {
     ) -> Result<(), DriverRefused>
         requires { length buf.old ≡ range_length }
         ensures does { IfSome (B.told board.old) (λ t. Does (looks B.told B.clock B.faults)
-            (acts_of (read_calls self.now id (device_of t))) (ended_by refusal_end result)
+            (acts_of (read_calls self.now id (device_of t))) (ended_by driver_end result)
             board.old board.new) }
         ensures answers { IfSome (B.told board.old)
-            (λ t. Gives result (answer_on_found id (device_of t))) }
+            (λ t. AnswersAs result (answer_on_found id (device_of t))) }
         ensures record_read { OnOk result (IfSome (B.told board.old)
             (λ t. HoldsRecord id t.here.store buf.new)) }
-        ensures kept { Relates Keeps (B.told board.old) (B.told board.new) }
+        ensures kept { Relates KeepsButDevice (B.told board.old) (B.told board.new) }
         ensures cause { HasCauseIn result (B.faults board.old) (B.faults board.new) }
         ensures refused { IsAnswered result }
         ensures device { IfSome (B.told board.old) (λ t. IsDevice (device_of t)) }
@@ -140,11 +140,11 @@ impl Driver {
         requires short { length bytes.now ≤ range_length }
         requires whole { number_at length_place 4 bytes.now ≡ length bytes.now }
         ensures does { IfSome (B.told board.old) (λ t. Does (looks B.told B.clock B.faults)
-            (acts_of (write_calls self.now bytes.now (device_of t))) (ended_by refusal_end result)
+            (acts_of (write_calls self.now bytes.now (device_of t))) (ended_by driver_end result)
             board.old board.new) }
         ensures answers { IfSome (B.told board.old)
-            (λ t. Gives result (answer_on_put (written_id bytes.now) (device_of t))) }
-        ensures kept { Relates Keeps (B.told board.old) (B.told board.new) }
+            (λ t. AnswersAs result (answer_on_put (written_id bytes.now) (device_of t))) }
+        ensures kept { Relates KeepsButDevice (B.told board.old) (B.told board.new) }
         ensures cause { HasCauseIn result (B.faults board.old) (B.faults board.new) }
         ensures refused { IsAnswered result }
         ensures device { IfSome (B.told board.old) (λ t. IsDevice (device_of t)) }
@@ -207,7 +207,7 @@ impl Driver {
             (λ t. found.items ≡ ids t.here.store)) }
         ensures few { IfOk result (λ found. length found.items ≤ most_records) }
         ensures refused { IsMemoryOnly result }
-        ensures kept { Relates Keeps (B.told board.old) (B.told board.new) }
+        ensures kept { Relates KeepsButDevice (B.told board.old) (B.told board.new) }
         ensures cause { HasCauseIn result (B.faults board.old) (B.faults board.new) }
         ensures device { IfSome (B.told board.old) (λ t. IsDevice (device_of t)) }
     {

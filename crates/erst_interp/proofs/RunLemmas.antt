@@ -18,7 +18,7 @@ use Rattle.erst_interp.specs.declared.machine.Work.{Work}
 use Rattle.erst_interp.specs.declared.machine.Work as Work
 use Rattle.erst_store.specs.Actions.{range_address}
 use Rattle.erst_store.specs.Device.{Device}
-use Rattle.erst_interp.specs.Run.{Keeps, PassesStore, IsCutShort, AtNext, AfterTurn, IsRun, acts_of, told_after}
+use Rattle.erst_interp.specs.Run.{KeepsButDevice, PassesStore, IsCutShort, AtNext, AfterTurn, IsRun, acts_of, told_after}
 use Rattle.board_core.specs.Doing.{Seen}
 use Rattle.erst_interp.specs.Steps.Running.{start_over, end_within, StoreWithin, GoesWell, Fails, TouchesAs, Turns, StoreInTurn, state_in, state_of}
 use Rattle.erst_interp.proofs.BreakLemmas.{after_both, off_as, off_more}
@@ -212,8 +212,8 @@ way_on-told total list turns input e v w old now new next way turned = by (turn 
         }))
 
 pub way_on : (total : ℕ) (list : List InstructionEntry) (turns input : ℕ) (e : InstructionEntry) (v w : Variables) (old now new : Option Told) → slice_get list v.index ≡ Some e
-    → Way total list (suc turns) input v old now → IfSome now (λ t. Turns (Ok w) (turn e (state_in v t)) t new) → Relates Keeps now new → Way total list turns input w old new
-way_on total list turns input e v w None now new next way turned kept = subst (λ (told : Option Told). Relates Keeps told new) way kept
+    → Way total list (suc turns) input v old now → IfSome now (λ t. Turns (Ok w) (turn e (state_in v t)) t new) → Relates KeepsButDevice now new → Way total list turns input w old new
+way_on total list turns input e v w None now new next way turned kept = subst (λ (told : Option Told). Relates KeepsButDevice told new) way kept
 way_on total list turns input e v w (Some old) None new next way turned kept = absurd way
 way_on total list turns input e v w (Some old) (Some now) new next way turned kept = way_on-told total list turns input e v w old now new next way turned
 

@@ -13,7 +13,7 @@ use Rattle.board_core.specs.declared.board.Reg.{Reg}
 use Rattle.board_core.specs.declared.board.Reg.TheVariants.{Action, Value}
 use Rattle.board_core.specs.declared.board.Access.TheVariants.{Write as Writes}
 use Rattle.board_core.specs.Told.{Told, Relates, Steps, device_of, on_device, with_access, after_reg_write, MayAct, MayListAccess, FailsAccess}
-use Rattle.erst_interp.specs.Run.{Keeps}
+use Rattle.erst_interp.specs.Run.{KeepsButDevice}
 
 abbrev IsAsSlow : Device → Device → Type 0
 IsAsSlow d e = e.slow ≡ d.slow
@@ -64,29 +64,29 @@ register-slow Value value d = refl
 
 -- ---- a write to a register, whether or not it fails
 
-acts : (reg : Reg) (value : ℕ) (t : Told) → Keeps t (on_device (after_reg_write reg value) t)
+acts : (reg : Reg) (value : ℕ) (t : Told) → KeepsButDevice t (on_device (after_reg_write reg value) t)
 acts reg value t = record { here = refl; disk_calls = refl; slow = register-slow reg value (device_of t) }
 
-may_act : (reg : Reg) (value : ℕ) (t u : Told) → MayAct (after_reg_write reg value) t u → Keeps t u
-may_act reg value t u (inl same) = subst (λ (v : Told). Keeps t v) (sym same) (record { here = refl; disk_calls = refl; slow = refl })
-may_act reg value t u (inr acted) = subst (λ (v : Told). Keeps t v) (sym acted) (acts reg value t)
+may_act : (reg : Reg) (value : ℕ) (t u : Told) → MayAct (after_reg_write reg value) t u → KeepsButDevice t u
+may_act reg value t u (inl same) = subst (λ (v : Told). KeepsButDevice t v) (sym same) (record { here = refl; disk_calls = refl; slow = refl })
+may_act reg value t u (inr acted) = subst (λ (v : Told). KeepsButDevice t v) (sym acted) (acts reg value t)
 
-fails : (reg : Reg) (value : ℕ) (t u : Told) → FailsAccess (Writes reg value) (after_reg_write reg value) t u → Keeps t u
+fails : (reg : Reg) (value : ℕ) (t u : Told) → FailsAccess (Writes reg value) (after_reg_write reg value) t u → KeepsButDevice t u
 fails reg value t u is = listed_is is.listed (may_act reg value t is.told is.acted)
   where
-    listed_is : MayListAccess (Writes reg value) is.told u → Keeps t is.told → Keeps t u
-    listed_is (inl same) kept = subst (λ (v : Told). Keeps t v) (sym same) kept
-    listed_is (inr more) kept = subst (λ (v : Told). Keeps t v) (sym more) (record { here = kept.here; disk_calls = kept.disk_calls; slow = kept.slow })
+    listed_is : MayListAccess (Writes reg value) is.told u → KeepsButDevice t is.told → KeepsButDevice t u
+    listed_is (inl same) kept = subst (λ (v : Told). KeepsButDevice t v) (sym same) kept
+    listed_is (inr more) kept = subst (λ (v : Told). KeepsButDevice t v) (sym more) (record { here = kept.here; disk_calls = kept.disk_calls; slow = kept.slow })
 
 pub write_keeps : (reg : Reg) (value : ℕ) (old new : Option Told)
-    → Steps (λ t. with_access (Writes reg value) (on_device (after_reg_write reg value) t)) old new → Relates Keeps old new
+    → Steps (λ t. with_access (Writes reg value) (on_device (after_reg_write reg value) t)) old new → Relates KeepsButDevice old new
 write_keeps reg value None new is = is
 write_keeps reg value (Some t) new is =
     let kept = acts reg value t in
-    subst (λ (o : Option Told). Relates Keeps (Some t) o) (sym is) (record { here = kept.here; disk_calls = kept.disk_calls; slow = kept.slow })
+    subst (λ (o : Option Told). Relates KeepsButDevice (Some t) o) (sym is) (record { here = kept.here; disk_calls = kept.disk_calls; slow = kept.slow })
 
 pub write_fails_keeps : (reg : Reg) (value : ℕ) (old new : Option Told)
-    → Relates (FailsAccess (Writes reg value) (after_reg_write reg value)) old new → Relates Keeps old new
+    → Relates (FailsAccess (Writes reg value) (after_reg_write reg value)) old new → Relates KeepsButDevice old new
 write_fails_keeps reg value None new is = is
 write_fails_keeps reg value (Some t) None is = absurd is
 write_fails_keeps reg value (Some t) (Some u) is = fails reg value t u is

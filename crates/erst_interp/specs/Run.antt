@@ -30,7 +30,7 @@ IsRun answer end old new = (answer ≡ end.answer) × (new ≡ Some (told_after 
 
 -- Of what is told, the record store, the rest of the device and the accesses alone change, and the
 -- device stays as slow as it was.
-pub record Keeps (old new : Told) : Type 0 where
+pub record KeepsButDevice (old new : Told) : Type 0 where
   pub here : new.here ≡ record old.here { store = new.here.store }
   pub disk_calls : new.disk_calls ≡ old.disk_calls
   pub slow : new.volatile.slow ≡ old.volatile.slow

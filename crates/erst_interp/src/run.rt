@@ -11,7 +11,7 @@ ghost use Rattle.erst_interp.specs.Admission.{IsAdmitted};
 ghost use Rattle.erst_interp.specs.Faithful.{input_limit, device_after, DoesRun, IsRegisterAlone};
 ghost use Rattle.erst_interp.specs.Machine.{turn, machine_end};
 ghost use Rattle.erst_interp.specs.Steps.Parts.{use_of, is_straight, is_straight_use, GoesOn, uses_register};
-ghost use Rattle.erst_interp.specs.Run.{IsRun, Keeps, RunCause, StoreInRun};
+ghost use Rattle.erst_interp.specs.Run.{IsRun, KeepsButDevice, RunCause, StoreInRun};
 ghost use Rattle.erst_interp.specs.Steps.Running.{end_over, end_within, StoreOver, StoreWithin, Turns, TouchesAs, StoreInTurn, state_in};
 ghost use Rattle.erst_interp.specs.Table.{list_of};
 
@@ -41,7 +41,7 @@ impl Table {
         ensures runs { IfSome (B.told board.old)
             (λ t. IsRun result (machine_end (list_of action self.now) input (device_of t)) t
             (B.told board.new)) }
-        ensures kept { Relates Keeps (B.told board.old) (B.told board.new) }
+        ensures kept { Relates KeepsButDevice (B.told board.old) (B.told board.new) }
         ensures stops { Passes
             (InStore (StoreInRun (list_of action self.now) input (B.told board.old)))
             (B.clock board.old) (B.clock board.new) }

@@ -14,8 +14,8 @@ use Rattle.ras_base.specs.Steps.LittleEndianLemmas.{AreBytes-drop, length-u32_by
 use Rattle.erst_store.specs.declared.reading.StoreRefused.{StoreRefused}
 use Rattle.erst_store.specs.declared.reading.StoreRefused.TheVariants.{Malformed, NoMemory}
 use Rattle.erst_store.specs.Store.{Stored, Fits, IsStore, most_records, most_bytes, all_ones, is_reserved, ids, contents, holds, refusal_of}
-use Rattle.erst_store.specs.StoreFile.{record_bytes, heading, store_bytes, Reads, ReadsBack}
-use Rattle.erst_store.specs.Steps.StoreReading.{Fails, Gives, front_number, front_record, may_follow, with_next, records_at, count_at, file_at}
+use Rattle.erst_store.specs.StoreFile.{record_bytes, heading, store_bytes, ReadsStore, ReadsBack}
+use Rattle.erst_store.specs.Steps.StoreReading.{FailsStore, GivesStore, front_number, front_record, may_follow, with_next, records_at, count_at, file_at}
 
 -- ---- steps that gave a value
 
@@ -190,8 +190,8 @@ goes_on count i before new bytes after r total lt read follow so_far =
     let one : records_at (count - i) before bytes ≡ records_at (count - (i + 1)) new after = rw (k, read, follow) refl in
     sym one ∙ so_far
 
-pub ends_read : (e : StoreRefused) (count i : ℕ) (before : List Stored) (bytes : List ℕ) (total : Result (List Stored) StoreRefused) → i < count → Fails e (front_record bytes)
-    → records_at (count - i) before bytes ≡ total → Fails e total
+pub ends_read : (e : StoreRefused) (count i : ℕ) (before : List Stored) (bytes : List ℕ) (total : Result (List Stored) StoreRefused) → i < count → FailsStore e (front_record bytes)
+    → records_at (count - i) before bytes ≡ total → FailsStore e total
 unfolding records_at
 ends_read NoMemory count i before bytes total lt fails so_far = tt
 ends_read Malformed count i before bytes total lt fails so_far =
@@ -199,8 +199,8 @@ ends_read Malformed count i before bytes total lt fails so_far =
     let one : records_at (count - i) before bytes ≡ Err Malformed = rw (k, fails) refl in
     sym so_far ∙ one
 
-pub ends_follow : (e : StoreRefused) (count i : ℕ) (before : List Stored) (bytes after : List ℕ) (r : Stored) (total : Result (List Stored) StoreRefused) → i < count → front_record bytes ≡ Ok (r, after) → Fails e (with_next r before)
-    → records_at (count - i) before bytes ≡ total → Fails e total
+pub ends_follow : (e : StoreRefused) (count i : ℕ) (before : List Stored) (bytes after : List ℕ) (r : Stored) (total : Result (List Stored) StoreRefused) → i < count → front_record bytes ≡ Ok (r, after) → FailsStore e (with_next r before)
+    → records_at (count - i) before bytes ≡ total → FailsStore e total
 unfolding records_at
 ends_follow NoMemory count i before bytes after r total lt read fails so_far = tt
 ends_follow Malformed count i before bytes after r total lt read fails so_far =
@@ -235,14 +235,14 @@ unfolding file_at count_at
 file_again records kept =
     rw (u32_again (length records) (flat_map record_bytes records) (omega (arith, kept.count))) (records_again [] records kept)
 
-pub is_read : (bytes : List ℕ) (r : Result (List Stored) StoreRefused) → AreBytes bytes → Gives (λ s. s) r (file_at bytes) → Reads bytes r
+pub is_read : (bytes : List ℕ) (r : Result (List Stored) StoreRefused) → AreBytes bytes → GivesStore (λ s. s) r (file_at bytes) → ReadsStore bytes r
 is_read bytes (Ok all) fits given = file_takes bytes all fits given
 is_read bytes (Err NoMemory) fits given = tt
 is_read bytes (Err Malformed) fits given = λ records kept is.
     let found : file_at bytes ≡ Ok records = ap file_at is ∙ file_again records kept in
     absurd cc
 
-pub is_read_back : (bytes : List ℕ) (r : Result (List Stored) StoreRefused) (records : List Stored) → Gives (λ s. s) r (file_at bytes) → IsStore records → bytes ≡ store_bytes records → ReadsBack records r
+pub is_read_back : (bytes : List ℕ) (r : Result (List Stored) StoreRefused) (records : List Stored) → GivesStore (λ s. s) r (file_at bytes) → IsStore records → bytes ≡ store_bytes records → ReadsBack records r
 is_read_back bytes (Ok all) records given kept is =
     let found : file_at bytes ≡ Ok records = ap file_at is ∙ file_again records kept in
     ok_is all records (sym given ∙ found)

@@ -81,12 +81,12 @@ refusal_of id bytes records =
     else (if is_full_for id records then Some StoreFull else None))
 
 -- A put answers its refusal. Where there is none, it goes well or memory runs out.
-abbrev pub Answers : {X : Type 0} → Result X PutRefused → Option PutRefused → Type 0
-Answers (Ok _) refusal = refusal ≡ None
-Answers (Err NoMemory) refusal = refusal ≡ None
-Answers (Err ReservedId) refusal = refusal ≡ Some ReservedId
-Answers (Err TooLong) refusal = refusal ≡ Some TooLong
-Answers (Err StoreFull) refusal = refusal ≡ Some StoreFull
+abbrev pub AnswersRefusal : {X : Type 0} → Result X PutRefused → Option PutRefused → Type 0
+AnswersRefusal (Ok _) refusal = refusal ≡ None
+AnswersRefusal (Err NoMemory) refusal = refusal ≡ None
+AnswersRefusal (Err ReservedId) refusal = refusal ≡ Some ReservedId
+AnswersRefusal (Err TooLong) refusal = refusal ≡ Some TooLong
+AnswersRefusal (Err StoreFull) refusal = refusal ≡ Some StoreFull
 
 -- Two stores are the same but for the record under one identifier: all others keep their bytes and
 -- their order.

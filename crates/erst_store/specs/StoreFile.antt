@@ -23,10 +23,10 @@ abbrev pub IsNoStoreFile : List ℕ → Type 0
 IsNoStoreFile bytes = (records : List Stored) → IsStore records → ¬ (bytes ≡ store_bytes records)
 
 -- A read gives the store whose bytes these are, or says that there is none, or runs out of memory.
-abbrev pub Reads : List ℕ → Result (List Stored) StoreRefused → Type 0
-Reads bytes (Ok records) = bytes ≡ store_bytes records
-Reads bytes (Err Malformed) = IsNoStoreFile bytes
-Reads bytes (Err NoMemory) = Unit {0}
+abbrev pub ReadsStore : List ℕ → Result (List Stored) StoreRefused → Type 0
+ReadsStore bytes (Ok records) = bytes ≡ store_bytes records
+ReadsStore bytes (Err Malformed) = IsNoStoreFile bytes
+ReadsStore bytes (Err NoMemory) = Unit {0}
 
 -- What a read gives where the bytes are those of a store: this store, unless memory runs out.
 abbrev pub ReadsBack : List Stored → Result (List Stored) StoreRefused → Type 0

@@ -3,7 +3,7 @@ ghost use Rattle.std.specs.Prelude.{◌≡◌, ◌≢◌, ◌+◌, ◌≤◌, �
 ghost use Rattle.std.specs.Option.{option_map};
 ghost use Rattle.erst_store.specs.declared.device.Command.TheVariants.{Write};
 ghost use Rattle.erst_store.specs.Actions.{execute_operation, range_length};
-ghost use Rattle.erst_store.specs.Store.{refusal_of, Answers};
+ghost use Rattle.erst_store.specs.Store.{refusal_of, AnswersRefusal};
 ghost use Rattle.erst_store.specs.Device.{new_device, act, after_check, after_listing, after_write_command, after_read, after_clear, after_command, range_with_record, range_with, with_put, status_number};
 ghost use Rattle.erst_store.specs.DeviceLaws.{IsDevice, MayChange};
 ghost use Rattle.erst_store.specs.Steps.DeviceView.{FindsRecord};
@@ -244,7 +244,7 @@ impl Dev {
     pub fn put(&mut self, id: u64, bytes: &[u8]) -> Result<(), PutRefused>
         ensures ok { OnOk result (self.new ≡ with_put id bytes.now self.old) }
         ensures err { OnErr result (self.new ≡ self.old) }
-        ensures refused { Answers result (refusal_of id bytes.now self.old.store) }
+        ensures refused { AnswersRefusal result (refusal_of id bytes.now self.old.store) }
         ensures kept { IsDevice self.new }
     {
         self.store.put(id, bytes)?;
@@ -279,7 +279,7 @@ impl Dev {
         }
     }
 
-    // Answers whether the device is busy, and uses up one busy answer.
+    // AnswersRefusal whether the device is busy, and uses up one busy answer.
     fn check_busy(&mut self)
         ensures { self.new ≡ after_check self.old }
     {
@@ -291,7 +291,7 @@ impl Dev {
         }
     }
 
-    // Answers the identifier at the cursor and moves on, or ends the list and begins it again.
+    // AnswersRefusal the identifier at the cursor and moves on, or ends the list and begins it again.
     fn list_id(&mut self)
         ensures lists { self.new ≡ after_listing self.old }
         ensures kept { IsDevice self.new }

@@ -1,8 +1,8 @@
 //! The store file: a store as bytes, and bytes as a store.
 ghost use Rattle.std.specs.Prelude.{◌≡◌, ◌≤◌, List, [], ◌++◌, length, IfOk, OnOk};
 ghost use Rattle.erst_store.specs.Store.{Stored, IsStore};
-ghost use Rattle.erst_store.specs.StoreFile.{record_bytes, store_bytes, Reads, ReadsBack};
-ghost use Rattle.erst_store.specs.Steps.StoreReading.{Gives, front_number, front_record, with_next, records_at, count_at, file_at};
+ghost use Rattle.erst_store.specs.StoreFile.{record_bytes, store_bytes, ReadsStore, ReadsBack};
+ghost use Rattle.erst_store.specs.Steps.StoreReading.{GivesStore, front_number, front_record, with_next, records_at, count_at, file_at};
 
 use crate::store::{PutRefused, Store};
 use ras_base::NoMemory;
@@ -44,7 +44,7 @@ impl Store {
     /// `Malformed` comes exactly if the bytes are no store file, and nothing but memory keeps a
     /// store file from being read.
     pub fn from_bytes(alloc: Global, bytes: &[u8]) -> Result<Store, StoreRefused>
-        ensures read { Reads bytes.now result }
+        ensures read { ReadsStore bytes.now result }
         ensures back { (records : List Stored) → IsStore records → bytes.now ≡ store_bytes records
             → ReadsBack records result }
     {
@@ -53,7 +53,7 @@ impl Store {
 
     // Puts a record after all others, if it may stand there.
     fn append(&mut self, id: u64, bytes: &[u8]) -> Result<(), StoreRefused>
-        ensures { Gives (λ _. self.new) result (with_next (record { id = id; bytes = bytes.now })
+        ensures { GivesStore (λ _. self.new) result (with_next (record { id = id; bytes = bytes.now })
             self.old) }
     {
         if self.place(id).is_some() {
@@ -81,7 +81,7 @@ fn push_record(out: &mut Vec<u8>, id: u64, bytes: &[u8]) -> Result<(), NoMemory>
 
 // The number in the first 4 bytes, and the bytes after it.
 fn front_u32(bytes: &[u8]) -> Result<(u32, &[u8]), StoreRefused>
-    ensures { Gives (λ x. (x.0, x.1.now)) result (front_number 4 bytes.now) }
+    ensures { GivesStore (λ x. (x.0, x.1.now)) result (front_number 4 bytes.now) }
 {
     if bytes.len() < 4 {
         return Err(StoreRefused::Malformed);
@@ -92,7 +92,7 @@ fn front_u32(bytes: &[u8]) -> Result<(u32, &[u8]), StoreRefused>
 
 // The number in the first 8 bytes, and the bytes after it.
 fn front_u64(bytes: &[u8]) -> Result<(u64, &[u8]), StoreRefused>
-    ensures { Gives (λ x. (x.0, x.1.now)) result (front_number 8 bytes.now) }
+    ensures { GivesStore (λ x. (x.0, x.1.now)) result (front_number 8 bytes.now) }
 {
     if bytes.len() < 8 {
         return Err(StoreRefused::Malformed);
@@ -104,7 +104,7 @@ fn front_u64(bytes: &[u8]) -> Result<(u64, &[u8]), StoreRefused>
 // The number of records that a file tells, and the bytes after it.
 #[tactic(auto, unfolding(crate::specs::StoreReading::count_at))]
 fn count_of(bytes: &[u8]) -> Result<(u32, &[u8]), StoreRefused>
-    ensures { Gives (λ x. (x.0, x.1.now)) result (count_at bytes.now) }
+    ensures { GivesStore (λ x. (x.0, x.1.now)) result (count_at bytes.now) }
 {
     match bytes.strip_prefix(MAGIC) {
         Some(rest) => front_u32(rest),
@@ -115,7 +115,7 @@ fn count_of(bytes: &[u8]) -> Result<(u32, &[u8]), StoreRefused>
 // The first record of these bytes, and the bytes after it.
 #[tactic(auto, unfolding(crate::specs::StoreReading::front_record))]
 fn front_record(bytes: &[u8]) -> Result<(u64, &[u8], &[u8]), StoreRefused>
-    ensures { Gives (λ x. (record { id = x.0; bytes = x.1.now }, x.2.now)) result (front_record bytes.now) }
+    ensures { GivesStore (λ x. (record { id = x.0; bytes = x.1.now }, x.2.now)) result (front_record bytes.now) }
 {
     let (id, rest) = front_u64(bytes)?;
     let (len, rest) = front_u32(rest)?;
@@ -129,7 +129,7 @@ fn front_record(bytes: &[u8]) -> Result<(u64, &[u8], &[u8]), StoreRefused>
 
 // A store of this many records, which are all of these bytes.
 fn records_of(alloc: Global, count: u32, bytes: &[u8]) -> Result<Store, StoreRefused>
-    ensures { Gives (λ s. s) result (records_at count [] bytes.now) }
+    ensures { GivesStore (λ s. s) result (records_at count [] bytes.now) }
 {
     let mut store = Store::new(alloc);
     let mut rest = bytes;
@@ -147,7 +147,7 @@ fn records_of(alloc: Global, count: u32, bytes: &[u8]) -> Result<Store, StoreRef
 // The store whose file these bytes are, all of them.
 #[tactic(auto, unfolding(crate::specs::StoreReading::file_at))]
 fn read_all(alloc: Global, bytes: &[u8]) -> Result<Store, StoreRefused>
-    ensures { Gives (λ s. s) result (file_at bytes.now) }
+    ensures { GivesStore (λ s. s) result (file_at bytes.now) }
 {
     let (count, rest) = count_of(bytes)?;
     records_of(alloc, count, rest)

@@ -3,7 +3,7 @@ ghost use Rattle.std.specs.Prelude.{◌≡◌, ◌<◌, ◌≤◌, length, [], O
 ghost use Rattle.std.specs.List.{position};
 ghost use Rattle.std.specs.Bool.{IsFalse};
 ghost use Rattle.std.specs.Option.{option_map};
-ghost use Rattle.erst_store.specs.Store.{Fits, IsStore, ids, contents, holds, bytes_under, with_record, without, refusal_of, Answers, SameBut};
+ghost use Rattle.erst_store.specs.Store.{Fits, IsStore, ids, contents, holds, bytes_under, with_record, without, refusal_of, AnswersRefusal, SameBut};
 ghost use Rattle.erst_store.specs.Steps.View.{views, StandsAt, Places, Finds};
 
 use ras_base::NoMemory;
@@ -90,7 +90,7 @@ impl Store {
     pub fn put(&mut self, id: u64, bytes: &[u8]) -> Result<(), PutRefused>
         ensures ok { OnOk result (self.new ≡ with_record id bytes.now self.old) }
         ensures err { OnErr result (self.new ≡ self.old) }
-        ensures refused { Answers result (refusal_of id bytes.now self.old) }
+        ensures refused { AnswersRefusal result (refusal_of id bytes.now self.old) }
         ensures found { OnOk result (bytes_under id self.new ≡ Some bytes.now) }
         ensures others { SameBut id self.old self.new }
         ensures kept { OnOk result (IsStore self.new) }

@@ -23,7 +23,7 @@ use Rattle.entry_format.specs.declared.refused.EntryRefused.{EntryRefused}
 use Rattle.entry_format.specs.declared.refused.EntryRefused.TheVariants.{Bad}
 use Rattle.entry_format.specs.Spelling.{name_bytes, limit_bytes}
 use Rattle.entry_format.proofs.LoopLemmas.{is_failed}
-use Rattle.entry_format.specs.Reading.{Refuses, both_at, some_or_bad, if_passes, whole_at, u64_at, name_at, limit_at}
+use Rattle.entry_format.specs.Reading.{RefusesExactly, both_at, some_or_bad, if_passes, whole_at, u64_at, name_at, limit_at}
 use Rattle.entry_format.proofs.CodecLemmas.{Reads, bind_ok, ok_is, rest_fits, both_read, made_read}
 use Rattle.entry_format.proofs.FieldLemmas.{u64_read, tested}
 use Rattle.entry_format.proofs.NameFormatLemmas.{name_read}
@@ -449,7 +449,7 @@ holds_of version bytes f rest a read e =
     let all : Holds version p.front.1.1.1 p.after_front a × AreTaken a = subst (λ (b : State). Holds version p.front.1.1.1 p.after_front b × AreTaken b) p.whole (held version bytes a p, taken version bytes a p) in
     subst (λ (q : CheckpointFront × List ℕ). Holds version q.0.1.1.1 q.1 a × AreTaken a) same all
 
-pub unread_front : (version : Version) (bytes : List ℕ) (refused : EntryRefused) (a : State) → Refuses refused (front_at version bytes) → refused ≡ Bad → checkpoint_in version bytes ≡ Ok a → ⊥
+pub unread_front : (version : Version) (bytes : List ℕ) (refused : EntryRefused) (a : State) → RefusesExactly refused (front_at version bytes) → refused ≡ Bad → checkpoint_in version bytes ≡ Ok a → ⊥
 unread_front version bytes refused a refuses is e =
     let p = parts_of version bytes a e in
     unread (front_at version bytes) refused (p.front, p.after_front) (is_failed refused (front_at version bytes) refuses) is p.front_is

@@ -19,7 +19,7 @@ use Rattle.ras_account.specs.Fresh.{is_among}
 use Rattle.journal_format.specs.Steps.Decoding.{AreNames, AreModules, ArePages}
 use Rattle.ras_base.specs.Chaining.{◌>>=◌}
 use Rattle.entry_format.specs.declared.refused.EntryRefused.{EntryRefused}
-use Rattle.entry_format.specs.Reading.{Reader, Gives, Fails, Refuses, many_at, u64_at}
+use Rattle.entry_format.specs.Reading.{Reader, ReadsUnlessMemory, FailsUnlessMemory, RefusesExactly, many_at, u64_at}
 use Rattle.entry_format.specs.declared.refused.EntryRefused.TheVariants.{Bad, NoMemory}
 use Rattle.ras_account.specs.Account.{State, weight_in}
 use Rattle.ras_account.specs.Rows.{with_name, with_module, with_page}
@@ -46,12 +46,12 @@ refused_amid {A} r Sound held count i bytes total lt refused so_far xs rest all 
     refused q.0.0 o.0.0 q.0.1 q.1 (subst Sound (sym (ap (λ (ys : List A). held ++ ys) tail ∙ list)) sound)
 
 -- what isn't read is none
-pub unread : {B : Type 0} (total : Result B EntryRefused) (refused : EntryRefused) (y : B) → Fails refused total → refused ≡ Bad → total ≡ Ok y → ⊥
+pub unread : {B : Type 0} (total : Result B EntryRefused) (refused : EntryRefused) (y : B) → FailsUnlessMemory refused total → refused ≡ Bad → total ≡ Ok y → ⊥
 unread total NoMemory y fails is all = absurd cc
 unread total Bad y fails is all = let wrong = sym fails ∙ all in absurd cc
 
 -- no whole list is read where none of its rows stands there
-pub unread_amid : {A : Type 0} (total : Result (List A × List ℕ) EntryRefused) (refused : EntryRefused) (xs : List A) (rest : List ℕ) → Fails refused total → refused ≡ Bad → total ≡ Ok (xs, rest) → ⊥
+pub unread_amid : {A : Type 0} (total : Result (List A × List ℕ) EntryRefused) (refused : EntryRefused) (xs : List A) (rest : List ℕ) → FailsUnlessMemory refused total → refused ≡ Bad → total ≡ Ok (xs, rest) → ⊥
 unread_amid total refused xs rest fails is all = unread total refused (xs, rest) fails is all
 
 -- a row that was read twice
@@ -131,13 +131,13 @@ pub listed : {A : Type 0} (r : Reader A) (bytes : List ℕ) (count : ℕ) (rest 
 unfolding list_at
 listed r bytes count rest read = ap (λ n. n >>= λ m. many_at r m.0 m.1) read
 
-pub unlisted : {A : Type 0} (r : Reader A) (bytes : List ℕ) (refused : EntryRefused) → Refuses refused (u64_at bytes) → Fails refused (list_at r bytes)
+pub unlisted : {A : Type 0} (r : Reader A) (bytes : List ℕ) (refused : EntryRefused) → RefusesExactly refused (u64_at bytes) → FailsUnlessMemory refused (list_at r bytes)
 unfolding list_at
 unlisted r bytes NoMemory fails = tt
 unlisted r bytes Bad fails = ap (λ n. n >>= λ m. many_at r m.0 m.1) fails
 
 -- what holds of all that is read holds of what was returned
 pub read_is : {X A : Type 0} (r : Reader A) (s : A → List ℕ) (V : A → Type 0) (P : X → Type 0) → Reads r s V → (view : X → A × List ℕ) → ((x : X) → V (view x).0 → P x)
-    → (bytes : List ℕ) (result : Result X EntryRefused) → AreBytes bytes → Gives view result (r bytes) → IfOk result P
+    → (bytes : List ℕ) (result : Result X EntryRefused) → AreBytes bytes → ReadsUnlessMemory view result (r bytes) → IfOk result P
 read_is r s V P reads view to bytes (Ok x) fits given = to x (reads.takes bytes (view x).0 (view x).1 fits given).1
 read_is r s V P reads view to bytes (Err refused) fits given = tt

@@ -12,7 +12,7 @@ use Rattle.entry_format.specs.Spelling.{entry_bytes, entries_bytes}
 use Rattle.entry_format.specs.File.{IsEntryOf, AreEntriesOf}
 use Rattle.entry_format.specs.declared.refused.EntryRefused.{EntryRefused}
 use Rattle.entry_format.specs.declared.refused.EntryRefused.TheVariants.{Bad, NoMemory}
-use Rattle.entry_format.specs.Reading.{Refuses, if_passes, many_at, whole_at, u32_at, entry_at}
+use Rattle.entry_format.specs.Reading.{RefusesExactly, if_passes, many_at, whole_at, u32_at, entry_at}
 use Rattle.entry_format.proofs.CodecLemmas.{Reads, bind_ok, ok_is, rest_fits, made_read, many_read}
 use Rattle.entry_format.proofs.CodecLemmas.{Makes}
 use Rattle.entry_format.proofs.FieldLemmas.{u32_read, tested}
@@ -119,7 +119,7 @@ payload_is_listed version bytes n rest r read listed es is enough =
     listed es (record { each = is.each; spelled = ap (λ (p : ℕ × List ℕ). p.1) same }) (sym (ap (λ (p : ℕ × List ℕ). p.0) same)) enough
 
 -- no payload is refused for its count
-pub payload_is_counted : (version : Version) (bytes : List ℕ) (es : List Entry) (refused : EntryRefused) → IsPayload version es bytes → Refuses refused (count_at bytes) → ⊥
+pub payload_is_counted : (version : Version) (bytes : List ℕ) (es : List Entry) (refused : EntryRefused) → IsPayload version es bytes → RefusesExactly refused (count_at bytes) → ⊥
 payload_is_counted version bytes es NoMemory is refused = refused
 payload_is_counted version bytes es Bad is refused = let wrong = sym refused ∙ counted version bytes es is in absurd cc
 

@@ -4,7 +4,7 @@ ghost use Rattle.std.specs.Bool.{IsFalse};
 ghost use Rattle.std.specs.List.{flat_map};
 ghost use Rattle.ras_facts.specs.Entries.{IsValidEntry};
 ghost use Rattle.entry_format.specs.Spelling.{entry_bytes};
-ghost use Rattle.entry_format.specs.Reading.{Tells};
+ghost use Rattle.entry_format.specs.Reading.{ReadsExactly};
 ghost use Rattle.journal_format.specs.PayloadReading.{count_at};
 ghost use Rattle.journal_format.specs.Links.{payload_bytes, link_bytes, IsPayload, CanLink, link_length, ends_early, payload_in};
 
@@ -96,7 +96,7 @@ fn payload_in(bytes: &[u8]) -> &[u8]
 // The number of a link's entries.
 #[tactic(auto, unfolding(crate::specs::PayloadReading::count_at))]
 fn count_at(bytes: &[u8]) -> Result<(u32, &[u8]), EntryRefused>
-    ensures { Tells (λ x. (x.0, x.1.now)) result (count_at bytes.now) }
+    ensures { ReadsExactly (λ x. (x.0, x.1.now)) result (count_at bytes.now) }
 {
     let (count, rest) = u32_at(bytes)?;
     if 1 <= count && count <= MOST_LINK_ENTRIES as u32 {

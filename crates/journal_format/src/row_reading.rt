@@ -4,7 +4,7 @@ ghost use Rattle.std.specs.Prelude.{◌≡◌, ◌≤◌, IfOk};
 ghost use Rattle.page_policy.specs.Buckets.{IsLimit, most_count};
 ghost use Rattle.ras_facts.specs.Valid.{IsPage};
 ghost use Rattle.ras_account.specs.Accounts.{IsModuleRow};
-ghost use Rattle.entry_format.specs.Reading.{Gives, Tells, u64_at, many_at};
+ghost use Rattle.entry_format.specs.Reading.{ReadsUnlessMemory, ReadsExactly, u64_at, many_at};
 ghost use Rattle.ras_account.specs.Rows.{row_of};
 ghost use Rattle.journal_format.specs.CheckpointReading.{replace_of, replace_at, bucket_at, replacement_at, module_at, page_state_of, page_state_at, page_row_at, entry_count_at, front_at, end_floor_at, floor_in};
 ghost use Rattle.journal_format.specs.Steps.Fronts.{front_of};
@@ -28,7 +28,7 @@ pub(crate) struct CheckpointFront {
 // A bucket.
 #[tactic(auto, unfolding(crate::specs::CheckpointReading::bucket_at))]
 fn bucket_at(bytes: &[u8]) -> Result<(Bucket, &[u8]), EntryRefused>
-    ensures { Tells (λ x. (x.0, x.1.now)) result (bucket_at bytes.now) }
+    ensures { ReadsExactly (λ x. (x.0, x.1.now)) result (bucket_at bytes.now) }
 {
     let (count, rest) = u64_at(bytes)?;
     let (stamp, rest) = u64_at(rest)?;
@@ -45,7 +45,7 @@ fn bucket_at(bytes: &[u8]) -> Result<(Bucket, &[u8]), EntryRefused>
 // Whether a module is to be replaced.
 #[tactic(auto, unfolding(crate::specs::CheckpointReading::replace_at, crate::specs::CheckpointReading::replace_of))]
 fn replace_at(bytes: &[u8]) -> Result<(bool, &[u8]), EntryRefused>
-    ensures { Tells (λ x. (x.0, x.1.now)) result (replace_at bytes.now) }
+    ensures { ReadsExactly (λ x. (x.0, x.1.now)) result (replace_at bytes.now) }
 {
     let (byte, rest) = byte_at(bytes)?;
     match byte {
@@ -61,7 +61,7 @@ fn replacement_at(
     version: Version,
     bytes: &[u8],
 ) -> Result<((Option<Bucket>, bool), &[u8]), EntryRefused>
-    ensures { Tells (λ x. (x.0, x.1.now)) result (replacement_at version bytes.now) }
+    ensures { ReadsExactly (λ x. (x.0, x.1.now)) result (replacement_at version bytes.now) }
 {
     if version == Version::One {
         return Ok(((None, false), bytes));
@@ -80,7 +80,7 @@ fn replacement_at(
 
 // The ten sums of a module.
 fn sums_at(bytes: &[u8]) -> Result<([u64; CLASS_COUNT], &[u8]), EntryRefused>
-    ensures { Tells (λ x. (x.0, x.1.now)) result (many_at u64_at CLASS_COUNT bytes.now) }
+    ensures { ReadsExactly (λ x. (x.0, x.1.now)) result (many_at u64_at CLASS_COUNT bytes.now) }
 {
     let mut sums = [0; CLASS_COUNT];
     let mut rest = bytes;
@@ -99,7 +99,7 @@ fn read_module(
     version: Version,
     bytes: &[u8],
 ) -> Result<(ModuleRow, &[u8]), EntryRefused>
-    ensures { Gives (λ x. (row_of x.0, x.1.now)) result (module_at version bytes.now) }
+    ensures { ReadsUnlessMemory (λ x. (row_of x.0, x.1.now)) result (module_at version bytes.now) }
 {
     let (label, rest) = match label_at(alloc, bytes) {
         Ok(found) => found,
@@ -125,7 +125,7 @@ pub(crate) fn module_at(
     version: Version,
     bytes: &[u8],
 ) -> Result<(ModuleRow, &[u8]), EntryRefused>
-    ensures read { Gives (λ x. (row_of x.0, x.1.now)) result (module_at version bytes.now) }
+    ensures read { ReadsUnlessMemory (λ x. (row_of x.0, x.1.now)) result (module_at version bytes.now) }
     ensures row { IfOk result (λ x. IsModuleRow (row_of x.0)) }
 {
     read_module(alloc, version, bytes)
@@ -134,7 +134,7 @@ pub(crate) fn module_at(
 // The state of a page.
 #[tactic(auto, unfolding(crate::specs::CheckpointReading::page_state_at, crate::specs::CheckpointReading::page_state_of))]
 fn page_state_at(bytes: &[u8]) -> Result<(PageState, &[u8]), EntryRefused>
-    ensures { Tells (λ x. (x.0, x.1.now)) result (page_state_at bytes.now) }
+    ensures { ReadsExactly (λ x. (x.0, x.1.now)) result (page_state_at bytes.now) }
 {
     let (number, rest) = byte_at(bytes)?;
     match number {
@@ -148,7 +148,7 @@ fn page_state_at(bytes: &[u8]) -> Result<(PageState, &[u8]), EntryRefused>
 // The row of a page, as it is read.
 #[tactic(auto, unfolding(crate::specs::CheckpointReading::page_row_at))]
 fn read_page_row(bytes: &[u8]) -> Result<((u64, Bucket, PageState), &[u8]), EntryRefused>
-    ensures { Tells (λ x. ((x.0.0, record { bucket = x.0.1; state = x.0.2 }), x.1.now)) result
+    ensures { ReadsExactly (λ x. ((x.0.0, record { bucket = x.0.1; state = x.0.2 }), x.1.now)) result
         (page_row_at bytes.now) }
 {
     let (page, rest) = page_number_at(bytes)?;
@@ -159,7 +159,7 @@ fn read_page_row(bytes: &[u8]) -> Result<((u64, Bucket, PageState), &[u8]), Entr
 
 /// The row of a page: its number, its bucket and its state.
 pub(crate) fn page_row_at(bytes: &[u8]) -> Result<((u64, Bucket, PageState), &[u8]), EntryRefused>
-    ensures read { Tells (λ x. ((x.0.0, record { bucket = x.0.1; state = x.0.2 }), x.1.now)) result
+    ensures read { ReadsExactly (λ x. ((x.0.0, record { bucket = x.0.1; state = x.0.2 }), x.1.now)) result
         (page_row_at bytes.now) }
     ensures page { IfOk result (λ x. IsPage x.0.0) }
     ensures count { IfOk result (λ x. x.0.1.count ≤ most_count) }
@@ -170,7 +170,7 @@ pub(crate) fn page_row_at(bytes: &[u8]) -> Result<((u64, Bucket, PageState), &[u
 // The number of entries.
 #[tactic(auto, unfolding(crate::specs::CheckpointReading::entry_count_at))]
 fn entry_count_at(bytes: &[u8]) -> Result<(u64, &[u8]), EntryRefused>
-    ensures { Tells (λ x. (x.0, x.1.now)) result (entry_count_at bytes.now) }
+    ensures { ReadsExactly (λ x. (x.0, x.1.now)) result (entry_count_at bytes.now) }
 {
     let (entries, rest) = u64_at(bytes)?;
     if entries > MOST_ENTRIES {
@@ -182,7 +182,7 @@ fn entry_count_at(bytes: &[u8]) -> Result<(u64, &[u8]), EntryRefused>
 // The numbers at the front, as they are read.
 #[tactic(auto, unfolding(crate::specs::CheckpointReading::front_at))]
 fn read_front(version: Version, bytes: &[u8]) -> Result<(CheckpointFront, &[u8]), EntryRefused>
-    ensures { Tells (λ x. (front_of x.0, x.1.now)) result (front_at version bytes.now) }
+    ensures { ReadsExactly (λ x. (front_of x.0, x.1.now)) result (front_at version bytes.now) }
 {
     let (limit, rest) = limit_at(bytes)?;
     match version {
@@ -216,7 +216,7 @@ pub(crate) fn front_at(
     version: Version,
     bytes: &[u8],
 ) -> Result<(CheckpointFront, &[u8]), EntryRefused>
-    ensures read { Tells (λ x. (front_of x.0, x.1.now)) result (front_at version bytes.now) }
+    ensures read { ReadsExactly (λ x. (front_of x.0, x.1.now)) result (front_at version bytes.now) }
     ensures limit { IfOk result (λ x. IsLimit x.0.limit) }
     ensures module_limit { IfOk result (λ x. IsLimit x.0.module_limit) }
     ensures entries { IfOk result (λ x. x.0.entries ≤ MOST_ENTRIES) }
@@ -228,7 +228,7 @@ pub(crate) fn front_at(
 /// front.
 #[tactic(auto, unfolding(crate::specs::CheckpointReading::floor_in, crate::specs::CheckpointReading::end_floor_at))]
 pub(crate) fn floor_in(version: Version, floor: u64, bytes: &[u8]) -> Result<u64, EntryRefused>
-    ensures { Tells (λ x. x) result (floor_in version floor bytes.now) }
+    ensures { ReadsExactly (λ x. x) result (floor_in version floor bytes.now) }
 {
     if bytes.is_empty() {
         return Ok(floor);

@@ -14,7 +14,7 @@ use Rattle.ras_account.specs.Continued.{knows, is_fresh_in, account_after, accou
 use Rattle.ras_account.specs.Orders.{orders_along, orders_at}
 use Rattle.ras_account.specs.Numbers.{IsWithin}
 use Rattle.ras_account.specs.View.{View, OrderList, Waiting, WaitsFirst, then_waits, nothing, labels_in, pages_in, added_by}
-use Rattle.ras_account.specs.Steps.Taking.{adds_fact, CanTakeFact, TakesFact, Takes, Gives, sightings_at}
+use Rattle.ras_account.specs.Steps.Taking.{adds_fact, CanTakeFact, TakesFact, Takes, GivesOrders, sightings_at}
 use Rattle.ras_account.proofs.ItemLemmas.{names-items, entries-items, total-items}
 use Rattle.ras_account.proofs.NumberLemmas.{adds}
 
@@ -45,7 +45,7 @@ unordered : (a : State) (e : Entry) (b : Bool) → orders_along a (sightings_in 
 unordered a e true is = is
 unordered a e false is = refl
 
-gives-none : (before : OrderList) (a : State) (e : Entry) → orders_along a (sightings_in a.limit a.module_limit e) ≡ [] → Gives before before (orders_at a e)
+gives-none : (before : OrderList) (a : State) (e : Entry) → orders_along a (sightings_in a.limit a.module_limit e) ≡ [] → GivesOrders before before (orders_at a e)
 gives-none before a e none = record {
   orders = sym (append-nil before.orders) ∙ ap (λ os. before.orders ++ os) (sym (unordered a e (is_fresh_in a e) none));
   room = omega (arith, ap length (unordered a e (is_fresh_in a e) none));
@@ -107,11 +107,11 @@ can_take v fact fresh valid (rest, first) within =
 
 -- taking a fresh fact takes the entry
 pub takes_fact : (old new : View) (before after : OrderList) (fact : Told) → is_fresh_in old.state (Fact fact) ≡ true → TakesFact old new fact
-    → Gives before after (orders_along old.state (sightings_at old.state fact.seconds fact.items)) → Takes old new before after (Fact fact)
+    → GivesOrders before after (orders_along old.state (sightings_at old.state fact.seconds fact.items)) → Takes old new before after (Fact fact)
 takes_fact old new before after fact fresh taken gives = record {
   state = taken.state ∙ sym (ap (λ b. if b then account_after_fresh (account_with_count old.state) (Fact fact) else old.state) fresh);
   waiting = taken.waiting ∙ ap (λ front. then_waits front new.waiting) (sym (added_by-fact old.state fact fresh));
-  gives = subst (λ b. Gives before after (if b then orders_along old.state (sightings_in old.state.limit old.state.module_limit (Fact fact)) else [])) (sym fresh) gives;
+  gives = subst (λ b. GivesOrders before after (if b then orders_along old.state (sightings_in old.state.limit old.state.module_limit (Fact fact)) else [])) (sym fresh) gives;
 }
 
 -- where nothing waits behind it, what waits in front is all

@@ -20,7 +20,7 @@ use Rattle.ras_account.specs.Orders.{page_order_in, module_order_in, orders_alon
 use Rattle.ras_account.specs.View.{View, OrderList}
 use Rattle.page_policy.specs.declared.rows.Order.{Order}
 use Rattle.ras_account.specs.Accounts.{IsAccount}
-use Rattle.ras_account.specs.Steps.Taking.{is_news, holds_name, CanCountName, Gives}
+use Rattle.ras_account.specs.Steps.Taking.{is_news, holds_name, CanCountName, GivesOrders}
 use Rattle.ras_account.proofs.AccountLemmas.{account_of-entry}
 use Rattle.ras_account.proofs.FreshLemmas.{is_fresh_in-account_of}
 use Rattle.ras_account.proofs.SoundLemmas.{name-sound}
@@ -95,8 +95,8 @@ few None = omega arith
 few (Some x) = omega arith
 
 -- two orders, if there are any, are given one behind the other
-pub two-given : (old mid new : OrderList) (one other : Option Order) → Gives old mid (option_to_list one) → Gives mid new (option_to_list other)
-    → Gives old new (option_to_list one ++ option_to_list other)
+pub two-given : (old mid new : OrderList) (one other : Option Order) → GivesOrders old mid (option_to_list one) → GivesOrders mid new (option_to_list other)
+    → GivesOrders old new (option_to_list one ++ option_to_list other)
 two-given old mid new one other first second = record {
   orders = second.orders ∙ ap (λ os. os ++ option_to_list other) first.orders ∙ append_assoc old.orders (option_to_list one) (option_to_list other);
   room = omega (arith, first.room, second.room, length-append (option_to_list one) (option_to_list other));

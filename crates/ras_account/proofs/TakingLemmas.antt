@@ -19,7 +19,7 @@ use Rattle.ras_account.specs.Sightings.{Sighting}
 use Rattle.ras_account.specs.Continued.{pages_after, account_after_item, account_after_items}
 use Rattle.ras_account.specs.Orders.{page_order_in, module_order_in, orders_along}
 use Rattle.ras_account.specs.View.{View, Waiting, OrderList, labels_in, pages_in}
-use Rattle.ras_account.specs.Steps.Taking.{left_pages, sighting_in, view_after_item, item_orders_in, IsNext, Gives, AreNext, sightings_at, TakesItems, IsAmid}
+use Rattle.ras_account.specs.Steps.Taking.{left_pages, sighting_in, view_after_item, item_orders_in, IsNext, GivesOrders, AreNext, sightings_at, TakesItems, IsAmid}
 use Rattle.ras_account.proofs.KeyLemmas.{same_label-refl}
 use Rattle.ras_account.proofs.AccountLemmas.{at_page}
 use Rattle.ras_account.proofs.ItemLemmas.{with_key, labels-after}
@@ -116,7 +116,7 @@ module _ (start now : View) (old new : OrderList) (seconds : ℕ) (items left : 
   same_sighting = λ i. record { item = item; seconds = seconds; limit = amid.limit i; module_limit = amid.module_limit i }
 
   pub amid-more : (later : View) (given : OrderList) → later ≡ view_after_item now (sighting_in now.state seconds item)
-      → Gives new given (item_orders_in now.state (sighting_in now.state seconds item)) → IsAmid start later old given seconds items left
+      → GivesOrders new given (item_orders_in now.state (sighting_in now.state seconds item)) → IsAmid start later old given seconds items left
   amid-more later given is gives = subst (λ (v : View). IsAmid start v old given seconds items left) (sym is) (record {
     rest = amid.rest;
     first = amid.first;
@@ -146,7 +146,7 @@ amid-takes start now old new seconds items amid = record {
 }
 
 pub amid-gives : (start now : View) (old new : OrderList) (seconds : ℕ) (items : List Item) → IsAmid start now old new seconds items []
-    → Gives old new (orders_along start.state (sightings_at start.state seconds items))
+    → GivesOrders old new (orders_along start.state (sightings_at start.state seconds items))
 amid-gives start now old new seconds items amid = record {
   orders = sym (append-nil new.orders) ∙ amid.orders;
   room = omega (arith, amid.given, ap length (sym (append-nil new.orders) ∙ amid.orders), length-append old.orders (orders_along start.state (sightings_at start.state seconds items)));

@@ -15,7 +15,7 @@ ghost use Rattle.ras_account.specs.Numbers.{IsWithin};
 ghost use Rattle.ras_account.specs.View.{Waiting, nothing, then_waits, WaitsFirst, added_by, IsReservedFor};
 ghost use Rattle.ras_account.specs.Accounts.{IsAccount};
 ghost use Rattle.ras_account.specs.Rows.{row_of};
-ghost use Rattle.ras_account.specs.Steps.Taking.{SetsLimit, holds_name, name_waits_first, IsNext, view_after_item, item_orders_in, sighting_in, Gives, AreNext, TakesItems, orders_of_items_at, CanTakeFact, TakesFact, Takes, CanCountName, view_after_name, pages_after_item};
+ghost use Rattle.ras_account.specs.Steps.Taking.{SetsLimit, holds_name, name_waits_first, IsNext, view_after_item, item_orders_in, sighting_in, GivesOrders, AreNext, TakesItems, orders_of_items_at, CanTakeFact, TakesFact, Takes, CanCountName, view_after_name, pages_after_item};
 
 use crate::in_force::InForce;
 use crate::modules::Modules;
@@ -199,7 +199,7 @@ impl Account {
         requires ready { CanTakeFact self.old fact.now }
         requires room { 2 * length fact.now.items ≤ orders.old.room }
         ensures account { TakesFact self.old self.new fact.now }
-        ensures orders { Gives orders.old orders.new
+        ensures orders { GivesOrders orders.old orders.new
             (orders_of_items_at self.old.state fact.now.seconds fact.now.items) }
     {
         self.count_name();
@@ -220,7 +220,7 @@ impl Account {
         requires next { (rest : Waiting) × AreNext self.old items.now rest }
         requires room { 2 * length items.now ≤ orders.old.room }
         ensures account { TakesItems self.old self.new seconds items.now }
-        ensures orders { Gives orders.old orders.new
+        ensures orders { GivesOrders orders.old orders.new
             (orders_of_items_at self.old.state seconds items.now) }
     {
         for item in items {
@@ -233,7 +233,7 @@ impl Account {
         requires next { IsNext self.old item.now }
         requires room { 2 ≤ orders.old.room }
         ensures account { self.new ≡ view_after_item self.old (sighting_in self.old.state seconds item.now) }
-        ensures orders { Gives orders.old orders.new
+        ensures orders { GivesOrders orders.old orders.new
             (item_orders_in self.old.state (sighting_in self.old.state seconds item.now)) }
     {
         self.total += u64::from(item.weight);

@@ -1,6 +1,6 @@
 //! The orders that entries give.
 ghost use Rattle.std.specs.Prelude.{◌≡◌, ◌+◌, ◌<◌, ◌≤◌, ◌↔◌, ◌++◌, [], ◌∷◌, IsTrue, Some, IfOk, option_to_list, length, slice_get};
-ghost use Rattle.ras_account.specs.Steps.Taking.{Gives};
+ghost use Rattle.ras_account.specs.Steps.Taking.{GivesOrders};
 
 use page_policy::Order;
 use ras_base::NoMemory;
@@ -75,7 +75,7 @@ impl Orders {
     // Puts an order after the others, if there is one.
     pub(crate) fn push_some(&mut self, order: Option<Order>)
         requires { length (option_to_list order) ≤ self.old.room }
-        ensures { Gives self.old self.new (option_to_list order) }
+        ensures { GivesOrders self.old self.new (option_to_list order) }
     {
         if let Some(order) = order {
             self.push(order);

@@ -36,7 +36,7 @@ use Rattle.ras_run.specs.Places.{Start}
 use Rattle.ras_exit.specs.StopLine.{stop_line}
 use Rattle.ras_exit.specs.Telling.{Tells}
 use Rattle.ras_run.specs.Files.{KeepsFiles, files_refusal, refusal_exit}
-use Rattle.ras_run.specs.Taking.{IsReady, Opens, Prints}
+use Rattle.ras_run.specs.Taking.{IsReady, OpensLedger, Prints}
 use Rattle.ras_daemon.specs.Steps.Doing.{Comes, ComesScript, DoesRun, Ends, Opens as OpensRun, TakesScript}
 use Rattle.ras_daemon.specs.Promises.{EndsRefused, OverRefused, Refuses}
 use Rattle.ras_daemon.specs.Headline.{AtOpening, OverRun}
@@ -128,7 +128,7 @@ opened_moments clock start script t u b c account same adds = adds_weaker (OpenM
 abbrev pub IsCutOpening : Exit → Type 0
 IsCutOpening exit = EndsBy ⊥ ⊤ (OnlyFault disk_call) (ending_of exit)
 
-pub cut_opening : (exit : Exit) (account : State) (held : Result State Refusal) → held ≡ Ok account → Opens (Err exit) held → IsCutOpening exit
+pub cut_opening : (exit : Exit) (account : State) (held : Result State Refusal) → held ≡ Ok account → OpensLedger (Err exit) held → IsCutOpening exit
 cut_opening exit account held is opens =
     ends_weaker (refusal_exit held ≡ Some exit) ⊥ ⊤ ⊤ (OnlyFault disk_call) (OnlyFault disk_call) exit
     (λ found. let not : refusal_exit held ≡ None = ap (λ (h : Result State Refusal). refusal_exit h) is in cc) (λ memory over. over) (λ kind is. is) opens
@@ -180,7 +180,7 @@ refusal_line (Err too_long) why state is = subst (λ e. closing_line state e ≡
 refusal_line (Err (damaged file place)) why state is = subst (λ e. closing_line state e ≡ stop_line e) (some_same (Damaged (file_number file) place) why is) refl
 
 -- An opening is refused for that, or it was cut short.
-refused_as : (held : Result State Refusal) (why exit : Exit) → refusal_exit held ≡ Some why → Opens (Err exit) held → (exit ≡ why) ⊎ IsCut exit
+refused_as : (held : Result State Refusal) (why exit : Exit) → refusal_exit held ≡ Some why → OpensLedger (Err exit) held → (exit ≡ why) ⊎ IsCut exit
 refused_as held why exit is opens = by (ending_of exit) refl opens
   where
     by : (ending : CallEnding) → ending_of exit ≡ ending → EndsBy (refusal_exit held ≡ Some exit) ⊤ (OnlyFault disk_call) ending → (exit ≡ why) ⊎ IsCut exit
@@ -194,7 +194,7 @@ pub disk_failed : (exit : Exit) → ending_of exit ≡ faulted disk_call → exi
 disk_failed DiskFault is = refl
 disk_failed exit is = absurd cc
 
-refused_exits : (held : Result State Refusal) (why exit : Exit) → refusal_exit held ≡ Some why → Opens (Err exit) held → (exit ≡ why) ⊎ ((exit ≡ DiskFault) ⊎ (exit ≡ NoMemory))
+refused_exits : (held : Result State Refusal) (why exit : Exit) → refusal_exit held ≡ Some why → OpensLedger (Err exit) held → (exit ≡ why) ⊎ ((exit ≡ DiskFault) ⊎ (exit ≡ NoMemory))
 refused_exits held why exit is opens = by (ending_of exit) refl opens
   where
     by : (ending : CallEnding) → ending_of exit ≡ ending → EndsBy (refusal_exit held ≡ Some exit) ⊤ (OnlyFault disk_call) ending → (exit ≡ why) ⊎ ((exit ≡ DiskFault) ⊎ (exit ≡ NoMemory))
@@ -242,7 +242,7 @@ module _ (why result : Exit) (line : List ℕ) (before mid : Told) (ends : EndsR
       )
 
 refused_so : {X : Type 0} (see : X → Seen) (exit result : Exit) (state : State) (before : Told) (old mid new : X) → (see old).told ≡ Some before → Relates AfterOpening (see old).told (see mid).told
-    → IfSome (see old).told (λ t. Opens (Err exit) (recovered t.here.file0 t.here.file1)) → Ends see exit result (closing_line state exit) mid new → IfSome (files_refusal before.here) (λ why. IsSomeAnd (see new).told (RefusesSo why result before))
+    → IfSome (see old).told (λ t. OpensLedger (Err exit) (recovered t.here.file0 t.here.file1)) → Ends see exit result (closing_line state exit) mid new → IfSome (files_refusal before.here) (λ why. IsSomeAnd (see new).told (RefusesSo why result before))
 refused_so see exit result state before old mid new one after opens ends = by (files_refusal before.here) refl
   where
     found : (u : Told) × ((see mid).told ≡ Some u) × AfterOpening before u
@@ -259,8 +259,8 @@ refused_so see exit result state before old mid new one after opens ends = by (f
         let begun = found.2.calls.are in
         record { made = found.2.calls.made; listed = found.2.calls.listed; are = record { whole = begun.whole; are = refused_recovers w before.here begun.whole is begun.are; begins = begun.begins } }
 
-    here : Opens (Err exit) held
-    here = if_told (λ t. Opens (Err exit) (recovered t.here.file0 t.here.file1)) (see old).told before one opens
+    here : OpensLedger (Err exit) held
+    here = if_told (λ t. OpensLedger (Err exit) (recovered t.here.file0 t.here.file1)) (see old).told before one opens
 
     last : (why : Exit) → refusal_exit held ≡ Some why → Makes (IsBeginning IsRecovery) before found.0 → KeepsFiles before found.0 → (exit ≡ why) ⊎ IsCut exit → Ends see exit result (closing_line state exit) mid new → IsSomeAnd (see new).told (RefusesSo why result before)
     last why is made keeps as_found (inr cut) =
@@ -287,7 +287,7 @@ refused_none P None new account is = tt
 refused_none P (Some t) new account is = rw (opened_not (recovered t.here.file0 t.here.file1) account is) tt
 
 pub files_refused : {X : Type 0} (see : X → Seen) (Same : Type 0) (exit result : Exit) (state : State) (old mid new : X) → Same → LeavesDevice (see old).told (see new).told (see old).clock (see new).clock
-    → Relates AfterOpening (see old).told (see mid).told → IfSome (see old).told (λ t. Opens (Err exit) (recovered t.here.file0 t.here.file1)) → Ends see exit result (closing_line state exit) mid new
+    → Relates AfterOpening (see old).told (see mid).told → IfSome (see old).told (λ t. OpensLedger (Err exit) (recovered t.here.file0 t.here.file1)) → Ends see exit result (closing_line state exit) mid new
     → OverRefused (Refuses result Same (see old).clock (see new).clock) (Some Run) (see old).told (see new).told
 files_refused see Same exit result state old mid new same device after opens ends =
     over_refused (Refuses result Same (see old).clock (see new).clock) (see old).told (see new).told (λ before one.
@@ -330,12 +330,12 @@ none_called see start script t x is =
 
 -- the journal wasn't opened
 pub not_opened : {X : Type 0} (see : X → Seen) (account : State) (script : List ℕ) (exit result : Exit) (line : List ℕ) (t : Told) (a b new : X) → (see a).told ≡ Some t → Recovers account t.here
-    → IfSome (see a).told (λ u. Opens (Err exit) (recovered u.here.file0 u.here.file1)) → Relates AfterOpening (see a).told (see b).told → (exit ≡ NoMemory → Relates AfterRecovery (see a).told (see b).told)
+    → IfSome (see a).told (λ u. OpensLedger (Err exit) (recovered u.here.file0 u.here.file1)) → Relates AfterOpening (see a).told (see b).told → (exit ≡ NoMemory → Relates AfterRecovery (see a).told (see b).told)
     → (exit ≡ DiskFault → Relates FailsOpening (see a).told (see b).told) → Adds (Opening (see a).clock t.here) (see a).clock (see b).clock → Ends see exit result line b new → DoesRun see (start_of account t) script result t a new
 not_opened see account script exit result line t a b new is recovers opens after kept fails stops ends = by ends
   where
     cut : IsCutOpening exit
-    cut = cut_opening exit account (recovered t.here.file0 t.here.file1) recovers.is (if_told (λ u. Opens (Err exit) (recovered u.here.file0 u.here.file1)) (see a).told t is opens)
+    cut = cut_opening exit account (recovered t.here.file0 t.here.file1) recovers.is (if_told (λ u. OpensLedger (Err exit) (recovered u.here.file0 u.here.file1)) (see a).told t is opens)
 
     some : (P : Told → Told → Type 0) → Relates P (see a).told (see b).told → IsSomeAnd (see b).told (P t)
     some P relates = let found = told_on P (see a).told (see b).told t is relates in rw found.1 found.2

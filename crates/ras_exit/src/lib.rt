@@ -10,4 +10,4 @@ mod stop;
 pub use exit::Exit;
 pub use printing::print;
 pub use reason::Reason;
-pub use stop::stop_line;
+pub use stop::{busy_line, stop_line, usage_line};

@@ -19,7 +19,7 @@ pub fn stop_line(alloc: Global, exit: Exit) -> Result<Vec<u8>, NoMemory>
 {
     let mut text = Vec::new(alloc);
     match exit {
-        Exit::Usage => text.extend_from_slice(b"stop 1 usage\n")?,
+        Exit::Usage => text.extend_from_slice(usage_line())?,
         Exit::BadLine { line, reason } => {
             text.extend_from_slice(b"stop 2 line=")?;
             push_number(&mut text, line)?;
@@ -40,7 +40,7 @@ pub fn stop_line(alloc: Global, exit: Exit) -> Result<Vec<u8>, NoMemory>
             push_number(&mut text, line)?;
             text.extend_from_slice(b"\n")?;
         }
-        Exit::ErstBusy => text.extend_from_slice(b"stop 10 busy\n")?,
+        Exit::ErstBusy => text.extend_from_slice(busy_line())?,
         Exit::ErstStatus(code) => {
             text.extend_from_slice(b"stop 11 code=")?;
             push_number(&mut text, code)?;
@@ -55,6 +55,20 @@ pub fn stop_line(alloc: Global, exit: Exit) -> Result<Vec<u8>, NoMemory>
         | Exit::NoMemory => {}
     }
     Ok(text)
+}
+
+/// The line that a call ends with whose words are no command. It takes no memory.
+pub fn usage_line() -> &'static [u8]
+    ensures { result.now ≡ stop_line Exit.Usage }
+{
+    b"stop 1 usage\n"
+}
+
+/// The line that a run ends with whose device was busy for too long. It takes no memory.
+pub fn busy_line() -> &'static [u8]
+    ensures { result.now ≡ stop_line Exit.ErstBusy }
+{
+    b"stop 10 busy\n"
 }
 
 // Adds the reason why a line is refused.

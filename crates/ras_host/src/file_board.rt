@@ -10,7 +10,7 @@ ghost use Rattle.erst_store.specs.StoreFile.{store_bytes};
 ghost use Rattle.ras_host.specs.KeptDevice.{Does, IsHere, IsThere, IsUsed, Puts};
 
 use crate::faults::counted;
-use crate::journal::{Journal, Use};
+use crate::files::{Files, Use};
 use crate::kept::{Kept, Saved, put_and_encode};
 use crate::system::replace_store;
 use board_core::{Board, BoardPut, Failed, FileNo, Reg};
@@ -27,7 +27,7 @@ use std::mem::replace;
 #[derive(Drop)]
 pub struct FileBoard {
     rt: HostRuntime,
-    journal: Journal,
+    files: Files,
     kept: Kept,
     disk_faults: u64,
     register_faults: u64,
@@ -57,7 +57,7 @@ impl FileBoard {
     {
         FileBoard {
             rt,
-            journal: Journal::new(rt, how),
+            files: Files::new(rt, how),
             kept: Kept::Unread,
             disk_faults: 0,
             register_faults: 0,
@@ -129,7 +129,7 @@ impl Board for FileBoard {
         ensures device { self.new.kept ≡ self.old.kept }
         ensures cause { FailsAs disk_call self.old.faults self.new.faults result }
     {
-        counted(self.journal.size(file), &mut self.disk_faults)
+        counted(self.files.size(file), &mut self.disk_faults)
     }
 
     fn read_at(&mut self, file: FileNo, place: u64, buf: &mut [u8]) -> Result<usize, Failed>
@@ -137,7 +137,7 @@ impl Board for FileBoard {
         ensures within { IfOk result (λ n. n ≤ length buf.old) }
         ensures cause { FailsAs disk_call self.old.faults self.new.faults result }
     {
-        let read = self.journal.read_at(file, place, buf);
+        let read = self.files.read_at(file, place, buf);
         counted(read, &mut self.disk_faults)
     }
 
@@ -145,7 +145,7 @@ impl Board for FileBoard {
         ensures device { self.new.kept ≡ self.old.kept }
         ensures cause { FailsAs disk_call self.old.faults self.new.faults result }
     {
-        let done = self.journal.write_at(file, place, bytes);
+        let done = self.files.write_at(file, place, bytes);
         counted(done, &mut self.disk_faults)
     }
 
@@ -153,7 +153,7 @@ impl Board for FileBoard {
         ensures device { self.new.kept ≡ self.old.kept }
         ensures cause { FailsAs disk_call self.old.faults self.new.faults result }
     {
-        counted(self.journal.sync(file), &mut self.disk_faults)
+        counted(self.files.sync(file), &mut self.disk_faults)
     }
 
     fn reg_read(&mut self, reg: Reg) -> Result<u64, Failed>

@@ -1,7 +1,7 @@
 //! The device that a board keeps, over the record store of the working folder.
 ghost use Rattle.std.specs.Prelude.{◌≡◌, [], OnOk, OnErr, IfOk, IfSome, IsNone};
 ghost use Rattle.erst_store.specs.Device.{new_device, with_put};
-ghost use Rattle.erst_store.specs.Store.{Answers, refusal_of};
+ghost use Rattle.erst_store.specs.Store.{AnswersRefusal, refusal_of};
 ghost use Rattle.erst_store.specs.StoreFile.{store_bytes};
 
 use crate::system::read_store;
@@ -69,7 +69,7 @@ pub fn put_and_encode(
 ) -> Result<Vec<u8>, PutRefused>
     ensures ok { OnOk result (device.new ≡ with_put id bytes.now device.old) }
     ensures err { OnErr result (device.new ≡ device.old) }
-    ensures refused { Answers result (refusal_of id bytes.now device.old.store) }
+    ensures refused { AnswersRefusal result (refusal_of id bytes.now device.old.store) }
     ensures file { IfOk result (λ v. v.items ≡ store_bytes device.new.store) }
 {
     if let Some(refused) = device.store().refusal(id, bytes) {

@@ -9,10 +9,10 @@
 mod faults;
 mod file_board;
 mod file_source;
-mod journal;
+mod files;
 mod kept;
 mod system;
 
 pub use file_board::FileBoard;
 pub use file_source::FileSource;
-pub use journal::Use;
+pub use files::Use;

@@ -42,12 +42,12 @@ abbrev pub after_append : Standing → List ℕ → Told → Told
 after_append standing link t = after_acts (append_acts standing link) t
 
 -- Full comes before any call, and Disk if a disk call failed.
-abbrev pub refusal_end : AppendRefused → Ended
-refusal_end Full = gave_up
-refusal_end Disk = broke disk_call
+abbrev pub append_refused_end : AppendRefused → Ended
+append_refused_end Full = gave_up
+append_refused_end Disk = broke disk_call
 
 abbrev pub append_end : Result (Unit {0}) AppendRefused → Ended
-append_end result = ended_by refusal_end result
+append_end result = ended_by append_refused_end result
 
 -- What becomes of a journal that is appended to, this being its next standing: if a disk call
 -- failed it has failed.

@@ -10,7 +10,7 @@ use Rattle.ras_klog.specs.declared.state.Stage.{Stage}
 use Rattle.ras_klog.specs.Along.{answers_along, last_along, rest_along, stage_over}
 use Rattle.ras_klog.specs.Klog.{added, answers_after, early_text, klog_answers, klog_filter, klog_last, klog_rest, klog_text}
 use Rattle.ras_klog.specs.Reading.{klog_line_of}
-use Rattle.ras_klog.specs.Steps.{at_start, out_at, out_at_end, outs_along, outs_to_end, some_out, stage_after}
+use Rattle.ras_klog.specs.Stages.{at_start, out_at, out_at_end, outs_along, outs_to_end, some_out, stage_after}
 use Rattle.ras_klog.specs.Texts.{klog_counts_line, klog_end_line, is_logged, is_partial, out_text}
 use Rattle.ras_klog.proofs.GroupLemmas.{at_once, to_end}
 

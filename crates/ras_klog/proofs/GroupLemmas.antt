@@ -7,7 +7,7 @@ use Rattle.ras_klog.specs.declared.state.KlogOut.TheVariants.{Partial}
 use Rattle.ras_klog.specs.declared.state.Stage.{Stage}
 use Rattle.ras_klog.specs.declared.state.Stage.TheVariants.{Idle, Begun, Timed}
 use Rattle.ras_klog.specs.Groups.{told_of, told_of_groups, with_seconds, told_seconds, up_to_start, without_open}
-use Rattle.ras_klog.specs.Steps.{outs_along, outs_to_end}
+use Rattle.ras_klog.specs.Stages.{outs_along, outs_to_end}
 
 module _ (boot cap : ℕ) where
   -- what the groups tell of a report in work and of the lines after it

@@ -8,7 +8,7 @@ use Rattle.ras_klog.specs.declared.state.KlogOut.TheVariants.{Nothing, Whole, Pa
 use Rattle.ras_klog.specs.declared.state.Stage.{Stage}
 use Rattle.ras_klog.specs.Along.{Progress, answers_along, counts_with, last_along, makes_of, rest_along}
 use Rattle.ras_klog.specs.Reading.{klog_line_of}
-use Rattle.ras_klog.specs.Steps.{out_at, outs_to_end, some_out, stage_after}
+use Rattle.ras_klog.specs.Stages.{out_at, outs_to_end, some_out, stage_after}
 use Rattle.ras_klog.specs.Texts.{klog_counts_line, is_logged, is_partial, out_text}
 
 count_by-cons : (p : KlogOut → Bool) (out : KlogOut) (outs : List KlogOut) → count_by p (out ∷ outs) ≡ count_by p (out ∷ []) + count_by p outs

@@ -6,7 +6,7 @@ use Rattle.ras_klog.specs.declared.filter.Counts.{Counts}
 use Rattle.ras_klog.specs.declared.state.KlogOut.{KlogOut}
 use Rattle.ras_klog.specs.declared.state.Stage.{Stage}
 use Rattle.ras_klog.specs.Reading.{klog_line_of}
-use Rattle.ras_klog.specs.Steps.{out_at, out_at_end, outs_to_end, stage_after}
+use Rattle.ras_klog.specs.Stages.{out_at, out_at_end, outs_to_end, stage_after}
 use Rattle.ras_klog.specs.Texts.{klog_counts_line, is_logged, is_partial, out_text}
 
 -- the text of each line

@@ -1,5 +1,6 @@
 pub mod Reading
 pub mod Groups
+pub mod Stages
 pub mod Steps
 pub mod Texts
 pub mod Klog

@@ -3,7 +3,7 @@
 ghost use Rattle.std.specs.Prelude.{◌≡◌, ℕ, List};
 ghost use Rattle.ras_klog.specs.declared.line.KlogLine.{KlogLine};
 ghost use Rattle.ras_klog.specs.Groups.{told_of_groups, without_open};
-ghost use Rattle.ras_klog.specs.Steps.{at_start, stage_after, out_at, out_at_end, outs_along, outs_to_end};
+ghost use Rattle.ras_klog.specs.Stages.{at_start, stage_after, out_at, out_at_end, outs_along, outs_to_end};
 
 use crate::line::KlogLine;
 use ras_facts::BankReport;

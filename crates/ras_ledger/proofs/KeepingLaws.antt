@@ -16,7 +16,7 @@ use Rattle.ras_recover.proofs.DoneLemmas.{does_begun, does_leaves, does_whole}
 use Rattle.ras_ledger.specs.declared.ledger.Ledger.{Ledger}
 use Rattle.ras_ledger.specs.declared.refused.KeepRefused.{KeepRefused}
 use Rattle.ras_ledger.specs.declared.refused.KeepRefused.TheVariants.{Full, Disk, NoMemory}
-use Rattle.ras_ledger.specs.Keeping.{CanMake, IsFullBy, Keeping, Keeps, after_keeping, keep_end, keeping_acts, lacks_room, standing_kept}
+use Rattle.ras_ledger.specs.Keeping.{CanMake, IsFullBy, Keeping, KeepsLedger, after_keeping, keep_end, keeping_acts, lacks_room, standing_kept}
 use Rattle.ras_ledger.specs.KeepingCalls.{IsKeeping, write_through_calls}
 use Rattle.ras_ledger.proofs.KeepingLemmas.{is_keeping, keeping_ends, keeping_leaves}
 
@@ -37,7 +37,7 @@ module _ {X : Type 0} (see : X → Seen) (standing : Standing) (account : State)
       (λ made left moment. keeping_leaves standing account entries link t left (can made) (not_full result full made) links before.at moment)
 
   pub kept : (result : Result (Unit {0}) KeepRefused) (old new : Ledger) → DoesKeep result → (IsMade (keep_end result) → CanMake standing account link) → IsFullBy result (lacks_room standing account link)
-      → Keeps result (standing_kept standing account link) old new
+      → KeepsLedger result (standing_kept standing account link) old new
       → OnOk result ((entries : List Entry) (t : Told) → Before standing account t (see a).told (see a).clock → Links account entries link
       → Before new.journal.standing (account_after_all account entries) (after_keeping standing account link t) (see b).told (see b).clock)
   kept (Err why) old new does can full keeps = tt

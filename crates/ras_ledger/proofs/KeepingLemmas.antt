@@ -29,7 +29,7 @@ use Rattle.ras_recover.proofs.SwitchingLemmas.{switch_ends, switch_leaves}
 use Rattle.ras_ledger.specs.declared.ledger.Ledger.{Ledger}
 use Rattle.ras_ledger.specs.declared.refused.KeepRefused.{KeepRefused}
 use Rattle.ras_ledger.specs.declared.refused.KeepRefused.TheVariants.{Full, Disk, NoMemory}
-use Rattle.ras_ledger.specs.Keeping.{CanMake, Keeping, Keeps, Stands, after_keeping, keep_end, keeping_acts, lacks_room, refusal_end, room_acts, standing_kept, standing_roomy}
+use Rattle.ras_ledger.specs.Keeping.{CanMake, Keeping, KeepsLedger, Stands, after_keeping, keep_end, keeping_acts, lacks_room, keep_refused_end, room_acts, standing_kept, standing_roomy}
 use Rattle.ras_ledger.specs.KeepingCalls.{IsKeeping, write_through_calls}
 
 -- ---- what a journal's place says of its files
@@ -197,18 +197,18 @@ is_keeping standing account link = calls_if (needs_switch standing link) standin
 
 -- ---- what becomes of the ledger
 
-pub is_bad : (why : KeepRefused) → IsBad (refusal_end why)
+pub is_bad : (why : KeepRefused) → IsBad (keep_refused_end why)
 is_bad Full = tt
 is_bad Disk = tt
 is_bad NoMemory = tt
 
-pub keeps_not : (why : KeepRefused) (next last : Standing) (old new : Ledger) → Keeps (Err why) next old new → Keeps (Err why) last old new
+pub keeps_not : (why : KeepRefused) (next last : Standing) (old new : Ledger) → KeepsLedger (Err why) next old new → KeepsLedger (Err why) last old new
 keeps_not Full next last old new keeps = keeps
 keeps_not Disk next last old new keeps = keeps
 keeps_not NoMemory next last old new keeps = keeps
 
 pub keeps_then : (result : Result (Unit {0}) KeepRefused) (s : Standing) (link : List ℕ) (old mid new : Ledger) → IsMade (keep_end result) → mid.account ≡ old.account → mid.journal ≡ record { standing = s; failed = false }
-    → Keeps result (standing_with mid.journal.standing link) mid new → Keeps result (standing_with s link) old new
+    → KeepsLedger result (standing_with mid.journal.standing link) mid new → KeepsLedger result (standing_with s link) old new
 keeps_then (Ok done) s link old mid new made account journal keeps =
     (keeps.0 ∙ account, keeps.1 ∙ ap (λ (v : JournalView). record { standing = standing_with v.standing link; failed = false }) journal)
 keeps_then (Err Disk) s link old mid new made account journal keeps = (keeps.0 ∙ account, keeps.1)

@@ -46,13 +46,13 @@ abbrev pub after_keeping : Standing → State → List ℕ → Told → Told
 after_keeping standing account link t = after_acts (keeping_acts standing account link) t
 
 -- Full and NoMemory come before any call, and Disk if a disk call failed.
-abbrev pub refusal_end : KeepRefused → Ended
-refusal_end Full = gave_up
-refusal_end Disk = broke disk_call
-refusal_end NoMemory = gave_up
+abbrev pub keep_refused_end : KeepRefused → Ended
+keep_refused_end Full = gave_up
+keep_refused_end Disk = broke disk_call
+keep_refused_end NoMemory = gave_up
 
 abbrev pub keep_end : Result (Unit {0}) KeepRefused → Ended
-keep_end result = ended_by refusal_end result
+keep_end result = ended_by keep_refused_end result
 
 -- a switch that is due can be made
 abbrev pub CanMake : Standing → State → List ℕ → Type 0
@@ -60,11 +60,11 @@ CanMake standing account link = IsTrue (needs_switch standing link) → CanSwitc
 
 -- What becomes of the ledger, this being the journal's next standing: the account stays, and if a
 -- disk call failed the journal has failed.
-abbrev pub Keeps : Result (Unit {0}) KeepRefused → Standing → Ledger → Ledger → Type 0
-Keeps (Ok done) next old new =
+abbrev pub KeepsLedger : Result (Unit {0}) KeepRefused → Standing → Ledger → Ledger → Type 0
+KeepsLedger (Ok done) next old new =
     (new.account ≡ old.account) × (new.journal ≡ record { standing = next; failed = false })
-Keeps (Err Disk) next old new = (new.account ≡ old.account) × (new.journal.failed ≡ true)
-Keeps (Err why) next old new = new ≡ old
+KeepsLedger (Err Disk) next old new = (new.account ≡ old.account) × (new.journal.failed ≡ true)
+KeepsLedger (Err why) next old new = new ≡ old
 
 -- the printed text and the record store are as they were
 pub record SameBeside (here left : Left) : Type 0 where

@@ -6,7 +6,7 @@ ghost use Rattle.board_core.specs.Told.{file_of};
 ghost use Rattle.entry_format.specs.declared.version.Version.TheVariants.{Two};
 ghost use Rattle.ras_journal.specs.Appending.{append_acts, length_with, standing_with};
 ghost use Rattle.ras_journal.specs.declared.limits.TheConstants.{LONGEST_FILE};
-ghost use Rattle.ras_ledger.specs.Keeping.{CanMake, IsFullBy, Keeps, Stands, keep_end};
+ghost use Rattle.ras_ledger.specs.Keeping.{CanMake, IsFullBy, KeepsLedger, Stands, keep_end};
 ghost use Rattle.ras_ledger.specs.Keeping.{keeping_acts, lacks_room, room_acts};
 ghost use Rattle.ras_ledger.specs.Keeping.{standing_kept, standing_roomy};
 
@@ -26,7 +26,7 @@ pub struct Ledger {
 }
 
 impl Ledger {
-    /// Keeps a link in the journal, which is first switched to its other file where that is due.
+    /// KeepsLedger a link in the journal, which is first switched to its other file where that is due.
     /// What the account counts stays: the link's entries are taken afterwards, with no memory. It
     /// needs a journal that hasn't failed and that is what the files hold.
     ///
@@ -54,7 +54,7 @@ impl Ledger {
             (keep_end result) board.old board.new }
         ensures can { IsMade (keep_end result)
             → CanMake self.old.journal.standing self.old.account.state link.now }
-        ensures ledger { Keeps result
+        ensures ledger { KeepsLedger result
             (standing_kept self.old.journal.standing self.old.account.state link.now)
             self.old self.new }
         ensures full { IsFullBy result
@@ -79,7 +79,7 @@ impl Ledger {
             (keep_end result) board.old board.new }
         ensures can { IsMade (keep_end result)
             → CanMake self.old.journal.standing self.old.account.state link.now }
-        ensures ledger { Keeps result
+        ensures ledger { KeepsLedger result
             (standing_roomy self.old.journal.standing self.old.account.state link.now)
             self.old self.new }
         ensures full { IsFullBy result
@@ -107,7 +107,7 @@ impl Ledger {
         ensures does { Does (looks B.told B.clock B.faults)
             (append_acts self.old.journal.standing link.now) (keep_end result) board.old board.new }
         ensures made { IsMade (keep_end result) }
-        ensures ledger { Keeps result (standing_with self.old.journal.standing link.now)
+        ensures ledger { KeepsLedger result (standing_with self.old.journal.standing link.now)
             self.old self.new }
     {
         match self.journal.append(link, board) {

@@ -9,7 +9,7 @@ use Rattle.board_core.proofs.DoingLemmas.{broke_faults, well_faults}
 use Rattle.ras_account.specs.Account.{State}
 use Rattle.ras_journal.specs.Recovered.{Refusal, recovered}
 use Rattle.ras_recover.specs.OpeningCalls.{AfterRecovery}
-use Rattle.ras_recover.specs.Recovering.{Refuses, RestsHere, UnlessDisk, file_number, open_failure}
+use Rattle.ras_recover.specs.Recovering.{RefusesHeld, RestsHere, UnlessDisk, file_number, open_failure}
 use Rattle.ras_recover.specs.declared.refused.OpenRefused.{OpenRefused}
 use Rattle.ras_recover.specs.declared.refused.OpenRefused.TheVariants as opening
 use Rattle.ras_texts.specs.declared.listing.Listing.{Listing}
@@ -26,7 +26,7 @@ use Rattle.ras_listing.specs.Reporting.{ReportMoment, Reports, report_exit, repo
 
 -- ---- what is said
 
-pub said_refused : (listing : Listing) (why : OpenRefused) (held : Result State Refusal) (exit : Exit) → unrecovered why ≡ Ok exit → Refuses why held → IsSaid listing held exit (stop_line exit)
+pub said_refused : (listing : Listing) (why : OpenRefused) (held : Result State Refusal) (exit : Exit) → unrecovered why ≡ Ok exit → RefusesHeld why held → IsSaid listing held exit (stop_line exit)
 said_refused listing opening.Disk held exit is refuses = absurd cc
 said_refused listing opening.TooLong held exit is refuses =
     let same : TooLong ≡ exit = cc in

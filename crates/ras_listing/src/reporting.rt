@@ -5,7 +5,7 @@ ghost use Rattle.board_core.specs.Clock.{Adds};
 ghost use Rattle.board_core.specs.Told.{Relates, Told};
 ghost use Rattle.ras_account.specs.Account.{State};
 ghost use Rattle.ras_journal.specs.Recovered.{Refusal};
-ghost use Rattle.ras_recover.specs.Recovering.{Tells, open_failure};
+ghost use Rattle.ras_recover.specs.Recovering.{TellsHeld, open_failure};
 ghost use Rattle.ras_texts.specs.Listing.{listing_lines};
 ghost use Rattle.ras_texts.specs.Text.{end_line};
 ghost use Rattle.ras_exit.specs.Causes.{BoardCause};
@@ -54,7 +54,7 @@ fn answer(
     listing: Listing,
     found: Result<Recovered, OpenRefused>,
 ) -> Result<(Exit, Vec<u8>), Exit>
-    ensures said { (held : Result State Refusal) → Tells (λ r. r.account.state) found held
+    ensures said { (held : Result State Refusal) → TellsHeld (λ r. r.account.state) found held
         → IfOk result (λ answer. IsSaid listing held answer.0 answer.1.items) }
     ensures answers { IfOk result (λ answer. IsReportAnswer answer.0) }
     ensures whole { OnOk result (open_failure found ≡ Ok tt) }

@@ -15,7 +15,7 @@ use Rattle.board_core.specs.Told.{Told, device_of, unless_refused}
 use Rattle.board_core.proofs.DoingLemmas.{moment_parts}
 use Rattle.erst_interp.specs.declared.entries.InstructionEntry.{InstructionEntry}
 use Rattle.erst_interp.specs.Admission.{IsAdmittedTable}
-use Rattle.erst_interp.specs.Run.{Keeps, acts_of}
+use Rattle.erst_interp.specs.Run.{KeepsButDevice, acts_of}
 use Rattle.erst_interp.proofs.BreakLemmas.{acts_both, after_both}
 use Rattle.erst_interp.proofs.SlowLemmas.{register-slow}
 use Rattle.erst_driver.specs.declared.refusals.DriverRefused.TheVariants.{Busy}
@@ -32,7 +32,7 @@ use Rattle.ras_records.proofs.FirstLemmas.{first, first_more, none_readable, unr
 
 -- ---- what calls of the device keep
 
-call_keeps : (call : DeviceCall) (t : Told) → Keeps t (after_device call t)
+call_keeps : (call : DeviceCall) (t : Told) → KeepsButDevice t (after_device call t)
 unfolding with_put
 call_keeps (reg_read reg) t = record { here = refl; disk_calls = refl; slow = refl }
 call_keeps (reg_write reg value) t = record { here = refl; disk_calls = refl; slow = register-slow reg value (device_of t) }
@@ -44,7 +44,7 @@ call_keeps (put id bytes) t = record { here = refl; disk_calls = refl; slow = by
     by None = refl
     by (Some why) = refl
 
-pub calls_keep : (calls : List DeviceCall) (t : Told) → Keeps t (after_calls calls t)
+pub calls_keep : (calls : List DeviceCall) (t : Told) → KeepsButDevice t (after_calls calls t)
 calls_keep [] t = record { here = refl; disk_calls = refl; slow = refl }
 calls_keep (call ∷ calls) t =
     let u = after_device call t in

@@ -12,7 +12,7 @@ use Rattle.erst_interp.specs.Run.{acts_of}
 use Rattle.erst_interp.proofs.BreakLemmas.{acts_both, after_both}
 use Rattle.erst_driver.specs.declared.refusals.DriverRefused.{DriverRefused}
 use Rattle.erst_driver.specs.declared.refusals.DriverRefused.TheVariants.{Register, Busy, NoMemory, Status as EndedWith}
-use Rattle.erst_driver.specs.Answers.{Answer, Gives, IsAnswered, answer_on_found, refusal_end}
+use Rattle.erst_driver.specs.Answers.{Answer, AnswersAs, IsAnswered, answer_on_found, driver_end}
 use Rattle.erst_driver.proofs.DoesLemmas.{at_told, over_each}
 use Rattle.ras_records.specs.Each.{Operation, after_calls, each_answer, each_calls, after_answer}
 
@@ -79,8 +79,8 @@ module _ {X : Type 0} (see : X → Seen) (operation : Operation) (ids : List ℕ
         (ap (λ (acts : List Act). acts_of so_far.done ++ acts) (sym (acts_both own more)) ∙ (sym (acts_both so_far.done (own ++ more)) ∙ ap acts_of (sym calls_now)))
         (does_then see (acts_of so_far.done) (acts_of own ++ acts_of more) (broke device_call) a b c so_far.does tt (does_first see (acts_of own) (acts_of more) (broke device_call) b c tt does))
 
-    pub does_refused : (why : DriverRefused) → Does see (acts_of own) (refusal_end why) b c → Gives (Err why) (answer_on_found id (device_of now)) → IsAnswered {T = Unit {0}} (Err why)
-        → Does see (acts_of (each_calls operation ids t)) (refusal_end why) a c
+    pub does_refused : (why : DriverRefused) → Does see (acts_of own) (driver_end why) b c → AnswersAs (Err why) (answer_on_found id (device_of now)) → IsAnswered {T = Unit {0}} (Err why)
+        → Does see (acts_of (each_calls operation ids t)) (driver_end why) a c
     does_refused Register does gives answered = last_broke does
     does_refused Busy does gives answered = last_done went_well Busy does tt (sym gives)
     does_refused (EndedWith code) does gives answered = last_done went_well (EndedWith code) does tt (sym gives)
@@ -97,14 +97,14 @@ module _ {X : Type 0} (see : X → Seen) (operation : Operation) (ids : List ℕ
     abbrev there : (P : Told → Type 0) → IfSome (see b).told P → P (after_calls here.done t)
     there P holds = at_told P (see b).told (after_calls here.done t) holds (told_now see operation ids t count a b is here)
 
-  pub each_more : IfSome (see b).told (λ u. Does see (acts_of (operation (get_or ids count d) (device_of u))) went_well b c) → IfSome (see b).told (λ u. Gives (Ok tt) (answer_on_found (get_or ids count d) (device_of u)))
+  pub each_more : IfSome (see b).told (λ u. Does see (acts_of (operation (get_or ids count d) (device_of u))) went_well b c) → IfSome (see b).told (λ u. AnswersAs (Ok tt) (answer_on_found (get_or ids count d) (device_of u)))
       → IfSome (see a).told (λ t. DoneTo see operation ids (count + 1) t a c)
   each_more does answers = over_each _ (see a).told (λ t is.
       (done_more see operation ids t count a b c is within d (here t is) (there t is _ does) (sym (there t is _ answers))))
 
-  pub each_refused : (why : DriverRefused) → IfSome (see b).told (λ u. Does see (acts_of (operation (get_or ids count d) (device_of u))) (refusal_end why) b c)
-      → IfSome (see b).told (λ u. Gives (Err why) (answer_on_found (get_or ids count d) (device_of u))) → IsAnswered {T = Unit {0}} (Err why)
-      → IfSome (see a).told (λ t. Does see (acts_of (each_calls operation ids t)) (refusal_end why) a c)
+  pub each_refused : (why : DriverRefused) → IfSome (see b).told (λ u. Does see (acts_of (operation (get_or ids count d) (device_of u))) (driver_end why) b c)
+      → IfSome (see b).told (λ u. AnswersAs (Err why) (answer_on_found (get_or ids count d) (device_of u))) → IsAnswered {T = Unit {0}} (Err why)
+      → IfSome (see a).told (λ t. Does see (acts_of (each_calls operation ids t)) (driver_end why) a c)
   each_refused why does answers answered = over_each _ (see a).told (λ t is.
       (does_refused see operation ids t count a b c is within d (here t is) why (there t is _ does) (there t is _ answers) answered))
 

@@ -20,7 +20,7 @@ use Rattle.erst_interp.specs.Admission.{IsAdmittedTable}
 use Rattle.erst_interp.specs.Run.{acts_of}
 use Rattle.erst_driver.specs.declared.refusals.DriverRefused.{DriverRefused}
 use Rattle.erst_driver.specs.declared.refusals.DriverRefused.TheVariants.{Busy, NoMemory, Register, Status as EndedWith}
-use Rattle.erst_driver.specs.Answers.{Answer, DoesListing, DoesSome, Gives, HoldsRecord, IsAnswered, answer_on_found, by_status, found_status, read_calls, refusal_end}
+use Rattle.erst_driver.specs.Answers.{Answer, DoesListing, DoesSome, AnswersAs, HoldsRecord, IsAnswered, answer_on_found, by_status, found_status, read_calls, driver_end}
 use Rattle.erst_driver.specs.Operations.{is_free_in_time}
 use Rattle.erst_driver.proofs.DoesLemmas.{at_told, over_each}
 use Rattle.erst_driver.proofs.MomentLemmas.{read_here}
@@ -129,7 +129,7 @@ some_told x y is = cc
 some_bytes : (x y : List ℕ) → Some x ≡ Some y → x ≡ y
 some_bytes x y is = cc
 
-is_free : (id : ℕ) (t : Told) → Gives (Ok tt) (answer_on_found id (device_of t)) → is_free_in_time t.volatile.slow ≡ true
+is_free : (id : ℕ) (t : Told) → AnswersAs (Ok tt) (answer_on_found id (device_of t)) → is_free_in_time t.volatile.slow ≡ true
 is_free id t gives = by (is_free_in_time t.volatile.slow) refl gives
   where
     by : (b : Bool) → is_free_in_time t.volatile.slow ≡ b → Ok tt ≡ (if b then by_status (found_status id t.here.store) else Err Busy) → is_free_in_time t.volatile.slow ≡ true
@@ -226,7 +226,7 @@ module _ (rows : List Row) (seconds : ℕ) where
         by true free = held_answer (get_or ids count 0) n (ap is_free_in_time slow ∙ free) listed_there
         by false free = ap (λ b. if b then by_status (found_status (get_or ids count 0) n.here.store) else Err Busy) (ap is_free_in_time slow ∙ free)
 
-    pub looks_refused : (why : DriverRefused) → Gives (Err why) (answer_on_found (get_or ids count 0) (device_of n)) → IsAnswered {T = Unit {0}} (Err why) → Looks rows seconds (Err why) u
+    pub looks_refused : (why : DriverRefused) → AnswersAs (Err why) (answer_on_found (get_or ids count 0) (device_of n)) → IsAnswered {T = Unit {0}} (Err why) → Looks rows seconds (Err why) u
     looks_refused Register gives answered = tt
     looks_refused NoMemory gives answered = absurd answered
     looks_refused Busy gives answered = by (is_free_in_time u.volatile.slow) refl (gives ∙ answer_there)
@@ -259,7 +259,7 @@ module _ (rows : List Row) (seconds : ℕ) where
 
 -- ---- over a board
 
-pub listing_of : {X : Type 0} (see : X → Seen) (calls : List DeviceCall) (why : DriverRefused) (a b : X) → IsAnswered {T = Unit {0}} (Err why) → Does see (acts_of calls) (refusal_end why) a b → DoesListing {T = Looked} see calls (Err why) a b
+pub listing_of : {X : Type 0} (see : X → Seen) (calls : List DeviceCall) (why : DriverRefused) (a b : X) → IsAnswered {T = Unit {0}} (Err why) → Does see (acts_of calls) (driver_end why) a b → DoesListing {T = Looked} see calls (Err why) a b
 listing_of see calls Register a b answered does = does
 listing_of see calls Busy a b answered does = does
 listing_of see calls (EndedWith code) a b answered does = does
@@ -279,7 +279,7 @@ module _ {X : Type 0} (see : X → Seen) (lists : List (List InstructionEntry)) 
     done_far : IfSome (see a).told (λ t. DoneTo see (read_calls lists) ids count t a b)
     done_far = over_each _ (see a).told (λ t is. (at_told (λ u. ReadTo see lists rows seconds ids count u old a b) (see a).told t so_far is).done)
 
-    pub read_more : (new : Looked) (buffer : List ℕ) → IfSome (see b).told (λ n. Does see (acts_of (read_calls lists asked (device_of n))) went_well b c) → IfSome (see b).told (λ n. Gives (Ok tt) (answer_on_found asked (device_of n)))
+    pub read_more : (new : Looked) (buffer : List ℕ) → IfSome (see b).told (λ n. Does see (acts_of (read_calls lists asked (device_of n))) went_well b c) → IfSome (see b).told (λ n. AnswersAs (Ok tt) (answer_on_found asked (device_of n)))
         → IfSome (see b).told (λ n. HoldsRecord asked n.here.store buffer) → IfSome (see b).told (λ n. IsDevice (device_of n))
         → new.made ≡ old.made ++ piece_of rows seconds asked (read_under asked buffer) ∷ [] → new.readable.items ≡ old.readable.items ++ (if is_ok (read_under asked buffer) then asked ∷ [] else [])
         → IfSome (see a).told (λ t. ReadTo see lists rows seconds ids (count + 1) t new a c)
@@ -289,7 +289,7 @@ module _ {X : Type 0} (see : X → Seen) (lists : List (List InstructionEntry)) 
         let now = told_now see (read_calls lists) ids t count a b is so.done in
         let own = read_calls lists asked (device_of n) in
         let reads = at_told (λ u. Does see (acts_of (read_calls lists asked (device_of u))) went_well b c) (see b).told n does now in
-        let gives = at_told (λ u. Gives (Ok tt) (answer_on_found asked (device_of u))) (see b).told n answers now in
+        let gives = at_told (λ u. AnswersAs (Ok tt) (answer_on_found asked (device_of u))) (see b).told n answers now in
         let next : (see c).told ≡ Some (after_calls own n) = reads.told ∙ ap (option_map (after_calls own)) now in
         record {
           done = done_more see (read_calls lists) ids t count a b c is within 0 so.done reads (sym gives);
@@ -297,7 +297,7 @@ module _ {X : Type 0} (see : X → Seen) (lists : List (List InstructionEntry)) 
               (at_told (λ u. HoldsRecord asked u.here.store buffer) (see b).told n held now) made more (some_told m (after_calls own n) (sym told ∙ next)) (is_free asked n gives) (calls_keep so.done.done t).slow (so.held p n now);
         }))
 
-    pub read_starved : IfSome (see b).told (λ n. Does see (acts_of (read_calls lists asked (device_of n))) went_well b c) → IfSome (see b).told (λ n. Gives (Ok tt) (answer_on_found asked (device_of n)))
+    pub read_starved : IfSome (see b).told (λ n. Does see (acts_of (read_calls lists asked (device_of n))) went_well b c) → IfSome (see b).told (λ n. AnswersAs (Ok tt) (answer_on_found asked (device_of n)))
         → IfSome (see a).told (λ t. DoesSome see (each_calls (read_calls lists) ids t) a c)
     read_starved does answers = over_each _ (see a).told (λ t is.
         (let more = at_told (λ u. DoneTo see (read_calls lists) ids (count + 1) u a c) (see a).told t (each_more see (read_calls lists) ids count a b c within 0 done_far does answers) is in
@@ -308,20 +308,20 @@ module _ {X : Type 0} (see : X → Seen) (lists : List (List InstructionEntry)) 
           does = more.does;
         }))
 
-    pub read_refused : (why : DriverRefused) → IfSome (see b).told (λ n. Does see (acts_of (read_calls lists asked (device_of n))) (refusal_end why) b c) → IfSome (see b).told (λ n. Gives (Err why) (answer_on_found asked (device_of n)))
+    pub read_refused : (why : DriverRefused) → IfSome (see b).told (λ n. Does see (acts_of (read_calls lists asked (device_of n))) (driver_end why) b c) → IfSome (see b).told (λ n. AnswersAs (Err why) (answer_on_found asked (device_of n)))
         → IsAnswered {T = Unit {0}} (Err why) → IfSome (see a).told (λ t. DoesListing {T = Looked} see (each_calls (read_calls lists) ids t) (Err why) a c)
     read_refused why does answers answered = over_each _ (see a).told (λ t is.
         listing_of see (each_calls (read_calls lists) ids t) why a c answered
-        (at_told (λ u. Does see (acts_of (each_calls (read_calls lists) ids u)) (refusal_end why) a c) (see a).told t (each_refused see (read_calls lists) ids count a b c within 0 done_far why does answers answered) is))
+        (at_told (λ u. Does see (acts_of (each_calls (read_calls lists) ids u)) (driver_end why) a c) (see a).told t (each_refused see (read_calls lists) ids count a b c within 0 done_far why does answers answered) is))
 
-    pub refused_looks : (why : DriverRefused) → IfSome (see b).told (λ n. Gives (Err why) (answer_on_found asked (device_of n))) → IsAnswered {T = Unit {0}} (Err why)
+    pub refused_looks : (why : DriverRefused) → IfSome (see b).told (λ n. AnswersAs (Err why) (answer_on_found asked (device_of n))) → IsAnswered {T = Unit {0}} (Err why)
         → IsAdmittedTable lists → IfSome (see a).told (λ t. IsDevice (device_of t) → ids ≡ ids_in t.here.store → Looks rows seconds (Err why) t)
     refused_looks why answers answered admitted = over_each _ (see a).told (λ t is device listed.
         (let so = at_told (λ u. ReadTo see lists rows seconds ids count u old a b) (see a).told t so_far is in
         let n = after_calls so.done.done t in
         let now = told_now see (read_calls lists) ids t count a b is so.done in
         let p : IsListed lists ids t = record { admitted = admitted; device = device; listed = listed } in
-        looks_refused rows seconds lists ids count t n old p within (calls_keep so.done.done t).slow (so.held p n now) why (at_told (λ u. Gives (Err why) (answer_on_found asked (device_of u))) (see b).told n answers now) answered))
+        looks_refused rows seconds lists ids count t n old p within (calls_keep so.done.done t).slow (so.held p n now) why (at_told (λ u. AnswersAs (Err why) (answer_on_found asked (device_of u))) (see b).told n answers now) answered))
 
   pub done_looks : (a b : X) (looked : Looked) → length ids ≤ count → IfSome (see a).told (λ t. ReadTo see lists rows seconds ids count t looked a b)
       → IsAdmittedTable lists → IfSome (see a).told (λ t. IsDevice (device_of t) → ids ≡ ids_in t.here.store → HasLooked rows seconds t looked)

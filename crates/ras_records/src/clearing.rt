@@ -4,8 +4,8 @@ ghost use Rattle.std.specs.Prelude.{◌≢◌, [], IfSome};
 ghost use Rattle.board_core.specs.Doing.{Does, ended_by, looks};
 ghost use Rattle.board_core.specs.Told.{Relates, device_of};
 ghost use Rattle.erst_store.specs.DeviceLaws.{IsDevice};
-ghost use Rattle.erst_interp.specs.Run.{Keeps, acts_of};
-ghost use Rattle.erst_driver.specs.Answers.{Gives, HasCauseIn, IsAnswered, refusal_end};
+ghost use Rattle.erst_interp.specs.Run.{KeepsButDevice, acts_of};
+ghost use Rattle.erst_driver.specs.Answers.{AnswersAs, HasCauseIn, IsAnswered, driver_end};
 ghost use Rattle.erst_driver.specs.Operations.{clear_calls};
 ghost use Rattle.ras_records.specs.Each.{each_answer, each_calls};
 
@@ -22,11 +22,11 @@ use erst_driver::{Driver, DriverRefused};
 /// no such record.
 pub fn clear_all<B: Board>(driver: &Driver, ids: &[u64], board: &mut B) -> Result<(), DriverRefused>
     ensures does { IfSome (B.told board.old) (λ t. Does (looks B.told B.clock B.faults)
-        (acts_of (each_calls (clear_calls driver.now) ids.now t)) (ended_by refusal_end result)
+        (acts_of (each_calls (clear_calls driver.now) ids.now t)) (ended_by driver_end result)
         board.old board.new) }
     ensures answers { IfSome (B.told board.old)
-        (λ t. Gives result (each_answer (clear_calls driver.now) ids.now t)) }
-    ensures kept { Relates Keeps (B.told board.old) (B.told board.new) }
+        (λ t. AnswersAs result (each_answer (clear_calls driver.now) ids.now t)) }
+    ensures kept { Relates KeepsButDevice (B.told board.old) (B.told board.new) }
     ensures cause { HasCauseIn result (B.faults board.old) (B.faults board.new) }
     ensures refused { IsAnswered result }
     ensures device { ids.now ≢ [] → IfSome (B.told board.old) (λ t. IsDevice (device_of t)) }

@@ -5,7 +5,7 @@ ghost use Rattle.board_core.specs.Doing.{DeviceCall, Moment};
 ghost use Rattle.board_core.specs.Stop.{Becomes, InStore, Left};
 ghost use Rattle.board_core.specs.Told.{Told, device_of};
 ghost use Rattle.erst_interp.specs.Admission.{IsAdmittedTable};
-ghost use Rattle.erst_interp.specs.Run.{Keeps, acts_of};
+ghost use Rattle.erst_interp.specs.Run.{KeepsButDevice, acts_of};
 ghost use Rattle.erst_interp.specs.declared.entries.InstructionEntry.{InstructionEntry};
 ghost use Rattle.erst_driver.specs.Answers.{written_id};
 ghost use Rattle.erst_driver.specs.Operations.{clear_calls, is_free_in_time, write_calls};
@@ -19,7 +19,7 @@ ghost use Rattle.ras_records.specs.Polls.{LacksFirst, look_calls, readable_ids};
 /// What calls of the device leave of what a board tells: of its files, its store and its text the
 /// store alone changes, and the device is as slow as it was. The function does nothing.
 pub fn device_calls_change_the_store_alone()
-    ensures { (calls : List DeviceCall) (t : Told) → Keeps t (after_calls calls t) }
+    ensures { (calls : List DeviceCall) (t : Told) → KeepsButDevice t (after_calls calls t) }
 {}
 
 /// A look leaves files, store and text as they are, whether it is done, memory ran out after some

@@ -9,7 +9,7 @@ ghost use Rattle.erst_store.specs.Actions.{range_length};
 ghost use Rattle.erst_store.specs.DeviceLaws.{IsDevice};
 ghost use Rattle.erst_store.specs.Store.{ids as ids_in, most_records};
 ghost use Rattle.erst_interp.specs.Admission.{IsAdmittedTable};
-ghost use Rattle.erst_interp.specs.Run.{Keeps};
+ghost use Rattle.erst_interp.specs.Run.{KeepsButDevice};
 ghost use Rattle.erst_driver.specs.Answers.{DoesListing, HasCauseIn, read_calls};
 ghost use Rattle.ras_events.specs.Making.{piece_of};
 ghost use Rattle.ras_records.specs.Each.{each_calls};
@@ -97,7 +97,7 @@ pub fn look<B: Board>(
     ensures looked { IsAdmittedTable driver.now → IfSome (B.told board.old)
         (λ t. Looks topology.now seconds result t) }
     ensures bounded { IsBounded result }
-    ensures kept { Relates Keeps (B.told board.old) (B.told board.new) }
+    ensures kept { Relates KeepsButDevice (B.told board.old) (B.told board.new) }
     ensures cause { HasCauseIn result (B.faults board.old) (B.faults board.new) }
     ensures device { IfSome (B.told board.old) (λ t. IsDevice (device_of t)) }
 {
@@ -123,7 +123,7 @@ fn read_all<B: Board>(
         IsDevice (device_of t) → ids.now ≡ ids_in t.here.store
         → Looks topology.now seconds result t) }
     ensures bounded { IsBounded result }
-    ensures kept { Relates Keeps (B.told board.old) (B.told board.new) }
+    ensures kept { Relates KeepsButDevice (B.told board.old) (B.told board.new) }
     ensures cause { HasCauseIn result (B.faults board.old) (B.faults board.new) }
 {
     let mut looked = Looked::new(alloc);

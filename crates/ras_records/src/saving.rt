@@ -5,8 +5,8 @@ ghost use Rattle.board_core.specs.Doing.{Does, ended_by, looks};
 ghost use Rattle.board_core.specs.Told.{Relates, device_of};
 ghost use Rattle.erst_store.specs.Device.{length_place};
 ghost use Rattle.erst_store.specs.DeviceLaws.{IsDevice};
-ghost use Rattle.erst_interp.specs.Run.{Keeps, acts_of};
-ghost use Rattle.erst_driver.specs.Answers.{Gives, HasCauseIn, IsAnswered, answer_on_put, refusal_end, written_id};
+ghost use Rattle.erst_interp.specs.Run.{KeepsButDevice, acts_of};
+ghost use Rattle.erst_driver.specs.Answers.{AnswersAs, HasCauseIn, IsAnswered, answer_on_put, driver_end, written_id};
 ghost use Rattle.erst_driver.specs.Operations.{write_calls};
 ghost use Rattle.ras_base.specs.LittleEndian.{number_at};
 
@@ -28,11 +28,11 @@ pub fn save<B: Board>(
 ) -> Result<(), DriverRefused>
     requires { number_at length_place 4 bytes.now ≡ 456 }
     ensures does { IfSome (B.told board.old) (λ t. Does (looks B.told B.clock B.faults)
-        (acts_of (write_calls driver.now bytes.now (device_of t))) (ended_by refusal_end result)
+        (acts_of (write_calls driver.now bytes.now (device_of t))) (ended_by driver_end result)
         board.old board.new) }
     ensures answers { IfSome (B.told board.old)
-        (λ t. Gives result (answer_on_put (written_id bytes.now) (device_of t))) }
-    ensures kept { Relates Keeps (B.told board.old) (B.told board.new) }
+        (λ t. AnswersAs result (answer_on_put (written_id bytes.now) (device_of t))) }
+    ensures kept { Relates KeepsButDevice (B.told board.old) (B.told board.new) }
     ensures cause { HasCauseIn result (B.faults board.old) (B.faults board.new) }
     ensures refused { IsAnswered result }
     ensures device { IfSome (B.told board.old) (λ t. IsDevice (device_of t)) }

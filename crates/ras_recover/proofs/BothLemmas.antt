@@ -16,7 +16,7 @@ use Rattle.ras_recover.specs.declared.refused.OpenRefused.TheVariants.{Disk, Too
 use Rattle.ras_recover.specs.Steps.Looking.{AreReads}
 use Rattle.ras_recover.specs.DiskCalls.{Calls}
 use Rattle.ras_recover.specs.OpeningCalls.{ReadsStanding, ReadsBoth}
-use Rattle.ras_recover.specs.Recovering.{Refuses, open_failure}
+use Rattle.ras_recover.specs.Recovering.{RefusesHeld, open_failure}
 use Rattle.ras_recover.specs.DiskCalls.{ReadsPlace}
 use Rattle.ras_recover.specs.Steps.Windows.{LooksAt}
 use Rattle.ras_recover.proofs.CallsLemmas.{relates_then, relates_weaker, calls_then, calls_weaker, both_read_alone, any_left, any_right}
@@ -24,7 +24,7 @@ use Rattle.ras_recover.proofs.KeepingLemmas.{keeps_then, same_faults, before}
 use Rattle.ras_recover.proofs.PairLemmas.{zero_fails, one_fails, both_read, recovers_fails}
 
 pub zero_refused : (refused : OpenRefused) (m n : ℕ) (told : Option Told) → (m ≤ LONGEST_FILE) × (n ≤ LONGEST_FILE) → IfSome told (λ t. (m ≡ length t.here.file0) × (n ≡ length t.here.file1))
-    → IfSome told (λ t. Refuses refused (in_file Zero (front_of None t.here.file0))) → IfSome told (λ t. Refuses refused (journal_of t.here.file0 t.here.file1))
+    → IfSome told (λ t. RefusesHeld refused (in_file Zero (front_of None t.here.file0))) → IfSome told (λ t. RefusesHeld refused (journal_of t.here.file0 t.here.file1))
 zero_refused refused m n None short sizes refuses = tt
 zero_refused refused m n (Some t) short sizes refuses =
     let a : m ≤ LONGEST_FILE = short.0 in
@@ -34,8 +34,8 @@ zero_refused refused m n (Some t) short sizes refuses =
     zero_fails refused t.here.file0 t.here.file1 (omega arith) (omega arith) refuses
 
 one_refused_here : (refused : OpenRefused) (m n : ℕ) (zero : Option FileFront) (taken : Option ℕ) (told : Option Told) → (m ≤ LONGEST_FILE) × (n ≤ LONGEST_FILE) → IfSome told (λ t. (m ≡ length t.here.file0) × (n ≡ length t.here.file1))
-    → IfSome told (λ t. in_file Zero (front_of None t.here.file0) ≡ Ok zero) → taken ≡ generation_in zero → IfSome told (λ t. Refuses refused (in_file One (front_of taken t.here.file1)))
-    → IfSome told (λ t. Refuses refused (journal_of t.here.file0 t.here.file1))
+    → IfSome told (λ t. in_file Zero (front_of None t.here.file0) ≡ Ok zero) → taken ≡ generation_in zero → IfSome told (λ t. RefusesHeld refused (in_file One (front_of taken t.here.file1)))
+    → IfSome told (λ t. RefusesHeld refused (journal_of t.here.file0 t.here.file1))
 one_refused_here refused m n zero taken None short sizes is same refuses = tt
 one_refused_here refused m n zero taken (Some t) short sizes is same refuses =
     let a : m ≤ LONGEST_FILE = short.0 in
@@ -46,9 +46,9 @@ one_refused_here refused m n zero taken (Some t) short sizes is same refuses =
 
 pub one_refused : (refused : OpenRefused) (m n : ℕ) (zero : Option FileFront) (taken : Option ℕ) (old new : Option Told) → option_map (λ (t : Told). t.here) new ≡ option_map (λ (t : Told). t.here) old → (m ≤ LONGEST_FILE) × (n ≤ LONGEST_FILE)
     → IfSome old (λ t. (m ≡ length t.here.file0) × (n ≡ length t.here.file1)) → IfSome old (λ t. in_file Zero (front_of None t.here.file0) ≡ Ok zero) → taken ≡ generation_in zero
-    → IfSome new (λ t. Refuses refused (in_file One (front_of taken t.here.file1))) → IfSome old (λ t. Refuses refused (journal_of t.here.file0 t.here.file1))
+    → IfSome new (λ t. RefusesHeld refused (in_file One (front_of taken t.here.file1))) → IfSome old (λ t. RefusesHeld refused (journal_of t.here.file0 t.here.file1))
 one_refused refused m n zero taken old new here short sizes is same refuses =
-    one_refused_here refused m n zero taken old short sizes is same (before (λ (l : Left). Refuses refused (in_file One (front_of taken l.file1))) old new here refuses)
+    one_refused_here refused m n zero taken old short sizes is same (before (λ (l : Left). RefusesHeld refused (in_file One (front_of taken l.file1))) old new here refuses)
 
 both_here : (m n : ℕ) (zero one : Option FileFront) (taken : Option ℕ) (told : Option Told) → (m ≤ LONGEST_FILE) × (n ≤ LONGEST_FILE) → IfSome told (λ t. (m ≡ length t.here.file0) × (n ≡ length t.here.file1))
     → IfSome told (λ t. in_file Zero (front_of None t.here.file0) ≡ Ok zero) → taken ≡ generation_in zero → IfSome told (λ t. in_file One (front_of taken t.here.file1) ≡ Ok one)
@@ -123,13 +123,13 @@ half_looks T U x why ta a fa tb b fb tc c fc first second = record {
 
 -- ---- what they hold
 
-fails_here : (refused : OpenRefused) (told : Option Told) → IfSome told (λ t. Refuses refused (journal_of t.here.file0 t.here.file1)) → IfSome told (λ t. Refuses refused (recovered t.here.file0 t.here.file1))
+fails_here : (refused : OpenRefused) (told : Option Told) → IfSome told (λ t. RefusesHeld refused (journal_of t.here.file0 t.here.file1)) → IfSome told (λ t. RefusesHeld refused (recovered t.here.file0 t.here.file1))
 fails_here refused None refuses = tt
 fails_here refused (Some t) refuses = recovers_fails refused t.here.file0 t.here.file1 refuses
 
-pub fails_told : (refused : OpenRefused) (old new : Option Told) → option_map (λ (t : Told). t.here) new ≡ option_map (λ (t : Told). t.here) old → IfSome new (λ t. Refuses refused (journal_of t.here.file0 t.here.file1))
-    → IfSome old (λ t. Refuses refused (recovered t.here.file0 t.here.file1))
-fails_told refused old new here refuses = before (λ (l : Left). Refuses refused (recovered l.file0 l.file1)) old new here (fails_here refused new refuses)
+pub fails_told : (refused : OpenRefused) (old new : Option Told) → option_map (λ (t : Told). t.here) new ≡ option_map (λ (t : Told). t.here) old → IfSome new (λ t. RefusesHeld refused (journal_of t.here.file0 t.here.file1))
+    → IfSome old (λ t. RefusesHeld refused (recovered t.here.file0 t.here.file1))
+fails_told refused old new here refuses = before (λ (l : Left). RefusesHeld refused (recovered l.file0 l.file1)) old new here (fails_here refused new refuses)
 
 pub reads_as : {S T : Type 0} (x : S) (y : T) (a b : Option Told) → Relates (λ t. Calls (AreReads {E = OpenRefused} (Ok x) (ReadsBoth t.here)) t) a b → Relates (λ t. Calls (AreReads {E = OpenRefused} (Ok y) (ReadsBoth t.here)) t) a b
 reads_as x y a b reads =

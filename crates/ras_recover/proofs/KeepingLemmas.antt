@@ -12,7 +12,7 @@ use Rattle.board_core.specs.Told.{Told, Steps, Relates, MayList, with_call, file
 use Rattle.board_core.specs.Cause.{Faults, disk_call, with_count, FailsAs}
 use Rattle.ras_recover.specs.declared.refused.OpenRefused.{OpenRefused}
 use Rattle.ras_recover.specs.declared.refused.OpenRefused.TheVariants.{Disk, TooLong, Damaged, NoMemory}
-use Rattle.ras_recover.specs.Recovering.{Keeps, RestsHere, UnlessDisk}
+use Rattle.ras_recover.specs.Recovering.{KeepsTold, RestsHere, UnlessDisk}
 
 same_left : (old : Clock) (left : Left) → After old Same left → LeftNow old left
 same_left old left after = subst (λ (l : Left). LeftNow old l) (sym after.by) after.was
@@ -27,23 +27,23 @@ failed call (Some t) None relates = absurd relates
 failed call (Some t) (Some u) (inl same) = ap (λ (v : Told). Some v.here) same
 failed call (Some t) (Some u) (inr listed) = ap (λ (v : Told). Some v.here) listed
 
-keeps_by : (told_old : Option Told) (old : Clock) (told_new : Option Told) (new : Clock) → option_map (λ (t : Told). t.here) told_new ≡ option_map (λ (t : Told). t.here) told_old → Passes Same old new → Keeps told_old old told_new new
+keeps_by : (told_old : Option Told) (old : Clock) (told_new : Option Told) (new : Clock) → option_map (λ (t : Told). t.here) told_new ≡ option_map (λ (t : Told). t.here) told_old → Passes Same old new → KeepsTold told_old old told_new new
 keeps_by told_old old told_new new here passes = record {
   here = here;
   stops = adds_after Same (LeftNow old) old new passes (same_left old);
   ends = λ left now. same_left old left (passes.ends left now);
 }
 
-pub keeps_call : (call : DiskCall) (told_old : Option Told) (old : Clock) (told_new : Option Told) (new : Clock) → Steps (with_call call) told_old told_new → Passes Same old new → Keeps told_old old told_new new
+pub keeps_call : (call : DiskCall) (told_old : Option Told) (old : Clock) (told_new : Option Told) (new : Clock) → Steps (with_call call) told_old told_new → Passes Same old new → KeepsTold told_old old told_new new
 keeps_call call told_old old told_new new steps passes = keeps_by told_old old told_new new (called call told_old told_new steps) passes
 
-pub keeps_failed : (call : DiskCall) (told_old : Option Told) (old : Clock) (told_new : Option Told) (new : Clock) → Relates (MayList call) told_old told_new → Passes Same old new → Keeps told_old old told_new new
+pub keeps_failed : (call : DiskCall) (told_old : Option Told) (old : Clock) (told_new : Option Told) (new : Clock) → Relates (MayList call) told_old told_new → Passes Same old new → KeepsTold told_old old told_new new
 keeps_failed call told_old old told_new new relates passes = keeps_by told_old old told_new new (failed call told_old told_new relates) passes
 
-pub keeps_nothing : (told : Option Told) (clock : Clock) → Keeps told clock told clock
+pub keeps_nothing : (told : Option Told) (clock : Clock) → KeepsTold told clock told clock
 keeps_nothing told clock = record { here = refl; stops = adds_none (LeftNow clock) clock; ends = λ left now. now }
 
-pub keeps_then : (told_a : Option Told) (a : Clock) (told_b : Option Told) (b : Clock) (told_c : Option Told) (c : Clock) → Keeps told_a a told_b b → Keeps told_b b told_c c → Keeps told_a a told_c c
+pub keeps_then : (told_a : Option Told) (a : Clock) (told_b : Option Told) (b : Clock) (told_c : Option Told) (c : Clock) → KeepsTold told_a a told_b b → KeepsTold told_b b told_c c → KeepsTold told_a a told_c c
 keeps_then told_a a told_b b told_c c first second = record {
   here = second.here ∙ first.here;
   stops = adds_both (LeftNow a) a b c first.stops (adds_weaker (LeftNow b) (LeftNow a) b c second.stops first.ends);
@@ -61,7 +61,7 @@ pub before : (P : Left → Type 0) (old new : Option Told) → option_map (λ (t
 before P old new same holds = still P new old (sym same) holds
 
 -- a stop still leaves just what is told
-pub rests_still : (here : Left) (told_old : Option Told) (old : Clock) (told_new : Option Told) (new : Clock) → RestsHere here told_old old → Keeps told_old old told_new new → RestsHere here told_new new
+pub rests_still : (here : Left) (told_old : Option Told) (old : Clock) (told_new : Option Told) (new : Clock) → RestsHere here told_old old → KeepsTold told_old old told_new new → RestsHere here told_new new
 rests_still here told_old old None new rests keeps = absurd (nothing (keeps.here ∙ ap (λ (o : Option Told). option_map (λ (t : Told). t.here) o) rests.rests.is))
   where
     nothing : ◌≡◌ {A = Option Left} None (Some rests.there.here) → ⊥

@@ -21,7 +21,7 @@ use Rattle.ras_journal.specs.Recovered.{recovered, journal_of, Recovers}
 use Rattle.ras_journal.specs.Appending.{Before, append_acts}
 use Rattle.ras_journal.proofs.PartLemmas.{bind_of, same_ok}
 use Rattle.ras_journal.proofs.JournalLemmas.{both_whole}
-use Rattle.ras_recover.specs.Life.{account_after_links, JournalCall, an_append, a_switch, an_opening, Life, start, done, cut, stopped, Continues, RecoversBehind, with_links, Site, CallsSwitch, Works, Opens, IsAnswered, StartsOver, BeginsWith, IsCut, IsStopped, Lives}
+use Rattle.ras_recover.specs.Life.{account_after_links, JournalCall, an_append, a_switch, an_opening, Life, start, done, cut, stopped, Continues, RecoversBehind, with_links, Site, CallsSwitch, Works, OpensJournal, IsAnswered, StartsOver, BeginsWith, IsCut, IsStopped, Lives}
 use Rattle.ras_recover.specs.Opening.{FormatsFirst, Opening}
 use Rattle.ras_journal.proofs.AppendLemmas.{append_ends, append_leaves}
 use Rattle.ras_recover.specs.Switching.{switch_acts}
@@ -192,7 +192,7 @@ module _ {B : Type 0} (see : B → Seen) where
 
   -- ---- a call that was answered
 
-  opening_answered : TellsLeft → (account : State) (life : Life) (now : State) (old new : Site B) → Holds account life old → Opens see now old new → Continues account life now
+  opening_answered : TellsLeft → (account : State) (life : Life) (now : State) (old new : Site B) → Holds account life old → OpensJournal see now old new → Continues account life now
   opening_answered tells account life now old new holds opens =
       let behind = holds.left opens.call.there.here (tells old.board opens.call.there opens.call.tells) in
       subst (Continues account life) (one_account behind.now now opens.call.there.here behind.recovers opens.recovers) behind.continues
@@ -268,5 +268,5 @@ module _ {B : Type 0} (see : B → Seen) where
       → Works see call last board → (clock board).may_leave_since (clock last.board).now left → RecoversBehind account (cut life call) left
   in_a_call tells earlier account life call first last board left begins so_far works since = at_work tells account life call last board left (lives tells earlier account life first last begins so_far) works since
 
-  pub opened_account : TellsLeft → Earlier → (account now : State) (life : Life) (first last new : Site B) → BeginsWith see account first → Lives see life first last → Opens see now last new → Continues account life now
+  pub opened_account : TellsLeft → Earlier → (account now : State) (life : Life) (first last new : Site B) → BeginsWith see account first → Lives see life first last → OpensJournal see now last new → Continues account life now
   opened_account tells earlier account now life first last new begins so_far opens = opening_answered tells account life now last new (lives tells earlier account life first last begins so_far) opens

@@ -15,7 +15,7 @@ use Rattle.ras_recover.specs.DiskCalls.{with_calls}
 use Rattle.ras_recover.specs.Opening.{opening_acts}
 use Rattle.ras_recover.specs.OpeningActs.{FailsOpening}
 use Rattle.ras_recover.specs.OpeningCalls.{AfterRecovery, IsRecoveryOf}
-use Rattle.ras_recover.specs.Recovering.{refusal_end}
+use Rattle.ras_recover.specs.Recovering.{open_refused_end}
 use Rattle.ras_recover.proofs.CallsLemmas.{relates_then, relates_weaker}
 use Rattle.ras_recover.proofs.OpeningCallsLemmas.{Recovered, reads_all, recovery_on}
 use Rattle.ras_recover.proofs.OpeningLemmas.{acts_are, first_acts}
@@ -91,8 +91,8 @@ formatting_fails account shut x y z ((none, shut_is), reads) fails =
     }
 
 pub fails_formatting : {X : Type 0} (see : X → Seen) (account : State) (shut : Bool) (why : OpenRefused) (old : Option Told) (a b : X) → why ≡ Disk → Relates (Recovered account shut) old (see a).told
-    → Does see (first_acts shut account) (refusal_end why) a b → Relates FailsOpening old (see b).told
-fails_formatting see account shut why old a b is reads does = by (subst (λ (w : OpenRefused). Does see (first_acts shut account) (refusal_end w) a b) is does)
+    → Does see (first_acts shut account) (open_refused_end why) a b → Relates FailsOpening old (see b).told
+fails_formatting see account shut why old a b is reads does = by (subst (λ (w : OpenRefused). Does see (first_acts shut account) (open_refused_end w) a b) is does)
   where
     by : Breaks disk_call (first_acts shut account) (see a) (see b) → Relates FailsOpening old (see b).told
     by breaks = relates_then (Recovered account shut) (FailsActs disk_call (first_acts shut account)) FailsOpening (formatting_fails account shut) old (see a).told (see b).told reads breaks.told

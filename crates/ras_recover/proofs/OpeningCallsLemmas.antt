@@ -23,7 +23,7 @@ use Rattle.ras_journal.proofs.JournalLemmas.{here_of}
 use Rattle.ras_recover.specs.declared.refused.OpenRefused.{OpenRefused}
 use Rattle.ras_recover.specs.declared.refused.OpenRefused.TheVariants.{Damaged, Disk, NoMemory, TooLong}
 use Rattle.ras_recover.specs.DiskCalls.{Calls, IsReading, ReadsPlace, Makes, IsBeginning, with_calls}
-use Rattle.ras_recover.specs.Recovering.{open_failure, refusal_end}
+use Rattle.ras_recover.specs.Recovering.{open_failure, open_refused_end}
 use Rattle.ras_recover.specs.Steps.Looking.{AreSyncs, AreReads, WritesIn}
 use Rattle.ras_recover.specs.Opening.{HoldsNone, opening_acts}
 use Rattle.ras_recover.specs.OpeningCalls.{IsRecovery, IsRecoveryOf, IsOpening, MakesOpening, ReadsBoth, ReadsStanding, ReadsTo, AfterRecovery, AfterOpening}
@@ -268,7 +268,7 @@ opens_formatted account shut old a b reads steps =
 
 -- ---- faults
 
-pub refusal_cause : {X : Type 0} (T : Type 0) (see : X → Seen) (acts : List Act) (why : OpenRefused) (f : Faults) (a b : X) → (see a).faults ≡ f → Does see acts (refusal_end why) a b → FailsAs disk_call f (see b).faults (open_failure {T = T} (Err why))
+pub refusal_cause : {X : Type 0} (T : Type 0) (see : X → Seen) (acts : List Act) (why : OpenRefused) (f : Faults) (a b : X) → (see a).faults ≡ f → Does see acts (open_refused_end why) a b → FailsAs disk_call f (see b).faults (open_failure {T = T} (Err why))
 refusal_cause T see acts Disk f a b is does =
     subst (λ (g : Faults). FailsAs {T = Unit {0}} {E = OpenRefused} disk_call g (see b).faults (Err Disk)) is
     (record { own = record { later = does.faults.later; failed = does.faults.own; same = tt }; others = does.faults.others })
@@ -277,8 +277,8 @@ refusal_cause T see acts (Damaged file place) f a b is same = no_faults f (see b
 refusal_cause T see acts NoMemory f a b is same = no_faults f (see b).faults tt (ap (λ x. (see x).faults) same ∙ is)
 
 -- if memory ran out nothing was called
-pub none_called : {X : Type 0} (see : X → Seen) (acts : List Act) (why : OpenRefused) (a b : X) → why ≡ NoMemory → Does see acts (refusal_end why) a b → b ≡ a
-none_called see acts why a b is does = subst (λ (w : OpenRefused). Does see acts (refusal_end w) a b) is does
+pub none_called : {X : Type 0} (see : X → Seen) (acts : List Act) (why : OpenRefused) (a b : X) → why ≡ NoMemory → Does see acts (open_refused_end why) a b → b ≡ a
+none_called see acts why a b is does = subst (λ (w : OpenRefused). Does see acts (open_refused_end w) a b) is does
 
 -- ---- what was called
 

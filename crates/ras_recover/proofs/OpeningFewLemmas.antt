@@ -17,7 +17,7 @@ use Rattle.ras_journal.proofs.PartLemmas.{bind_of}
 use Rattle.ras_recover.specs.Formatting.{behind_gate}
 use Rattle.ras_recover.specs.Opening.{FormatsFirst, HoldsNone, Opening, acts_behind, opening_acts}
 use Rattle.ras_recover.specs.OpeningCalls.{MakesOpening}
-use Rattle.ras_recover.specs.Recovering.{Keeps}
+use Rattle.ras_recover.specs.Recovering.{KeepsTold}
 use Rattle.ras_recover.proofs.FewLemmas.{formatted_few}
 use Rattle.ras_recover.proofs.FormattingLemmas.{formatted, formatted_told}
 use Rattle.ras_recover.proofs.OpeningLemmas.{begins, empty_length, first_moment}
@@ -33,7 +33,7 @@ always_few P old new each few adds left since = elim (adds.each old.now left (om
 pub openings_few : (old new : Clock) (here : Left) → Always old old.now HasFewLinks → Adds (Opening old here) old new → Always new old.now HasFewLinks
 openings_few old new here few adds = always_few (Opening old here) old new (λ left by. opening_few old here left few by) few adds
 
-pub recovery_few : (told_old told_new : Option Told) (old new : Clock) → Always old old.now HasFewLinks → Keeps told_old old told_new new → Always new old.now HasFewLinks
+pub recovery_few : (told_old told_new : Option Told) (old new : Clock) → Always old old.now HasFewLinks → KeepsTold told_old old told_new new → Always new old.now HasFewLinks
 recovery_few told_old told_new old new few keeps = always_few (LeftNow old) old new few few keeps.stops
 
 -- the empty account has a checkpoint

@@ -29,7 +29,7 @@ use Rattle.ras_journal.proofs.PairLemmas.{none_stands}
 use Rattle.ras_recover.specs.Formatting.{behind_gate, formatting_acts}
 use Rattle.ras_recover.specs.Steps.Looking.{standing_begun}
 use Rattle.ras_recover.specs.Opening.{FormatsFirst, Opening, HoldsNone, IsOpened, acts_behind, first_standing, opening_acts, standing_opened}
-use Rattle.ras_recover.specs.Recovering.{Keeps, RestsHere}
+use Rattle.ras_recover.specs.Recovering.{KeepsTold, RestsHere}
 use Rattle.ras_recover.proofs.FewLemmas.{formatting_few}
 use Rattle.ras_recover.proofs.KeepingLemmas.{still}
 use Rattle.ras_recover.proofs.FormattingLemmas.{formatted, formatted_reads, formatted_short, formatted_told, formatting_reads, formatting_short, moment_formats}
@@ -233,7 +233,7 @@ module _ {X : Type 0} (see : X → Seen) (account : State) (one two : Bool) (old
   adds (broke kind) can does = formats does.stops (can tt)
   adds gave_up can same = subst (λ x. Adds (FormatsFirst r.there.here) (see a).clock (see x).clock) (sym same) (adds_none (FormatsFirst r.there.here) (see a).clock)
 
-  pub opening_stops : (ended : Ended) → (IsMade ended → IsCheckpoint Two account (checkpoint_bytes Two account)) → Does see (first_acts one account) ended a b → Keeps (see old).told (see old).clock (see a).told (see a).clock
+  pub opening_stops : (ended : Ended) → (IsMade ended → IsCheckpoint Two account (checkpoint_bytes Two account)) → Does see (first_acts one account) ended a b → KeepsTold (see old).told (see old).clock (see a).told (see a).clock
       → Adds (Opening (see old).clock t.here) (see old).clock (see b).clock
   opening_stops ended can does keeps =
       adds_both (Opening (see old).clock t.here) (see old).clock (see a).clock (see b).clock

@@ -13,10 +13,10 @@ use Rattle.ras_journal.proofs.PartLemmas.{bind_of, bind_err}
 use Rattle.ras_journal.proofs.PairLemmas.{zero_long, one_long}
 use Rattle.ras_recover.specs.declared.refused.OpenRefused.{OpenRefused}
 use Rattle.ras_recover.specs.declared.refused.OpenRefused.TheVariants.{Disk, TooLong, Damaged, NoMemory}
-use Rattle.ras_recover.specs.Recovering.{Refuses}
+use Rattle.ras_recover.specs.Recovering.{RefusesHeld}
 
 -- a refusal stays one
-refuses_on : {A B : Type 0} (refused : OpenRefused) (held : Result A Refusal) (f : A → Result B Refusal) → Refuses refused held → Refuses refused (held >>= f)
+refuses_on : {A B : Type 0} (refused : OpenRefused) (held : Result A Refusal) (f : A → Result B Refusal) → RefusesHeld refused held → RefusesHeld refused (held >>= f)
 refuses_on Disk held f refuses = tt
 refuses_on TooLong held f refuses = bind_err held f _ refuses
 refuses_on (Damaged file place) held f refuses = record { file = refuses.file; number_is = refuses.number_is; is = bind_err held f _ refuses.is }
@@ -32,17 +32,17 @@ journal_is file0 file1 short0 short1 =
     let test1 : is_file_too_long file1 ≡ false = grind (arith, nat_tests) in
     rw test0 (rw test1 refl)
 
-pub zero_fails : (refused : OpenRefused) (file0 file1 : List ℕ) → length file0 ≤ LONGEST_FILE → length file1 ≤ LONGEST_FILE → Refuses refused (in_file Zero (front_of None file0)) → Refuses refused (journal_of file0 file1)
+pub zero_fails : (refused : OpenRefused) (file0 file1 : List ℕ) → length file0 ≤ LONGEST_FILE → length file1 ≤ LONGEST_FILE → RefusesHeld refused (in_file Zero (front_of None file0)) → RefusesHeld refused (journal_of file0 file1)
 unfolding both
 zero_fails refused file0 file1 short0 short1 refuses =
-    subst (λ (r : Result (Option JournalFile) Refusal). Refuses refused r) (sym (journal_is file0 file1 short0 short1)) (refuses_on refused (in_file Zero (front_of None file0)) _ refuses)
+    subst (λ (r : Result (Option JournalFile) Refusal). RefusesHeld refused r) (sym (journal_is file0 file1 short0 short1)) (refuses_on refused (in_file Zero (front_of None file0)) _ refuses)
 
 pub one_fails : (refused : OpenRefused) (file0 file1 : List ℕ) (zero : Option FileFront) (taken : Option ℕ) → length file0 ≤ LONGEST_FILE → length file1 ≤ LONGEST_FILE
-    → in_file Zero (front_of None file0) ≡ Ok zero → taken ≡ generation_in zero → Refuses refused (in_file One (front_of taken file1)) → Refuses refused (journal_of file0 file1)
+    → in_file Zero (front_of None file0) ≡ Ok zero → taken ≡ generation_in zero → RefusesHeld refused (in_file One (front_of taken file1)) → RefusesHeld refused (journal_of file0 file1)
 unfolding both
 one_fails refused file0 file1 zero taken short0 short1 e same refuses =
-    subst (λ (r : Result (Option JournalFile) Refusal). Refuses refused r) (sym (journal_is file0 file1 short0 short1 ∙ bind_of (in_file Zero (front_of None file0)) _ zero e))
-    (refuses_on refused (in_file One (front_of (generation_in zero) file1)) _ (subst (λ (t : Option ℕ). Refuses refused (in_file One (front_of t file1))) same refuses))
+    subst (λ (r : Result (Option JournalFile) Refusal). RefusesHeld refused r) (sym (journal_is file0 file1 short0 short1 ∙ bind_of (in_file Zero (front_of None file0)) _ zero e))
+    (refuses_on refused (in_file One (front_of (generation_in zero) file1)) _ (subst (λ (t : Option ℕ). RefusesHeld refused (in_file One (front_of t file1))) same refuses))
 
 pub both_read : (file0 file1 : List ℕ) (zero one : Option FileFront) (taken : Option ℕ) → length file0 ≤ LONGEST_FILE → length file1 ≤ LONGEST_FILE
     → in_file Zero (front_of None file0) ≡ Ok zero → taken ≡ generation_in zero → in_file One (front_of taken file1) ≡ Ok one → journal_of file0 file1 ≡ Ok (greater zero one)
@@ -53,7 +53,7 @@ both_read file0 file1 zero one taken short0 short1 e0 same e1 =
 
 -- ---- the account, and where the journal stands
 
-pub recovers_fails : (refused : OpenRefused) (file0 file1 : List ℕ) → Refuses refused (journal_of file0 file1) → Refuses refused (recovered file0 file1)
+pub recovers_fails : (refused : OpenRefused) (file0 file1 : List ℕ) → RefusesHeld refused (journal_of file0 file1) → RefusesHeld refused (recovered file0 file1)
 unfolding recovered
 recovers_fails refused file0 file1 refuses = refuses_on refused (journal_of file0 file1) _ refuses
 

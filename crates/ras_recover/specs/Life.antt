@@ -113,7 +113,7 @@ Works see an_opening old new =
     (c : CallsOpening see old) × Adds (Opening (see old.board).clock c.there.here) (see old.board).clock (see new).clock
 
 -- an opening was answered Ok, with this account
-pub record Opens {B : Type 0} (see : B → Seen) (account : State) (old new : Site B) : Type 0 where
+pub record OpensJournal {B : Type 0} (see : B → Seen) (account : State) (old new : Site B) : Type 0 where
   pub call : CallsOpening see old
   pub standing : Standing
   pub recovers : Recovers account call.there.here
@@ -128,7 +128,7 @@ IsAnswered see (an_append entries) old new =
 IsAnswered see a_switch old new =
     (c : CallsSwitch see old) × (new.journal ≡ Some (switched c.standing c.account)) × CanSwitch c.standing c.account
     × Does see (switch_acts c.standing c.account) went_well old.board new.board
-IsAnswered see an_opening old new = (account : State) × Opens see account old new
+IsAnswered see an_opening old new = (account : State) × OpensJournal see account old new
 
 -- ---- stops
 

@@ -24,22 +24,22 @@ pub record IsDamagedAt {A : Type 0} (number place : ℕ) (held : Result A Refusa
   pub is : held ≡ Err (damaged file place)
 
 -- A refusal is what the files' bytes say, unless a disk call failed or memory ran out.
-abbrev pub Refuses : {A : Type 0} → OpenRefused → Result A Refusal → Type 0
-Refuses TooLong held = held ≡ Err too_long
-Refuses (Damaged file place) held = IsDamagedAt file place held
-Refuses Disk held = Unit {0}
-Refuses NoMemory held = Unit {0}
+abbrev pub RefusesHeld : {A : Type 0} → OpenRefused → Result A Refusal → Type 0
+RefusesHeld TooLong held = held ≡ Err too_long
+RefusesHeld (Damaged file place) held = IsDamagedAt file place held
+RefusesHeld Disk held = Unit {0}
+RefusesHeld NoMemory held = Unit {0}
 
 -- What is answered is what the files hold, seen so, or why they are refused.
-abbrev pub Tells : {T A : Type 0} → (T → A) → Result T OpenRefused → Result A Refusal → Type 0
-Tells view (Ok x) held = held ≡ Ok (view x)
-Tells view (Err refused) held = Refuses refused held
+abbrev pub TellsHeld : {T A : Type 0} → (T → A) → Result T OpenRefused → Result A Refusal → Type 0
+TellsHeld view (Ok x) held = held ≡ Ok (view x)
+TellsHeld view (Err refused) held = RefusesHeld refused held
 
 -- ---- what a recovery leaves
 
 -- The board tells the same of files, store and text as before. Whatever a stop leaves is what a
 -- stop before may have left.
-pub record Keeps (told_old : Option Told) (old : Clock) (told_new : Option Told) (new : Clock) : Type 0 where
+pub record KeepsTold (told_old : Option Told) (old : Clock) (told_new : Option Told) (new : Clock) : Type 0 where
   pub here : option_map (λ (t : Told). t.here) told_new ≡ option_map (λ (t : Told). t.here) told_old
   pub stops : Adds (LeftNow old) old new
   pub ends : (left : Left) → LeftNow new left → LeftNow old left
@@ -64,11 +64,11 @@ open_failure (Err (Damaged file place)) = Ok tt
 open_failure (Err NoMemory) = Ok tt
 
 -- Disk comes if a disk call failed. Each other refusal comes from a call that goes no further.
-abbrev pub refusal_end : OpenRefused → Ended
-refusal_end Disk = broke disk_call
-refusal_end TooLong = gave_up
-refusal_end (Damaged file place) = gave_up
-refusal_end NoMemory = gave_up
+abbrev pub open_refused_end : OpenRefused → Ended
+open_refused_end Disk = broke disk_call
+open_refused_end TooLong = gave_up
+open_refused_end (Damaged file place) = gave_up
+open_refused_end NoMemory = gave_up
 
 abbrev pub open_end : {T : Type 0} → Result T OpenRefused → Ended
-open_end result = ended_by refusal_end result
+open_end result = ended_by open_refused_end result

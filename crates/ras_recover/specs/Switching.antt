@@ -52,13 +52,13 @@ IsFullBy (Err Full) lacks = IsTrue lacks
 IsFullBy result lacks = ¬ IsTrue lacks
 
 -- Full and NoMemory come before any call, and Disk if a disk call failed.
-abbrev pub refusal_end : SwitchRefused → Ended
-refusal_end Full = gave_up
-refusal_end Disk = broke disk_call
-refusal_end NoMemory = gave_up
+abbrev pub switch_refused_end : SwitchRefused → Ended
+switch_refused_end Full = gave_up
+switch_refused_end Disk = broke disk_call
+switch_refused_end NoMemory = gave_up
 
 abbrev pub switch_end : Result (Unit {0}) SwitchRefused → Ended
-switch_end result = ended_by refusal_end result
+switch_end result = ended_by switch_refused_end result
 
 -- What becomes of a journal that is switched, this being its next standing: if a disk call
 -- failed it has failed.

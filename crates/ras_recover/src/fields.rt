@@ -3,7 +3,7 @@ ghost use Rattle.std.specs.Prelude.{◌≡◌, ◌+◌, ◌^◌, ◌<◌, ◌≤
 ghost use Rattle.journal_format.specs.CheckpointReading.{checkpoint_of};
 ghost use Rattle.ras_account.specs.View.{nothing, View};
 ghost use Rattle.ras_journal.specs.Fields.{part, field, version_of, generation_of, number_of, is_open_of};
-ghost use Rattle.ras_recover.specs.Steps.Reading.{Answers};
+ghost use Rattle.ras_recover.specs.Steps.Reading.{AnswersFront};
 
 use crate::place::Unread;
 use entry_format::Version;
@@ -114,7 +114,7 @@ pub(crate) fn checkpoint_at(
     count: u64,
     file: &[u8],
 ) -> Result<Account, Unread>
-    ensures read { Answers (λ account. account.state) result (field (checkpoint_of version) 25 count file.now) }
+    ensures read { AnswersFront (λ account. account.state) result (field (checkpoint_of version) 25 count file.now) }
     ensures waiting { IfOk result (λ account. account.waiting ≡ nothing) }
     ensures within { OnOk result (25 + count ≤ length file.now) }
 {

@@ -5,7 +5,7 @@ ghost use Rattle.entry_format.specs.declared.version.Version.{Version};
 ghost use Rattle.ras_journal.specs.Fields.{field, number_of, version_of};
 ghost use Rattle.ras_journal.specs.File.{has_open_gate, first_front};
 ghost use Rattle.ras_journal.specs.Recovered.{is_shut};
-ghost use Rattle.ras_recover.specs.Steps.Reading.{Answers, front_at};
+ghost use Rattle.ras_recover.specs.Steps.Reading.{AnswersFront, front_at};
 
 use crate::fields::{checkpoint_at, checkpoint_count_at, generation_at, version_at};
 use crate::place::{Place, Unread};
@@ -35,7 +35,7 @@ pub(crate) fn first_place(
     taken: Option<u64>,
     file: &[u8],
 ) -> Result<(Place, Account), Unread>
-    ensures read { Answers (λ r. front_at r.0 r.1.state) result (first_front taken file.now) }
+    ensures read { AnswersFront (λ r. front_at r.0 r.1.state) result (first_front taken file.now) }
     ensures waiting { IfOk result (λ r. r.1.waiting ≡ nothing) }
     ensures links { IfOk result (λ r. r.0.links ≡ 0) }
     ensures within { IfOk result (λ r. r.0.gate ≤ length file.now) }

@@ -13,11 +13,11 @@ ghost use Rattle.entry_format.specs.declared.version.Version.TheVariants.{One};
 ghost use Rattle.ras_journal.specs.File.{FileFront, front_of};
 ghost use Rattle.ras_journal.specs.Laws.{IsRead, IsShort};
 ghost use Rattle.ras_journal.specs.Recovered.{HasFewLinks, IsAt, recovered};
-ghost use Rattle.ras_recover.specs.Life.{JournalCall, Life, account_after_links, cut, Continues, RecoversBehind, with_links, Site, Works, Opens, BeginsWith, Lives};
+ghost use Rattle.ras_recover.specs.Life.{JournalCall, Life, account_after_links, cut, Continues, RecoversBehind, with_links, Site, Works, OpensJournal, BeginsWith, Lives};
 ghost use Rattle.ras_journal.specs.declared.standing.Standing.{Standing};
 ghost use Rattle.ras_recover.specs.Opening.{FormatsFirst, Opening, opening_acts};
 ghost use Rattle.ras_recover.specs.OpeningCalls.{IsRecoveryOf, MakesOpening, ReadsTo};
-ghost use Rattle.ras_recover.specs.Recovering.{Keeps};
+ghost use Rattle.ras_recover.specs.Recovering.{KeepsTold};
 ghost use Rattle.ras_recover.specs.Switching.{CanSwitch, Switching, after_switch, switch_acts, switched};
 
 use board_core::Board;
@@ -60,7 +60,7 @@ pub fn opening_laws<B: Board>()
         → Always (B.clock new) (B.clock old).now HasFewLinks }
     ensures few_recovering { (old new : B)
         → Always (B.clock old) (B.clock old).now HasFewLinks
-        → Keeps (B.told old) (B.clock old) (B.told new) (B.clock new)
+        → KeepsTold (B.told old) (B.clock old) (B.told new) (B.clock new)
         → Always (B.clock new) (B.clock old).now HasFewLinks }
 
     // If the files that are told have few links, so have those that are told once the journal is
@@ -97,7 +97,7 @@ pub fn life_laws<B: Board>()
     ensures opened { (account now : State) (life : Life) (first last opened : Site B)
         → BeginsWith (looks B.told B.clock B.faults) account first
         → Lives (looks B.told B.clock B.faults) life first last
-        → Opens (looks B.told B.clock B.faults) now last opened
+        → OpensJournal (looks B.told B.clock B.faults) now last opened
         → Continues account life now }
 
     // The account of a history, continued by links, is that of the history with the entries of the

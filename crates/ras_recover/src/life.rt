@@ -8,7 +8,7 @@ ghost use Rattle.entry_format.specs.declared.version.Version.TheVariants.{Two};
 ghost use Rattle.ras_facts.specs.declared.entry.Entry.{Entry};
 ghost use Rattle.ras_journal.specs.declared.standing.Standing.{Standing};
 ghost use Rattle.ras_journal.specs.Recovered.{is_shut, other};
-ghost use Rattle.ras_recover.specs.Life.{CanLinkHere, IsAnswered, IsHeld, Opens, Works};
+ghost use Rattle.ras_recover.specs.Life.{CanLinkHere, IsAnswered, IsHeld, OpensJournal, Works};
 ghost use Rattle.ras_recover.specs.Life.{a_switch, an_append, an_opening, open_site};
 
 use crate::{OpenRefused, SwitchRefused, open_journal, switch_file};
@@ -67,7 +67,7 @@ pub fn live_switch<B: Board>(
     switch_file(alloc, account, journal, link, board)
 }
 
-/// Opens the journal, by [`open_journal`], whether one was open or not.
+/// OpensJournal the journal, by [`open_journal`], whether one was open or not.
 ///
 /// # Errors
 ///
@@ -80,7 +80,7 @@ pub fn live_opening<B: Board>(
         → Works (looks B.told B.clock B.faults) an_opening
         (record { board = board.old; journal = journal }) board.new }
     ensures answered { IfOk result (λ r. (journal : Option Standing) (t : Told)
-        → B.told board.old ≡ Some t → Opens (looks B.told B.clock B.faults) r.0.state
+        → B.told board.old ≡ Some t → OpensJournal (looks B.told B.clock B.faults) r.0.state
         (record { board = board.old; journal = journal }) (open_site board.new r.1.standing)) }
 {
     open_journal(alloc, board)

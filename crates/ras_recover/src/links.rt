@@ -9,7 +9,7 @@ ghost use Rattle.ras_account.specs.View.{nothing};
 ghost use Rattle.journal_format.specs.PayloadReading.{payload_of};
 ghost use Rattle.ras_journal.specs.Fields.{field, number_of, is_open_of, stays_within};
 ghost use Rattle.ras_journal.specs.File.{front_behind_link, next_front};
-ghost use Rattle.ras_recover.specs.Steps.Reading.{Answers, front_at};
+ghost use Rattle.ras_recover.specs.Steps.Reading.{AnswersFront, front_at};
 
 use crate::fields::{is_open_at, part, payload_count_at};
 use crate::place::{Place, Unread};
@@ -70,7 +70,7 @@ fn payload_at(
 ) -> Result<Vec<Entry>, Unread>
     requires count { field (number_of 4) (gate + 1) 4 file.now ≡ Ok count }
     requires length { gate + 5 ≤ length file.now }
-    ensures read { Answers (λ entries. entries.items) result
+    ensures read { AnswersFront (λ entries. entries.items) result
         (field (payload_of version) (gate + 5) count file.now) }
     ensures valid { IfOk result (λ entries. All IsValidEntry entries.items) }
     ensures within { OnOk result (gate + 5 + count ≤ length file.now) }
@@ -92,7 +92,7 @@ fn link_at(alloc: Global, place: Place, account: &mut Account, file: &[u8]) -> R
     requires waiting { account.old.waiting ≡ nothing }
     requires gate { place.gate + 1 ≤ length file.now }
     requires links { place.links + 1 < 2 ^ 64 }
-    ensures read { Answers (λ next. front_at next account.new.state) result
+    ensures read { AnswersFront (λ next. front_at next account.new.state) result
         (front_behind_link (front_at place account.old.state) file.now) }
     ensures waiting { OnOk result (account.new.waiting ≡ nothing) }
     ensures links { IfOk result (λ next. next.links ≡ place.links + 1) }
@@ -129,7 +129,7 @@ pub(crate) fn next_place(
 ) -> Result<Option<Place>, Unread>
     requires waiting { account.old.waiting ≡ nothing }
     requires links { place.links + 1 < 2 ^ 64 }
-    ensures read { Answers (λ next. option_map (λ p. front_at p account.new.state) next) result
+    ensures read { AnswersFront (λ next. option_map (λ p. front_at p account.new.state) next) result
         (next_front (front_at place account.old.state) file.now) }
     ensures kept { result ≡ Ok None → account.new.state ≡ account.old.state }
     ensures waiting { OnOk result (account.new.waiting ≡ nothing) }

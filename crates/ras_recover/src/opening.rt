@@ -11,7 +11,7 @@ ghost use Rattle.ras_account.specs.Account.{State};
 ghost use Rattle.ras_account.specs.View.{nothing};
 ghost use Rattle.ras_journal.specs.Recovered.{Refusal, recovered, is_shut};
 ghost use Rattle.ras_recover.specs.Formatting.{behind_gate, formatting_acts};
-ghost use Rattle.ras_recover.specs.Recovering.{Refuses, Tells, open_end, open_failure};
+ghost use Rattle.ras_recover.specs.Recovering.{RefusesHeld, TellsHeld, open_end, open_failure};
 ghost use Rattle.ras_recover.specs.Steps.Looking.{standing_begun};
 ghost use Rattle.ras_recover.specs.Opening.{Opening, IsOpened, standing_opened};
 ghost use Rattle.ras_recover.specs.OpeningActs.{FailsOpening};
@@ -45,7 +45,7 @@ fn format_first<B: Board>(
       standing = standing_begun account.now.state shut.1;
       failed = false;
     }) }
-    ensures refuses { IfErr result (λ refused. (held : Result State Refusal) → Refuses refused held) }
+    ensures refuses { IfErr result (λ refused. (held : Result State Refusal) → RefusesHeld refused held) }
 {
     let Ok(bytes) = next_bytes(alloc, 1, account) else {
         return Err(OpenRefused::NoMemory);
@@ -75,7 +75,7 @@ pub fn open_journal<B: Board>(
 ) -> Result<(Account, Journal), OpenRefused>
     // What is answered is what the files hold.
     ensures recovers { IfSome (B.told board.old)
-        (λ t. Tells (λ r. r.0.state) result (recovered t.here.file0 t.here.file1)) }
+        (λ t. TellsHeld (λ r. r.0.state) result (recovered t.here.file0 t.here.file1)) }
     ensures waiting { IfOk result (λ r. r.0.waiting ≡ nothing) }
     ensures usable { IfOk result (λ r. r.1.failed ≡ false) }
     ensures standing { IfOk result (λ r. IfSome (B.told board.old)

@@ -9,7 +9,7 @@ ghost use Rattle.ras_journal.specs.Recovered.{in_file, greater, generation_in, i
 ghost use Rattle.ras_account.specs.Account.{State};
 ghost use Rattle.ras_recover.specs.Steps.Reading.{front_at};
 ghost use Rattle.ras_recover.specs.OpeningCalls.{ReadsStanding, ReadsBoth};
-ghost use Rattle.ras_recover.specs.Recovering.{Tells, open_failure};
+ghost use Rattle.ras_recover.specs.Recovering.{TellsHeld, open_failure};
 ghost use Rattle.ras_recover.specs.Steps.Windows.{LooksAt};
 ghost use Rattle.ras_recover.specs.Steps.Pair.{AreRead};
 
@@ -49,7 +49,7 @@ fn read_one<B: Board>(
     requires short { file.size ≤ LONGEST_FILE }
     requires size { IfSome (B.told board.old) (λ t. file.size ≡ length (file_of file.no t)) }
     ensures read { IfSome (B.told board.old)
-        (λ t. Tells (λ r. option_map (λ p. front_at p.0 p.1.state) r.front) result
+        (λ t. TellsHeld (λ r. option_map (λ p. front_at p.0 p.1.state) r.front) result
         (in_file file.no (front_of taken (file_of file.no t)))) }
     ensures shut { IfOk result (λ r. IfSome (B.told board.old)
         (λ t. r.shut ≡ is_shut (file_of file.no t))) }
@@ -118,7 +118,7 @@ pub(crate) fn read_both<B: Board>(
     requires sizes { IfSome (B.told board.old)
         (λ t. (sizes.0 ≡ length t.here.file0) × (sizes.1 ≡ length t.here.file1)) }
     ensures read { IfSome (B.told board.old)
-        (λ t. Tells (λ r. option_map (λ j. record { file = j.0; front = front_at j.1 j.2.state })
+        (λ t. TellsHeld (λ r. option_map (λ j. record { file = j.0; front = front_at j.1 j.2.state })
         r.journal) result (journal_of t.here.file0 t.here.file1)) }
     ensures shut { IfOk result (λ r. IfSome (B.told board.old)
         (λ t. (r.shut.0 ≡ is_shut t.here.file0) × (r.shut.1 ≡ is_shut t.here.file1))) }

@@ -9,7 +9,7 @@ ghost use Rattle.ras_journal.specs.Recovered.{Refusal, too_long, is_shut, recove
 ghost use Rattle.ras_recover.specs.DiskCalls.{Calls, IsReading};
 ghost use Rattle.ras_recover.specs.Steps.Looking.{AreSyncs, AreReads};
 ghost use Rattle.ras_recover.specs.OpeningCalls.{AfterRecovery, IsRecoveryOf, ReadsBoth};
-ghost use Rattle.ras_recover.specs.Recovering.{Refuses, Tells, Keeps, RestsHere, UnlessDisk, open_failure};
+ghost use Rattle.ras_recover.specs.Recovering.{RefusesHeld, TellsHeld, KeepsTold, RestsHere, UnlessDisk, open_failure};
 
 use crate::pair::{read_both, recovered_of};
 use crate::{OpenRefused, Recovered};
@@ -19,7 +19,7 @@ use std::alloc::Global;
 
 // Syncs both files.
 fn sync_both<B: Board>(board: &mut B) -> Result<(), Failed>
-    ensures keeps { Keeps (B.told board.old) (B.clock board.old) (B.told board.new) (B.clock board.new) }
+    ensures keeps { KeepsTold (B.told board.old) (B.clock board.old) (B.told board.new) (B.clock board.new) }
     ensures rests { OnOk result ((t : Told) → B.told board.old ≡ Some t
         → RestsHere t.here (B.told board.new) (B.clock board.new)) }
     ensures syncs { Relates (Calls (AreSyncs result)) (B.told board.old) (B.told board.new) }
@@ -32,7 +32,7 @@ fn sync_both<B: Board>(board: &mut B) -> Result<(), Failed>
 
 // The size of a file that isn't too long, or none where it is.
 fn short_size<B: Board>(file: FileNo, board: &mut B) -> Result<Option<usize>, Failed>
-    ensures keeps { Keeps (B.told board.old) (B.clock board.old) (B.told board.new) (B.clock board.new) }
+    ensures keeps { KeepsTold (B.told board.old) (B.clock board.old) (B.told board.new) (B.clock board.new) }
     ensures short { IfOk result (λ r. IfSome r (λ size. size ≤ LONGEST_FILE)) }
     ensures size { IfOk result (λ r. IfSome r (λ size. IfSome (B.told board.old)
         (λ t. size ≡ length (file_of file t)))) }
@@ -51,7 +51,7 @@ fn short_size<B: Board>(file: FileNo, board: &mut B) -> Result<Option<usize>, Fa
 
 // The sizes of both files, or none where one is too long.
 fn short_sizes<B: Board>(board: &mut B) -> Result<Option<(usize, usize)>, Failed>
-    ensures keeps { Keeps (B.told board.old) (B.clock board.old) (B.told board.new) (B.clock board.new) }
+    ensures keeps { KeepsTold (B.told board.old) (B.clock board.old) (B.told board.new) (B.clock board.new) }
     ensures short { IfOk result (λ r. IfSome r (λ sizes. (sizes.0 ≤ LONGEST_FILE) × (sizes.1 ≤ LONGEST_FILE))) }
     ensures sizes { IfOk result (λ r. IfSome r (λ sizes. IfSome (B.told board.old)
         (λ t. (sizes.0 ≡ length t.here.file0) × (sizes.1 ≡ length t.here.file1)))) }
@@ -74,9 +74,9 @@ fn recover_synced<B: Board>(
     alloc: Global,
     board: &mut B,
 ) -> Result<(Recovered, (bool, bool)), OpenRefused>
-    ensures keeps { Keeps (B.told board.old) (B.clock board.old) (B.told board.new) (B.clock board.new) }
+    ensures keeps { KeepsTold (B.told board.old) (B.clock board.old) (B.told board.new) (B.clock board.new) }
     ensures recovers { IfSome (B.told board.old)
-        (λ t. Tells (λ r. r.0.account.state) result (recovered t.here.file0 t.here.file1)) }
+        (λ t. TellsHeld (λ r. r.0.account.state) result (recovered t.here.file0 t.here.file1)) }
     ensures standing { IfOk result (λ r. IfSome (B.told board.old)
         (λ t. position_of t.here.file0 t.here.file1 ≡ r.0.standing)) }
     ensures shut { IfOk result (λ r. IfSome (B.told board.old)
@@ -106,13 +106,13 @@ pub(crate) fn recover_files<B: Board>(
     board: &mut B,
 ) -> Result<(Recovered, (bool, bool)), OpenRefused>
     ensures recovers { IfSome (B.told board.old)
-        (λ t. Tells (λ r. r.0.account.state) result (recovered t.here.file0 t.here.file1)) }
+        (λ t. TellsHeld (λ r. r.0.account.state) result (recovered t.here.file0 t.here.file1)) }
     ensures standing { IfOk result (λ r. IfSome (B.told board.old)
         (λ t. position_of t.here.file0 t.here.file1 ≡ r.0.standing)) }
     ensures shut { IfOk result (λ r. IfSome (B.told board.old)
         (λ t. (r.1.0 ≡ is_shut t.here.file0) × (r.1.1 ≡ is_shut t.here.file1))) }
     ensures waiting { IfOk result (λ r. r.0.account.waiting ≡ nothing) }
-    ensures keeps { Keeps (B.told board.old) (B.clock board.old) (B.told board.new) (B.clock board.new) }
+    ensures keeps { KeepsTold (B.told board.old) (B.clock board.old) (B.told board.new) (B.clock board.new) }
     ensures rests { UnlessDisk result ((t : Told) → B.told board.old ≡ Some t
         → RestsHere t.here (B.told board.new) (B.clock board.new)) }
     ensures told { Relates AfterRecovery (B.told board.old) (B.told board.new) }
@@ -137,14 +137,14 @@ pub(crate) fn recover_files<B: Board>(
 pub fn recover<B: Board>(alloc: Global, board: &mut B) -> Result<Recovered, OpenRefused>
     // What is answered is what the files hold.
     ensures recovers { IfSome (B.told board.old)
-        (λ t. Tells (λ r. r.account.state) result (recovered t.here.file0 t.here.file1)) }
+        (λ t. TellsHeld (λ r. r.account.state) result (recovered t.here.file0 t.here.file1)) }
     ensures standing { IfOk result (λ r. IfSome (B.told board.old)
         (λ t. position_of t.here.file0 t.here.file1 ≡ r.standing)) }
     ensures waiting { IfOk result (λ r. r.account.waiting ≡ nothing) }
 
     // What a stop leaves of it is what a stop before it may have left. Once it is done, and no disk
     // call failed, a stop leaves just what the board tells.
-    ensures keeps { Keeps (B.told board.old) (B.clock board.old) (B.told board.new)
+    ensures keeps { KeepsTold (B.told board.old) (B.clock board.old) (B.told board.new)
         (B.clock board.new) }
     ensures rests { UnlessDisk result ((t : Told) → B.told board.old ≡ Some t
         → RestsHere t.here (B.told board.new) (B.clock board.new)) }

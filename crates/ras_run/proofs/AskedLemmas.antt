@@ -6,7 +6,7 @@ use Rattle.board_core.specs.Told.{Told, device_of}
 use Rattle.erst_store.specs.DeviceLaws.{IsDevice}
 use Rattle.erst_store.specs.Store.{Stored}
 use Rattle.erst_interp.specs.Admission.{IsAdmittedTable}
-use Rattle.erst_interp.specs.Run.{Keeps, acts_of}
+use Rattle.erst_interp.specs.Run.{KeepsButDevice, acts_of}
 use Rattle.erst_driver.specs.Operations.{write_calls}
 use Rattle.ras_account.specs.Account.{State}
 use Rattle.ras_account.specs.Accounts.{IsAccount}
@@ -51,8 +51,8 @@ module _ (before : List NumberedLine) (event : Result Event LineRefusal) (t : To
   abbrev asked : Told
   asked = after_acts (asking_acts before event t) t
 
-  pub asking_keeps : Keeps t asked
-  asking_keeps = subst (λ (l : List Act). Keeps t (after_acts l t)) (sym (asking_is before event t)) (calls_keep (asking_calls before event t) t)
+  pub asking_keeps : KeepsButDevice t asked
+  asking_keeps = subst (λ (l : List Act). KeepsButDevice t (after_acts l t)) (sym (asking_is before event t)) (calls_keep (asking_calls before event t) t)
 
   pub asked_out : asked.here.out ≡ t.here.out
   asked_out = ap (λ (l : Left). l.out) asking_keeps.here

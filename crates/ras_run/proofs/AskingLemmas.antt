@@ -8,7 +8,7 @@ use Rattle.erst_interp.specs.Run.{acts_of}
 use Rattle.erst_interp.proofs.BreakLemmas.{acts_both}
 use Rattle.erst_driver.specs.declared.refusals.DriverRefused.{DriverRefused}
 use Rattle.erst_driver.specs.declared.refusals.DriverRefused.TheVariants.{Busy, NoMemory, Register, Status as EndedWith}
-use Rattle.erst_driver.specs.Answers.{DoesListing, IsAnswered, refusal_end}
+use Rattle.erst_driver.specs.Answers.{DoesListing, IsAnswered, driver_end}
 use Rattle.ras_exit.specs.declared.exit.Exit.{Exit}
 use Rattle.ras_exit.specs.declared.exit.Exit.TheVariants.{PrintFault}
 use Rattle.ras_exit.specs.Acts.{AreStill, DoesSome, end_of, part_end}
@@ -43,7 +43,7 @@ module _ {X : Type 0} (see : X → Seen) (Can Accepted : Type 0) (asked rest : L
       subst (λ (r : Result (Unit {0}) Exit). DoesAsking see Can Accepted asked rest r x z) (sym fault) (can, inl (accepted, does_then see asked rest (broke print_call) x y z first tt second))
 
   -- the driver refused it
-  pub asked_refused : (x y : X) (why : DriverRefused) → IsAnswered {T = Unit {0}} (Err why) → Can → Does see asked (refusal_end why) x y → DoesAsking see Can Accepted asked rest (Err (driver_exit why)) x y
+  pub asked_refused : (x y : X) (why : DriverRefused) → IsAnswered {T = Unit {0}} (Err why) → Can → Does see asked (driver_end why) x y → DoesAsking see Can Accepted asked rest (Err (driver_exit why)) x y
   asked_refused x y Register is can does = (can, inr (refl, does))
   asked_refused x y Busy is can does = (can, does)
   asked_refused x y (EndedWith code) is can does = (can, does)

@@ -14,7 +14,7 @@ use Rattle.erst_store.specs.Store.{Stored}
 use Rattle.erst_interp.specs.Run.{acts_of}
 use Rattle.erst_driver.specs.declared.refusals.DriverRefused.{DriverRefused}
 use Rattle.erst_driver.specs.declared.refusals.DriverRefused.TheVariants.{Busy, NoMemory, Register, Status as EndedWith}
-use Rattle.erst_driver.specs.Answers.{Gives, IsAnswered, refusal_end}
+use Rattle.erst_driver.specs.Answers.{AnswersAs, IsAnswered, driver_end}
 use Rattle.erst_driver.specs.Operations.{clear_calls, is_free_in_time}
 use Rattle.erst_driver.proofs.DoesLemmas.{at_told}
 use Rattle.ras_events.specs.Events.{Lists}
@@ -79,14 +79,14 @@ module _ {X : Type 0} (see : X → Seen) (lists : Lists) (text done ids : List �
       (at_told (λ v. Does see (acts_of (each_calls (clear_calls lists) ids v)) went_well y z) (see y).told u cleared told_then) (made_one print_call result) last))
 
   -- the driver refused a clear: then a call of the board failed
-  module _ (why : DriverRefused) (is : IsAnswered {T = Unit {0}} (Err why)) (gives : IfSome (see y).told (λ v. Gives (Err why) (each_answer (clear_calls lists) ids v))) where
-    gives_then : Gives (Err why) (each_answer (clear_calls lists) ids u)
-    gives_then = at_told (λ v. Gives (Err why) (each_answer (clear_calls lists) ids v)) (see y).told u gives told_then
+  module _ (why : DriverRefused) (is : IsAnswered {T = Unit {0}} (Err why)) (gives : IfSome (see y).told (λ v. AnswersAs (Err why) (each_answer (clear_calls lists) ids v))) where
+    gives_then : AnswersAs (Err why) (each_answer (clear_calls lists) ids u)
+    gives_then = at_told (λ v. AnswersAs (Err why) (each_answer (clear_calls lists) ids v)) (see y).told u gives told_then
 
-    pub failed_does : (z : X) → IfSome (see y).told (λ v. Does see (acts_of (each_calls (clear_calls lists) ids v)) (refusal_end why) y z) → Does see (clearing_acts lists text done ids t) (part_end {T = Unit {0}} (Err (driver_exit why))) x z
-    failed_does z does = by why is gives_then (at_told (λ v. Does see (acts_of (each_calls (clear_calls lists) ids v)) (refusal_end why) y z) (see y).told u does told_then)
+    pub failed_does : (z : X) → IfSome (see y).told (λ v. Does see (acts_of (each_calls (clear_calls lists) ids v)) (driver_end why) y z) → Does see (clearing_acts lists text done ids t) (part_end {T = Unit {0}} (Err (driver_exit why))) x z
+    failed_does z does = by why is gives_then (at_told (λ v. Does see (acts_of (each_calls (clear_calls lists) ids v)) (driver_end why) y z) (see y).told u does told_then)
       where
-        by : (w : DriverRefused) → IsAnswered {T = Unit {0}} (Err w) → Gives (Err w) (each_answer (clear_calls lists) ids u) → Does see clears (refusal_end w) y z → Does see (clearing_acts lists text done ids t) (part_end {T = Unit {0}} (Err (driver_exit w))) x z
+        by : (w : DriverRefused) → IsAnswered {T = Unit {0}} (Err w) → AnswersAs (Err w) (each_answer (clear_calls lists) ids u) → Does see clears (driver_end w) y z → Does see (clearing_acts lists text done ids t) (part_end {T = Unit {0}} (Err (driver_exit w))) x z
         by Register a g d = does_then see (print_acts text) (clears ++ print_acts done) (broke device_call) x y z printed tt (does_first see clears (print_acts done) (broke device_call) y z tt d)
         by Busy a g d = absurd (let is : each_answer (clear_calls lists) ids u ≡ Ok tt = answer_then in cc)
         by (EndedWith code) a g d = absurd (let is : each_answer (clear_calls lists) ids u ≡ Ok tt = answer_then in cc)
@@ -95,7 +95,7 @@ module _ {X : Type 0} (see : X → Seen) (lists : Lists) (text done ids : List �
     pub failed_ends : EndsBy ⊥ ⊥ AnyFault (ending_of (driver_exit why))
     failed_ends = by why is gives_then
       where
-        by : (w : DriverRefused) → IsAnswered {T = Unit {0}} (Err w) → Gives (Err w) (each_answer (clear_calls lists) ids u) → EndsBy ⊥ ⊥ AnyFault (ending_of (driver_exit w))
+        by : (w : DriverRefused) → IsAnswered {T = Unit {0}} (Err w) → AnswersAs (Err w) (each_answer (clear_calls lists) ids u) → EndsBy ⊥ ⊥ AnyFault (ending_of (driver_exit w))
         by Register a g = tt
         by Busy a g = absurd (let is : each_answer (clear_calls lists) ids u ≡ Ok tt = answer_then in cc)
         by (EndedWith code) a g = absurd (let is : each_answer (clear_calls lists) ids u ≡ Ok tt = answer_then in cc)

@@ -5,7 +5,7 @@ use Rattle.board_core.specs.Stop.{Begins, InOut, Left}
 use Rattle.board_core.specs.Told.{Told, after_print}
 use Rattle.board_core.proofs.DoingLemmas.{after-append, moment_parts}
 use Rattle.erst_interp.specs.declared.entries.InstructionEntry.{InstructionEntry}
-use Rattle.erst_interp.specs.Run.{Keeps, acts_of}
+use Rattle.erst_interp.specs.Run.{KeepsButDevice, acts_of}
 use Rattle.erst_driver.specs.Operations.{clear_calls}
 use Rattle.ras_account.specs.Account.{State}
 use Rattle.ras_account.specs.Accounts.{IsAccount}
@@ -78,7 +78,7 @@ stored_few here left is few = few_same here left (ap (λ (l : Left). l.file0) is
 device_few : (made : List DeviceCall) (t : Told) (left : Left) → HasFewLinks t.here → Moment (acts_of made) t left → HasFewLinks left
 device_few made t left few moment = stored_few t.here left (calls_leave made t left moment) few
 
-kept_few : (t u : Told) → Keeps t u → HasFewLinks t.here → HasFewLinks u.here
+kept_few : (t u : Told) → KeepsButDevice t u → HasFewLinks t.here → HasFewLinks u.here
 kept_few t u keeps few = stored_few t.here u.here keeps.here few
 
 -- over what a line asks

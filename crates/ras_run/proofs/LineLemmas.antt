@@ -11,7 +11,7 @@ use Rattle.ras_ledger.specs.declared.ledger.Ledger.{Ledger}
 use Rattle.ras_script.specs.declared.line.Line.{Line}
 use Rattle.ras_script.specs.declared.line.LineRefused.{LineRefused}
 use Rattle.ras_script.specs.declared.line.LineRefused.TheVariants as refused
-use Rattle.ras_script.specs.Line.{Gives}
+use Rattle.ras_script.specs.Line.{GivesLine}
 use Rattle.ras_events.specs.declared.event.Event.{Event}
 use Rattle.ras_events.specs.declared.event.Event.TheVariants.{Nothing, Settled, Counted, Reopened}
 use Rattle.ras_events.specs.declared.event.LineRefusal.{LineRefusal}
@@ -123,7 +123,7 @@ refused_line see start place t exit x why here is ends = (
 )
 
 module _ {X : Type 0} (see : X → Seen) (start : Start) (before : List NumberedLine) (number : ℕ) (t : Told) (x : X) where
-  pub unread : (read : Result Line LineRefused) (why : LineRefused) → Gives (Err why) read → DoesLine see start (before, (number, read)) t (Err (unread_exit number why)) x x
+  pub unread : (read : Result Line LineRefused) (why : LineRefused) → GivesLine (Err why) read → DoesLine see start (before, (number, read)) t (Err (unread_exit number why)) x x
   unread read refused.NoMemory is = starved_line see start (before, (number, read)) t x
   unread read why is = refused_line see start (before, (number, read)) t (unread_exit number why) x (Bad (reason.Line why)) (rw is refl) refl refl
 

@@ -29,7 +29,7 @@ use Rattle.ras_exit.specs.Endings.{CallEnding, EndsBy, OnlyFault, answered, endi
 use Rattle.ras_exit.proofs.PrintLemmas.{as_part, part_does}
 use Rattle.ras_run.specs.Files.{refusal_exit}
 use Rattle.ras_run.specs.LineActs.{DoesReopening, event_prints}
-use Rattle.ras_run.specs.Taking.{Opens}
+use Rattle.ras_run.specs.Taking.{OpensLedger}
 use Rattle.ras_run.proofs.OpenLemmas.{CountsEarlier, here_kept, opening_left}
 
 -- ---- calls that write nothing, as acts
@@ -135,7 +135,7 @@ module _ {X : Type 0} (see : X → Seen) (x y : X) (s : Standing) (a : State) (t
     read_broke kind is raises = absurd cc
 
     -- it was refused, which a journal that stands is not, or a call failed, or memory ran out
-    pub not_reopened : (exit : Exit) → Opens (Err exit) (recovered t.here.file0 t.here.file1) → BoardCause exit (see x).faults (see y).faults → DoesReopening see a number t.here (Err exit) x y
+    pub not_reopened : (exit : Exit) → OpensLedger (Err exit) (recovered t.here.file0 t.here.file1) → BoardCause exit (see x).faults (see y).faults → DoesReopening see a number t.here (Err exit) x y
     not_reopened exit opens cause = (map calls begun.whole ++ prints, (begun.whole, reading, refl), by (ending_of exit) opens cause)
       where
         by : (ending : CallEnding) → EndsBy (refusal_exit (recovered t.here.file0 t.here.file1) ≡ Some exit) (Unit {0}) (OnlyFault disk_call) ending → BoardCauseBy ending (see x).faults (see y).faults → DoesBy see (map calls begun.whole ++ prints) ending x y

@@ -5,7 +5,7 @@ use Rattle.erst_store.specs.Store.{is_full_for, is_reserved}
 use Rattle.board_core.specs.Told.{Told, device_of}
 use Rattle.erst_driver.specs.declared.refusals.DriverRefused.{DriverRefused}
 use Rattle.erst_driver.specs.declared.refusals.DriverRefused.TheVariants.{Busy, NoMemory, Register, Status as EndedWith}
-use Rattle.erst_driver.specs.Answers.{Answer, Gives, IsAnswered, answer_on_put, by_status, written_id}
+use Rattle.erst_driver.specs.Answers.{Answer, AnswersAs, IsAnswered, answer_on_put, by_status, written_id}
 use Rattle.erst_driver.specs.Operations.{is_free_in_time}
 use Rattle.ras_events.specs.Sizes.{CanBeSaved}
 use Rattle.ras_exit.specs.declared.exit.Exit.{Exit}
@@ -37,10 +37,10 @@ module _ (id : ℕ) (bytes : List ℕ) (can : CanBeSaved id bytes) (t : Told) wh
       ap (λ (n : ℕ). refusal_by (answer_on_put n (device_of t))) can.named
       ∙ refused_by (is_free_in_time t.volatile.slow) (is_reserved id) (is_full_for id t.here.store) can.free
 
-  pub is_saved : Gives (Ok tt) answer → refusal ≡ None
+  pub is_saved : AnswersAs (Ok tt) answer → refusal ≡ None
   is_saved gives = sym answer_is ∙ ap refusal_by (sym gives)
 
-  pub not_saved : (why : DriverRefused) → IsAnswered {T = Unit {0}} (Err why) → Gives (Err why) answer → EndsUnless refusal (Err (driver_exit why))
+  pub not_saved : (why : DriverRefused) → IsAnswered {T = Unit {0}} (Err why) → AnswersAs (Err why) answer → EndsUnless refusal (Err (driver_exit why))
   not_saved Register is gives = tt
   not_saved Busy is gives = sym answer_is ∙ ap refusal_by (sym gives)
   not_saved (EndedWith code) is gives = sym answer_is ∙ ap refusal_by (sym gives)

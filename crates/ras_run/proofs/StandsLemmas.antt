@@ -7,7 +7,7 @@ use Rattle.board_core.specs.Stop.{Left}
 use Rattle.board_core.specs.Told.{Relates, Told, Steps}
 use Rattle.board_core.specs.Doing.{Act, DeviceCall, Does, GoesWell, Seen, after_acts, one_end}
 use Rattle.board_core.proofs.DoingLemmas.{after-append}
-use Rattle.erst_interp.specs.Run.{Keeps, acts_of}
+use Rattle.erst_interp.specs.Run.{KeepsButDevice, acts_of}
 use Rattle.ras_account.specs.Account.{State}
 use Rattle.ras_journal.specs.declared.standing.Standing.{Standing}
 use Rattle.ras_journal.specs.Appending.{Before}
@@ -77,22 +77,22 @@ ready_print see text ledger (Err exit) x y ready does = tt
 
 -- ---- over calls of the device
 
-same_files : (s : Standing) (a : State) (old new : Told) → Keeps old new → IsAt s a old.here → IsAt s a new.here
+same_files : (s : Standing) (a : State) (old new : Told) → KeepsButDevice old new → IsAt s a old.here → IsAt s a new.here
 same_files s a old new keeps at = subst (λ (l : Left). IsAt s a l) (sym keeps.here) (record { recovers = at.recovers; position = at.position })
 
 pub calls_at : (calls : List DeviceCall) (s : Standing) (a : State) (t : Told) → IsAt s a t.here → IsAt s a (after_acts (acts_of calls) t).here
 calls_at calls s a t at = same_files s a t (after_acts (acts_of calls) t) (calls_keep calls t) at
 
-pub stands_called : {X : Type 0} (see : X → Seen) (calls : Told → List DeviceCall) (s : Standing) (a : State) (x y : X) → Relates Keeps (see x).told (see y).told → IfSome (see x).told (λ t. GoesWell (acts_of (calls t)) (see x) (see y))
+pub stands_called : {X : Type 0} (see : X → Seen) (calls : Told → List DeviceCall) (s : Standing) (a : State) (x y : X) → Relates KeepsButDevice (see x).told (see y).told → IfSome (see x).told (λ t. GoesWell (acts_of (calls t)) (see x) (see y))
     → Stands s a (see x).told (see x).clock → Stands s a (see y).told (see y).clock
 stands_called see calls s a x y kept does stands = by (see x).told refl kept does stands
   where
-    by : (o : Option Told) → (see x).told ≡ o → Relates Keeps o (see y).told → IfSome o (λ t. GoesWell (acts_of (calls t)) (see x) (see y)) → Stands s a o (see x).clock → Stands s a (see y).told (see y).clock
+    by : (o : Option Told) → (see x).told ≡ o → Relates KeepsButDevice o (see y).told → IfSome o (λ t. GoesWell (acts_of (calls t)) (see x) (see y)) → Stands s a o (see x).clock → Stands s a (see y).told (see y).clock
     by None is kept does st = subst (λ (o : Option Told). Stands s a o (see y).clock) (sym kept) tt
     by (Some t) is kept does st =
         stands_on (acts_of (calls t)) s s a a (see x) (see y) (calls_at (calls t) s a) (subst (λ (o : Option Told). Stands s a o (see x).clock) (sym is) st) does
 
-pub ready_called : {X : Type 0} (see : X → Seen) (calls : Told → List DeviceCall) (ledger : Ledger) (x y : X) → Relates Keeps (see x).told (see y).told → IfSome (see x).told (λ t. GoesWell (acts_of (calls t)) (see x) (see y))
+pub ready_called : {X : Type 0} (see : X → Seen) (calls : Told → List DeviceCall) (ledger : Ledger) (x y : X) → Relates KeepsButDevice (see x).told (see y).told → IfSome (see x).told (λ t. GoesWell (acts_of (calls t)) (see x) (see y))
     → IsReady ledger (see x).told (see x).clock → IsReady ledger (see y).told (see y).clock
 ready_called see calls ledger x y kept does ready = record {
   usable = ready.usable;

@@ -130,13 +130,13 @@ unopened_exit (opening.Damaged file place) = Damaged file place
 unopened_exit opening.NoMemory = NoMemory
 
 -- What is opened is what the files hold, or why they are refused.
-abbrev pub Opens : Result Ledger Exit → Result State Refusal → Type 0
-Opens (Ok ledger) held = held ≡ Ok ledger.account.state
-Opens (Err exit) held = EndsBy (refusal_exit held ≡ Some exit) ⊤ (OnlyFault disk_call) (ending_of exit)
+abbrev pub OpensLedger : Result Ledger Exit → Result State Refusal → Type 0
+OpensLedger (Ok ledger) held = held ≡ Ok ledger.account.state
+OpensLedger (Err exit) held = EndsBy (refusal_exit held ≡ Some exit) ⊤ (OnlyFault disk_call) (ending_of exit)
 
 -- What is opened, and where it stands: as the files say. It can be written, and holds an account.
 pub record Opened (result : Result Ledger Exit) (told now : Option Told) (clock : Clock) : Type 0 where
-  pub held : IfSome told (λ t. Opens result (recovered t.here.file0 t.here.file1))
+  pub held : IfSome told (λ t. OpensLedger result (recovered t.here.file0 t.here.file1))
   pub standing : IfOk result (λ ledger. IfSome told (λ t. ledger.journal.standing ≡ standing_opened t.here.file0 t.here.file1))
   pub ready : IfOk result (λ ledger. IsReady ledger now clock)
   pub account : IfOk result (λ ledger. IsAccount ledger.account.state)

@@ -8,7 +8,7 @@ use Rattle.ras_script.specs.declared.line.Line.{Line}
 use Rattle.ras_script.specs.declared.line.LineRefused.{LineRefused}
 use Rattle.ras_script.specs.declared.splitting.TheConstants.{HELD_WORDS}
 use Rattle.ras_script.specs.Kinds.{Reading}
-use Rattle.ras_script.specs.Line.{Gives, ReadsLine, kinds, line_named, line_of_words}
+use Rattle.ras_script.specs.Line.{GivesLine, ReadsLine, kinds, line_named, line_of_words}
 use Rattle.ras_script.specs.Splitting.{AreHeldWords, words_of}
 
 -- readings of which each refuses the number of words
@@ -41,5 +41,5 @@ held_ask [] = refl
 held_ask (kind ∷ words) = ap (λ event. cond (slice_index kind 0 == 35) (Ok Line.Nothing) event) (named_held kind words)
 
 -- what is read of the words held is read of the line
-pub reads_held : (words : List (List ℕ)) (bytes : List ℕ) (read : Result Line LineRefused) → AreHeldWords words bytes → Gives read (line_of_words words) → ReadsLine read bytes
-reads_held words bytes read held gives = subst (Gives read) (ap line_of_words held ∙ held_ask (words_of bytes)) gives
+pub reads_held : (words : List (List ℕ)) (bytes : List ℕ) (read : Result Line LineRefused) → AreHeldWords words bytes → GivesLine read (line_of_words words) → ReadsLine read bytes
+reads_held words bytes read held gives = subst (GivesLine read) (ap line_of_words held ∙ held_ask (words_of bytes)) gives

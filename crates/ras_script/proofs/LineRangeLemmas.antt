@@ -11,7 +11,7 @@ use Rattle.ras_script.specs.declared.line.LineRefused.{LineRefused}
 use Rattle.ras_script.specs.Bytes.{AreBytes}
 use Rattle.ras_script.specs.Fields.{hex_bytes_of, hex_u64_of, read_label, read_limit, read_number, read_report, u16_of, u64_of, u8_of}
 use Rattle.ras_script.specs.Kinds.{Reading, bank_asks, cpu_asks, module_asks, range_asks, place_asks, limit_asks, module_limit_asks, hest_asks, erst_asks, bert_asks, ghes_asks, put_asks, poll_asks, retire_asks, panic_asks, restart_asks}
-use Rattle.ras_script.specs.Line.{Gives, kinds, line_named, line_of_words}
+use Rattle.ras_script.specs.Line.{GivesLine, kinds, line_named, line_of_words}
 use Rattle.ras_script.specs.LineLaws.{IsInRange, IsBankInRange}
 use Rattle.ras_script.proofs.FieldLemmas.{bytes_in, hexadecimal_in, label_in, limit_in, number_in, report_in, then_within}
 
@@ -150,6 +150,6 @@ refused_has_words [] h = cc
 refused_has_words (kind ∷ words) h = omega arith
 
 -- what was read is in range
-pub read_within : (words : List (List ℕ)) (read : Result Line LineRefused) → Gives read (line_of_words words) → IfOk read IsInRange
+pub read_within : (words : List (List ℕ)) (read : Result Line LineRefused) → GivesLine read (line_of_words words) → IfOk read IsInRange
 read_within words (Ok line) is = (let within : IfOk (line_of_words words) IsInRange = line_within words in rw is at within)
 read_within words (Err why) is = tt

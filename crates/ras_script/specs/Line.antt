@@ -35,9 +35,9 @@ abbrev pub line_of : List ℕ → Result Line LineRefused
 line_of bytes = line_of_words (words_of bytes)
 
 -- Reading gave what a line asks for, or memory ran out.
-abbrev pub Gives : {A : Type 0} → Result A LineRefused → Result A LineRefused → Type 0
-Gives (Err NoMemory) line = ⊤
-Gives read line = line ≡ read
+abbrev pub GivesLine : {A : Type 0} → Result A LineRefused → Result A LineRefused → Type 0
+GivesLine (Err NoMemory) line = ⊤
+GivesLine read line = line ≡ read
 
 abbrev pub ReadsLine : Result Line LineRefused → List ℕ → Type 0
-ReadsLine read bytes = Gives read (line_of bytes)
+ReadsLine read bytes = GivesLine read (line_of bytes)

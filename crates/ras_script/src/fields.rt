@@ -3,7 +3,7 @@
 ghost use Rattle.std.specs.Prelude.{◌≡◌, ◌≤◌, map, IfOk};
 ghost use Rattle.ras_script.specs.Fields.{hex_bytes_of, hex_u64_of, read_label, read_limit, read_number};
 ghost use Rattle.ras_script.specs.Fields.{positive_of, read_report, u16_of, u64_of, u8_of};
-ghost use Rattle.ras_script.specs.Line.{Gives};
+ghost use Rattle.ras_script.specs.Line.{GivesLine};
 
 use crate::LineRefused;
 use crate::bytes::bytes_of;
@@ -72,7 +72,7 @@ pub(crate) fn hex_u64_of(word: &[u8]) -> Result<u64, LineRefused>
 
 // A word as a label.
 pub(crate) fn read_label(alloc: Global, word: &[u8]) -> Result<Label, LineRefused>
-    ensures { Gives result (read_label word.now) }
+    ensures { GivesLine result (read_label word.now) }
 {
     match Label::new(alloc, word) {
         Ok(label) => Ok(label),
@@ -83,7 +83,7 @@ pub(crate) fn read_label(alloc: Global, word: &[u8]) -> Result<Label, LineRefuse
 
 // A word as bytes.
 pub(crate) fn hex_bytes_of(alloc: Global, word: &[u8]) -> Result<Text, LineRefused>
-    ensures { Gives result (hex_bytes_of word.now) }
+    ensures { GivesLine result (hex_bytes_of word.now) }
 {
     bytes_of(alloc, word)?.ok_or(LineRefused::Hex)
 }

@@ -5,7 +5,7 @@ ghost use Rattle.ras_script.specs.Kinds.{bank_asks, bert_asks, cpu_asks, erst_as
 ghost use Rattle.ras_script.specs.Kinds.{hest_asks, limit_asks, module_asks, module_limit_asks};
 ghost use Rattle.ras_script.specs.Kinds.{panic_asks, place_asks, poll_asks, put_asks, range_asks};
 ghost use Rattle.ras_script.specs.Kinds.{restart_asks, retire_asks};
-ghost use Rattle.ras_script.specs.Line.{Gives, kinds, line_named};
+ghost use Rattle.ras_script.specs.Line.{GivesLine, kinds, line_named};
 
 use crate::fields::{
     BANK_WORDS, hex_bytes_of, hex_u64_of, read_label, read_limit, read_number, read_report, u8_of,
@@ -24,7 +24,7 @@ pub const MOST_WORDS: usize = 2 + BANK_WORDS;
 
 // What a line asks for whose first word is this and whose other words are these.
 pub(crate) fn event_of(alloc: Global, kind: &[u8], words: &[&[u8]]) -> Result<Line, LineRefused>
-    ensures { Gives result (line_named kinds kind.now (map (λ word. word.now) words.now)) }
+    ensures { GivesLine result (line_named kinds kind.now (map (λ word. word.now) words.now)) }
 {
     if kind == b"bank".as_slice() {
         return bank_asks(words);
@@ -100,7 +100,7 @@ fn cpu_asks(words: &[&[u8]]) -> Result<Line, LineRefused>
 // A memory module, from the words after `module`.
 #[tactic(auto, using(crate::proofs::ShapeLemmas::four))]
 fn module_asks(alloc: Global, words: &[&[u8]]) -> Result<Line, LineRefused>
-    ensures { Gives result (module_asks (map (λ word. word.now) words.now)) }
+    ensures { GivesLine result (module_asks (map (λ word. word.now) words.now)) }
 {
     let [label, socket, bank, channel] = words else {
         return Err(LineRefused::Words);
@@ -120,7 +120,7 @@ fn module_asks(alloc: Global, words: &[&[u8]]) -> Result<Line, LineRefused>
 // A range of addresses, from the words after `range`.
 #[tactic(auto, using(crate::proofs::ShapeLemmas::three))]
 fn range_asks(alloc: Global, words: &[&[u8]]) -> Result<Line, LineRefused>
-    ensures { Gives result (range_asks (map (λ word. word.now) words.now)) }
+    ensures { GivesLine result (range_asks (map (λ word. word.now) words.now)) }
 {
     let [label, first, last] = words else {
         return Err(LineRefused::Words);
@@ -137,7 +137,7 @@ fn range_asks(alloc: Global, words: &[&[u8]]) -> Result<Line, LineRefused>
 // Where firmware finds a memory module, from the words after `place`.
 #[tactic(auto, using(crate::proofs::ShapeLemmas::four))]
 fn place_asks(alloc: Global, words: &[&[u8]]) -> Result<Line, LineRefused>
-    ensures { Gives result (place_asks (map (λ word. word.now) words.now)) }
+    ensures { GivesLine result (place_asks (map (λ word. word.now) words.now)) }
 {
     let [label, node, card, module] = words else {
         return Err(LineRefused::Words);
@@ -172,7 +172,7 @@ fn module_limit_asks(words: &[&[u8]]) -> Result<Line, LineRefused>
 
 // A hardware error source table, from the words after `hest`.
 fn hest_asks(alloc: Global, words: &[&[u8]]) -> Result<Line, LineRefused>
-    ensures { Gives result (hest_asks (map (λ word. word.now) words.now)) }
+    ensures { GivesLine result (hest_asks (map (λ word. word.now) words.now)) }
 {
     let [bytes] = words else {
         return Err(LineRefused::Words);
@@ -183,7 +183,7 @@ fn hest_asks(alloc: Global, words: &[&[u8]]) -> Result<Line, LineRefused>
 
 // An error record serialization table, from the words after `erst`.
 fn erst_asks(alloc: Global, words: &[&[u8]]) -> Result<Line, LineRefused>
-    ensures { Gives result (erst_asks (map (λ word. word.now) words.now)) }
+    ensures { GivesLine result (erst_asks (map (λ word. word.now) words.now)) }
 {
     let [bytes] = words else {
         return Err(LineRefused::Words);
@@ -195,7 +195,7 @@ fn erst_asks(alloc: Global, words: &[&[u8]]) -> Result<Line, LineRefused>
 // A boot error record table and its region, from the words after `bert`.
 #[tactic(auto, using(crate::proofs::ShapeLemmas::four))]
 fn bert_asks(alloc: Global, words: &[&[u8]]) -> Result<Line, LineRefused>
-    ensures { Gives result (bert_asks (map (λ word. word.now) words.now)) }
+    ensures { GivesLine result (bert_asks (map (λ word. word.now) words.now)) }
 {
     let [boot, seconds, table, region] = words else {
         return Err(LineRefused::Words);
@@ -215,7 +215,7 @@ fn bert_asks(alloc: Global, words: &[&[u8]]) -> Result<Line, LineRefused>
 // A generic error status block, from the words after `ghes`.
 #[tactic(auto, using(crate::proofs::ShapeLemmas::five))]
 fn ghes_asks(alloc: Global, words: &[&[u8]]) -> Result<Line, LineRefused>
-    ensures { Gives result (ghes_asks (map (λ word. word.now) words.now)) }
+    ensures { GivesLine result (ghes_asks (map (λ word. word.now) words.now)) }
 {
     let [boot, seconds, source, number, bytes] = words else {
         return Err(LineRefused::Words);
@@ -236,7 +236,7 @@ fn ghes_asks(alloc: Global, words: &[&[u8]]) -> Result<Line, LineRefused>
 
 // A record and its identifier, from the words after `put`.
 fn put_asks(alloc: Global, words: &[&[u8]]) -> Result<Line, LineRefused>
-    ensures { Gives result (put_asks (map (λ word. word.now) words.now)) }
+    ensures { GivesLine result (put_asks (map (λ word. word.now) words.now)) }
 {
     let [id, bytes] = words else {
         return Err(LineRefused::Words);

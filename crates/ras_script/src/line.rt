@@ -1,7 +1,7 @@
 //! What a line of a script asks for.
 
 ghost use Rattle.std.specs.Prelude.{◌≡◌, ℕ, ◌<◌, List, length, map, IfOk, IsErr};
-ghost use Rattle.ras_script.specs.Line.{Gives, ReadsLine, line_of, line_of_words};
+ghost use Rattle.ras_script.specs.Line.{GivesLine, ReadsLine, line_of, line_of_words};
 ghost use Rattle.ras_script.specs.LineLaws.{IsInRange, line_text};
 ghost use Rattle.ras_script.specs.Refusals.{line_number};
 ghost use Rattle.ras_script.specs.Splitting.{AreHeldWords, words_of};
@@ -129,7 +129,7 @@ pub fn read_line(alloc: Global, bytes: &[u8]) -> Result<Line, LineRefused>
 
 // What a line asks for, whose words `words` gave.
 fn line_of_words(alloc: Global, words: &[&[u8]]) -> Result<Line, LineRefused>
-    ensures read { Gives result (line_of_words (map (λ word. word.now) words.now)) }
+    ensures read { GivesLine result (line_of_words (map (λ word. word.now) words.now)) }
     ensures line { (bytes : List ℕ) → AreHeldWords (map (λ word. word.now) words.now) bytes
         → ReadsLine result bytes }
     ensures range { IfOk result IsInRange }

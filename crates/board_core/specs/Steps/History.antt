@@ -2,12 +2,12 @@
 use Rattle.std.specs.Prelude.{ℕ, List, map, Option, None, Some, Vec}
 use Rattle.std.specs.declared.alloc.Global.{Global}
 use Rattle.erst_store.specs.Device.{Device, volatile_of}
-use Rattle.board_core.specs.declared.history.Event.{Event}
-use Rattle.board_core.specs.declared.history.Event.TheVariants.{Wrote, Synced, WroteRegister, WroteRange, Put, Printed}
+use Rattle.board_core.specs.declared.history.MemChange.{MemChange}
+use Rattle.board_core.specs.declared.history.MemChange.TheVariants.{Wrote, Synced, WroteRegister, WroteRange, Put, Printed}
 use Rattle.board_core.specs.declared.history.MemFile.{MemFile}
 use Rattle.board_core.specs.MemBoard.{Held, Change, wrote, synced, acted, printed, wrote_register, wrote_range, put_record}
 
-abbrev pub change_of : Event → Change
+abbrev pub change_of : MemChange → Change
 change_of (Wrote file place bytes) = wrote file place bytes.items
 change_of (Synced file) = synced file
 change_of (WroteRegister reg value) = acted (wrote_register reg value)
@@ -22,7 +22,7 @@ held_with file0 file1 device out = record {
   volatile = volatile_of device;
 }
 
-abbrev pub changes_of : List Event → List Change
+abbrev pub changes_of : List MemChange → List Change
 changes_of events = map change_of events
 
 -- what a file began with: kept apart once something was written, and else what it holds

@@ -13,7 +13,7 @@ ghost use Rattle.board_core.specs.Steps.MomentLemmas.{since_earlier};
 ghost use Rattle.board_core.specs.MemBoard.{told_of, clock_of, settled_disk, calls_of, wrote, synced, acted, printed, wrote_register, wrote_range, put_record, past_after};
 ghost use Rattle.board_core.specs.MemBoard.{Performs, ListsCall, ListsAccess, ListsNone};
 ghost use Rattle.board_core.specs.Stop.{Same, InFile, InStore, InOut, Begins, Appends};
-ghost use Rattle.board_core.specs.Told.{Reads, Torn, MayList, FailsWrite, FailsPrint, file_of, with_call, after_write, after_print};
+ghost use Rattle.board_core.specs.Told.{ReadsBytes, Torn, MayList, FailsWrite, FailsPrint, file_of, with_call, after_write, after_print};
 ghost use Rattle.board_core.specs.Told.{device_of, on_device, with_access, register_in, after_reg_write, after_range_write, after_put, AnswersPut, KeepsAtRefusal, StoreBy, MayListAccess, MayAct, FailsAccess};
 
 use super::MemBoard;
@@ -52,7 +52,8 @@ impl Board for MemBoard {
 
     fn read_at(&mut self, file: FileNo, place: u64, buf: &mut [u8]) -> Result<usize, Failed>
         ensures within { IfOk result (λ n. n ≤ length buf.old) }
-        ensures read { IfOk result (λ n. Reads place n buf.new (file_of file (told_of self.old))) }
+        ensures read { IfOk result
+            (λ n. ReadsBytes place n buf.new (file_of file (told_of self.old))) }
         ensures told { OnOk result (Some (told_of self.new)
             ≡ Some (with_call (ReadAt file place (length buf.old)) (told_of self.old))) }
         ensures failed { OnErr result
@@ -228,7 +229,7 @@ impl Board for MemBoard {
 // Copies a file's bytes from a place on into the front of a buffer, and says how many.
 fn copy_from(file: &[u8], place: usize, buf: &mut [u8]) -> usize
     ensures within { result ≤ length buf.old }
-    ensures read { Reads place result buf.new file.now }
+    ensures read { ReadsBytes place result buf.new file.now }
 {
     let rest = &file[place.min(file.len())..];
     let count = rest.len().min(buf.len());

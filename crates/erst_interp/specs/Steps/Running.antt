@@ -15,16 +15,16 @@ use Rattle.erst_interp.specs.declared.machine.Variables.{Variables}
 use Rattle.erst_interp.specs.declared.refusals.RunRefused.{RunRefused}
 use Rattle.erst_interp.specs.declared.refusals.RunRefused.TheVariants.{Register}
 use Rattle.erst_interp.specs.Machine.{MachineState, Outcome, goes, stops, new_variables, field_of, is_inside, End, end_from, most_turns}
-use Rattle.erst_interp.specs.Run.{Keeps, PassesStore, IsCutShort, told_after}
+use Rattle.erst_interp.specs.Run.{KeepsButDevice, PassesStore, IsCutShort, told_after}
 
 -- Calls went well, or the last of them failed. The record store may have changed so.
 pub record GoesWell (Store : List Stored → List Stored → Type 0) (old new : Seen) : Type 0 where
-  pub kept : Relates Keeps old.told new.told
+  pub kept : Relates KeepsButDevice old.told new.told
   pub stops : Passes (InStore Store) old.clock new.clock
   pub faults : new.faults ≡ old.faults
 
 pub record Fails (Store : List Stored → List Stored → Type 0) (old new : Seen) : Type 0 where
-  pub kept : Relates Keeps old.told new.told
+  pub kept : Relates KeepsButDevice old.told new.told
   pub stops : Passes (InStore Store) old.clock new.clock
   pub raises : Raises device_call old.faults new.faults
 

@@ -9,13 +9,13 @@ use Rattle.erst_store.specs.declared.reading.StoreRefused.TheVariants.{Malformed
 use Rattle.erst_store.specs.Store.{Stored, holds, refusal_of}
 
 -- What a function returned is what reading gives, unless memory ran out.
-abbrev pub Fails : {Y : Type 0} → StoreRefused → Result Y StoreRefused → Type 0
-Fails Malformed read = read ≡ Err Malformed
-Fails NoMemory read = Unit {0}
+abbrev pub FailsStore : {Y : Type 0} → StoreRefused → Result Y StoreRefused → Type 0
+FailsStore Malformed read = read ≡ Err Malformed
+FailsStore NoMemory read = Unit {0}
 
-abbrev pub Gives : {X Y : Type 0} → (X → Y) → Result X StoreRefused → Result Y StoreRefused → Type 0
-Gives view (Ok x) read = read ≡ Ok (view x)
-Gives view (Err e) read = Fails e read
+abbrev pub GivesStore : {X Y : Type 0} → (X → Y) → Result X StoreRefused → Result Y StoreRefused → Type 0
+GivesStore view (Ok x) read = read ≡ Ok (view x)
+GivesStore view (Err e) read = FailsStore e read
 
 -- a number of so many bytes and the bytes after it
 abbrev pub front_number : ℕ → List ℕ → Result (ℕ × List ℕ) StoreRefused

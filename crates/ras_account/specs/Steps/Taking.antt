@@ -91,7 +91,7 @@ pub record IsNext (v : View) (item : Item) : Type 0 where
   pub total : v.state.total + item.weight ≤ MOST_TOTAL
 
 -- orders with some behind them, which take as much of the room
-pub record Gives (old new : OrderList) (more : List Order) : Type 0 where
+pub record GivesOrders (old new : OrderList) (more : List Order) : Type 0 where
   pub orders : new.orders ≡ old.orders ++ more
   pub room : new.room + length more ≡ old.room
 
@@ -158,7 +158,7 @@ pub record TakesFact (old new : View) (fact : Fact) : Type 0 where
 pub record Takes (old new : View) (before after : OrderList) (entry : Entry) : Type 0 where
   pub state : new.state ≡ account_after old.state entry
   pub waiting : old.waiting ≡ then_waits (added_by old.state (entry ∷ [])) new.waiting
-  pub gives : Gives before after (orders_at old.state entry)
+  pub gives : GivesOrders before after (orders_at old.state entry)
 
 -- the first name that waits can be counted: the account doesn't know it, and there is room for it
 pub record CanCountName (v : View) : Type 0 where

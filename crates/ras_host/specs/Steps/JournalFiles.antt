@@ -3,17 +3,17 @@ use Rattle.std.specs.Prelude.{◌≡◌, Option, IsSome}
 use Rattle.std.specs.declared.fs.File.{File}
 use Rattle.board_core.specs.declared.board.FileNo.{FileNo}
 use Rattle.board_core.specs.declared.board.FileNo.TheVariants.{Zero, One}
-use Rattle.ras_host.specs.declared.journal.Journal.{Journal}
-use Rattle.ras_host.specs.declared.journal.Use.TheVariants.{Alone}
+use Rattle.ras_host.specs.declared.files.Files.{Files}
+use Rattle.ras_host.specs.declared.files.Use.TheVariants.{Alone}
 
 -- the file of a number, if it is open
-abbrev pub file_in : FileNo → Journal → Option File
-file_in Zero journal = journal.zero
-file_in One journal = journal.one
+abbrev pub file_in : FileNo → Files → Option File
+file_in Zero files = files.zero
+file_in One files = files.one
 
 -- A call on a file leaves those open that were. Of files that are to be written, this one is open
 -- after it, and file 0, whose lock keeps other runs away.
-pub record Opens (file : FileNo) (old new : Journal) : Type 0 where
+pub record OpensFile (file : FileNo) (old new : Files) : Type 0 where
   pub how : new.how ≡ old.how
   pub zero : IsSome old.zero → new.zero ≡ old.zero
   pub one : IsSome old.one → new.one ≡ old.one

@@ -8,10 +8,10 @@ use Rattle.ras_recover.specs.declared.place.Unread.TheVariants.{Damaged, NoMemor
 
 -- What is answered is what the file holds, seen so, or the place of its damage, unless memory runs
 -- out.
-abbrev pub Answers : {T A : Type 0} → (T → A) → Result T Unread → Result A ℕ → Type 0
-Answers view (Ok x) read = read ≡ Ok (view x)
-Answers view (Err (Damaged place)) read = read ≡ Err place
-Answers view (Err NoMemory) read = Unit {0}
+abbrev pub AnswersFront : {T A : Type 0} → (T → A) → Result T Unread → Result A ℕ → Type 0
+AnswersFront view (Ok x) read = read ≡ Ok (view x)
+AnswersFront view (Err (Damaged place)) read = read ≡ Err place
+AnswersFront view (Err NoMemory) read = Unit {0}
 
 -- the front of a file at a place, with this account
 abbrev pub front_at : Place → State → FileFront

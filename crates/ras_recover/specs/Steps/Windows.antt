@@ -14,7 +14,7 @@ use Rattle.ras_recover.specs.declared.window.SizedFile.{SizedFile}
 use Rattle.ras_recover.specs.declared.window.Window.{Window}
 use Rattle.ras_recover.specs.Steps.Looking.{AreReads}
 use Rattle.ras_recover.specs.DiskCalls.{Calls}
-use Rattle.ras_recover.specs.Recovering.{Keeps}
+use Rattle.ras_recover.specs.Recovering.{KeepsTold}
 
 -- the place behind the bytes that are held
 abbrev pub end_of : Window → ℕ
@@ -73,7 +73,7 @@ read_failure (Err NoMemory) = Ok tt
 -- Size and ReadAt calls alone were made, of which this holds where all went well.
 pub record LooksAt {T E : Type 0} (failure : Result T E → Result (Unit {0}) E) (result : Result T E) (Done : Told → List DiskCall → Type 0)
     (told_old : Option Told) (old : Clock) (before : Faults) (told_new : Option Told) (new : Clock) (now : Faults) : Type 0 where
-  pub keeps : Keeps told_old old told_new new
+  pub keeps : KeepsTold told_old old told_new new
   pub calls : Relates (λ t. Calls (AreReads result (Done t)) t) told_old told_new
   pub cause : FailsAs disk_call before now (failure result)
 

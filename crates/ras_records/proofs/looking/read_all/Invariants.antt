@@ -2,7 +2,7 @@
 use Rattle.std.proofs.Common.{◌≡◌, IfSome}
 use Rattle.board_core.specs.Doing.{looks}
 use Rattle.board_core.specs.Told.{Relates}
-use Rattle.erst_interp.specs.Run.{Keeps}
+use Rattle.erst_interp.specs.Run.{KeepsButDevice}
 use Rattle.ras_records.specs.Steps.Reading.{ReachesTo}
 use Rattle.ras_records.proofs.ReadingLemmas.{ReadTo}
 use Rattle.ras_records.proofs.looking.read_all.Given as goal
@@ -11,7 +11,7 @@ abbrev pub invariant-loop-id : goal.invariant-loop-id
 invariant-loop-id g l = record {
   read : IfSome (g.B.Board.told l.fn.board) (λ t.
       ReadTo (looks g.B.Board.told g.B.Board.clock g.B.Board.faults) l.driver l.topology l.seconds l.ids l.id-index t l.looked l.fn.board l.board);
-  kept : Relates Keeps (g.B.Board.told l.fn.board) (g.B.Board.told l.board);
+  kept : Relates KeepsButDevice (g.B.Board.told l.fn.board) (g.B.Board.told l.board);
   faults : g.B.Board.faults l.board ≡ g.B.Board.faults l.fn.board;
   reaches : ReachesTo l.id-index l.looked;
 }

@@ -1,7 +1,7 @@
 use Rattle.std.proofs.Common.{◌≡◌, refl, Ok}
 use Rattle.ras_recover.proofs.LiveLemmas.{if-told, told-here}
 use Rattle.ras_journal.specs.Recovered.{recovered}
-use Rattle.ras_recover.specs.Recovering.{Tells}
+use Rattle.ras_recover.specs.Recovering.{TellsHeld}
 use Rattle.ras_recover.proofs.life.live_opening.Goals as goal
 
 pub returns-clause-works : goal.returns-clause-works
@@ -9,7 +9,7 @@ returns-clause-works g c = λ journal t tells. (record { there = t; tells = tell
 
 pub returns-clause-answered : goal.returns-clause-answered
 returns-clause-answered g c =
-    if-told (λ result t. Tells (λ r. r.0.state) result (recovered t.here.file0 t.here.file1)) c.open_journal.result (g.B.Board.told c.args.board.now)
+    if-told (λ result t. TellsHeld (λ r. r.0.state) result (recovered t.here.file0 t.here.file1)) c.open_journal.result (g.B.Board.told c.args.board.now)
     c.open_journal.ensures.recovers c.open_journal.ensures.opened
     (λ r held opened journal t tells. record {
       call = record { there = t; tells = tells };

@@ -4,7 +4,7 @@ use Rattle.board_core.specs.Doing.{Does, ended_by, looks, one_end}
 use Rattle.board_core.specs.Told.{device_of}
 use Rattle.erst_store.specs.DeviceLaws.{IsDevice}
 use Rattle.erst_interp.specs.Run.{acts_of}
-use Rattle.erst_driver.specs.Answers.{Gives, answer_on_put, refusal_end, written_id}
+use Rattle.erst_driver.specs.Answers.{AnswersAs, answer_on_put, driver_end, written_id}
 use Rattle.erst_driver.specs.Operations.{write_calls}
 use Rattle.erst_driver.proofs.DoesLemmas.{at_told}
 use Rattle.ras_exit.specs.Acts.{print_acts}
@@ -28,9 +28,9 @@ returns-in-Ok-clause-does g c = λ t is.
     let told = g.B.Board.told c.args.board.now in
     asked_printed see (IsDevice (device_of t)) (saving_refusal t.volatile.slow c.args.id t.here.store ≡ None) (acts_of (write_calls c.args.driver.now c.args.bytes.now (device_of t))) (print_acts (done_line c.args.number)) _ c.save.new.board _ c.print.result
     (at_told (λ u. IsDevice (device_of u)) told t c.in-Ok.ensures.device is)
-    (is_saved c.args.id c.args.bytes.now c.requires t (at_told (λ u. Gives (Ok (tt {0})) (answer_on_put (written_id c.args.bytes.now) (device_of u))) told t c.in-Ok.ensures.answers is))
+    (is_saved c.args.id c.args.bytes.now c.requires t (at_told (λ u. AnswersAs (Ok (tt {0})) (answer_on_put (written_id c.args.bytes.now) (device_of u))) told t c.in-Ok.ensures.answers is))
     c.print.ensures.exit
-    (at_told (λ u. Does see (acts_of (write_calls c.args.driver.now c.args.bytes.now (device_of u))) (ended_by refusal_end (Ok (tt {0}))) c.args.board.now c.save.new.board) told t c.in-Ok.ensures.does is)
+    (at_told (λ u. Does see (acts_of (write_calls c.args.driver.now c.args.bytes.now (device_of u))) (ended_by driver_end (Ok (tt {0}))) c.args.board.now c.save.new.board) told t c.in-Ok.ensures.does is)
     (subst (λ (text : List ℕ). Does see (print_acts text) (one_end print_call c.print.result) c.save.new.board c.print.new.board) (c.deref.ensures.value ∙ c.in_ok-done.ensures) c.print.ensures.does)
 
 pub returns-in-Ok-clause-ready : goal.returns-in-Ok-clause-ready
@@ -51,4 +51,4 @@ returns-clause-does g c = λ t is.
     rw c.driver_exit.ensures
     (asked_refused see (IsDevice (device_of t)) (saving_refusal t.volatile.slow c.args.id t.here.store ≡ None) (acts_of (write_calls c.args.driver.now c.args.bytes.now (device_of t))) (print_acts (done_line c.args.number)) _ _ c.in-Err.refused c.in-Err.ensures.refused
     (at_told (λ u. IsDevice (device_of u)) told t c.in-Err.ensures.device is)
-    (at_told (λ u. Does see (acts_of (write_calls c.args.driver.now c.args.bytes.now (device_of u))) (refusal_end c.in-Err.refused) c.args.board.now c.save.new.board) told t c.in-Err.ensures.does is))
+    (at_told (λ u. Does see (acts_of (write_calls c.args.driver.now c.args.bytes.now (device_of u))) (driver_end c.in-Err.refused) c.args.board.now c.save.new.board) told t c.in-Err.ensures.does is))

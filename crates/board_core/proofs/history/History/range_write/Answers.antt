@@ -1,5 +1,5 @@
 use Rattle.std.proofs.Common.{ℕ, List, ap}
-use Rattle.board_core.specs.declared.history.Event.TheVariants.{WroteRange}
+use Rattle.board_core.specs.declared.history.MemChange.TheVariants.{WroteRange}
 use Rattle.board_core.specs.MemBoard.{acted, wrote_range}
 use Rattle.board_core.proofs.HistoryLemmas.{device_acted}
 use Rattle.board_core.proofs.history.History.range_write.Goals as goal

@@ -1,5 +1,5 @@
 use Rattle.std.proofs.Common.{refl}
-use Rattle.board_core.specs.declared.history.Event.TheVariants.{Synced}
+use Rattle.board_core.specs.declared.history.MemChange.TheVariants.{Synced}
 use Rattle.board_core.proofs.HistoryLemmas.{synced_file}
 use Rattle.board_core.proofs.history.History.sync.Goals as goal
 

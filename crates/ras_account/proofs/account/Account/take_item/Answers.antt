@@ -4,7 +4,7 @@ use Rattle.ras_account.specs.Account.{State}
 use Rattle.ras_account.specs.Continued.{account_after_item}
 use Rattle.ras_account.specs.View.{View}
 use Rattle.ras_account.specs.Accounts.{IsAccount}
-use Rattle.ras_account.specs.Steps.Taking.{sighting_in, view_after_item, item_orders_in, Gives}
+use Rattle.ras_account.specs.Steps.Taking.{sighting_in, view_after_item, item_orders_in, GivesOrders}
 use Rattle.ras_account.proofs.SoundLemmas.{item-sound}
 use Rattle.ras_account.proofs.StateLemmas.{of_parts, view_of_parts, two-given}
 use Rattle.ras_account.proofs.account.Account.take_item.Goals as goal
@@ -50,5 +50,5 @@ returns-clause-orders c =
     let are : option_to_list c.order_for_page-ordered.result ++ option_to_list c.count-replaced.result ≡ item_orders_in c.args.self.now.state (sighting_in c.args.self.now.state c.args.seconds c.args.item.now) =
     (λ i. option_to_list (c.order_for_page-ordered.ensures.order s refl refl refl i) ++ option_to_list (c.count-replaced.ensures.order s refl refl refl i))
     ∙ ap (λ (v : View). item_orders_in v.state (sighting_in v.state c.args.seconds c.args.item.now)) c.self.view_is in
-    subst (Gives c.args.orders.now c.push_some-2.new.self) are
+    subst (GivesOrders c.args.orders.now c.push_some-2.new.self) are
     (two-given c.args.orders.now c.push_some.new.self c.push_some-2.new.self c.order_for_page-ordered.result c.count-replaced.result c.push_some.ensures c.push_some-2.ensures)

@@ -1,4 +1,4 @@
-use Rattle.ras_klog.specs.Steps.{at_start}
+use Rattle.ras_klog.specs.Stages.{at_start}
 use Rattle.ras_klog.proofs.GroupLemmas.{to_end, at_once}
 use Rattle.ras_klog.proofs.state.KlogState.new.Goals as goal
 

@@ -5,7 +5,7 @@ use Rattle.ras_journal.specs.Appending.{append_acts}
 use Rattle.board_core.specs.Doing.{Does, looks}
 use Rattle.ras_journal.specs.declared.standing.Standing.{Standing}
 use Rattle.board_core.proofs.DoingLemmas.{does_first, does_then}
-use Rattle.ras_ledger.specs.Keeping.{keep_end, refusal_end, room_acts, standing_roomy}
+use Rattle.ras_ledger.specs.Keeping.{keep_end, keep_refused_end, room_acts, standing_roomy}
 use Rattle.ras_ledger.proofs.KeepingLemmas.{is_bad, keeps_not, keeps_then, roomy, roomy_gate}
 use Rattle.ras_ledger.proofs.ledger.Ledger.keep.Goals as goal
 
@@ -30,7 +30,7 @@ returns-in_err-make_room-clause-does g c =
     let p = err_from_is_err_and c.from_residual.result c.from_residual.ensures.1 in
     let s = c.args.self.now.journal.standing in
     let a = c.args.self.now.account.state in
-    rw (p.1, p.2) (does_first (looks g.B.Board.told g.B.Board.clock g.B.Board.faults) (room_acts s a c.args.link.now) (append_acts (standing_roomy s a c.args.link.now) c.args.link.now) (refusal_end c.in_err-make_room.field-0.0) _ _
+    rw (p.1, p.2) (does_first (looks g.B.Board.told g.B.Board.clock g.B.Board.faults) (room_acts s a c.args.link.now) (append_acts (standing_roomy s a c.args.link.now) c.args.link.now) (keep_refused_end c.in_err-make_room.field-0.0) _ _
     (is_bad c.in_err-make_room.field-0.0) c.in_err-make_room.ensures.does)
 
 pub returns-in_err-make_room-clause-ledger : goal.returns-in_err-make_room-clause-ledger

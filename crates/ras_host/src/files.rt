@@ -1,7 +1,7 @@
 //! The journal's files, `rasd.0` and `rasd.1`.
 ghost use Rattle.std.specs.Prelude.{◌≡◌, ◌≤◌, length, None, IfOk, OnOk, IsNone, IsSome};
 ghost use Rattle.std.specs.Io.{ReadsAtMost};
-ghost use Rattle.ras_host.specs.Steps.JournalFiles.{Opens, file_in};
+ghost use Rattle.ras_host.specs.Steps.JournalFiles.{OpensFile, file_in};
 
 use crate::system::{open, read_at, read_journal};
 use board_core::FileNo;
@@ -43,7 +43,7 @@ const LONGEST_FILE: u64 = 67_108_864;
 
 /// The journal's files, each of which is opened at its first use, file 0 before file 1.
 #[derive(Drop)]
-pub struct Journal {
+pub struct Files {
     rt: HostRuntime,
     how: Use,
     zero: Option<File>,
@@ -52,13 +52,13 @@ pub struct Journal {
     seen: Option<Seen>,
 }
 
-impl Journal {
+impl Files {
     /// Both files, neither of which is opened yet.
-    pub fn new(rt: HostRuntime, how: Use) -> Journal
+    pub fn new(rt: HostRuntime, how: Use) -> Files
         ensures how { result.how ≡ how }
         ensures closed { (result.zero ≡ None) × (result.one ≡ None) }
     {
-        Journal {
+        Files {
             rt,
             how,
             zero: None,
@@ -69,7 +69,7 @@ impl Journal {
 
     /// The length in bytes.
     pub fn size(&mut self, file: FileNo) -> io::Result<u64>
-        ensures opens { OnOk result (Opens file self.old self.new) }
+        ensures opens { OnOk result (OpensFile file self.old self.new) }
         ensures missing { IfOk result (λ n. IsNone (file_in file self.new) → n ≡ 0) }
     {
         self.open(file)?;
@@ -82,7 +82,7 @@ impl Journal {
 
     /// Reads from `place` on until the buffer is full or the file ends.
     pub fn read_at(&mut self, file: FileNo, place: u64, buf: &mut [u8]) -> io::Result<usize>
-        ensures opens { OnOk result (Opens file self.old self.new) }
+        ensures opens { OnOk result (OpensFile file self.old self.new) }
         ensures within { ReadsAtMost result buf.new }
         ensures missing { IfOk result (λ n. IsNone (file_in file self.new) → n ≡ 0) }
     {
@@ -96,7 +96,7 @@ impl Journal {
 
     /// Writes all the bytes at `place`.
     pub fn write_at(&mut self, file: FileNo, place: u64, bytes: &[u8]) -> io::Result<()>
-        ensures opens { OnOk result (Opens file self.old self.new) }
+        ensures opens { OnOk result (OpensFile file self.old self.new) }
         ensures there { OnOk result (IsSome (file_in file self.new)) }
     {
         self.open(file)?;
@@ -109,7 +109,7 @@ impl Journal {
     /// Makes the file durable. A sync that failed isn't tried again: the system may then say that
     /// all is well though the bytes are not on the disk.
     pub fn sync(&mut self, file: FileNo) -> io::Result<()>
-        ensures { OnOk result (Opens file self.old self.new) }
+        ensures { OnOk result (OpensFile file self.old self.new) }
     {
         self.open(file)?;
         match self.opened(file) {
@@ -118,9 +118,9 @@ impl Journal {
         }
     }
 
-    // Opens a file if it isn't open. One that is only to be read may be missing.
+    // OpensFile a file if it isn't open. One that is only to be read may be missing.
     fn open(&mut self, file: FileNo) -> io::Result<()>
-        ensures { OnOk result (Opens file self.old self.new) }
+        ensures { OnOk result (OpensFile file self.old self.new) }
     {
         let is_writing = self.how == Use::Alone;
         if !is_writing && self.seen.is_none() {
