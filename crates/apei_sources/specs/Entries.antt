@@ -41,14 +41,14 @@ is_refused entry = is_err (section_of (entry_guid entry) (entry_data entry))
 abbrev pub has_entry : List ℕ → Bool
 has_entry bytes = nat_le ENTRY_HEADER_LENGTH (length bytes) && nat_le (entry_length bytes) (length bytes)
 
--- the entry at the front, and the bytes behind it
+-- the entry at the front, and the bytes after it
 abbrev pub first_of : List ℕ → List ℕ
 first_of bytes = take (entry_length bytes) bytes
 
 abbrev pub rest_of : List ℕ → List ℕ
 rest_of bytes = drop (entry_length bytes) bytes
 
--- the entries that bytes are, at most so many, each behind the one before it; None where one passes
+-- the entries that bytes are, at most this number, each after the one before it; None if one passes
 -- the end
 unfoldable pub block_entries_in : ℕ → List ℕ → Option (List (List ℕ))
 block_entries_in zero bytes = if nat_eq (length bytes) 0 then Some [] else None
@@ -57,7 +57,7 @@ block_entries_in (suc most) bytes =
     else (if has_entry bytes then option_map (λ behind. first_of bytes ∷ behind) (block_entries_in most (rest_of bytes))
     else None)
 
--- the entries of a block's data, which can't be more than its bytes; None where one passes its end.
+-- the entries of a block's data, which can't be more than its bytes; None if one passes its end.
 -- specs/Laid.antt says what this cutting comes to
 abbrev pub entries_of : List ℕ → Option (List (List ℕ))
 entries_of bytes = block_entries_in (length bytes) bytes

@@ -23,11 +23,11 @@ type_with_id id sources = lookup (nat_eq id) sources
 abbrev pub source_count : List ℕ → ℕ
 source_count table = number_at 36 4 table
 
--- the sources before and one behind them, where none of them has its identifier
+-- the sources before and one after them, if none of them has its identifier
 abbrev pub followed : Sources → ℕ × ℕ → Result Sources TableRefused
 followed before source = if is_some (type_with_id source.0 before) then Err RepeatedId else Ok (before ++ source ∷ [])
 
--- the sources before, and those of so many at the front of bytes, each behind the one before it
+-- the sources before, and this number at the front of bytes, each after the one before it
 unfoldable pub sources_in : ℕ → Sources → List ℕ → Result Sources TableRefused
 sources_in zero before bytes = Ok before
 sources_in (suc count) before bytes = do

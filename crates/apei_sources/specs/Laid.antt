@@ -16,13 +16,13 @@ use Rattle.apei_sources.specs.Entries.{entry_length}
 abbrev pub IsSource : List ℕ → Type 0
 IsSource span = (layout : Layout) × (layout_of (source_type span) ≡ Some layout) × (length span ≡ size_of layout span)
 
--- bytes are sources laid end to end, no two of one identifier, and a rest behind them
+-- bytes are sources laid end to end, no two of one identifier, and a rest after them
 pub record AreSources (bytes : List ℕ) (spans : List (List ℕ)) (rest : List ℕ) : Type 0 where
   pub laid : bytes ≡ concat spans ++ rest
   pub each : All IsSource spans
   pub once : IsDistinct nat_eq (map source_id spans)
 
--- a table holds sources: as many as it counts, laid end to end behind its fixed part
+-- a table holds sources: as many as it counts, laid end to end after its fixed part
 pub record HoldsSources (table : List ℕ) (sources : Sources) : Type 0 where
   pub spans : List (List ℕ)
   pub rest : List ℕ
@@ -30,7 +30,7 @@ pub record HoldsSources (table : List ℕ) (sources : Sources) : Type 0 where
   pub counted : length spans ≡ source_count table
   pub listed : sources ≡ map source_of spans
 
--- behind sources of these identifiers no source begins the bytes, for this reason
+-- after sources of these identifiers no source begins the bytes, for this reason
 abbrev pub IsNoSource : List ℕ → List ℕ → TableRefused → Type 0
 IsNoSource ids bytes SourceType = (SOURCE_HEAD_LENGTH ≤ length bytes) × (layout_of (source_type bytes) ≡ None)
 IsNoSource ids bytes SourceOut = (length bytes < SOURCE_HEAD_LENGTH)
@@ -39,7 +39,7 @@ IsNoSource ids bytes RepeatedId =
     (span : List ℕ) × (rest : List ℕ) × (bytes ≡ span ++ rest) × IsSource span × Contains ids (source_id span)
 IsNoSource ids bytes _ = ⊥
 
--- a table breaks off behind the sources before, fewer than it counts, for this reason
+-- a table breaks off after the sources before, fewer than it counts, for this reason
 pub record BreaksOff (table : List ℕ) (why : TableRefused) : Type 0 where
   pub spans : List (List ℕ)
   pub rest : List ℕ

@@ -8,11 +8,11 @@ use Rattle.apei_sources.specs.declared.sources.Layout.{Layout}
 use Rattle.apei_sources.specs.declared.refusals.TableRefused.{TableRefused}
 use Rattle.apei_sources.specs.declared.refusals.TableRefused.TheVariants.{SourceType, SourceOut}
 
--- a source of so many bytes
+-- a source of this many bytes
 abbrev pub plain : ℕ → Layout
 plain fixed = record { fixed = fixed; banks_at = None }
 
--- a source of so many bytes and its banks, whose count, a byte, stands at this place
+-- a source of this many bytes and its banks, whose count is the byte at this place
 abbrev pub with_banks : ℕ → ℕ → Layout
 with_banks fixed place = record { fixed = fixed; banks_at = Some place }
 
@@ -60,7 +60,7 @@ banks_of (Some place) source = slice_index source place
 abbrev pub size_of : Layout → List ℕ → ℕ
 size_of layout source = layout.fixed + BANK_LENGTH * banks_of layout.banks_at source
 
--- how many bytes the source of a layout takes at the front of bytes, where it lies inside them
+-- how many bytes the source of a layout takes at the front of bytes, if it lies inside them
 abbrev pub size_by : Option Layout → List ℕ → Result ℕ TableRefused
 size_by None bytes = Err SourceType
 size_by (Some layout) bytes =

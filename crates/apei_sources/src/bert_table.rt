@@ -20,11 +20,11 @@ pub struct Bert {
 }
 
 /// Reads the BERT at the front of bytes. (ACPI 6.5, section 18.3.1, "Boot Error Source".) Bytes
-/// behind its length are ignored.
+/// after its length are ignored.
 ///
-/// It is refused with the first that applies of: `Short` below 48 bytes, `Signature` where it
-/// doesn't begin with `BERT`, `Length` where its length is below 48 or above the number of bytes,
-/// and `Sum` where its bytes don't sum to 0 modulo 256. The region's own length is not judged.
+/// It is refused with the first that applies of: `Short` below 48 bytes, `Signature` if it
+/// doesn't begin with `BERT`, `Length` if its length is below 48 or above the number of bytes,
+/// and `Sum` if its bytes don't sum to 0 modulo 256. The region's own length is not judged.
 #[tactic(auto, unfolding(crate::specs::Bert::bert_of))]
 pub fn read_bert(bytes: &[u8]) -> Result<Bert, TableRefused>
     ensures { result ≡ bert_of bytes.now }

@@ -37,11 +37,11 @@ impl<'a> Model for Block<'a> {
 /// Reads the status block at the front of bytes. (ACPI 6.5, section 18.3.2.7.1, "Generic Error
 /// Data".) Of a block of status 0 nothing else is read: it has no entries. The entries fill the
 /// data of any other block. Their count in the status is not compared, raw data is not read, and
-/// bytes behind the data are ignored.
+/// bytes after the data are ignored.
 ///
 /// It is refused with the first that applies of: `Short` below 20 bytes, or below 20 and the data's
-/// length where the status isn't 0; `EntryOut` where the header or the data of some entry passes
-/// the end of the data; `Section` where `read_section` refuses some entry's data.
+/// length if the status isn't 0; `EntryOut` if the header or the data of some entry passes
+/// the end of the data; `Section` if `read_section` refuses some entry's data.
 #[tactic(auto, unfolding(crate::specs::Blocks::block_of, crate::specs::Cut::cut, crate::specs::Cut::AreInside))]
 pub fn read_block(bytes: &[u8]) -> Result<Block<'_>, BlockRefused>
     ensures { result ≡ block_of bytes.now }
@@ -82,7 +82,7 @@ fn block_with(status: u32, bytes: &[u8]) -> Result<Block<'_>, BlockRefused>
 }
 
 impl<'a> Block<'a> {
-    /// The block status, 0 where there is no error.
+    /// The block status, 0 if there is no error.
     pub fn status(&self) -> u32
         ensures { result ≡ self.now.status }
     {

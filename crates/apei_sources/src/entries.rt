@@ -57,7 +57,7 @@ fn first_entry(bytes: &[u8]) -> &[u8]
     &bytes[..entry_length(bytes)]
 }
 
-// The bytes behind the entry at the front.
+// The bytes after the entry at the front.
 fn behind_first(bytes: &[u8]) -> &[u8]
     requires { IsTrue (has_entry bytes.now) }
     ensures { result.now ≡ rest_of bytes.now }
@@ -65,7 +65,7 @@ fn behind_first(bytes: &[u8]) -> &[u8]
     &bytes[entry_length(bytes)..]
 }
 
-// How many entries the bytes are, or None where one passes their end.
+// How many entries the bytes are, or None if one passes their end.
 pub(crate) fn count_entries(bytes: &[u8]) -> Option<usize>
     ensures entries { option_map (λ count. cut count bytes.now) result ≡ entries_of bytes.now }
     ensures inside { IfSome result (λ count. AreInside count bytes.now) }

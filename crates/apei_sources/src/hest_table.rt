@@ -41,14 +41,14 @@ impl Model for Hest {
 }
 
 /// Reads the HEST at the front of bytes. (ACPI 6.5, section 18.3.2, "ACPI Error Source".) Bytes
-/// behind its length are ignored.
+/// after its length are ignored.
 ///
-/// It is refused with the first that applies of: `Short` below 40 bytes, `Signature` where it
-/// doesn't begin with `HEST`, `Length` where its length is below 40 or above the number of bytes,
-/// `Sum` where its bytes don't sum to 0 modulo 256, and then of what is tried at each source in
-/// turn: `SourceType` for a type that isn't known, `SourceOut` where the source passes the table's
-/// length, `RepeatedId` where a source before it has its identifier. A source of which fewer than 4
-/// bytes are there is `SourceOut`. `NoMemory` comes for want of memory alone, and never where the
+/// It is refused with the first that applies of: `Short` below 40 bytes, `Signature` if it
+/// doesn't begin with `HEST`, `Length` if its length is below 40 or above the number of bytes,
+/// `Sum` if its bytes don't sum to 0 modulo 256, and then of what is tried at each source in
+/// turn: `SourceType` for a type that isn't known, `SourceOut` if the source passes the table's
+/// length, `RepeatedId` if a source before it has its identifier. A source of which fewer than 4
+/// bytes are there is `SourceOut`. `NoMemory` comes for want of memory alone, and never if the
 /// table is refused before its sources.
 pub fn read_hest(alloc: Global, bytes: &[u8]) -> Result<Hest, TableRefused>
     ensures answer { AnswersTable result (hest_of bytes.now) }
@@ -59,7 +59,7 @@ pub fn read_hest(alloc: Global, bytes: &[u8]) -> Result<Hest, TableRefused>
     Ok(Hest { sources })
 }
 
-// The sources of so many at the front of bytes.
+// The `count` sources at the front of bytes.
 fn sources_at(alloc: Global, count: u32, bytes: &[u8]) -> Result<IndexMap<u16, u16>, TableRefused>
     ensures answer { Gives (λ sources. sources.entries) result (sources_in count [] bytes.now) }
     ensures once { IfOk result (λ sources. IsDistinct nat_eq (keys_of sources.entries)) }
@@ -74,7 +74,7 @@ fn sources_at(alloc: Global, count: u32, bytes: &[u8]) -> Result<IndexMap<u16, u
     Ok(sources)
 }
 
-// Adds the source at the front of bytes behind the others, where none of them has its identifier.
+// Adds the source at the front of bytes after the others, if none of them has its identifier.
 fn add_source(sources: &mut IndexMap<u16, u16>, bytes: &[u8]) -> Result<(), TableRefused>
     requires head { SOURCE_HEAD_LENGTH ≤ length bytes.now }
     requires once { IsDistinct nat_eq (keys_of sources.old.entries) }
@@ -91,7 +91,7 @@ fn add_source(sources: &mut IndexMap<u16, u16>, bytes: &[u8]) -> Result<(), Tabl
 }
 
 impl Hest {
-    /// The type of the one source of an identifier, or None exactly where no source has it.
+    /// The type of the one source of an identifier, or None exactly if no source has it.
     pub fn source(&self, id: u16) -> Option<u16>
         ensures answer { result ≡ type_with_id id self.now }
         ensures one { (kind : ℕ) → (result ≡ Some kind) ↔ Contains self.now (id, kind) }

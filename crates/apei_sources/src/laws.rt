@@ -12,11 +12,11 @@ ghost use Rattle.apei_sources.specs.Entries.{entries_of};
 ghost use Rattle.apei_sources.specs.Blocks.{block_status, data_length, block_of};
 ghost use Rattle.apei_sources.specs.Laid.{HoldsSources, BreaksOff, AreEntries};
 
-/// The sources of a HEST are laid end to end behind its fixed part. Where a HEST reads, its spans
+/// The sources of a HEST are laid end to end after its fixed part. If a HEST reads, its spans
 /// are as many as it counts, each as long as its type and its banks say, and no two have one
-/// identifier; and where there are such spans, it reads as theirs. Where it is refused for a
-/// source, there are such spans, fewer than it counts, and behind them stands what is no source,
-/// for that reason; and where that is so, it is refused for it.
+/// identifier; and if there are such spans, it reads as theirs. If it is refused for a
+/// source, there are such spans, fewer than it counts, and after them stands what is no source,
+/// for that reason; and if that is so, it is refused for it.
 pub fn sources_are_laid_end_to_end()
     ensures read { (bytes table : List ℕ) (sources : Sources) → hest_table bytes ≡ Ok table
         → (hest_of bytes ≡ Ok sources) ↔ HoldsSources table sources }
@@ -25,7 +25,7 @@ pub fn sources_are_laid_end_to_end()
 {}
 
 /// The entries of a block fill its data: they are the one way to cut the data into entries, each as
-/// long as its header and its data, and `EntryOut` comes exactly where there is no such way.
+/// long as its header and its data, and `EntryOut` comes exactly if there is no such way.
 pub fn entries_fill_the_data()
     ensures cut { (bytes : List ℕ) (entries : List (List ℕ))
         → (entries_of bytes ≡ Some entries) ↔ AreEntries bytes entries }

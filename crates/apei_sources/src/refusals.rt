@@ -39,7 +39,7 @@ pub enum TableRefused {
 /// for 2 before any for 3.
 #[derive(Clone, Copy, Debug, PartialEq, Eq, Error)]
 pub enum BlockRefused {
-    /// 1: there are fewer bytes than the block's header of 20, or than header and data where the
+    /// 1: there are fewer bytes than the block's header of 20, or than header and data if the
     /// block status isn't 0.
     #[error("the status block has fewer bytes than its header, or than its header and its data")]
     Short,

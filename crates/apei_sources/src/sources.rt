@@ -40,7 +40,7 @@ impl Layout {
     }
 }
 
-// The layout of a type of source, or None where the type isn't known.
+// The layout of a type of source, or None if the type isn't known.
 #[tactic(auto, unfolding(crate::specs::Sources::layouts))]
 fn layout_of(kind: u16) -> Option<Layout>
     ensures layout { result ≡ layout_of kind }

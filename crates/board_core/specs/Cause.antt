@@ -1,4 +1,4 @@
--- When a call may fail: only where the count of its kind of faults rose.
+-- When a call may fail: only if the count of its kind of faults rose.
 use Rattle.std.specs.Prelude.{◌≡◌, ℕ, ◌+◌, ◌-◌, ◌^◌, ◌≤◌, min, Result, Ok, Err, OnOk, OnErr}
 use Rattle.board_core.specs.declared.board.BoardPut.{BoardPut}
 use Rattle.board_core.specs.declared.board.BoardPut.TheVariants.{Refused, Failed}
@@ -8,7 +8,7 @@ use Rattle.board_core.specs.declared.board.BoardPut.TheVariants.{Refused, Failed
 abbrev pub Rose : ℕ → ℕ → Type 0
 Rose before now = now ≡ min (before + 1) (2 ^ 64 - 1)
 
--- A count never falls over a call, rose by one where the call failed, and is as it was where it
+-- A count never falls over a call, rose by one if the call failed, and is as it was if it
 -- didn't fail.
 pub record HasCause {T E : Type 0} (before now : ℕ) (result : Result T E) : Type 0 where
   pub later : before ≤ now
@@ -37,7 +37,7 @@ with_count disk_call n faults = record faults { disk = n }
 with_count device_call n faults = record faults { registers = n }
 with_count print_call n faults = record faults { prints = n }
 
--- The count of the call's kind rose exactly where the call failed, and the two others are as they
+-- The count of the call's kind rose exactly if the call failed, and the two others are as they
 -- were.
 pub record FailsAs {T E : Type 0} (kind : Kind) (old new : Faults) (result : Result T E) : Type 0 where
   pub own : HasCause (count_of kind old) (count_of kind new) result

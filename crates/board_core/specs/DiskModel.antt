@@ -41,10 +41,10 @@ pub record Disk : Type 0 where
   pub store : List Stored
   pub out : List ℕ
 
--- A call as the disk sees it: a write of so many bytes at a place of a file, whether it ended well
+-- A call as the disk sees it: a write at a place of a file, with its length, whether it ended well
 -- or not; a sync that ended well, with the file's bytes as a read then gives them; a call of the
--- device, with the store that it makes and the store after it, which is that one where the call
--- ended well; a print of a piece, and the part of it that was appended, which is all of it where
+-- device, with the store that it makes and the store after it, which is that one if the call
+-- ended well; a print of a piece, and the part of it that was appended, which is all of it if
 -- the print ended well; any other.
 pub data Call : Type 0 where
   writes : FileNo → ℕ → ℕ → Call
@@ -62,7 +62,7 @@ abbrev pub store_made : Call → List Stored → List Stored
 store_made (stores made store) old = made
 store_made call old = old
 
--- What a stop may leave while this call is in work, which is `rests` where none is: of each file
+-- What a stop may leave while this call is in work, which is `rests` if none is: of each file
 -- what the disk may leave of it; the store as before the call or as after it, never between; of the
 -- text what earlier prints appended and a beginning of the piece.
 pub record MayLeave (disk : Disk) (call : Call) (left : Left) : Type 0 where
@@ -95,7 +95,7 @@ abbrev pub after_all : List Call → Disk → Disk
 after_all [] disk = disk
 after_all (call ∷ calls) disk = after_all calls (after call disk)
 
--- What a stop may leave from the moment on that comes after so many of these calls: before one of
+-- What a stop may leave from the moment on that comes after the first n of these calls: before one of
 -- the later ones, while it is made, or after the last.
 abbrev pub MayLeaveSince : Disk → List Call → ℕ → Left → Type 0
 MayLeaveSince disk [] zero left = MayLeave disk rests left

@@ -57,7 +57,7 @@ new_past first = record { first = first; changes = [] }
 abbrev pub with_change : Change → Past → Past
 with_change change past = record past { changes = past.changes ++ change ∷ [] }
 
--- the past after a call, which made this change where it went well, and else none
+-- the past after a call, which made this change if it went well, and else none
 abbrev pub past_after : {T E : Type 0} → Result T E → Change → Past → Past
 past_after (Ok value) change past = with_change change past
 past_after (Err error) change past = past
@@ -157,7 +157,7 @@ new_board file0 file1 store slow = record {
 abbrev pub fails_next : State → Bool
 fails_next s = is_chosen (next_count s.made) s.fails || ltb s.allowed (next_count s.made)
 
--- A call fails exactly where its number was chosen, or where it was refused a growth.
+-- A call fails exactly if its number was chosen, or it was refused a growth.
 pub record FailsAsChosen {T E : Type 0} (old new : State) (result : Result T E) : Type 0 where
   pub only : IsErr result → IsTrue (fails_next old) ⊎ Rose old.starved new.starved
   pub chosen : IsTrue (fails_next old) → IsErr result
@@ -199,7 +199,7 @@ pub record ListsNone (old new : State) : Type 0 where
   pub disk_calls : new.disk_calls ≡ old.disk_calls
   pub accesses : new.accesses ≡ old.accesses
 
--- an access as it is listed where it failed: a read gave no number
+-- an access as it is listed if it failed: a read gave no number
 abbrev pub failed_access : Access → Access
 failed_access (Read reg value) = Read reg 0
 failed_access access = access

@@ -15,7 +15,7 @@ use Rattle.board_core.specs.declared.board.BoardPut.TheVariants.{Refused, Failed
 use Rattle.board_core.specs.Stop.{Left, file_in, with_file_in, Becomes}
 
 -- the files as a read gives them, the record store and the bytes printed so far, which a stop
--- leaves where all that was written is on the disk; the device's state apart from its store; the
+-- leaves if all that was written is on the disk; the device's state apart from its store; the
 -- disk calls and the accesses to the device made so far
 pub record Told : Type 0 where
   pub here : Left
@@ -88,7 +88,7 @@ after_reg_write Value value d = record d { value = value }
 abbrev pub after_range_write : ℕ → List ℕ → Device → Device
 after_range_write place bytes d = record d { range = range_with place bytes d.range }
 
--- The device after a record was put from outside. Where the put is refused the device is as it was.
+-- The device after a record was put from outside. If the put is refused the device is as it was.
 abbrev pub unless_refused : Option PutRefused → Device → Device → Device
 unless_refused None new old = new
 unless_refused (Some cause) new old = old
@@ -96,7 +96,7 @@ unless_refused (Some cause) new old = old
 abbrev pub after_put : ℕ → List ℕ → Device → Device
 after_put id bytes d = unless_refused (refusal_of id bytes d.store) (with_put id bytes d) d
 
--- A put answers its refusal. Where there is none, it goes well, or memory runs out, or it fails.
+-- A put answers its refusal. If there is none, it goes well, or memory runs out, or it fails.
 abbrev pub AnswersPut : Result (Unit {0}) BoardPut → Option PutRefused → Type 0
 AnswersPut (Ok done) refusal = refusal ≡ None
 AnswersPut (Err (Refused cause)) refusal = AnswersRefusal {X = Unit {0}} (Err cause) refusal
@@ -157,13 +157,13 @@ pub record FailsAccess (access : Access) (step : Device → Device) (old new : T
   pub acted : MayAct step old told
   pub listed : MayListAccess access told new
 
--- ---- what holds where a board tells
+-- ---- what holds if a board tells
 
--- where a board tells, it goes on by this step
+-- if a board tells, it goes on by this step
 abbrev pub Steps : (Told → Told) → Option Told → Option Told → Type 0
 Steps step old new = new ≡ option_map step old
 
--- where a board tells, what it told before and what it tells now are so related
+-- if a board tells, what it told before and what it tells now are so related
 abbrev pub Relates : (Told → Told → Type 0) → Option Told → Option Told → Type 0
 Relates P None new = new ≡ None
 Relates P (Some old) None = ⊥

@@ -64,7 +64,7 @@ pub enum BoardPut {
 ///
 /// At every moment a disk call changes what a stop may leave of its own file alone, a device call
 /// of the record store alone, and a print of the printed text alone. A call answers `Failed` only
-/// where the count of its kind of faults rose, and no call raises a count of another kind.
+/// if the count of its kind of faults rose, and no call raises a count of another kind.
 pub trait Board {
     /// What the board tells of itself, if anything.
     ghost told: { Self → Option Told };
@@ -86,8 +86,8 @@ pub trait Board {
         ensures stops { Passes Same (clock self.old) (clock self.new) }
         ensures cause { FailsAs disk_call (faults self.old) (faults self.new) result };
 
-    /// ReadsBytes the bytes from `place` on into the front of `buf` and answers their number: fewer than
-    /// `buf` has room for only where the file ends.
+    /// Reads the bytes from `place` on into the front of `buf` and answers their number: fewer than
+    /// `buf` has room for only if the file ends.
     fn read_at(&mut self, file: FileNo, place: u64, buf: &mut [u8]) -> Result<usize, Failed>
         ensures within { IfOk result (λ n. n ≤ length buf.old) }
         ensures read { IfOk result
@@ -129,7 +129,7 @@ pub trait Board {
             (λ t. IsSynced file (file_of file t) (clock self.new))) }
         ensures cause { FailsAs disk_call (faults self.old) (faults self.new) result };
 
-    /// ReadsBytes a register of the device.
+    /// Reads a register of the device.
     fn reg_read(&mut self, reg: Reg) -> Result<u64, Failed>
         ensures value { IfOk result (λ n. IfSome (told self.old) (λ t. n
             ≡ register_in reg (device_of t))) }

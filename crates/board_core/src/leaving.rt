@@ -10,7 +10,7 @@ use crate::history::{MemChange, MemFile};
 use crate::{FileNo, Pick};
 use std::alloc::AllocError;
 
-/// The file of this number as it is picked, where these events made it what it is.
+/// The file of this number as it is picked, if these events made it what it is.
 pub fn picked_bytes(
     file: MemFile,
     events: &[MemChange],
@@ -37,7 +37,7 @@ pub fn picked_bytes(
     }
 }
 
-// How many events lead up to the last sync of a file and with it: none where it wasn't synced.
+// How many events lead up to the last sync of a file and with it: none if it wasn't synced.
 fn events_to_last_sync(events: &[MemChange], number: FileNo) -> usize
     ensures within { result ≤ length events.now }
     ensures parted { ArePartedAtSync number (changes_of (take result events.now))

@@ -199,7 +199,7 @@ impl MemBoard {
         self.fails.contains(&self.made) || self.allowed < self.made
     }
 
-    // Counts and lists a disk call. It fails where its number was chosen, or where the list can't
+    // Counts and lists a disk call. It fails if its number was chosen, or if the list can't
     // grow.
     fn begin(&mut self, call: DiskCall) -> Result<(), Failed>
         ensures does { Performs disk_call self.old.past self.old self.new result }
@@ -290,7 +290,7 @@ impl MemBoard {
         Failed
     }
 
-    // The change of a write that began well. It fails where it is refused a growth.
+    // The change of a write that began well. It fails if it is refused a growth.
     fn end_write(&mut self, file: FileNo, place: u64, bytes: &[u8]) -> Result<(), Failed>
         requires within { place ≤ length (file_in file (held_of self.old.past).here) }
         requires begun { 0 < self.old.made }
@@ -440,7 +440,7 @@ impl MemBoard {
     }
 }
 
-// An access as it is listed where it failed.
+// An access as it is listed if it failed.
 fn failed(access: Access) -> Access
     ensures { result ≡ failed_access access }
 {

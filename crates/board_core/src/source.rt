@@ -9,7 +9,7 @@ pub struct Failed;
 
 /// A stream of bytes that is read once, from its front.
 pub trait Source {
-    /// The bytes that are left, where the source tells them.
+    /// The bytes that are left, if the source tells them.
     ghost left: { Self → Option (List ℕ) };
 
     /// How often a read has failed.
@@ -18,7 +18,7 @@ pub trait Source {
     /// Takes the next bytes into the front of `buf`, which isn't empty, and answers their number. 0
     /// means the end.
     ///
-    /// `Failed` comes only where the count of faults rose, and has taken nothing.
+    /// `Failed` comes only if the count of faults rose, and has taken nothing.
     fn read(&mut self, buf: &mut [u8]) -> Result<usize, Failed>
         requires { 0 < length buf.old }
         ensures within { IfOk result (λ n. n ≤ length buf.old) }

@@ -13,11 +13,11 @@ use crate::{Board, BoardPut, Failed, FileNo};
 
 /// Writes `bytes` at `place`, which is at most the file's length, and syncs the file.
 ///
-/// Where a stop before left just what the board tells, so does a stop after it ended well, and the
+/// If a stop before left just what the board tells, so does a stop after it ended well, and the
 /// bytes are on the disk. A stop in between, or after `Failed`, leaves of the file what a torn
 /// write may leave, and all else as it was.
 ///
-/// `Failed` comes only where the write or the sync failed.
+/// `Failed` comes only if the write or the sync failed.
 pub fn write_through<B: Board>(
     file: FileNo,
     place: u64,

@@ -29,7 +29,7 @@ pub record IsRecord (own : List ℕ) : Type 0 where
   pub inside : HasSections own
   pub readable : (i : ℕ) → i < section_count own → IsOk (section_at own i)
 
--- so many of the first bytes have a header, and this holds of them
+-- the bytes begin with a record's own, which have a header, and this holds of them
 abbrev pub BeginsWithHeader : List ℕ → (List ℕ → Type 0) → Type 0
 BeginsWithHeader bytes Holds = (own : List ℕ) × (IsPrefixOf own bytes × HasHeader own × Holds own)
 
@@ -37,7 +37,7 @@ BeginsWithHeader bytes Holds = (own : List ℕ) × (IsPrefixOf own bytes × HasH
 abbrev pub HasSection : List ℕ → (ℕ → Type 0) → Type 0
 HasSection own Holds = (i : ℕ) × ((i < section_count own) × Holds i)
 
--- why bytes begin with no record, each reason where none before it applies
+-- why bytes begin with no record, each reason if none before it applies
 abbrev pub IsNoRecord : List ℕ → RecordRefused → Type 0
 IsNoRecord bytes Short = length bytes < HEADER_LENGTH
 IsNoRecord bytes Signature = (HEADER_LENGTH ≤ length bytes) × IsFalse (has_signatures bytes)

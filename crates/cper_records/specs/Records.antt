@@ -7,7 +7,7 @@ use Rattle.cper_records.specs.declared.records.TheConstants.{HEADER_LENGTH}
 use Rattle.cper_records.specs.declared.refusals.RecordRefused.{RecordRefused}
 use Rattle.cper_records.specs.declared.refusals.RecordRefused.TheVariants.{Short, Signature, Length, DescriptorOut, SectionOut, Section}
 
--- the bytes of a record, where its descriptors and sections lie in them and each section reads
+-- the bytes of a record, if its descriptors and sections lie in them and each section reads
 unfoldable pub sections_of : List ℕ → Result (List ℕ) RecordRefused
 sections_of bytes =
     if nat_lt (length bytes) (descriptor_at (section_count bytes)) then Err DescriptorOut

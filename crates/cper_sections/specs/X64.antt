@@ -57,7 +57,7 @@ context_of bytes = record {
   array = take (number_at 2 2 bytes) (drop CONTEXT_HEADER_LENGTH bytes);
 }
 
--- the contexts that fit, of so many that are stated one after the other: the first that doesn't fit
+-- the contexts that fit, of those that are stated one after the other: the first that doesn't fit
 -- ends them
 unfoldable pub contexts_in : ℕ → List ℕ → List ContextParts
 contexts_in zero bytes = []

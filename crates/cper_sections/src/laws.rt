@@ -4,7 +4,7 @@ ghost use Rattle.std.specs.Prelude.{◌≡◌, ◌≤◌, ◌<◌, ◌+◌, ℕ,
 ghost use Rattle.cper_sections.specs.X64.{x64_validation, stated_contexts, contexts_at, contexts_of, has_context, context_of, bytes_taken, context_bytes};
 
 /// The contexts of an IA32/X64 section are packed after its structures and lie inside it: each
-/// begins where those before it end. They are at most as many as stated, and where they are fewer
+/// begins where those before it end. They are at most as many as stated, and if they are fewer
 /// none fits after them.
 #[tactic(auto, using(crate::proofs::ContextLemmas::most_contexts, crate::proofs::ContextLemmas::context_in_place))]
 pub fn contexts_are_the_first_that_fit()

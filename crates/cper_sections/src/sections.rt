@@ -53,8 +53,8 @@ pub struct Descriptor<'a> {
 /// the bodies of the sections.) A memory section may be longer
 /// than its 80 bytes, and the old form with 73 to 79 bytes is read without the rank.
 ///
-/// `Short` comes where the section has fewer bytes than its type's fixed fields,
-/// `TooManyStructures` where the structures of an IA32/X64 section pass its end.
+/// `Short` comes if the section has fewer bytes than its type's fixed fields,
+/// `TooManyStructures` if the structures of an IA32/X64 section pass its end.
 #[tactic(auto, unfolding(crate::specs::Sections::section_of))]
 pub fn read_section(guid: Uuid, bytes: &[u8]) -> Result<Section, SectionRefused>
     ensures { result ≡ section_of guid bytes.now }

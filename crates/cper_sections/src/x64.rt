@@ -10,7 +10,7 @@ use ras_base::{bits, is_set};
 /// What an IA32/X64 section says.
 #[derive(Clone, Copy, Debug, PartialEq, Eq)]
 pub struct X64Section {
-    /// The local APIC's identifier, where its validation bit is set.
+    /// The local APIC's identifier, if its validation bit is set.
     pub apic: Option<u64>,
     /// The count of error structures, at most 63.
     pub structures: u8,
@@ -80,7 +80,7 @@ pub(crate) fn x64_at(bytes: &[u8]) -> X64Section
     }
 }
 
-// How many of so many contexts fit.
+// How many of the stated contexts fit.
 #[tactic(auto, using(crate::proofs::ContextLemmas::first_get, crate::proofs::ContextLemmas::most_contexts, crate::proofs::ContextLemmas::contexts_in_end))]
 fn count_contexts(stated: u8, bytes: &[u8]) -> u8
     ensures { result ≡ length (contexts_in stated bytes.now) }
@@ -138,7 +138,7 @@ pub fn context_at(bytes: &[u8], i: u8) -> Option<Context<'_>>
     nth_context(stated, &bytes[start..], i)
 }
 
-// The context at a place among so many at most.
+// The context at a place, among at most `stated`.
 #[tactic(auto, using(crate::proofs::ContextLemmas::first_get, crate::proofs::ContextLemmas::most_contexts, crate::proofs::ContextLemmas::contexts_in_end))]
 fn nth_context(stated: u8, bytes: &[u8], i: u8) -> Option<Context<'_>>
     ensures context { option_map parts_of result ≡ slice_get (contexts_in stated bytes.now) i }

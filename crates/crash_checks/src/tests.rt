@@ -40,7 +40,7 @@ fn exit_over(
     rasd(alloc, words, source, board)
 }
 
-// Pieces one behind the other.
+// Pieces one after the other.
 fn joined(alloc: Global, pieces: &[&[u8]]) -> Result<Vec<u8>, Fail> {
     Ok(pieces.concat(alloc)?)
 }
@@ -76,7 +76,7 @@ fn ends_so(
     play(alloc, script, board) == Some(exit) && are_joined(board.out(), output)
 }
 
-// Whether bytes are these, one behind the other.
+// Whether bytes are these, one after the other.
 fn are_joined(bytes: &[u8], parts: &[&[u8]]) -> bool {
     let mut rest = bytes;
     for part in parts {

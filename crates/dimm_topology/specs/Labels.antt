@@ -8,7 +8,7 @@ use Rattle.dimm_topology.specs.declared.label.TheConstants.{MOST_LABEL_BYTES}
 abbrev pub Bytes : Type 0
 Bytes = List ℕ
 
--- two labels are the same where their bytes are
+-- two labels are the same if their bytes are
 abbrev pub same_label : Bytes → Bytes → Bool
 same_label one other = pointwise nat_eq one other
 

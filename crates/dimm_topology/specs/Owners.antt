@@ -12,7 +12,7 @@ use Rattle.dimm_topology.specs.declared.row.Location.{Location}
 use Rattle.dimm_topology.specs.declared.row.Location.TheVariants.{Channel, Numbers}
 use Rattle.dimm_topology.specs.declared.row.Row.{Row}
 
--- the one label that a list names, maybe several times; none where it names none or different ones
+-- the one label that a list names, maybe several times; none if it names none or different ones
 abbrev pub the_one : List Bytes → Option Bytes
 the_one [] = None
 the_one (label ∷ labels) = if list_all (same_label label) labels then Some label else None
@@ -38,7 +38,7 @@ owner_by_rows rows address location =
 abbrev pub socket_by_rows : List Row → ℕ → Option ℕ
 socket_by_rows rows cpu = last_or None (filter_map (socket_of cpu) rows)
 
--- the memory channel that a code names: that of a memory controller error, where it isn't 15
+-- the memory channel that a code names: that of a memory controller error, if it isn't 15
 abbrev pub channel_of : Code → Option ℕ
 channel_of (Memory mmm channel filter) = if nat_eq channel 15 then None else Some channel
 channel_of _ = None
@@ -48,7 +48,7 @@ abbrev pub bank_location : List Row → ℕ → ℕ → Code → Option Location
 bank_location rows cpu bank code =
     option_and_then (λ channel. option_map (λ socket. Channel socket bank channel) (socket_by_rows rows cpu)) (channel_of code)
 
--- the location that a memory section names: its node, card and module, where all three are there
+-- the location that a memory section names: its node, card and module, if all three are there
 abbrev pub section_location : MemSection → Option Location
 section_location section =
     option_and_then (λ node. option_and_then (λ card. option_map (λ module'. Numbers node card module') section.«module»)

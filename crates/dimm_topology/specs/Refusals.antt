@@ -21,7 +21,7 @@ topology_number Overlap = Some 2
 topology_number Full = Some 3
 topology_number NoMemory = None
 
--- a call answers this refusal where there is one; where there is none, it takes the row or finds no
+-- a call answers this refusal if there is one; if there is none, it takes the row or finds no
 -- memory
 abbrev pub AnswersRow : Result (Unit {0}) TopologyRefused → Option TopologyRefused → Type 0
 AnswersRow (Ok done) refusal = refusal ≡ None

@@ -7,7 +7,7 @@ use Rattle.dimm_topology.specs.declared.row.Row.TheVariants.{Range}
 use Rattle.dimm_topology.specs.declared.topology.TheConstants.{MOST_ROWS}
 use Rattle.dimm_topology.specs.Rows.{names_module, is_labelled, overlap}
 
--- whether a row that is a range has its first address not behind its last
+-- whether a row that is a range has its first address not after its last
 abbrev pub is_upright : Row → Bool
 is_upright (Range label first last) = nat_le first last
 is_upright _ = true

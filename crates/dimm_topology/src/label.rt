@@ -24,7 +24,7 @@ pub const MOST_LABEL_BYTES: usize = 32;
 /// none where labels are printed. Contracts see its list of bytes, the empty one for none.
 #[derive(Clone, Copy, Debug)]
 pub struct Label {
-    // The bytes, and zeros behind them.
+    // The bytes, and zeros after them.
     room: [u8; MOST_LABEL_BYTES],
     len: usize,
 }
@@ -56,7 +56,7 @@ pub enum LabelRefused {
 impl Label {
     /// The label of these bytes.
     ///
-    /// `Bad` comes exactly where they aren't 1 to 32 bytes of 21h to 7Eh, or are the one byte `-`.
+    /// `Bad` comes exactly if they aren't 1 to 32 bytes of 21h to 7Eh, or are the one byte `-`.
     pub fn new(_alloc: Global, bytes: &[u8]) -> Result<Label, LabelRefused>
         ensures ok { IfOk result (λ label. label ≡ bytes.now) }
         ensures bad { (result ≡ Err LabelRefused.Bad) ↔ IsFalse (is_label bytes.now) }

@@ -42,7 +42,7 @@ impl Model for Topology {
     ghost invariant = { λ a. IsTopology a.rows.items };
 }
 
-/// Why a topology doesn't take a row. Where several apply, the first of them is answered.
+/// Why a topology doesn't take a row. If several apply, the first of them is answered.
 #[derive(Clone, Copy, Debug, PartialEq, Eq, Error)]
 pub enum TopologyRefused {
     /// 1: a range or a place names a label that no module row has.
@@ -93,7 +93,7 @@ impl Topology {
 
     /// Says in which socket a CPU is. The last row of a CPU counts.
     ///
-    /// `Full` comes exactly where `MOST_ROWS` rows are held. The rows stay after a refusal.
+    /// `Full` comes if there are `MOST_ROWS` rows already. On error nothing changes.
     pub fn add_cpu(&mut self, cpu: u16, socket: u8) -> Result<(), TopologyRefused>
         ensures answer { AnswersRow result (row_refusal self.old (Row.Cpu cpu socket)) }
         ensures ok { OnOk result (self.new ≡ self.old ++ Row.Cpu cpu socket ∷ []) }
@@ -113,7 +113,7 @@ impl Topology {
     /// module with this memory channel. Several modules may share one channel.
     ///
     /// A module may be named by `Label::none()`, which is then a label like any other. `Full` comes
-    /// exactly where `MOST_ROWS` rows are held. The rows stay after a refusal.
+    /// exactly if `MOST_ROWS` rows are held. The rows stay after a refusal.
     pub fn add_module(
         &mut self,
         label: Label,
@@ -142,8 +142,8 @@ impl Topology {
     /// Says that the physical addresses from `first` to `last`, both among them, are a module's
     /// own.
     ///
-    /// The first of these is answered: `Label` exactly where no module row has the label, `Overlap`
-    /// exactly where a held range has an address in common, `Full` exactly where `MOST_ROWS` rows
+    /// The first of these is answered: `Label` exactly if no module row has the label, `Overlap`
+    /// exactly if a held range has an address in common, `Full` exactly if `MOST_ROWS` rows
     /// are held. The rows stay after a refusal.
     pub fn add_range(&mut self, label: Label, first: u64, last: u64) -> Result<(), TopologyRefused>
         requires { first ≤ last }
@@ -155,7 +155,7 @@ impl Topology {
         ensures addresses { (address : ℕ) → IsSome (owner_of_address self.old address)
             → owner_of_address self.new address ≡ owner_of_address self.old address }
 
-        // A range overlaps a held one exactly where some address is in both.
+        // A range overlaps a held one exactly if some address is in both.
         ensures shared { IsTrue (list_any (overlap (Row.Range label first last)) self.old)
             ↔ SharesAddress self.old first last }
     {
@@ -164,8 +164,8 @@ impl Topology {
 
     /// Says by which node, card and module number firmware reports errors of a module.
     ///
-    /// The first of these is answered: `Label` exactly where no module row has the label, `Full`
-    /// exactly where `MOST_ROWS` rows are held. The rows stay after a refusal.
+    /// The first of these is answered: `Label` exactly if no module row has the label, `Full`
+    /// exactly if `MOST_ROWS` rows are held. The rows stay after a refusal.
     pub fn add_place(
         &mut self,
         label: Label,
@@ -192,7 +192,7 @@ impl Topology {
 
     /// The module that an error in a machine-check bank belongs to: that of the range that holds
     /// the address, else the one that the module rows name for the CPU's socket, the bank and the
-    /// memory channel of the code. No module where they name none or several different ones.
+    /// memory channel of the code. No module if they name none or several different ones.
     pub fn owner_of_bank(
         &self,
         cpu: u16,
@@ -214,8 +214,8 @@ impl Topology {
     }
 
     /// The module that an error of a memory section belongs to: that of the range that holds the
-    /// physical address, else, where the section has a node, a card and a module, the one that
-    /// their place rows name. No module where they name none or several different ones. (UEFI,
+    /// physical address, else, if the section has a node, a card and a module, the one that
+    /// their place rows name. No module if they name none or several different ones. (UEFI,
     /// appendix N, "Memory Error Section".)
     pub fn owner_of_section(&self, section: &MemSection) -> Option<&Label>
         ensures owner { option_copied result
@@ -243,12 +243,12 @@ impl Topology {
         }
     }
 
-    /// Takes a row of any kind, where it can. A range needs a first address that isn't above its
+    /// Takes a row of any kind, if it can. A range needs a first address that isn't above its
     /// last.
     ///
-    /// The first of these is answered: `Label` exactly where a range or a place names a label that
-    /// no module row has, `Overlap` exactly where a range has an address in common with a held one,
-    /// `Full` exactly where `MOST_ROWS` rows are held. The rows stay after a refusal.
+    /// The first of these is answered: `Label` exactly if a range or a place names a label that
+    /// no module row has, `Overlap` exactly if a range has an address in common with a held one,
+    /// `Full` exactly if `MOST_ROWS` rows are held. The rows stay after a refusal.
     pub fn add(&mut self, row: Row) -> Result<(), TopologyRefused>
         requires { IsTrue (is_upright row) }
         ensures answer { AnswersRow result (row_refusal self.old row) }

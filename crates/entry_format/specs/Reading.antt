@@ -1,5 +1,5 @@
 -- How fields are read, each at the front of bytes, from left to right: a field is read exactly
--- where the bytes begin with its spelling.
+-- if the bytes begin with its spelling.
 use Rattle.std.specs.Prelude.{◌≡◌, ℕ, zero, suc, List, [], ◌∷◌, length, take, drop, Option, Some, None, Result, Ok, Err, Bool, nat_lt, nat_le, ◌==◌, ◌&&◌, if◌then◌else◌}
 use Rattle.std.specs.List.{find}
 use Rattle.ras_base.specs.Chaining.{◌>>=◌}
@@ -56,7 +56,7 @@ abbrev pub some_or_bad : {A : Type 0} → Option A → Result A EntryRefused
 some_or_bad None = Err Bad
 some_or_bad (Some x) = Ok x
 
--- a field that is made of what is read, where it can be made
+-- a field that is made of what is read, if it can be made
 abbrev pub made_at : {A B : Type 0} → (A → Option B) → Reader A → Reader B
 made_at make read bytes = do
   x ← read bytes
@@ -67,7 +67,7 @@ made_at make read bytes = do
 abbrev pub if_passes : {A : Type 0} → (A → Bool) → A → Option A
 if_passes test x = if test x then Some x else None
 
--- so many fields of one sort
+-- n fields of one sort
 unfoldable pub many_at : {A : Type 0} → Reader A → ℕ → Reader (List A)
 many_at read zero bytes = Ok ([], bytes)
 many_at read (suc n) bytes = do
@@ -81,13 +81,13 @@ whole_at read bytes = do
   x ← read bytes
   if length x.1 == 0 then Ok x.0 else Err Bad
 
--- so many bytes as they are
+-- n bytes as they are
 unfoldable pub bytes_at : ℕ → Reader Bytes
 bytes_at n bytes = if nat_lt (length bytes) n then Err Bad else Ok (take n bytes, drop n bytes)
 
 -- ---- numbers
 
--- a number of so many bytes
+-- a number of n bytes
 abbrev pub front_number : ℕ → Reader ℕ
 front_number width bytes =
     if nat_lt (length bytes) width then Err Bad else Ok (number_at 0 width bytes, drop width bytes)

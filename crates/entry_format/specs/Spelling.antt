@@ -22,7 +22,7 @@ name_bytes (Record id) = 2 ∷ u64_bytes id
 name_bytes (Block boot source number) = 3 ∷ u64_bytes boot ++ u16_bytes source ++ u64_bytes number
 name_bytes (Boot boot) = 4 ∷ u64_bytes boot
 
--- a page: whether there is one (1), and its number (8) where there is one
+-- a page: whether there is one (1), and its number (8) if there is one
 unfoldable pub page_bytes : Option ℕ → List ℕ
 page_bytes None = 0 ∷ []
 page_bytes (Some page) = 1 ∷ u64_bytes page

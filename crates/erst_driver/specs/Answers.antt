@@ -42,7 +42,7 @@ found_status id store =
     if nat_eq (length store) 0 then StoreEmpty
     else (if holds id store then Success else NotFound)
 
--- Such an operation takes the most checks where the device is busy for so many answers or more.
+-- Such an operation takes the most checks if the device gives as many busy answers or more.
 abbrev pub answer_on_found : ℕ → Device → Answer
 answer_on_found id d =
     if is_free_in_time d.slow then by_status (found_status id d.store) else Err Busy
@@ -55,7 +55,7 @@ read_calls lists id d = device_calls lists (actions_of (read_steps id) d) d ++ f
 abbrev pub written_id : List ℕ → ℕ
 written_id bytes = number_at id_place 8 bytes
 
--- how a write ends: it is refused where the identifier is reserved, or the store has no room for it
+-- how a write ends: it is refused if the identifier is reserved, or the store has no room for it
 abbrev pub is_put_refused : ℕ → List Stored → Bool
 is_put_refused id store = is_reserved id || is_full_for id store
 

@@ -46,7 +46,7 @@ abbrev pub write_steps : List Step
 write_steps =
     without_input begin_write_operation ∷ step set_record_offset 0 ∷ without_input execute_operation ∷ []
 
--- A device that is busy for so many answers is asked once more than that, until it answers 0. After
+-- A device that gives this many busy answers is asked once more than that, until it answers 0. After
 -- 1,000 checks it isn't asked on.
 abbrev pub checks : ℕ → List Step
 checks count = replicate count (without_input check_busy_status)

@@ -69,10 +69,10 @@ impl Driver {
     /// Removes the record under an identifier from the store, and no other. (ACPI 6.5, section
     /// 18.5.2.3, "Clearing".)
     ///
-    /// `Register` comes only where a call of the board failed, which is then the last one. `Busy`
-    /// comes where the device was busy at `MOST_CHECKS` checks, the last of which is then the last
+    /// `Register` comes only if a call of the board failed, which is then the last one. `Busy`
+    /// comes if the device was busy at `MOST_CHECKS` checks, the last of which is then the last
     /// action; the record is removed even so. `Status` comes after the operation was ended: 4
-    /// where the store is empty, and 5 where it has no such record.
+    /// if the store is empty, and 5 if it has no such record.
     ///
     /// What its calls leave, and what a stop leaves at each moment of them, stands at
     /// [`crate::operations_on_the_store`]: the store as it was or without the record, and all else
@@ -96,10 +96,10 @@ impl Driver {
     /// holds the record and zeros after it. (ACPI 6.5, section 18.5.2.2, "Reading".) The range is
     /// read by one call after the operation was ended.
     ///
-    /// `Register` comes only where a call of the board failed, which is then the last one. `Busy`
-    /// comes where the device was busy at `MOST_CHECKS` checks, the last of which is then the last
-    /// action. `Status` comes after the operation was ended: 4 where the store is empty, and 5
-    /// where it has no such record. At each moment a stop leaves all as it was.
+    /// `Register` comes only if a call of the board failed, which is then the last one. `Busy`
+    /// comes if the device was busy at `MOST_CHECKS` checks, the last of which is then the last
+    /// action. `Status` comes after the operation was ended: 4 if the store is empty, and 5
+    /// if it has no such record. At each moment a stop leaves all as it was.
     pub fn read<B: Board>(
         &self,
         id: u64,
@@ -127,9 +127,9 @@ impl Driver {
     /// (ACPI 6.5, section 18.5.2.1, "Writing".) It has 128 to `RANGE_LENGTH` bytes, and its header
     /// says how many.
     ///
-    /// `Register` comes only where a call of the board failed, which is then the last one. `Busy`
-    /// comes where the device was busy at `MOST_CHECKS` checks, the last of which is then the last
-    /// action; the record is put even so. `Status` comes after the operation was ended: 1 where
+    /// `Register` comes only if a call of the board failed, which is then the last one. `Busy`
+    /// comes if the device was busy at `MOST_CHECKS` checks, the last of which is then the last
+    /// action; the record is put even so. `Status` comes after the operation was ended: 1 if
     /// the identifier is 0 or all ones, or the store is full and has no record under it.
     ///
     /// What its calls leave, and what a stop leaves at each moment of them, stands at
@@ -171,7 +171,7 @@ impl Driver {
         self.operate(&steps, board)
     }
 
-    // Does an operation, and copies the range into a buffer where it ended well.
+    // Does an operation, and copies the range into a buffer if it ended well.
     fn operate_and_fetch<B: Board>(
         &self,
         steps: &[Step],
@@ -197,7 +197,7 @@ impl Driver {
     /// "Reading".) They are listed to the end of the list first, wherever a listing stood, and then
     /// from the first one on.
     ///
-    /// `Register` comes only where a call of the board failed, which is then the last one, and
+    /// `Register` comes only if a call of the board failed, which is then the last one, and
     /// `NoMemory` only if memory runs out, after some of the actions. No other refusal comes. At
     /// each moment a stop leaves all as it was.
     pub fn ids<B: Board>(&self, alloc: Global, board: &mut B) -> Result<Vec<u64>, DriverRefused>
@@ -311,7 +311,7 @@ impl Driver {
         self.check(MOST_CHECKS, board)
     }
 
-    // Asks the device until it isn't busy, so many times at most.
+    // Polls the device until it is idle, at most `most` times.
     fn check<B: Board>(&self, most: u32, board: &mut B) -> Result<(), DriverRefused>
         ensures waits { Operates self.now (λ d. asks_within most d.busy)
             (λ d. answers_within most d.busy) result

@@ -97,7 +97,7 @@ abbrev pub is_free : ℕ → InstructionEntry → Bool
 is_free action e =
     nat_eq action execute_operation && is_constant e.instruction && is_value e.register && not e.preserves
 
--- an entry that reads the answer from Value; where the answer is 0 or 1 it may be compared with 1
+-- an entry that reads the answer from Value; if the answer is 0 or 1 it may be compared with 1
 abbrev pub is_read : ℕ → ℕ → Instruction → Bool
 is_read action value ReadRegister = true
 is_read action value ReadRegisterValue = nat_eq action check_busy_status && nat_eq value 1
@@ -140,7 +140,7 @@ pub record EndsWithAnswer (action : ℕ) (entries : List InstructionEntry) : Typ
   pub are_idle : AreIdle idle
   pub is : IsTrue (is_answer action last)
 
--- what stands after it: idle entries, and where the action answers last the answer's read
+-- what stands after it: idle entries, and if the action answers last the answer's read
 abbrev pub EndsBy : Bool → ℕ → List InstructionEntry → Type 0
 EndsBy true action entries = EndsWithAnswer action entries
 EndsBy false action entries = AreIdle entries
@@ -159,6 +159,6 @@ pub record IsAdmitted (action : ℕ) (list : List InstructionEntry) : Type 0 whe
   pub begins : IsBeginning action before
   pub ends : IsEnding action after
 
--- A table is admitted where the lists of actions 0 to 10 are.
+-- A table is admitted if the lists of actions 0 to 10 are.
 abbrev pub IsAdmittedTable : List (List InstructionEntry) → Type 0
 IsAdmittedTable lists = (action : ℕ) → action ≤ get_record_count → IsAdmitted action (list_of action lists)

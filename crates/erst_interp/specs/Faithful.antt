@@ -14,11 +14,11 @@ use Rattle.erst_interp.specs.Admission.{takes_input, gives_answer}
 abbrev pub input_limit : ℕ → ℕ
 input_limit action = if nat_eq action set_record_offset then 2 ^ 32 else 2 ^ 64
 
--- the device with the input in its Value register, where the action takes it
+-- the device with the input in its Value register, if the action takes it
 abbrev pub with_input : ℕ → ℕ → Device → Device
 with_input action input d = if takes_input action then record d { value = input } else d
 
--- the device after the action, and the answer: the device's value, or the input where the action
+-- the device after the action, and the answer: the device's value, or the input if the action
 -- answers nothing
 abbrev pub device_after : ℕ → ℕ → Device → Device
 device_after action input d = act action (with_input action input d)
@@ -31,12 +31,12 @@ pub record DoesAction (action input : ℕ) (d : Device) (end : End) : Type 0 whe
   pub answer : end.answer ≡ Ok (answer_after action input d)
   pub device : end.state.device ≡ device_after action input d
 
--- A list is faithful to an action where its run does the action, on every device and every input.
+-- A list is faithful to an action if its run does the action, on every device and every input.
 abbrev pub IsFaithful : ℕ → List InstructionEntry → Type 0
 IsFaithful action list = (input : ℕ) (d : Device) → IsDevice d → input < input_limit action → DoesAction action input d (machine_end list input d)
 
 -- What a run of an admitted list does to a board: it answers as the action does, and the board
--- tells the device after the action. It is refused only where a call of the board failed.
+-- tells the device after the action. It is refused only if a call of the board failed.
 pub record ActsOn (action input value : ℕ) (t : Told) (new : Option Told) : Type 0 where
   pub after : Told
   pub told : new ≡ Some after

@@ -93,18 +93,18 @@ after_range_write_at place bytes s = record s {
 abbrev pub field_in : InstructionEntry → Reg → MachineState → ℕ
 field_in e reg s = field_of e (register_in reg s.device)
 
--- a number is written into an entry's field of a register, which is read first where the other bits
+-- a number is written into an entry's field of a register, which is read first if the other bits
 -- are kept
 abbrev pub after_field : InstructionEntry → Reg → ℕ → MachineState → MachineState
 after_field e reg x s =
     if e.preserves then after_register_write reg (with_field e x (register_in reg s.device)) (after_register_read reg s)
     else after_register_write reg (alone e x) s
 
--- so many bytes of the range, from one place to another, as if read whole first
+-- bytes of the range, from one place to another, as if read whole first
 abbrev pub after_move : ℕ → ℕ → ℕ → MachineState → MachineState
 after_move from to count s = after_range_write_at to (take count (drop from s.device.range)) (after_range_read from count s)
 
--- whether so many bytes from an address on are inside the range
+-- whether this many bytes from an address on are inside the range
 abbrev pub is_inside : ℕ → ℕ → Bool
 is_inside address count = nat_le range_address address && nat_le (address + count) (range_address + range_length)
 
@@ -153,8 +153,8 @@ moved offset s =
 abbrev pub moves : InstructionEntry → MachineState → Outcome
 moves e s = uses e s (λ reg. moved (field_in e reg s) (after_register_read reg s))
 
--- What an instruction does. Where the test of SKIP_NEXT_INSTRUCTION_IF_TRUE holds the index rises
--- by 2, and where that of STALL_WHILE_TRUE holds it stays.
+-- What an instruction does. If the test of SKIP_NEXT_INSTRUCTION_IF_TRUE holds the index rises
+-- by 2, and if that of STALL_WHILE_TRUE holds it stays.
 abbrev pub turn_of : Instruction → InstructionEntry → Variables → MachineState → Outcome
 turn_of ReadRegister e v s = reads e s (λ x. next (record v { value = x }))
 turn_of ReadRegisterValue e v s = reads e s (λ x. next (record v { value = truth (nat_eq x e.value) }))
@@ -188,7 +188,7 @@ pub record End : Type 0 where
   pub answer : Result ℕ RunRefused
   pub state : MachineState
 
--- what comes of the entry that is next: where there is none, the run ends with its value
+-- what comes of the entry that is next: if there is none, the run ends with its value
 abbrev pub at_entry : (InstructionEntry → End) → MachineState → Option InstructionEntry → End
 at_entry go_on s None = record { answer = Ok s.variables.value; state = s }
 at_entry go_on s (Some e) = go_on e
@@ -197,7 +197,7 @@ abbrev pub after_turn : (MachineState → End) → Outcome → End
 after_turn go_on (goes s) = go_on s
 after_turn go_on (stops why s) = record { answer = Err why; state = s }
 
--- The end of a run that has so many turns left. Where none is left and there is a next entry, it is
+-- The end of a run that has n turns left. If none is left and there is a next entry, it is
 -- refused before that entry is looked at.
 unfoldable pub end_from : ℕ → List InstructionEntry → MachineState → End
 end_from zero list s =

@@ -50,7 +50,7 @@ abbrev pub AfterTurn : (MachineState → Type 0) → (MachineState → Type 0) �
 AfterTurn Goes Stops (goes s) = Goes s
 AfterTurn Goes Stops (stops why s) = Stops s
 
--- A run of so many turns comes through a device with this record store.
+-- A run of at most this many turns comes through a device with this record store.
 unfoldable pub PassesStore : ℕ → List InstructionEntry → MachineState → List Stored → Type 0
 PassesStore zero list s store = store ≡ s.device.store
 PassesStore (suc turns) list s store =

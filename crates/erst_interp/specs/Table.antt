@@ -35,7 +35,7 @@ erst_table bytes =
     else (if not (has_entries (own_bytes bytes)) then Err Count
     else Ok (own_bytes bytes))))))
 
--- so many entries at the front of bytes, one after the other
+-- the first entries of bytes, one after the other
 unfoldable pub instructions_at : ℕ → List ℕ → List InstructionEntry
 instructions_at zero bytes = []
 instructions_at (suc count) bytes = entry_of bytes ∷ instructions_at count (drop ENTRY_LENGTH bytes)

@@ -41,7 +41,7 @@ pub(crate) enum Awaited {
 /// - for EXECUTE_OPERATION before it any that write a number of their own to Value, by a
 ///   WRITE_REGISTER_VALUE without preserve;
 /// - for the actions that answer a last one that reads Value from bit 0, whose mask holds the bits
-///   that the answer has; where that is one bit it may be compared with 1;
+///   that the answer has; if that is one bit it may be compared with 1;
 /// - besides these only NOOP, STALL, ADD and SUBTRACT, and LOAD_VAR1 and LOAD_VAR2 of a good
 ///   register.
 pub fn admits(table: &Table) -> bool
@@ -88,7 +88,7 @@ fn first_awaited(action: u64) -> Awaited
     }
 }
 
-// What is awaited after an entry, or None where it may not stand here.
+// What is awaited after an entry, or None if it may not stand here.
 fn next_awaited(action: u64, awaited: Awaited, entry: &InstructionEntry) -> Option<Awaited>
     ensures { result ≡ next_awaited action awaited entry.now }
 {

@@ -50,7 +50,7 @@ pub struct InstructionEntry {
     pub instruction: Instruction,
     /// Whether a write keeps the register's other bits.
     pub preserves: bool,
-    /// The register, or None where it isn't a good one: it has to be in address space 0 at the
+    /// The register, or None if it isn't a good one: it has to be in address space 0 at the
     /// address of Action or Value, and its bit offset below 64.
     pub register: Option<Reg>,
     /// The lowest bit of the register's field.
@@ -89,7 +89,7 @@ impl Instruction {
     }
 }
 
-// The register of an address space, a bit offset and an address, where it is a good one.
+// The register of an address space, a bit offset and an address, if it is a good one.
 fn register_at(space: u8, offset: u8, address: u64) -> Option<Reg>
     ensures { result ≡ register_at space offset address }
 {

@@ -197,7 +197,7 @@ impl InstructionEntry {
     }
 }
 
-// A number shifted right by so many bits, maybe all.
+// A number shifted right by `bits`, maybe all.
 #[tactic(auto, using(crate::proofs::ShiftLemmas::gone_down))]
 fn shifted_down(number: u64, bits: u8) -> u64
     ensures { result ≡ number / 2 ^ bits }
@@ -205,7 +205,7 @@ fn shifted_down(number: u64, bits: u8) -> u64
     if bits < 64 { number >> bits } else { 0 }
 }
 
-// A number shifted left by so many bits, maybe all. What passes 64 bits is dropped.
+// A number shifted left by `bits`, maybe all. What passes 64 bits is dropped.
 #[tactic(auto, using(crate::proofs::ShiftLemmas::gone_up))]
 fn shifted_up(number: u64, bits: u8) -> u64
     ensures { result ≡ number * 2 ^ bits % 2 ^ 64 }

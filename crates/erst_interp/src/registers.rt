@@ -48,7 +48,7 @@ fn write<B: Board>(reg: Reg, number: u64, board: &mut B) -> Result<(), Failed>
     }
 }
 
-// Writes a number into an entry's field of a register, which is read first where its other bits are
+// Writes a number into an entry's field of a register, which is read first if its other bits are
 // kept.
 pub(crate) fn write_field<B: Board>(
     entry: &InstructionEntry,
@@ -95,7 +95,7 @@ pub(crate) fn read_field<B: Board>(
     }
 }
 
-// The place in the range of so many bytes from an address on, where all of them are inside.
+// The offset in the range of `count` bytes from an address on, if all of them are inside.
 fn place_of(base: u64, offset: u64, count: u64) -> Option<u32>
     ensures { IsPlace (base + offset) count result }
 {

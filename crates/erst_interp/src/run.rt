@@ -29,10 +29,10 @@ impl Table {
     /// Runs the list of an action over the device of a board, from an input on, and answers the
     /// value at its end. (ACPI 6.5, section 18.5.1.2, "Serialization Instructions".)
     ///
-    /// The run takes no memory. It is refused with `Fuel` where `MOST_TURNS` instructions were run
-    /// and there is a next entry, with `BadInstruction` where the next entry's instruction isn't
-    /// known, with `BadRegister` where it uses a register that isn't good, and with `BadRange`
-    /// where it moves bytes that aren't all in the range. `Register` comes only where a call of the
+    /// The run takes no memory. It is refused with `Fuel` if `MOST_TURNS` instructions were run
+    /// and there is a next entry, with `BadInstruction` if the next entry's instruction isn't
+    /// known, with `BadRegister` if it uses a register that isn't good, and with `BadRange`
+    /// if it moves bytes that aren't all in the range. `Register` comes only if a call of the
     /// board failed, which is then the last one: the calls before it are the first of those that the
     /// list makes. What was done before a refusal stays done.
     ///
@@ -83,7 +83,7 @@ fn run_list<B: Board>(
     run_turns(list, MOST_TURNS, input, board)
 }
 
-// Runs a list from an input on, for so many turns at most.
+// Runs a list from an input on, for at most `turns` turns.
 fn run_turns<B: Board>(
     list: &[InstructionEntry],
     turns: u32,

@@ -42,11 +42,11 @@ impl Model for Table {
 /// Reads the ERST at the front of bytes. (ACPI 6.5, section 18.5.1, "Serialization Action Table".)
 /// Bytes after its length are ignored.
 ///
-/// It is refused with the first that applies of: `Short` below 48 bytes, `Signature` where it
-/// doesn't begin with `ERST`, `Length` where its length is below 48 or above the number of bytes,
-/// `Sum` where its bytes don't sum to 0 modulo 256, `HeaderSize` where the size of its header is
-/// neither 12 nor 48, and `Count` where the entries that it counts pass its length. `NoMemory`
-/// comes only if memory runs out, and never where the table is refused.
+/// It is refused with the first that applies of: `Short` below 48 bytes, `Signature` if it
+/// doesn't begin with `ERST`, `Length` if its length is below 48 or above the number of bytes,
+/// `Sum` if its bytes don't sum to 0 modulo 256, `HeaderSize` if the size of its header is
+/// neither 12 nor 48, and `Count` if the entries that it counts pass its length. `NoMemory`
+/// comes only if memory runs out, and never if the table is refused.
 pub fn read_erst(alloc: Global, bytes: &[u8]) -> Result<Table, ErstTableRefused>
     ensures answer { IsAnswer result (erst_of bytes.now) }
     ensures front { (why : ErstTableRefused) → erst_table bytes.now ≡ Err why
@@ -117,7 +117,7 @@ fn add(lists: &mut Vec<Vec<InstructionEntry>>, entry: InstructionEntry) -> Resul
     Ok(())
 }
 
-// The lists of so many entries at the front of bytes.
+// The lists of the first `count` entries of the bytes.
 fn lists_at(alloc: Global, count: u32, bytes: &[u8]) -> Result<Vec<Vec<InstructionEntry>>, NoMemory>
     requires { ENTRY_LENGTH * count ≤ length bytes.now }
     ensures { IfOk result (λ lists.

@@ -31,7 +31,7 @@ abbrev pub id_changed : Option Command → Device → ℕ
 id_changed (Some Write) d = id_at d.range d.offset
 id_changed _ d = d.id
 
--- the values that so many GET_RECORD_IDENTIFIER give, one after the other, and the device after
+-- the values that n GET_RECORD_IDENTIFIER give, one after the other, and the device after
 -- them
 abbrev pub listing : ℕ → Device → List ℕ
 listing zero d = []

@@ -54,7 +54,7 @@ abbrev pub bytes_under : ℕ → List Stored → Option (List ℕ)
 bytes_under id [] = None
 bytes_under id (r ∷ rs) = if nat_eq r.id id then Some r.bytes else bytes_under id rs
 
--- a record with these bytes where it has this identifier, and else as it is
+-- a record with these bytes if it has this identifier, and else as it is
 abbrev pub record_after_put : ℕ → List ℕ → Stored → Stored
 record_after_put id bytes r = if nat_eq r.id id then record { id = r.id; bytes = bytes } else r
 
@@ -80,7 +80,7 @@ refusal_of id bytes records =
     else (if nat_lt most_bytes (length bytes) then Some TooLong
     else (if is_full_for id records then Some StoreFull else None))
 
--- A put answers its refusal. Where there is none, it goes well or memory runs out.
+-- A put answers its refusal. If there is none, it goes well or memory runs out.
 abbrev pub AnswersRefusal : {X : Type 0} → Result X PutRefused → Option PutRefused → Type 0
 AnswersRefusal (Ok _) refusal = refusal ≡ None
 AnswersRefusal (Err NoMemory) refusal = refusal ≡ None

@@ -28,7 +28,7 @@ ReadsStore bytes (Ok records) = bytes ≡ store_bytes records
 ReadsStore bytes (Err Malformed) = IsNoStoreFile bytes
 ReadsStore bytes (Err NoMemory) = Unit {0}
 
--- What a read gives where the bytes are those of a store: this store, unless memory runs out.
+-- What a read gives if the bytes are those of a store: this store, unless memory runs out.
 abbrev pub ReadsBack : List Stored → Result (List Stored) StoreRefused → Type 0
 ReadsBack records (Ok found) = found ≡ records
 ReadsBack records (Err Malformed) = ⊥

@@ -279,7 +279,7 @@ impl Dev {
         }
     }
 
-    // AnswersRefusal whether the device is busy, and uses up one busy answer.
+    // Answers whether the device is busy, and uses up one busy answer.
     fn check_busy(&mut self)
         ensures { self.new ≡ after_check self.old }
     {
@@ -291,7 +291,7 @@ impl Dev {
         }
     }
 
-    // AnswersRefusal the identifier at the cursor and moves on, or ends the list and begins it again.
+    // Answers the identifier at the cursor and moves on, or ends the list and begins it again.
     fn list_id(&mut self)
         ensures lists { self.new ≡ after_listing self.old }
         ensures kept { IsDevice self.new }

@@ -196,7 +196,7 @@ impl Store {
         }
     }
 
-    // Removes the record at the place where its identifier stands.
+    // Removes the record at the place of its identifier.
     fn remove_at(&mut self, id: u64, place: usize)
         requires { StandsAt id self.old place }
         ensures rest { self.new ≡ without id self.old }

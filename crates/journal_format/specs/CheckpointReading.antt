@@ -105,11 +105,11 @@ page_row_at =
 
 -- ---- the end
 
--- the floor that stands at the end of version 1, where it isn't 0
+-- the floor that stands at the end of version 1, if it isn't 0
 unfoldable pub end_floor_at : Reader ℕ
 end_floor_at = made_at (if_passes (λ floor. not (floor == 0))) u64_at
 
--- the floor, where these bytes are left behind the rows, and this one was read at the front
+-- the floor, if these bytes are left behind the rows, and this one was read at the front
 unfoldable pub floor_in : Version → ℕ → List ℕ → Result ℕ EntryRefused
 floor_in One floor [] = Ok floor
 floor_in One floor (byte ∷ bytes) = whole_at end_floor_at (byte ∷ bytes)

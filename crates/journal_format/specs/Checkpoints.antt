@@ -1,5 +1,5 @@
 -- How the checkpoint of an account is spelled, in both versions. Each number has 8 bytes from its
--- low byte on, where nothing else is said.
+-- low byte on, if nothing else is said.
 use Rattle.std.specs.Prelude.{◌≡◌, ℕ, ◌<◌, ◌^◌, Bool, ◌==◌, if◌then◌else◌, Option, None, Some, List, [], ◌∷◌, ◌++◌, length, All}
 use Rattle.std.specs.List.{flat_map}
 use Rattle.ras_base.specs.LittleEndian.{u64_bytes}
@@ -34,7 +34,7 @@ list_bytes spell rows = u64_bytes (length rows) ++ flat_map spell rows
 unfoldable pub bucket_bytes : Bucket → List ℕ
 bucket_bytes bucket = u64_bytes bucket.count ++ u64_bytes bucket.stamp
 
--- what is known of a module's replacement: whether it has a bucket (1 byte), and where it has one,
+-- what is known of a module's replacement: whether it has a bucket (1 byte), and if it has one,
 -- the bucket, and whether it is to be replaced (1)
 unfoldable pub replacement_bytes : Option Bucket → Bool → List ℕ
 replacement_bytes None replace = 0 ∷ []
@@ -60,7 +60,7 @@ unfoldable pub front_bytes : Version → State → List ℕ
 front_bytes One a = limit_bytes a.limit ++ u64_bytes a.entries
 front_bytes Two a = limit_bytes a.limit ++ limit_bytes a.module_limit ++ u64_bytes a.entries ++ u64_bytes a.floor
 
--- at the end of version 1 the floor, where it isn't 0
+-- at the end of version 1 the floor, if it isn't 0
 unfoldable pub end_bytes : Version → State → List ℕ
 end_bytes One a = if a.floor == 0 then [] else u64_bytes a.floor
 end_bytes Two a = []

@@ -13,7 +13,7 @@ abbrev pub found_in : {A : Type 0} → Result A EntryRefused → Option A
 found_in (Ok x) = Some x
 found_in (Err refused) = None
 
--- whether a link can have so many entries
+-- whether a link can have this number of entries
 abbrev pub is_link_count : ℕ → Bool
 is_link_count count = nat_le 1 count && nat_le count MOST_LINK_ENTRIES
 

@@ -82,7 +82,7 @@ compound_rows =
 abbrev pub code_rows : List CodeRow
 code_rows = simple_rows ++ compound_rows
 
--- a code by the first of the rows that it fits, or Other where it fits none
+-- a code by the first of the rows that it fits, or Other if it fits none
 abbrev pub reading : List CodeRow → ℕ → Code
 reading rows code = option_map_or (read_by code) (find (fits_code code) rows) Other
 

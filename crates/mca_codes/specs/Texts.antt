@@ -1,5 +1,5 @@
 -- The text of an error code: a word for the kind, the words of its subfields with a colon before
--- each, and "/F" where correction report filtering is on. The subfields' words follow the tables of
+-- each, and "/F" if correction report filtering is on. The subfields' words follow the tables of
 -- the Intel SDM, volume 3, section "Compound Error Codes"; the texts are this project's own.
 use Rattle.std.specs.Prelude.{ℕ, ◌≢◌, ◌==◌, Bool, List, [], ◌∷◌, ◌++◌, codes, decimal, slice_index_or, if◌then◌else◌, not, ◌&&◌}
 use Rattle.std.specs.List.{AllPass}
@@ -40,7 +40,7 @@ target_words = codes "M" ∷ codes "RES" ∷ codes "IO" ∷ codes "OTHER" ∷ []
 abbrev pub memory_words : List (List ℕ)
 memory_words = codes "GEN" ∷ codes "RD" ∷ codes "WR" ∷ codes "AC" ∷ codes "SCRUB" ∷ []
 
--- CCCC, the channel, 15 where it isn't told
+-- CCCC, the channel, 15 if it isn't told
 abbrev pub channel_word : ℕ → List ℕ
 channel_word channel = if channel == 15 then codes "-" else decimal channel
 

@@ -74,7 +74,7 @@ pub fn code_of(code: u16) -> Code
     // No code fits two rows, 0E0Bh apart, so their order says nothing else.
     ensures one_row { code ≢ 0x0e0b → rows_fitted code ≤ 1 }
 
-    // A code is Other exactly where it fits no row.
+    // A code is Other exactly if it fits no row.
     ensures other { (result ≡ Code.Other) ↔ (rows_fitted code ≡ 0) }
     ensures in_range { HasFieldsInRange result }
 
@@ -134,7 +134,7 @@ fn compound_code(code: u16) -> Code
     }
 }
 
-// The number in so many bits of a code from bit `low` on.
+// The number in `width` bits of a code from bit `low` on.
 fn field(code: u16, low: u32, width: u32) -> u8
     requires place { low < 16 }
     requires width { width ≤ 4 }

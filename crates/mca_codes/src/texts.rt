@@ -41,7 +41,7 @@ impl Text {
 }
 
 /// The text of an error code: a word for its kind, then the words of its subfields with a colon
-/// before each, then `/F` where a compound code has its filter set. It refuses only for want of
+/// before each, then `/F` if a compound code has its filter set. It refuses only for want of
 /// memory. (The subfields are those of the Intel SDM, volume 3, "Compound Error Codes".)
 #[tactic(auto, using(crate::proofs::WordLemmas::text_of_word))]
 pub fn code_text(alloc: Global, code: Code) -> Result<Text, NoMemory>

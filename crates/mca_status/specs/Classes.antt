@@ -1,6 +1,6 @@
 -- The class of a machine-check bank's error, as a table of rows: the Intel SDM, volume 3, chapter
 -- "Machine-Check Architecture", section "UCR Error Classification". Two things are this project's
--- own: the class Uc where the processor has no software error recovery, and the class Odd of the
+-- own: the class Uc if the processor has no software error recovery, and the class Odd of the
 -- settings that the manual's table doesn't give.
 use Rattle.std.specs.Prelude.{ℕ, ◌≡◌, Bool, true, ◌&&◌, not, Option, Some, None, List, [], ◌∷◌}
 use Rattle.std.specs.List.{find}

@@ -86,10 +86,10 @@ overflow status = is_set 62 status.0
 abbrev pub valid : Status → Bool
 valid status = is_set 63 status.0
 
--- IA32_MCi_MISC, where MCG_SER_P is 1: the lowest bit of the address that is valid
+-- IA32_MCi_MISC, if MCG_SER_P is 1: the lowest bit of the address that is valid
 abbrev pub least_bit : Misc → ℕ
 least_bit misc = bits 0 6 misc.0
 
--- IA32_MCi_MISC, where MCG_SER_P is 1: the address mode, 2 being a physical address
+-- IA32_MCi_MISC, if MCG_SER_P is 1: the address mode, 2 being a physical address
 abbrev pub address_mode : Misc → ℕ
 address_mode misc = bits 6 3 misc.0

@@ -10,7 +10,7 @@ use Rattle.mca_status.specs.declared.registers.Status.{Status}
 abbrev pub count_applies : Cap → Status → Bool
 count_applies cap status = counts_corrected cap && not (uncorrected status)
 
--- the count where it applies and isn't 0, else 1
+-- the count if it applies and isn't 0, else 1
 abbrev pub weight_of : Cap → Status → ℕ
 weight_of cap status =
     if count_applies cap status && not (corrected_count status == 0) then corrected_count status else 1

@@ -14,7 +14,7 @@ const PAGE_BITS: u32 = 12;
 
 /// The physical address that a bank's report names, by IA32_MCG_CAP and the bank's IA32_MCi_STATUS,
 /// IA32_MCi_ADDR and IA32_MCi_MISC, with all bits below the least valid one cleared. It is Some
-/// exactly where MCG_SER_P, ADDRV and MISCV are 1, the address mode is 2 (physical) and the least
+/// exactly if MCG_SER_P, ADDRV and MISCV are 1, the address mode is 2 (physical) and the least
 /// valid bit is at most 12. (Intel SDM, volume 3, "IA32_MCi_ADDR MSRs" and "IA32_MCi_MISC MSRs".)
 pub fn usable_address(cap: Cap, status: Status, addr: u64, misc: Misc) -> Option<u64>
     ensures address { result ≡ usable_address_of cap status addr misc }

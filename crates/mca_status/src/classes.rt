@@ -92,19 +92,19 @@ impl From<Class> for ItemClass {
 }
 
 /// The class of the error that a bank holds, by IA32_MCG_CAP and the bank's IA32_MCi_STATUS; None
-/// exactly where VAL is 0. (Intel SDM, volume 3, "UCR Error Classification".)
+/// exactly if VAL is 0. (Intel SDM, volume 3, "UCR Error Classification".)
 pub fn class_of(cap: Cap, status: Status) -> Option<Class>
     ensures rows { result ≡ class_of_rows cap status }
     ensures held { IsSome result ↔ IsTrue (valid status) }
 
-    // An error is Ce exactly where the bank holds one that the hardware corrected.
+    // An error is Ce exactly if the bank holds one that the hardware corrected.
     ensures corrected { (result ≡ Some Class.Ce)
         ↔ IsTrue (valid status && not (uncorrected status)) }
 
     // OVER, at bit 62, never changes the class.
     ensures overflow_ignored { ClassIgnores (62 ∷ []) cap status }
 
-    // AR and S, at bits 55 and 56, say nothing where the processor has no software error recovery.
+    // AR and S, at bits 55 and 56, say nothing if the processor has no software error recovery.
     ensures recovery_ignored { IsFalse (recovers_in_software cap)
         → ClassIgnores (55 ∷ 56 ∷ []) cap status }
 {

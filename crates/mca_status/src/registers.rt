@@ -122,14 +122,14 @@ impl Status {
         is_set(57, self.0)
     }
 
-    /// S, where MCG_SER_P is 1: the error was signaled by a machine-check exception.
+    /// S, if MCG_SER_P is 1: the error was signaled by a machine-check exception.
     pub fn is_signaled(self) -> bool
         ensures { result ≡ signaled self }
     {
         is_set(56, self.0)
     }
 
-    /// AR, where MCG_SER_P is 1: software has to act before the program goes on.
+    /// AR, if MCG_SER_P is 1: software has to act before the program goes on.
     pub fn is_action_required(self) -> bool
         ensures { result ≡ action_required self }
     {
@@ -163,7 +163,7 @@ impl Status {
 impl Misc {
     ghost use Rattle.mca_status.specs.Registers.{least_bit, address_mode};
 
-    /// The lowest bit of the address that is valid, where MCG_SER_P is 1.
+    /// The lowest bit of the address that is valid, if MCG_SER_P is 1.
     pub fn least_bit(self) -> u32
         ensures bit { result ≡ least_bit self }
         ensures within_field { result < 64 }
@@ -171,7 +171,7 @@ impl Misc {
         bits(0, 6, self.0) as u32
     }
 
-    /// The address mode, where MCG_SER_P is 1: 0 is a segment offset, 1 a linear address, 2 a
+    /// The address mode, if MCG_SER_P is 1: 0 is a segment offset, 1 a linear address, 2 a
     /// physical one, 3 a memory address, 7 generic.
     pub fn address_mode(self) -> u8
         ensures mode { result ≡ address_mode self }

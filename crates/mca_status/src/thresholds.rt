@@ -21,7 +21,7 @@ pub enum Threshold {
     Reserved,
 }
 
-/// The threshold status of a bank, bits 54:53 of IA32_MCi_STATUS; Untold exactly where MCG_TES_P is
+/// The threshold status of a bank, bits 54:53 of IA32_MCi_STATUS; Untold exactly if MCG_TES_P is
 /// 0 or UC is 1. (Intel SDM, volume 3, "IA32_MCi_STATUS MSRs".)
 pub fn threshold_of(cap: Cap, status: Status) -> Threshold
     ensures threshold { result ≡ threshold_of cap status }

@@ -11,7 +11,7 @@ pub record IsLimit (limit : Limit) : Type 0 where
   pub period_from : 1 ≤ limit.period
   pub period_to : limit.period ≤ MOST_PERIOD
 
--- the limit of two numbers, where both are in their ranges
+-- the limit of two numbers, if both are in their ranges
 abbrev pub limit_of : ℕ → ℕ → Option Limit
 limit_of capacity period =
     if (nat_le 1 capacity && nat_le capacity MOST_CAPACITY) && (nat_le 1 period && nat_le period MOST_PERIOD)
@@ -22,7 +22,7 @@ limit_of capacity period =
 abbrev pub most_count : ℕ
 most_count = MOST_COUNT
 
--- how many errors leak out in so many seconds, in whole errors
+-- how many errors leak out in this time, in whole errors
 abbrev pub leak : Limit → ℕ → ℕ
 leak limit seconds = seconds * limit.capacity / limit.period
 
@@ -37,7 +37,7 @@ aged_bucket limit now bucket =
 abbrev pub IsEarly : Limit → ℕ → Bucket → Type 0
 IsEarly limit now bucket = now < bucket.stamp + limit.period
 
--- a bucket with so many errors more, and whether it then holds the capacity
+-- a bucket with this number of errors more, and whether it then holds the capacity
 abbrev pub filled_bucket : ℕ → Bucket → Bucket
 filled_bucket weight bucket = record bucket { count = bucket.count + weight }
 

@@ -44,7 +44,7 @@ page_rows_of history = table nat_eq page_in page_row history
 abbrev pub state_in : List (ℕ × PageRow) → ℕ → PageState
 state_in rows page = option_map_or (λ (row : PageRow). row.state) (lookup (nat_eq page) rows) Kept
 
--- a table of rows continued by a report: it changes its page's row, or begins one behind the others
+-- a table of rows continued by a report: it changes its page's row, or begins one after the others
 abbrev pub rows_after : List (ℕ × PageRow) → PageReport → List (ℕ × PageRow)
 rows_after rows r = updated_rows nat_eq r.page (row_after (new_row r.seconds) r) (λ row. row_after row r) rows
 
@@ -60,12 +60,12 @@ abbrev pub OthersStay : ℕ → List (ℕ × PageRow) → List (ℕ × PageRow) 
 OthersStay page before now =
     (other : ℕ) → other ≢ page → lookup (nat_eq other) now ≡ lookup (nat_eq other) before
 
--- the order of a report behind the earlier reports of its page: it comes where the page's state
+-- the order of a report after the earlier reports of its page: it comes if the page's state
 -- rises
 abbrev pub order_behind : ℕ → List PageReport → PageReport → Option Order
 order_behind page earlier r = order_between page (page_row earlier).state (page_row (earlier ++ r ∷ [])).state
 
--- the order of a report behind a history: that behind its page's reports
+-- the order of a report after a history: that after its page's reports
 abbrev pub order_in : List PageReport → PageReport → Option Order
 order_in history r = order_behind r.page (page_history history r.page) r
 

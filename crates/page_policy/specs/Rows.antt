@@ -85,6 +85,6 @@ order_to page Kept = None
 order_to page Soft = Some (Ordered.TheVariants.Soft page)
 order_to page Hard = Some (Ordered.TheVariants.Hard page)
 
--- the order where a page's state was the first and is now the other: it comes where the state rose
+-- the order if a page's state was the first and is now the other: it comes if the state rose
 abbrev pub order_between : ℕ → PageState → PageState → Option Order
 order_between page before now = if nat_lt (height before) (height now) then order_to page now else None

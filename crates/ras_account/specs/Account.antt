@@ -96,7 +96,7 @@ IsAccountOf history a = a ≡ account_of history
 abbrev pub AreSame : History → History → Type 0
 AreSame one other = account_of one ≡ account_of other
 
--- an entry behind a history changes nothing
+-- an entry after a history changes nothing
 abbrev pub ChangesNothing : History → Entry → Type 0
 ChangesNothing history entry = AreSame (with_entry history entry) history
 

@@ -40,14 +40,14 @@ abbrev pub HasRow : History → Bytes → Type 0
 HasRow history label =
     IsTrue (list_any (same_label label) (keys_of (account_of history).modules))
 
--- whether an entry behind a history makes a module's bucket trip the first time since the last
+-- whether an entry after a history makes a module's bucket trip the first time since the last
 -- mark, by the module's own corrected errors
 abbrev pub trips_with : History → Entry → Bytes → Bool
 trips_with history entry label =
     not (has_tripped (module_errors history label))
     && has_tripped (module_errors (with_entry history entry) label)
 
--- the orders of an entry behind a history to replace a label's module
+-- the orders of an entry after a history to replace a label's module
 abbrev pub replace_orders_at : History → Entry → Bytes → List Order
 replace_orders_at history entry label =
     orders_for_module (module_place (with_entry history entry) label) (orders_behind history entry)

@@ -49,7 +49,7 @@ module_after m s = record {
   replace = m.replace || (fills_bucket s && trips_at m.bucket s);
 }
 
--- the modules after an item: it changes its label's row, or begins one behind the others
+-- the modules after an item: it changes its label's row, or begins one after the others
 abbrev pub modules_after : List (Bytes × Module) → Sighting → List (Bytes × Module)
 modules_after modules s =
     updated_rows same_label (label_of s) (module_after new_module s) (λ m. module_after m s) modules
@@ -83,7 +83,7 @@ account_after_fresh a (ModuleLimit limit) = record a { module_limit = limit }
 abbrev pub account_with_count : State → State
 account_with_count a = record a { entries = a.entries + 1 }
 
--- an account continued by an entry: it counts the entry where it is fresh, and else stays
+-- an account continued by an entry: it counts the entry if it is fresh, and else stays
 abbrev pub account_after : State → Entry → State
 account_after a entry = if is_fresh_in a entry then account_after_fresh (account_with_count a) entry else a
 

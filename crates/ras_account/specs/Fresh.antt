@@ -8,7 +8,7 @@ use Rattle.ras_facts.specs.declared.entry.Entry.TheVariants.{Fact, Limit as Page
 use Rattle.ras_facts.specs.Names.{same_name}
 use Rattle.ras_account.specs.History.{History, empty, with_entry, with_mark, names_in, limit_after, module_limit_after, floor_after, is_retired}
 
--- two limits are the same where both their numbers are
+-- two limits are the same if both their numbers are
 abbrev pub same_limit : Limit → Limit → Bool
 same_limit one other = (one.capacity == other.capacity) && (one.period == other.period)
 
@@ -16,7 +16,7 @@ same_limit one other = (one.capacity == other.capacity) && (one.period == other.
 abbrev pub is_among : List Name → Name → Bool
 is_among names name = list_any (same_name name) names
 
--- an entry is fresh behind a history: a fact whose name no fact of the history has and whose boot
+-- an entry is fresh after a history: a fact whose name no fact of the history has and whose boot
 -- isn't retired, a limit other than the one of its kind in force, or a retire above the floor
 abbrev pub is_fresh_behind : History → Entry → Bool
 is_fresh_behind history (Fact fact) =

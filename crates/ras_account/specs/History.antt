@@ -8,13 +8,13 @@ pub use Rattle.ras_facts.specs.Names.{is_retired}
 use Rattle.ras_account.specs.declared.limits.TheConstants.{FIRST_LIMIT, FIRST_MODULE_LIMIT}
 
 -- a list of entries and marks, the latest last. A mark stands where an account was taken over from
--- a journal that kept no buckets of modules: they begin anew behind it.
+-- a journal that kept no buckets of modules: they begin anew after it.
 pub data History : Type 0 where
   empty : History
   with_entry : History → Entry → History
   with_mark : History → History
 
--- a history with the entries of a list behind it
+-- a history with the entries of a list after it
 abbrev pub with_entries : History → List Entry → History
 with_entries history entries = fold with_entry history entries
 
@@ -22,11 +22,11 @@ with_entries history entries = fold with_entry history entries
 abbrev pub history_of : List Entry → History
 history_of entries = with_entries empty entries
 
--- a history with a retire of the boots below a number behind it
+-- a history with a retire of the boots below a number after it
 abbrev pub with_retire : History → ℕ → History
 with_retire history boot = with_entry history (Retire boot)
 
--- a history with another one behind it
+-- a history with another one after it
 abbrev pub followed_by : History → History → History
 followed_by history empty = history
 followed_by history (with_entry more entry) = with_entry (followed_by history more) entry

@@ -33,11 +33,11 @@ is_labeled label s = same_label label (label_of s)
 abbrev pub fills_bucket : Sighting → Bool
 fills_bucket s = is_corrected s.item.class && not (is_labeled [] s)
 
--- the items of a list that fill the bucket of a label, in order; none, where the label is none
+-- the items of a list that fill the bucket of a label, in order; none, if the label is none
 abbrev pub errors_of : Bytes → List Sighting → List Sighting
 errors_of label ss = filter (λ s. fills_bucket s && is_labeled label s) ss
 
--- the bucket that an error meets: one that begins at it, where there was none
+-- the bucket that an error meets: one that begins at it, if there was none
 abbrev pub bucket_met : Option Bucket → Sighting → Bucket
 bucket_met bucket s = unwrap_or bucket (record { count = 0; stamp = s.seconds })
 

@@ -37,7 +37,7 @@ abbrev pub StaysWithin : State → List Entry → Type 0
 StaysWithin a [] = Unit {0}
 StaysWithin a (entry ∷ entries) = IsWithin (account_after a entry) × StaysWithin (account_after a entry) entries
 
--- the entries of a list that are fresh at their place behind an account
+-- the entries of a list that are fresh at their place after an account
 abbrev pub fresh_entries_in : State → List Entry → List Entry
 fresh_entries_in a [] = []
 fresh_entries_in a (entry ∷ entries) =

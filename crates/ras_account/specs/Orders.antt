@@ -1,5 +1,5 @@
--- The orders that an entry gives. An item first orders its page out of use, where the page's state
--- rises, and then asks for its module to be replaced, where that module's bucket trips the first
+-- The orders that an entry gives. An item first orders its page out of use, if the page's state
+-- rises, and then asks for its module to be replaced, if that module's bucket trips the first
 -- time.
 use Rattle.std.specs.Prelude.{ℕ, zero, suc, Bool, false, ◌&&◌, not, if◌then◌else◌, Option, None, Some, List, [], ◌∷◌, ◌++◌, map, flat_map, option_and_then, option_to_list}
 use Rattle.std.specs.Map.{keys_of, lookup}
@@ -24,7 +24,7 @@ abbrev pub place_of : Bytes → List Bytes → ℕ
 place_of label [] = zero
 place_of label (other ∷ labels) = if same_label label other then zero else suc (place_of label labels)
 
--- the order for the page of an item behind all earlier items: by those of the page alone
+-- the order for the page of an item after all earlier items: by those of the page alone
 abbrev pub page_order : List Sighting → Sighting → Option Order
 page_order earlier s =
     option_and_then (λ (r : PageReport). order_behind r.page (page_history (reports_of earlier) r.page) r) (report_of s)
@@ -36,7 +36,7 @@ trips_first since_mark s =
     not (has_tripped (errors_of (label_of s) since_mark))
     && has_tripped (errors_of (label_of s) (since_mark ++ s ∷ []))
 
--- the order for the module of an item behind all earlier items and those since the last mark. A
+-- the order for the module of an item after all earlier items and those since the last mark. A
 -- module is named by the place of its label among all labels in first-seen order.
 abbrev pub module_order : List Sighting → List Sighting → Sighting → Option Order
 module_order earlier since_mark s =
@@ -44,7 +44,7 @@ module_order earlier since_mark s =
     then Some (Ordered.TheVariants.Module (place_of (label_of s) (distinct_keys same_label (map label_of (earlier ++ s ∷ [])))))
     else None
 
--- the orders of an item behind all earlier items and those since the last mark
+-- the orders of an item after all earlier items and those since the last mark
 abbrev pub item_orders : List Sighting → List Sighting → Sighting → List Order
 item_orders earlier since_mark s =
     option_to_list (page_order earlier s) ++ option_to_list (module_order earlier since_mark s)
@@ -54,7 +54,7 @@ abbrev pub orders_of_items : List Sighting → List Sighting → List Sighting �
 orders_of_items earlier since_mark ss =
     flat_map (λ p. item_orders (earlier ++ p.0) (since_mark ++ p.0) p.1) (places ss)
 
--- the orders of an entry behind a history, in order
+-- the orders of an entry after a history, in order
 abbrev pub orders_behind : History → Entry → List Order
 orders_behind history entry =
     orders_of_items (sightings history) (sightings_since_mark history) (sightings_behind history entry)

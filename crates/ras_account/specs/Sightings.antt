@@ -17,7 +17,7 @@ pub record Sighting : Type 0 where
   pub limit : Limit
   pub module_limit : Limit
 
--- the items of a fact that came at this time, in order, where these limits are in force
+-- the items of a fact that came at this time, in order, if these limits are in force
 abbrev pub sightings_of : Limit → Limit → ℕ → List Item → List Sighting
 sightings_of limit module_limit seconds items =
     map (λ item. record { item = item; seconds = seconds; limit = limit; module_limit = module_limit }) items
@@ -27,7 +27,7 @@ abbrev pub sightings_in : Limit → Limit → Entry → List Sighting
 sightings_in limit module_limit (Fact fact) = sightings_of limit module_limit fact.seconds fact.items
 sightings_in limit module_limit other = []
 
--- the items that an entry brings behind a history: none, where it isn't fresh
+-- the items that an entry brings after a history: none, if it isn't fresh
 abbrev pub sightings_behind : History → Entry → List Sighting
 sightings_behind history entry =
     if is_fresh_behind history entry then sightings_in (limit_after history) (module_limit_after history) entry else []

@@ -20,7 +20,7 @@ pub record Waiting : Type 0 where
 abbrev pub nothing : Waiting
 nothing = record { names = []; labels = []; pages = [] }
 
--- what waits in front, and what waits behind it
+-- what waits in front, and what waits after it
 abbrev pub then_waits : Waiting → Waiting → Waiting
 then_waits front rest = record {
   names = front.names ++ rest.names;
@@ -53,7 +53,7 @@ pub record View : Type 0 where
   pub state : State
   pub waiting : Waiting
 
--- orders in the order in which they came, and how many more can be put behind them
+-- orders in the order in which they came, and how many more can be put after them
 pub record OrderList : Type 0 where
   pub orders : List Order
   pub room : ℕ

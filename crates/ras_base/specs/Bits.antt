@@ -5,6 +5,6 @@ use Rattle.std.specs.Prelude.{ℕ, Bool, ◌==◌, ◌/◌, ◌%◌, ◌^◌}
 abbrev pub is_set : ℕ → ℕ → Bool
 is_set bit field = field / 2 ^ bit % 2 == 1
 
--- the number that stands in so many bits of a field from bit low on
+-- the number in `width` bits of a field from bit `low` on
 abbrev pub bits : ℕ → ℕ → ℕ → ℕ
 bits low width field = field / 2 ^ low % 2 ^ width

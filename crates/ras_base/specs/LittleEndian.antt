@@ -16,7 +16,7 @@ u32_bytes number = to_le_bytes w32 number
 unfoldable pub u64_bytes : ℕ → List ℕ
 u64_bytes number = to_le_bytes w64 number
 
--- the number of so many bytes from a place on, the lowest byte first
+-- the number of n bytes from a place on, the lowest byte first
 unfoldable pub number_at : ℕ → ℕ → List ℕ → ℕ
 number_at place zero bytes = 0
 number_at place (suc width) bytes = slice_index bytes place + 256 * number_at (place + 1) width bytes

@@ -11,7 +11,7 @@ pub fn is_set(bit: u32, field: u64) -> bool
     field >> bit & 1 == 1
 }
 
-/// The number that stands in so many bits of a field from bit `low` on.
+/// The number in `width` bits of a field from bit `low` on.
 #[tactic(auto, using(crate::proofs::BitLemmas::mask_of_ones))]
 pub fn bits(low: u32, width: u32, field: u64) -> u64
     requires place { low < 64 }

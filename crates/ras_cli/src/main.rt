@@ -39,8 +39,8 @@ fn words_of(rt: HostRuntime) -> Result<Vec<RasWord>, NoMemory> {
     Ok(words)
 }
 
-// The word at a place of the command line, where there is one. Of a longer word than `LONGEST_WORD`
-// its first bytes are taken, so many that they too are in no form of a call.
+// The word at a place of the command line, if there is one. A word longer than `LONGEST_WORD`
+// is cut; no command has a word that long, so the cut one matches none either.
 fn word_at(rt: HostRuntime, place: usize) -> Result<Option<RasWord>, NoMemory> {
     let mut bytes = [0; LONGEST_WORD];
     let length = match rt.arg(place, &mut bytes) {

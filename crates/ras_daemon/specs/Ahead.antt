@@ -28,7 +28,7 @@ abbrev pub events_in : List (List ℕ) → ℕ
 events_in lines = length (filter is_event_line lines)
 
 -- What was taken of a script, of which this is left, reaches at most 40,001 bytes past the end of
--- the first event that isn't done by what was printed. Where the source failed, every event is done
+-- the first event that isn't done by what was printed. If the source failed, every event is done
 -- whose line was taken with its line feed.
 pub record TakesAhead (exit : Exit) (script left : List ℕ) (before now : Told) : Type 0 where
   pub taken : List ℕ

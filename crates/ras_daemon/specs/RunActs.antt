@@ -36,7 +36,7 @@ AreDoneAlong start (place ∷ places) t acts =
     (here : List Act) × (rest : List Act) × (acts ≡ here ++ rest)
     × (CanAsk (event_at place) t × AreLineActs start place t here) × AreDoneAlong start places (after_acts here t) rest
 
--- the print of the orders that stand at the start, and of the last line behind these lines
+-- the print of the orders that stand at the start, and of the last line after these lines
 abbrev pub orders_acts : Start → List Act
 orders_acts start = print_acts (standing_lines start.account)
 
@@ -114,7 +114,7 @@ abbrev pub DidRun : Start → List ℕ → CallEnding → Told → Told → Type
 DidRun start script answered old now = DidAll start script old now
 DidRun start script ending old now = (acts : List Act) × AreRunActs start script old acts × DidOf acts ending old now
 
--- what is told lists the accesses of the run's acts behind those before it, and no others
+-- what is told lists the accesses of the run's acts after those before it, and no others
 pub record ListsAccesses (start : Start) (script : List ℕ) (old now : Told) : Type 0 where
   pub acts : List Act
   pub are : AreRunActs start script old acts

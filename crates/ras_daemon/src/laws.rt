@@ -26,7 +26,7 @@ ghost use Rattle.ras_daemon.specs.Script.{reads_in};
 
 /// The laws of runs on one journal. The function does nothing: its clauses are what it is for.
 pub fn run_laws()
-    // What a run prints and how it ends needs of what was before it the account alone, where the
+    // What a run prints and how it ends needs of what was before it the account alone, if the
     // journal stands, the record store, and how slow the store's device is.
     ensures output { (one other : Start) (script : List ℕ) → one.account ≡ other.account
         → one.standing ≡ other.standing → one.store ≡ other.store → one.slow ≡ other.slow
@@ -65,8 +65,8 @@ pub fn run_laws()
         → names_of (logged next script n) ≡ [] }
 
     // And a script that is run again after a stop at any of its events ends with the account with
-    // which it ends where it isn't stopped, but for the number of entries, since limits are set
-    // again. Where it reports facts alone that number is the same too.
+    // which it ends if it isn't stopped, but for the number of entries, since limits are set
+    // again. If it reports facts alone that number is the same too.
     ensures resumed { (history : History) (start next : Start) (script : List ℕ) (n : ℕ)
         → PollsNothing script → BeginsWith history start → IsTakenWhole start script
         → Follows start script n next → IsTakenWhole next script

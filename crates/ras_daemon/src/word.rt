@@ -49,7 +49,7 @@ pub enum Task {
     Run,
     /// List what the journal's files hold.
     Report(Listing),
-    /// Take a script that is made up of so many reports, in memory, and sum up its account.
+    /// Take a made-up script of this many reports, in memory, and sum up its account.
     Load(u64),
     /// Print the PCI Express sections of a script's records and blocks.
     Pcie,

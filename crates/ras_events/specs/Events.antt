@@ -94,7 +94,7 @@ abbrev pub has_source : Option Sources → ℕ → Bool
 has_source sources id = option_map_or (λ listed. is_some (type_with_id id listed)) sources false
 
 -- A report. A status block has to come from a source that is known. Of a region of boot errors the
--- block stands in as many bytes as its table says, or in all where there are fewer.
+-- block stands in as many bytes as its table says, or in all if there are fewer.
 abbrev pub report_event : Settings → ErrorReport → Result Event LineRefusal
 report_event settings (Bank bank) = Ok (counts_report (bank_report bank settings.topology))
 report_event settings (Block boot seconds source number bytes) =
@@ -118,12 +118,12 @@ event_of settings (asks.Poll seconds) = with_table settings.driver (Polled secon
 event_of settings asks.Restart = Ok Reopened
 event_of settings asks.Nothing = Ok Nothing
 
--- the settings with the sources of a table, where it reads
+-- the settings with the sources of a table, if it reads
 abbrev pub with_sources : Settings → {E : Type 0} → Result Sources E → Settings
 with_sources settings (Ok sources) = record settings { sources = Some sources }
 with_sources settings (Err why) = settings
 
--- the lists of a table, where it reads and is admitted, and the settings with them
+-- the lists of a table, if it reads and is admitted, and the settings with them
 abbrev pub admitted_in : {E : Type 0} → Result Lists E → Option Lists
 admitted_in (Ok lists) = if is_admitted lists then Some lists else None
 admitted_in (Err why) = None

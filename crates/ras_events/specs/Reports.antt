@@ -75,7 +75,7 @@ made_in rows store (Ok (Counted made)) = made
 made_in rows store (Ok (Polled seconds)) = polled rows seconds store
 made_in rows store event = []
 
--- what a line makes at its place, where the record store was this one before the first line
+-- what a line makes at its place, if the record store was this one before the first line
 abbrev pub pieces_at : List Stored → Place → List Piece
 pieces_at store place = made_in (settings_told place.0).topology (laid store place.0) (event_at place)
 

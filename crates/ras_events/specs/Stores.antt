@@ -67,7 +67,7 @@ found_after id found (number, Err why) = found
 abbrev pub last_laid : List Stored → List NumberedLine → ℕ → Option (List ℕ)
 last_laid store lines id = fold (found_after id) (bytes_under id store) lines
 
--- a store less its first so many records that can be read
+-- a store less the first n of its records that can be read
 abbrev pub without_first : ℕ → List Stored → List Stored
 without_first zero store = store
 without_first (suc n) [] = []

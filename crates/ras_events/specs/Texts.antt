@@ -17,7 +17,7 @@ use Rattle.ras_events.specs.declared.made.Piece.{Piece}
 use Rattle.ras_events.specs.declared.made.Piece.TheVariants.{Counted, Unread}
 use Rattle.ras_events.specs.Making.{entries_in}
 
--- the lines of a piece behind a history: of an entry those of news, or the one of what isn't news;
+-- the lines of a piece after a history: of an entry those of news, or the one of what isn't news;
 -- of a record that can't be read its own line
 abbrev pub piece_text : History → Piece → List ℕ
 piece_text history (Counted entry details) =
@@ -26,12 +26,12 @@ piece_text history (Counted entry details) =
     else repeat_line (account_of history) entry
 piece_text history (Unread id why) = unreadable_line id why
 
--- the lines of pieces, each behind the history with the entries of those before it
+-- the lines of pieces, each after the history with the entries of those before it
 abbrev pub pieces_text : History → List Piece → List ℕ
 pieces_text history pieces =
     flat_map (λ p. piece_text (with_entries history (entries_in p.0)) p.1) (places pieces)
 
--- the orders that entries give, each behind the history with those before it
+-- the orders that entries give, each after the history with those before it
 abbrev pub orders_of_entries : History → List Entry → List Order
 orders_of_entries history entries =
     flat_map (λ p. orders_behind (with_entries history p.0) p.1) (places entries)

@@ -60,8 +60,8 @@ pub(crate) fn text_and_news(
     Ok(TextAndNews { text, news })
 }
 
-// Adds the lines of an entry, behind those of the earlier ones of its event: all that is told of it
-// if it is news, and else that it was told before. News go behind the earlier news.
+// Adds the lines of an entry, after those of the earlier ones of its event: all that is told of it
+// if it is news, and else that it was told before. News go after the earlier news.
 fn push_counted(
     alloc: Global,
     account: &Account,
@@ -82,7 +82,7 @@ fn push_counted(
     Ok(())
 }
 
-// Whether an entry is news behind the earlier news of its event: it is fresh in the account, and
+// Whether an entry is news after the earlier news of its event: it is fresh in the account, and
 // none of them has its name.
 fn is_news(account: &Account, news: &[Entry], entry: &Entry) -> bool
     ensures { result ≡ is_news_beside account.now.state news.now entry.now }

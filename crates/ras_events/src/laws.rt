@@ -73,7 +73,7 @@ pub fn report_laws()
         → settings_told (before ++ (number, Ok line) ∷ [])
         ≡ settings_after (settings_told before) line }
 
-    // Lines report what the first ones of them report, and then what the others report where these
+    // Lines report what the first ones of them report, and then what the others report if these
     // stand before them.
     ensures cut { (store : List Stored) (first others : List NumberedLine)
         → reports store (first ++ others)

@@ -77,7 +77,7 @@ impl Made {
         Ok(made)
     }
 
-    /// Puts the piece of a report behind the others: its fact, and what is told of its items.
+    /// Puts the piece of a report after the others: its fact, and what is told of its items.
     ///
     /// # Errors
     ///
@@ -92,7 +92,7 @@ impl Made {
         })
     }
 
-    /// Puts a record of the store that can't be read behind the other pieces.
+    /// Puts a record of the store that can't be read after the other pieces.
     ///
     /// # Errors
     ///
@@ -110,7 +110,7 @@ impl Made {
         self.pieces
     }
 
-    // Puts a piece behind the others.
+    // Puts a piece after the others.
     fn push(&mut self, piece: Piece) -> Result<(), NoMemory>
         ensures { OnOk result (self.new ≡ self.old ++ piece ∷ []) }
     {

@@ -70,7 +70,7 @@ impl From<NoMemory> for PrepareRefused {
 ///
 /// # Errors
 ///
-/// `Full` comes exactly where the account has no room for all that is news of the entries, and
+/// `Full` comes exactly if the account has no room for all that is news of the entries, and
 /// `NoMemory` only if memory runs out.
 pub fn prepare(
     alloc: Global,
@@ -134,7 +134,7 @@ fn orders_len(entries: &[Entry]) -> usize
     total
 }
 
-// The news that entries are, if there are some: with their link, and room for so many orders.
+// The new entries with their encoded link and room for `orders` orders; none if there are none.
 fn link_news(alloc: Global, entries: Vec<Entry>, orders: usize) -> Result<Option<News>, NoMemory>
     requires few { length entries.items ≤ MOST_LINK_ENTRIES }
     requires valid { All IsValidEntry entries.items }
@@ -173,7 +173,7 @@ pub fn count(news: News, text: &mut Vec<u8>, account: &mut Account)
     push_orders(text, &orders, account);
 }
 
-// Counts entries in turn, and puts the orders that they give behind others.
+// Counts entries in turn, and puts the orders that they give after others.
 fn take_all(entries: Vec<Entry>, orders: &mut Orders, account: &mut Account)
     requires { CanTakeAll account.old orders.old entries.items }
     ensures state { account.new.state ≡ account_after_all account.old.state entries.items }

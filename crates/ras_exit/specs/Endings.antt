@@ -38,7 +38,7 @@ IsAnswer exit = is_answer exit ≡ true
 abbrev pub IsCut : Exit → Type 0
 IsCut exit = is_answer exit ≡ false
 
--- An exit that ends a run among its lines, and one that ends it at a line, where the source isn't
+-- An exit that ends a run among its lines, and one that ends it at a line, if the source isn't
 -- read. A status that the device answers is told only if it isn't 0.
 abbrev pub IsLineExit : Exit → Type 0
 IsLineExit Done = ⊥

@@ -51,7 +51,7 @@ bank_item bank rows class = record {
   weight = weight_of (cap_in bank) (status_in bank);
 }
 
--- the fact of a snapshot, where the bank holds an error: it has the one item
+-- the fact of a snapshot, if the bank holds an error: it has the one item
 abbrev pub bank_fact : BankReport → List Row → Option Fact
 bank_fact bank rows =
     option_map (λ class. record { name = bank_name bank; seconds = bank.seconds; items = bank_item bank rows class ∷ [] })

@@ -4,7 +4,7 @@ use Rattle.std.specs.Option.{option_map_or}
 use Rattle.ras_facts.specs.declared.name.Name.{Name}
 use Rattle.ras_facts.specs.declared.name.Name.TheVariants.{Bank, Record, Block, Boot}
 
--- two names are the same where they are of one kind and all their fields are the same
+-- two names are the same if they are of one kind and all their fields are the same
 abbrev pub same_name : Name → Name → Bool
 same_name (Bank boot cpu bank tsc) (Bank boot' cpu' bank' tsc') =
     (boot == boot') && ((cpu == cpu') && ((bank == bank') && (tsc == tsc')))

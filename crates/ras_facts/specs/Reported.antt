@@ -65,7 +65,7 @@ record_fact rows seconds bytes = record {
 abbrev pub entry_item : List Row → List ℕ → Item
 entry_item rows entry = section_item rows (entry_severity entry) (section_of (entry_guid entry) (entry_data entry))
 
--- the fact of a status block of this name that was read at this time, where its status isn't 0
+-- the fact of a status block of this name that was read at this time, if its status isn't 0
 abbrev pub block_fact : List Row → Name → ℕ → BlockParts → Option Fact
 block_fact rows name seconds block =
     if block.status == 0 then None

@@ -86,7 +86,7 @@ impl BankReport {
 }
 
 /// The name of the fact that a bank's snapshot gives, whatever the topology is. It is None exactly
-/// where the bank holds no error, and takes no memory.
+/// if the bank holds no error, and takes no memory.
 pub fn name_of_bank(bank: BankReport) -> Option<Name>
     ensures name { (rows : List Row)
         → result ≡ option_map (λ fact. fact.name) (bank_fact bank rows) }
@@ -102,7 +102,7 @@ pub fn name_of_bank(bank: BankReport) -> Option<Name>
 }
 
 /// The fact that a bank's snapshot gives: one item with the class, the owner by the topology, the
-/// usable page and the weight of the error. It is None exactly where the bank holds no error (VAL
+/// usable page and the weight of the error. It is None exactly if the bank holds no error (VAL
 /// is 0), which takes no memory. (Intel SDM, volume 3, chapter "Machine-Check Architecture".)
 pub fn fact_of_bank(
     alloc: Global,

@@ -13,7 +13,7 @@ use ras_base::NoMemory;
 use std::alloc::Global;
 
 /// The fact that a status block gives, read at this time and named so: an item for each entry in
-/// order, as `fact_of_record` gives one for each section. It is None exactly where the block status
+/// order, as `fact_of_record` gives one for each section. It is None exactly if the block status
 /// is 0, which takes no memory. (ACPI 6.5, section 18.3.2.7.1, "Generic Error Data".)
 pub fn fact_of_block(
     alloc: Global,

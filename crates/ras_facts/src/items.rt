@@ -55,7 +55,7 @@ impl Items {
         }
     }
 
-    /// Puts an item behind the others. Where memory runs out the list stays, and the item is given
+    /// Puts an item after the others. If memory runs out the list stays, and the item is given
     /// up.
     pub fn push(&mut self, item: Item) -> Result<(), NoMemory>
         ensures ok { OnOk result (self.new ≡ self.old ++ item ∷ []) }

@@ -118,7 +118,7 @@ impl Files {
         }
     }
 
-    // OpensFile a file if it isn't open. One that is only to be read may be missing.
+    // Opens a file if it isn't open. One that is only to be read may be missing.
     fn open(&mut self, file: FileNo) -> io::Result<()>
         ensures { OnOk result (OpensFile file self.old self.new) }
     {

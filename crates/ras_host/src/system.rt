@@ -26,7 +26,7 @@ const MOST_READINGS: u32 = 1000;
 // What is to be the store's file, until all of it is on the disk.
 const NEW_STORE: &str = "rasd.new";
 
-/// Opens a journal file: to be read alone, where it may be missing, or for reads and writes, which
+/// Opens a journal file: to be read alone, when it may be missing, or for reads and writes, which
 /// makes it and takes a lock that keeps other runs away. Its name is made durable, since the run
 /// that made it may have ended before it could.
 pub fn open(rt: &HostRuntime, name: &str, is_writing: bool) -> io::Result<Option<File>>
@@ -63,7 +63,7 @@ pub fn read_at(file: &File, place: u64, buf: &mut [u8]) -> io::Result<usize>
 /// The bytes of two journal files at one moment, though a run may be at work on them; of each at most
 /// `longest` and one more, and none if it is missing.
 ///
-/// A run writes behind a file's closed gate, and opens that gate only once all behind it is
+/// A run writes after a file's closed gate, and opens that gate only once all after it is
 /// written. So a file that is read from its first byte to its last holds whole links up to a closed
 /// gate, unless the run switched to it meanwhile. That closes the gate at its front first, and
 /// gives it another generation: then both files are read again.

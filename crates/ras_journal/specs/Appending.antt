@@ -56,7 +56,7 @@ MovesOn (Ok done) next old new = new ≡ record { standing = next; failed = fals
 MovesOn (Err Full) next old new = new ≡ old
 MovesOn (Err Disk) next old new = new ≡ record old { failed = true }
 
--- Full comes exactly where the file would be too long.
+-- Full comes exactly if the file would be too long.
 abbrev pub IsFullBy : Result (Unit {0}) AppendRefused → ℕ → Type 0
 IsFullBy (Err Full) count = LONGEST_FILE < count
 IsFullBy result count = count ≤ LONGEST_FILE

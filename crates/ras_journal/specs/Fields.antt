@@ -13,7 +13,7 @@ use Rattle.entry_format.specs.declared.version.Version.TheVariants.{One, Two}
 use Rattle.journal_format.specs.PayloadReading.{payload_of}
 use Rattle.ras_journal.specs.declared.limits.TheConstants.{LAST_GENERATION, OPEN_GATE}
 
--- so many bytes of a file from a place on, where the file's end doesn't cut them
+-- n bytes of a file from a place on, if the file's end doesn't cut them
 unfoldable pub part : ℕ → ℕ → List ℕ → Option (List ℕ)
 part place count file =
     if nat_le (place + count) (length file) then Some (take count (drop place file)) else None
@@ -22,7 +22,7 @@ abbrev pub some_or : {A E : Type 0} → E → Option A → Result A E
 some_or why None = Err why
 some_or why (Some x) = Ok x
 
--- The field of so many bytes at a place. Where the file's end cuts it, or nothing can be made of
+-- The field of n bytes at a place. If the file's end cuts it, or nothing can be made of
 -- its bytes, the file is damaged at its place.
 unfoldable pub field : {A : Type 0} → (List ℕ → Option A) → ℕ → ℕ → List ℕ → Result A ℕ
 field make place count file = some_or place (option_and_then make (part place count file))
@@ -36,7 +36,7 @@ version_of bytes =
     else if pointwise nat_eq bytes (codes "RASJRNL2") then Some Two
     else None
 
--- a number of so many bytes
+-- a number of n bytes
 abbrev pub number_of : ℕ → List ℕ → Option ℕ
 number_of width bytes = Some (number_at 0 width bytes)
 

@@ -22,7 +22,7 @@ use Rattle.journal_format.specs.CheckpointReading.{checkpoint_of}
 use Rattle.ras_journal.specs.declared.limits.TheConstants.{OPEN_GATE}
 use Rattle.ras_journal.specs.Fields.{field, version_of, number_of, generation_of, is_open_of, entries_by}
 
--- a file stands where it is longer than 1 byte and its byte 0 is an open gate
+-- a file stands if it is longer than 1 byte and its byte 0 is an open gate
 abbrev pub has_open_gate : List ℕ → Bool
 has_open_gate file = nat_lt 1 (length file) && nat_eq (slice_index file 0) OPEN_GATE
 
@@ -35,7 +35,7 @@ pub record FileFront : Type 0 where
   pub links : ℕ
   pub account : State
 
--- the front up to the first gate of the chain, where the other file may have taken a generation
+-- the front up to the first gate of the chain, if the other file may have taken a generation
 unfoldable pub first_front : Option ℕ → List ℕ → Result FileFront ℕ
 first_front taken file = do
   version ← field version_of 1 8 file
@@ -44,7 +44,7 @@ first_front taken file = do
   account ← field (checkpoint_of version) 25 count file
   Ok (record { version = version; generation = generation; gate = 25 + count; links = 0; account = account })
 
--- a front with a link of so many bytes of payload more
+-- a front with one link more, whose payload has this length
 abbrev pub with_link : FileFront → ℕ → List Entry → FileFront
 with_link front count entries = record front {
   gate = front.gate + 5 + count;
@@ -52,27 +52,27 @@ with_link front count entries = record front {
   account = account_after_all front.account entries;
 }
 
--- the front up to the next gate, behind the link of an open gate
+-- the front up to the next gate, after the link of an open gate
 abbrev pub front_behind_link : FileFront → List ℕ → Result FileFront ℕ
 front_behind_link front file = do
   count ← field (number_of 4) (front.gate + 1) 4 file
   entries ← field (entries_by front.version front.account) (front.gate + 5) count file
   Ok (with_link front count entries)
 
--- the same where the gate is open, and none where it is closed
+-- the same if the gate is open, and none if it is closed
 unfoldable pub next_front : FileFront → List ℕ → Result (Option FileFront) ℕ
 next_front front file = do
   is_open ← field is_open_of front.gate 1 file
   if is_open then (front_behind_link front file >>= λ next. Ok (Some next)) else Ok None
 
--- The front up to the closed gate, over at most so many links. A file has fewer links than bytes.
+-- The front up to the closed gate, over at most n links. A file has fewer links than bytes.
 unfoldable pub whole_front : ℕ → FileFront → List ℕ → Result FileFront ℕ
 whole_front zero front file = Err front.gate
 whole_front (suc most) front file = do
   next ← next_front front file
   elim next [ None ↦ Ok front | Some longer ↦ whole_front most longer file ]
 
--- All that counts of a file, or none where the file doesn't stand; or else the place at which it is
+-- All that counts of a file, or none if the file doesn't stand; or else the place at which it is
 -- damaged.
 unfoldable pub front_of : Option ℕ → List ℕ → Result (Option FileFront) ℕ
 front_of taken file =

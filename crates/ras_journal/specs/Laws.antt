@@ -18,7 +18,7 @@ abbrev pub magic : Version → List ℕ
 magic One = codes "RASJRNL1"
 magic Two = codes "RASJRNL2"
 
--- a file is read up to this front, where the other file may have taken a generation; or it is
+-- a file is read up to this front, if the other file may have taken a generation; or it is
 -- damaged at a place
 abbrev pub IsRead : Option ℕ → List ℕ → FileFront → Type 0
 IsRead taken file front = front_of taken file ≡ Ok (Some front)

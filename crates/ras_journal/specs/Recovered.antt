@@ -40,7 +40,7 @@ generation_in front = option_map (λ (f : FileFront). f.generation) front
 abbrev pub is_file_too_long : List ℕ → Bool
 is_file_too_long file = nat_lt LONGEST_FILE (length file)
 
--- File 0 is tried before file 1. Where both stand, file 1 is damaged at its generation if that is
+-- File 0 is tried before file 1. If both stand, file 1 is damaged at its generation if that is
 -- file 0's. Damage counts also in the file with the lesser generation.
 unfoldable pub journal_of : List ℕ → List ℕ → Result (Option JournalFile) Refusal
 journal_of file0 file1 =
@@ -49,7 +49,7 @@ journal_of file0 file1 =
       one ← in_file One (front_of (generation_in zero) file1)
       Ok (greater zero one))
 
--- the account of a journal, the empty one where there is none
+-- the account of a journal, the empty one if there is none
 abbrev pub account_of_journal : Option JournalFile → State
 account_of_journal None = account_of empty
 account_of_journal (Some journal) = account_by journal.front.version journal.front.account
@@ -84,7 +84,7 @@ standing_of file0 file1 journal = record {
   shut = is_shut (other_of journal.file file0 file1);
 }
 
--- where the journal of two files stands, or none where no file stands or one is refused
+-- where the journal of two files stands, or none if no file stands or one is refused
 abbrev pub standing_in : List ℕ → List ℕ → Result (Option JournalFile) Refusal → Option Standing
 standing_in file0 file1 (Ok journal) = option_map (standing_of file0 file1) journal
 standing_in file0 file1 (Err why) = None

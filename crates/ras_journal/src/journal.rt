@@ -78,8 +78,8 @@ impl Journal {
     ///
     /// # Errors
     ///
-    /// `Full` comes exactly where the file would be longer than 67,108,864 bytes; then nothing was
-    /// called, and the journal is as before. `Disk` comes only where a disk call failed; then the
+    /// `Full` comes exactly if the file would be longer than 67,108,864 bytes; then nothing was
+    /// called, and the journal is as before. `Disk` comes only if a disk call failed; then the
     /// journal has failed. What stops leave of an append stands at [`crate::append_laws`].
     pub fn append<B: Board>(&mut self, link: &Link, board: &mut B) -> Result<(), AppendRefused>
         requires usable { self.old.failed ≡ false }
@@ -107,7 +107,7 @@ impl Journal {
     }
 }
 
-// Whether a file would be too long that has a closed gate there, and behind it these bytes.
+// Whether writing these bytes after the gate would make the file too long.
 fn is_too_long(gate: u64, bytes: &[u8]) -> bool
     ensures { result ≡ nat_lt LONGEST_FILE (gate + 1 + length bytes.now) }
 {

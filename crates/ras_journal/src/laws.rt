@@ -33,7 +33,7 @@ pub fn file_laws()
         → IsRead taken file front → take (front.gate + 1) other ≡ take (front.gate + 1) file
         → IsRead taken other front }
 
-    // Where the gate is opened on a link that a closed gate follows, the link is read too.
+    // If the gate is opened on a link that a closed gate follows, the link is read too.
     ensures one_link_more { (taken : Option ℕ) (file : List ℕ) (front : FileFront)
         (entries : List Entry) (gate : ℕ) (rest : List ℕ)
         → IsRead taken file front → CanFollow front entries → gate ≢ OPEN_GATE

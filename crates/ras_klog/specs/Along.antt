@@ -25,7 +25,7 @@ stage_over stage (line ∷ lines) = stage_over (stage_after stage (klog_line_of 
 abbrev pub rest_along : Stage → List (List ℕ) → List ℕ
 rest_along stage lines = out_text (out_at_end (stage_over stage lines))
 
--- the last line, after so many log lines and partial ones
+-- the last line, after these numbers of log lines and partial ones
 abbrev pub last_along : ℕ → ℕ → Stage → ℕ → ℕ → List (List ℕ) → List ℕ
 last_along boot cap stage reports partial lines =
     let outs = outs_to_end boot cap stage (map klog_line_of lines) in

@@ -1,4 +1,4 @@
--- How a link is kept in the journal, which is first switched to its other file where that is due;
+-- How a link is kept in the journal, which is first switched to its other file if that is due;
 -- and what stops leave of it at every moment.
 use Rattle.std.specs.Prelude.{◌≡◌, ◌⊎◌, Bool, true, false, ◌&&◌, IsTrue, if◌then◌else◌, List, [], ◌++◌, ℕ, Option, IfSome, Result, Ok, Err}
 use Rattle.board_core.specs.Cause.{disk_call}
@@ -76,7 +76,7 @@ pub record Keeping (account : State) (entries : List Entry) (here left : Left) :
   pub recovers : Recovers account left ⊎ Recovers (account_after_all account entries) left
   pub beside : SameBeside here left
 
--- Full comes exactly where a switch is due and has no room.
+-- Full comes exactly if a switch is due and has no room.
 abbrev pub IsFullBy : Result (Unit {0}) KeepRefused → Bool → Type 0
 IsFullBy (Err Full) lacks = IsTrue lacks
 IsFullBy result lacks = ¬ IsTrue lacks

@@ -26,7 +26,7 @@ pub struct Ledger {
 }
 
 impl Ledger {
-    /// KeepsLedger a link in the journal, which is first switched to its other file where that is due.
+    /// Keeps a link in the journal, which is first switched to its other file if that is due.
     /// What the account counts stays: the link's entries are taken afterwards, with no memory. It
     /// needs a journal that hasn't failed and that is what the files hold.
     ///
@@ -36,8 +36,8 @@ impl Ledger {
     ///
     /// # Errors
     ///
-    /// `Full` comes exactly where a switch is due and has no room; `NoMemory` where memory for the
-    /// switch runs out. In both cases nothing was called. `Disk` comes only where a disk call
+    /// `Full` comes exactly if a switch is due and has no room; `NoMemory` if memory for the
+    /// switch runs out. In both cases nothing was called. `Disk` comes only if a disk call
     /// failed; then the journal has failed.
     pub fn keep<B: Board>(
         &mut self,
@@ -64,7 +64,7 @@ impl Ledger {
         self.append(link, board)
     }
 
-    // Switches the journal to its other file, where that is due before this link.
+    // Switches the journal to its other file, if that is due before this link.
     fn make_room<B: Board>(
         &mut self,
         alloc: Global,

@@ -46,7 +46,7 @@ impl Looked {
         }
     }
 
-    // Puts behind the others what stands in a buffer that was read under an identifier.
+    // Appends the record in the buffer: its report, or why it can't be read.
     fn push(
         &mut self,
         alloc: Global,

@@ -30,7 +30,7 @@ pub record Calls (Are : List DiskCall → Type 0) (old new : Told) : Type 0 wher
   pub is : new ≡ with_calls made old
   pub are : Are made
 
--- The disk calls that were made are such: they are listed behind those made before.
+-- The disk calls that were made are such: they are listed after those made before.
 pub record Makes (Are : List DiskCall → Type 0) (old new : Told) : Type 0 where
   pub made : List DiskCall
   pub listed : new.disk_calls ≡ old.disk_calls ++ made

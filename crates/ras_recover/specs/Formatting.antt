@@ -1,8 +1,8 @@
 -- Formatting: a new generation of the journal is written over a file.
 --
--- Where the file stands, or is of at most one byte, the gate at its front is first closed and
--- synced. Then all behind that gate is written and synced, up to and with the first closed gate of
--- the chain. Then the gate at the front is opened and synced. What a longer file had behind that
+-- If the file stands, or is of at most one byte, the gate at its front is first closed and
+-- synced. Then all after that gate is written and synced, up to and with the first closed gate of
+-- the chain. Then the gate at the front is opened and synced. What a longer file had after that
 -- closed gate stays there, and doesn't count.
 use Rattle.std.specs.Prelude.{ℕ, Bool, true, false, List, [], ◌∷◌, ◌++◌, length}
 use Rattle.ras_base.specs.LittleEndian.{u64_bytes}
@@ -13,7 +13,7 @@ use Rattle.entry_format.specs.declared.version.Version.TheVariants.{Two}
 use Rattle.ras_journal.specs.declared.limits.TheConstants.{OPEN_GATE, CLOSED_GATE}
 use Rattle.ras_journal.specs.Laws.{magic}
 
--- what is written behind the gate at the front: the magic of version 2, the generation, the number
+-- what is written after the gate at the front: the magic of version 2, the generation, the number
 -- of the checkpoint's bytes, the checkpoint, and a closed gate
 abbrev pub behind_gate : ℕ → List ℕ → List ℕ
 behind_gate generation checkpoint =

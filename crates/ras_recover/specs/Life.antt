@@ -58,7 +58,7 @@ pub record RecoversBehind (account : State) (life : Life) (left : Left) : Type 0
   pub continues : Continues account life now
   pub recovers : Recovers now left
 
--- a history with the entries of links behind it
+-- a history with the entries of links after it
 abbrev pub with_links : History → List (List Entry) → History
 with_links history links = fold with_entries history links
 

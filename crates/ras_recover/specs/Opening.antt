@@ -63,6 +63,6 @@ first_standing file1 = record {
   shut = is_shut file1;
 }
 
--- the position of the two files, or where no file stands the first generation
+-- the position of the two files, or if no file stands the first generation
 abbrev pub standing_opened : List ℕ → List ℕ → Standing
 standing_opened file0 file1 = unwrap_or (position_of file0 file1) (first_standing file1)

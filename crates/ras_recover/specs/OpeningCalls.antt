@@ -20,7 +20,7 @@ pub record IsRecovery (calls : List DiskCall) : Type 0 where
   pub is : calls ≡ Sync Zero ∷ Sync One ∷ reading
   pub alone : All IsReading reading
 
--- Where a file stands, each of its places from 0 up to and with its closed gate lies in the range
+-- If a file stands, each of its places from 0 up to and with its closed gate lies in the range
 -- of one of these reads, whatever generation the other file has taken.
 abbrev pub ReadsStanding : FileNo → List ℕ → List DiskCall → Type 0
 ReadsStanding file bytes calls =
@@ -64,7 +64,7 @@ pub record AfterRecovery (old new : Told) : Type 0 where
   pub accesses : new.accesses ≡ old.accesses
   pub calls : Makes (IsBeginning IsRecovery) old new
 
--- after an opening: the same, but only where no file stands file 0 may have changed
+-- after an opening: the same, but only if no file stands file 0 may have changed
 pub record AfterOpening (old new : Told) : Type 0 where
   pub file0 : (new.here.file0 ≡ old.here.file0) ⊎ HoldsNone (account_of empty) old.here
   pub file1 : new.here.file1 ≡ old.here.file1

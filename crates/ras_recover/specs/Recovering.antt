@@ -50,7 +50,7 @@ pub record RestsHere (here : Left) (told : Option Told) (clock : Clock) : Type 0
   pub same : there.here ≡ here
   pub rests : Rests there told clock
 
--- what holds where no disk call failed
+-- what holds if no disk call failed
 abbrev pub UnlessDisk : {T : Type 0} → Result T OpenRefused → Type 0 → Type 0
 UnlessDisk (Err Disk) P = Unit {0}
 UnlessDisk result P = P

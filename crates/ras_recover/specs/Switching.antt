@@ -16,7 +16,7 @@ use Rattle.ras_recover.specs.declared.refused.SwitchRefused.{SwitchRefused}
 use Rattle.ras_recover.specs.declared.refused.SwitchRefused.TheVariants.{Full, Disk, NoMemory}
 use Rattle.ras_recover.specs.Formatting.{behind_gate, formatting_acts}
 
--- where the journal stands once it is switched: in the other file, with the next generation, behind
+-- where the journal stands once it is switched: in the other file, with the next generation, after
 -- the checkpoint of the account, with no link
 abbrev pub switched : Standing → State → Standing
 switched standing account = record {
@@ -28,7 +28,7 @@ switched standing account = record {
   shut = false;
 }
 
--- what is written behind the gate at the front of the other file
+-- what is written after the gate at the front of the other file
 abbrev pub next_bytes : Standing → State → List ℕ
 next_bytes standing account = behind_gate (standing.generation + 1) (checkpoint_bytes Two account)
 
@@ -39,14 +39,14 @@ switch_acts standing account = formatting_acts (other standing.file) standing.sh
 abbrev pub after_switch : Standing → State → Told → Told
 after_switch standing account t = after_acts (switch_acts standing account) t
 
--- There is no room for a switch where the last generation is reached, or the other file with this
+-- There is no room for a switch if the last generation is reached, or the other file with this
 -- link would be too long.
 abbrev pub has_no_room : Standing → State → List ℕ → Bool
 has_no_room standing account link =
     nat_le LAST_GENERATION standing.generation
     || nat_lt LONGEST_FILE (length_with (switched standing account) link)
 
--- Full comes exactly where there is no room.
+-- Full comes exactly if there is no room.
 abbrev pub IsFullBy : Result (Unit {0}) SwitchRefused → Bool → Type 0
 IsFullBy (Err Full) lacks = IsTrue lacks
 IsFullBy result lacks = ¬ IsTrue lacks

@@ -13,7 +13,7 @@ use ras_base::little_endian::{u32_at, u64_at};
 use ras_journal::{LAST_GENERATION, OPEN_GATE};
 use std::alloc::Global;
 
-// So many bytes of a file from a place on, where the file's end doesn't cut them.
+// `count` bytes of a file from a place on, if the file's end doesn't cut them.
 #[tactic(auto, unfolding(ras_journal::specs::Fields::part))]
 pub(crate) fn part<'a>(place: usize, count: u64, file: &'a [u8]) -> Option<&'a [u8]>
     ensures some { IfSome result (λ bytes. part place count file.now ≡ Some bytes.now) }
@@ -55,7 +55,7 @@ pub(crate) fn version_at(file: &[u8]) -> Result<Version, usize>
     }
 }
 
-// The generation, where it is one and the other file hasn't taken it.
+// The generation, if it is one and the other file hasn't taken it.
 #[tactic(auto, unfolding(ras_journal::specs::Fields::field))]
 pub(crate) fn generation_at(taken: Option<u64>, file: &[u8]) -> Result<u64, usize>
     ensures { result ≡ field (generation_of taken) 9 8 file.now }
@@ -107,7 +107,7 @@ pub(crate) fn payload_count_at(place: usize, file: &[u8]) -> Result<u64, usize>
     }
 }
 
-// The account of the checkpoint of so many bytes. Nothing waits in it.
+// Decodes the account from a checkpoint of `count` bytes; nothing is pending.
 pub(crate) fn checkpoint_at(
     alloc: Global,
     version: Version,

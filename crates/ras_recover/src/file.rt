@@ -68,7 +68,7 @@ pub(crate) fn first_place(
     }
 }
 
-// How many bytes a file takes up to the end of its checkpoint, where it stands and tells.
+// How many bytes a file takes up to the end of its checkpoint, if it stands and tells.
 pub(crate) fn front_len(file: &[u8]) -> Option<usize>
     ensures some { IfSome result (λ n. (count : ℕ)
         → field (number_of 8) 17 8 file.now ≡ Ok count → n ≡ min (2 ^ 64 - 1) (25 + count)) }

@@ -23,7 +23,7 @@ const MAGIC: &[u8; 8] = b"RASJRNL2";
 /// checkpoint's bytes, and the closed gate.
 const BYTES_BESIDE_CHECKPOINT: usize = 25;
 
-// What is written behind the gate at the front of a file.
+// What is written after the gate at the front of a file.
 fn bytes_behind_gate(alloc: Global, generation: u64, checkpoint: &[u8]) -> Result<Vec<u8>, NoMemory>
     ensures { IfOk result (λ bytes. bytes.items ≡ behind_gate generation checkpoint.now) }
 {
@@ -52,7 +52,7 @@ pub(crate) fn next_bytes(
     bytes_behind_gate(alloc, generation, &checkpoint)
 }
 
-// Closes the gate at the front of a file and syncs it, where the file isn't shut already.
+// Closes the gate at the front of a file and syncs it, if the file isn't shut already.
 fn close_gate<B: Board>(file: FileNo, shut: bool, board: &mut B) -> Result<(), Failed>
     ensures does { Does (looks B.told B.clock B.faults) (closing_acts file shut)
         (one_end disk_call result) board.old board.new }
@@ -63,7 +63,7 @@ fn close_gate<B: Board>(file: FileNo, shut: bool, board: &mut B) -> Result<(), F
     write_through(file, 0, &[CLOSED_GATE], board)
 }
 
-// Writes these bytes behind the gate at the front of a file, so that the gate is closed until they
+// Writes these bytes after the gate at the front of a file, so that the gate is closed until they
 // are synced, and opens it then: four or six disk calls.
 pub(crate) fn format_file<B: Board>(
     file: FileNo,

@@ -79,7 +79,7 @@ pub fn opening_laws<B: Board>()
 /// [`crate::live_append`], [`crate::live_switch`] and [`crate::live_opening`].
 pub fn life_laws<B: Board>()
     // Whatever a stop leaves at any moment of a call, the files give the account continued by the
-    // links of all appends that were answered `Ok` before. Where the call is an append, its link
+    // links of all appends that were answered `Ok` before. If the call is an append, its link
     // counts or doesn't. So the files are never damaged.
     ensures in_a_call { (account : State) (life : Life) (call : JournalCall)
         (first last : Site B) (board : B) (left : Left)
@@ -101,12 +101,12 @@ pub fn life_laws<B: Board>()
         → Continues account life now }
 
     // The account of a history, continued by links, is that of the history with the entries of the
-    // links behind it.
+    // links after it.
     ensures histories { (history : History) (links : List (List Entry))
         → account_after_links (account_of history) links
         ≡ account_of (with_links history links) }
 
-    // A file of version 1 alone gives its account with a mark behind it. So what is said above
+    // A file of version 1 alone gives its account with a mark after it. So what is said above
     // begins there too: an append needs version 2, and so the journal is switched first.
     ensures first_version { (file0 file1 : List ℕ) (front : FileFront)
         → IsShort file0 → IsShort file1

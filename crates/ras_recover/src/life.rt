@@ -67,7 +67,7 @@ pub fn live_switch<B: Board>(
     switch_file(alloc, account, journal, link, board)
 }
 
-/// OpensJournal the journal, by [`open_journal`], whether one was open or not.
+/// Opens the journal, by [`open_journal`], whether one was open or not.
 ///
 /// # Errors
 ///

@@ -60,7 +60,7 @@ fn count_entries(
     Ok(true)
 }
 
-// The entries of the payload of so many bytes behind an open gate.
+// The entries of the payload of `count` bytes after an open gate.
 fn payload_at(
     alloc: Global,
     version: Version,
@@ -86,7 +86,7 @@ fn payload_at(
     }
 }
 
-// Counts the entries of the link behind the open gate at a place, and answers the place of the next
+// Counts the entries of the link after the open gate at a place, and answers the place of the next
 // gate.
 fn link_at(alloc: Global, place: Place, account: &mut Account, file: &[u8]) -> Result<Place, Unread>
     requires waiting { account.old.waiting ≡ nothing }
@@ -118,8 +118,8 @@ fn link_at(alloc: Global, place: Place, account: &mut Account, file: &[u8]) -> R
     }
 }
 
-// The place of the next gate, where the gate at a place is open, with the entries before it
-// counted; or none where that gate is closed.
+// The place of the next gate, if the gate at a place is open, with the entries before it
+// counted; or none if that gate is closed.
 #[tactic(auto, unfolding(ras_journal::specs::File::next_front))]
 pub(crate) fn next_place(
     alloc: Global,
@@ -148,7 +148,7 @@ pub(crate) fn next_place(
     }
 }
 
-// How many bytes the gate at the front takes with the link behind it, where it is open and tells.
+// How many bytes the gate at the front takes with the link after it, if it is open and tells.
 pub(crate) fn link_len(bytes: &[u8]) -> Option<usize>
     ensures some { IfSome result (λ n. (count : ℕ)
         → field (number_of 4) 1 4 bytes.now ≡ Ok count → n ≡ 5 + count) }

@@ -63,7 +63,7 @@ fn format_first<B: Board>(
     }))
 }
 
-/// The account and the journal, as `recover` does it. Where no file stands, generation 1 is then
+/// The account and the journal, as `recover` does it. If no file stands, generation 1 is then
 /// formatted in file 0. The journal hasn't failed.
 ///
 /// # Errors
@@ -82,20 +82,20 @@ pub fn open_journal<B: Board>(
         (λ t. r.1.standing ≡ standing_opened t.here.file0 t.here.file1)) }
 
     // What a stop leaves of it is what a stop before it may have left, or recovers the empty
-    // account where no file stands. Once it has answered `Ok`, a stop leaves just what the board
+    // account if no file stands. Once it has answered `Ok`, a stop leaves just what the board
     // tells, and the journal's standing is that of the files.
     ensures stops { (t : Told) → B.told board.old ≡ Some t
         → Adds (Opening (B.clock board.old) t.here) (B.clock board.old) (B.clock board.new) }
     ensures opened { IfOk result (λ r. (t : Told) → B.told board.old ≡ Some t
         → IsOpened r.1.standing r.0.state (B.told board.new) (B.clock board.new)) }
 
-    // Whatever it answers, all is told as before, but for file 0 where no file stands; and its disk
+    // Whatever it answers, all is told as before, but for file 0 if no file stands; and its disk
     // calls are those of an opening or a beginning of them. Once it has answered `Ok`, all that
     // counts of the files was read, and if no file stands generation 1 was written to file 0 and
     // nothing else.
     ensures told { Relates AfterOpening (B.told board.old) (B.told board.new) }
     ensures opens { OnOk result (Relates MakesOpening (B.told board.old) (B.told board.new)) }
-    // Where memory runs out nothing was written.
+    // If memory runs out nothing was written.
     ensures kept { result ≡ Err OpenRefused.NoMemory
         → Relates AfterRecovery (B.told board.old) (B.told board.new) }
     // If a disk call failed it is one of the acts of an opening, and the last that was begun: a call

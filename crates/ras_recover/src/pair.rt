@@ -28,7 +28,7 @@ use std::alloc::Global;
 pub struct Recovered {
     /// The account. Nothing waits in it.
     pub account: Account,
-    /// Where the journal stands, or none where no file stands.
+    /// Where the journal stands, or none if no file stands.
     pub standing: Option<Standing>,
 }
 
@@ -108,7 +108,7 @@ fn generation_in(front: &Option<(Place, Account)>) -> Option<u64>
     }
 }
 
-// The file that counts of the two of a board, and what counts of it.
+// Which of the two files is current, and what it holds.
 pub(crate) fn read_both<B: Board>(
     alloc: Global,
     sizes: (usize, usize),

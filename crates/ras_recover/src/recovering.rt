@@ -30,7 +30,7 @@ fn sync_both<B: Board>(board: &mut B) -> Result<(), Failed>
     Ok(())
 }
 
-// The size of a file that isn't too long, or none where it is.
+// The size of a file that isn't too long, or none if it is.
 fn short_size<B: Board>(file: FileNo, board: &mut B) -> Result<Option<usize>, Failed>
     ensures keeps { KeepsTold (B.told board.old) (B.clock board.old) (B.told board.new) (B.clock board.new) }
     ensures short { IfOk result (λ r. IfSome r (λ size. size ≤ LONGEST_FILE)) }
@@ -49,7 +49,7 @@ fn short_size<B: Board>(file: FileNo, board: &mut B) -> Result<Option<usize>, Fa
     }
 }
 
-// The sizes of both files, or none where one is too long.
+// The sizes of both files, or none if one is too long.
 fn short_sizes<B: Board>(board: &mut B) -> Result<Option<(usize, usize)>, Failed>
     ensures keeps { KeepsTold (B.told board.old) (B.clock board.old) (B.told board.new) (B.clock board.new) }
     ensures short { IfOk result (λ r. IfSome r (λ sizes. (sizes.0 ≤ LONGEST_FILE) × (sizes.1 ≤ LONGEST_FILE))) }
@@ -131,9 +131,9 @@ pub(crate) fn recover_files<B: Board>(
 ///
 /// # Errors
 ///
-/// The first of these: `Disk` comes only where a disk call failed. `TooLong` comes exactly where a
-/// file is longer than 67,108,864 bytes, and `Damaged` exactly where the files' bytes are damaged,
-/// with the file's number and the place. `NoMemory` comes where memory runs out.
+/// The first of these: `Disk` comes only if a disk call failed. `TooLong` comes exactly if a
+/// file is longer than 67,108,864 bytes, and `Damaged` exactly if the files' bytes are damaged,
+/// with the file's number and the place. `NoMemory` comes if memory runs out.
 pub fn recover<B: Board>(alloc: Global, board: &mut B) -> Result<Recovered, OpenRefused>
     // What is answered is what the files hold.
     ensures recovers { IfSome (B.told board.old)

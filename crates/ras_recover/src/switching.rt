@@ -25,7 +25,7 @@ fn other(file: FileNo) -> FileNo
     }
 }
 
-// Where the journal stands once it is switched to the other file, or none where there is no room
+// Where the journal stands once it is switched to the other file, or none if there is no room
 // for that.
 fn switched(standing: Standing, account: &Account, link: &Link) -> Option<Standing>
     ensures none { (result ≡ None) ↔ IsTrue (has_no_room standing account.now.state link.now) }
@@ -63,9 +63,9 @@ fn switched(standing: Standing, account: &Account, link: &Link) -> Option<Standi
 ///
 /// # Errors
 ///
-/// `Full` comes exactly where the other file with this link would be longer than 67,108,864 bytes,
-/// or the journal's generation is 2^63 - 1. `NoMemory` comes where memory runs out. In both cases
-/// nothing was called, and the journal is as before. `Disk` comes only where a disk call failed;
+/// `Full` comes exactly if the other file with this link would be longer than 67,108,864 bytes,
+/// or the journal's generation is 2^63 - 1. `NoMemory` comes if memory runs out. In both cases
+/// nothing was called, and the journal is as before. `Disk` comes only if a disk call failed;
 /// then the journal has failed.
 pub fn switch_file<B: Board>(
     alloc: Global,

@@ -20,7 +20,7 @@ use journal_format::CHECKPOINT_PLACE;
 use ras_account::Account;
 use std::alloc::Global;
 
-/// How many bytes a gate takes, with the number of its payload's bytes behind it.
+/// How many bytes a gate takes, with the number of its payload's bytes after it.
 const GATE_AND_COUNT: usize = 5;
 
 /// What was read of a journal file.
@@ -28,12 +28,12 @@ const GATE_AND_COUNT: usize = 5;
 pub(crate) struct FileRead {
     /// Whether it is longer than 1 byte and its byte 0 is no open gate.
     pub(crate) shut: bool,
-    /// The place of the closed gate that ends its chain, and the account there; or none where the
+    /// The place of the closed gate that ends its chain, and the account there; or none if the
     /// file doesn't stand.
     pub(crate) front: Option<(Place, Account)>,
 }
 
-// Sees that the link behind the gate at a place is held, where that gate is open and the file has
+// Sees that the link after the gate at a place is held, if that gate is open and the file has
 // the link.
 fn hold_link<B: Board>(
     file: SizedFile,
@@ -66,8 +66,8 @@ fn hold_link<B: Board>(
     window.hold(file, gate, count, board)
 }
 
-// The place of the next gate, where the gate at a place is open, with the entries before it
-// counted; or none where that gate is closed.
+// The place of the next gate, if the gate at a place is open, with the entries before it
+// counted; or none if that gate is closed.
 fn next_in<B: Board>(
     alloc: Global,
     file: SizedFile,
@@ -145,7 +145,7 @@ fn last_in<B: Board>(
     Err(ReadRefused::Damaged(place.gate))
 }
 
-// Sees that the checkpoint is held, where the file stands and has it.
+// Sees that the checkpoint is held, if the file stands and has it.
 fn hold_front<B: Board>(
     file: SizedFile,
     window: &mut Window,
@@ -223,7 +223,7 @@ fn first_in<B: Board>(
     }
 }
 
-// The place of the closed gate that ends the chain of a file, and the account there, where the file
+// The place of the closed gate that ends the chain of a file, and the account there, if the file
 // stands. The other file may have taken a generation.
 pub(crate) fn read_file<B: Board>(
     alloc: Global,

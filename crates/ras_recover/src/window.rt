@@ -9,7 +9,7 @@ use crate::place::ReadRefused;
 use board_core::{Board, Failed, FileNo};
 use std::alloc::{AllocError, Global};
 
-/// How many bytes are read at once, where the file has them and no more are wanted.
+/// How many bytes are read at once, if the file has them and no more are wanted.
 const BLOCK: usize = 65_536;
 
 /// One of the two files, with its size in bytes.
@@ -19,7 +19,7 @@ pub(crate) struct SizedFile {
     pub(crate) size: usize,
 }
 
-/// The bytes of a file from a place on, so many as were read.
+/// The bytes of a file that were read from a place on.
 #[derive(Drop)]
 pub(crate) struct Window {
     pub(crate) start: usize,
@@ -47,7 +47,7 @@ impl Window {
         &self.bytes[place - self.start..]
     }
 
-    // Reads so many bytes from a place on, in place of those that were held.
+    // Reads `count` bytes from a place on, in place of those that were held.
     fn read<B: Board>(
         &mut self,
         file: SizedFile,
@@ -82,8 +82,8 @@ impl Window {
         }
     }
 
-    // Sees that so many bytes from a place on are held, as far as the file has them. It reads only
-    // where they aren't.
+    // Buffers `count` bytes from a place on, or up to the end of the file. It reads only
+    // what isn't buffered yet.
     pub(crate) fn hold<B: Board>(
         &mut self,
         file: SizedFile,

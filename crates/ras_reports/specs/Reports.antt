@@ -53,7 +53,7 @@ entry_detail entry = section_detail (section_of (entry_guid entry) (entry_data e
 abbrev pub block_details : BlockParts → List Detail
 block_details block = map entry_detail block.entries
 
--- the report of a status block of this name that was read at this time, where its status isn't 0
+-- the report of a status block of this name that was read at this time, if its status isn't 0
 abbrev pub block_report : List Row → Name → ℕ → BlockParts → Option Report
 block_report rows name seconds block =
     option_map (λ fact. record { fact = fact; details = block_details block }) (block_fact rows name seconds block)

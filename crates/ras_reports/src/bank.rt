@@ -14,7 +14,7 @@ use ras_facts::{BankReport, fact_of_bank};
 use std::alloc::Global;
 
 /// The report of a bank: its fact by `fact_of_bank`, and its snapshot for the one item. It is None
-/// exactly where the bank holds no error (VAL is 0), which takes no memory.
+/// exactly if the bank holds no error (VAL is 0), which takes no memory.
 ///
 /// # Errors
 ///

@@ -13,7 +13,7 @@ use ras_facts::{MOST_ITEMS, Name, fact_of_block};
 use std::alloc::Global;
 
 /// The report of a status block, read at this time and named so: its fact by `fact_of_block`, and
-/// what each entry's section says for the entry's item. It is None exactly where the block status
+/// what each entry's section says for the entry's item. It is None exactly if the block status
 /// is 0, which takes no memory.
 ///
 /// # Errors

@@ -64,7 +64,7 @@ impl Details {
         }
     }
 
-    /// Puts a detail behind the others. Where memory runs out the list stays.
+    /// Puts a detail after the others. If memory runs out the list stays.
     pub fn push(&mut self, detail: Detail) -> Result<(), NoMemory>
         ensures ok { OnOk result (self.new ≡ self.old ++ detail ∷ []) }
         ensures err { OnErr result (self.new ≡ self.old) }

@@ -37,7 +37,7 @@ use Rattle.ras_run.specs.Places.{IsBoardAfter, Start, account_at, polled_at, sta
 use Rattle.ras_run.specs.Status.{refusal_at}
 use Rattle.ras_run.specs.Taking.{IsAccepted}
 
--- news are kept as one link, and no news need no act
+-- new entries are appended as one link; without any, nothing is done
 abbrev pub news_acts : Standing → State → List Entry → List Act
 news_acts standing account [] = []
 news_acts standing account (entry ∷ entries) = keeping_acts standing account (link_bytes (entry ∷ entries))
@@ -70,7 +70,7 @@ AreReopening account number here acts =
     (reading : List DiskCall) × IsRecoveryOf here reading
     × (acts ≡ map calls reading ++ event_prints (standing_lines account) number)
 
--- the lists by which the record store is driven behind lines, if one of them told of some
+-- the lists by which the record store is driven after lines, if one of them told of some
 abbrev pub lists_after : List NumberedLine → Lists
 lists_after before = unwrap_or (settings_told before).driver []
 

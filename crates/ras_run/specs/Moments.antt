@@ -25,7 +25,7 @@ pub record Course : Type 0 where
   pub text : List ℕ
   pub done : List ℕ
 
--- the store once the first so many records are cleared, and once all are
+-- the store once the first n records are cleared, and once all are
 abbrev pub store_cleared : Course → ℕ → List Stored
 store_cleared c count = if c.clears then without_first count c.stored else c.stored
 

@@ -31,7 +31,7 @@ account_at start before = account_after_all start.account (reports start.store b
 abbrev pub store_at : Start → List NumberedLine → List Stored
 store_at start before = laid start.store before
 
--- what a poll makes behind lines, at a time in seconds
+-- what a poll makes after lines, at a time in seconds
 abbrev pub polled_at : Start → List NumberedLine → ℕ → List Piece
 polled_at start before seconds = polled (settings_told before).topology seconds (store_at start before)
 

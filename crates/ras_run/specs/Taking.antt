@@ -45,7 +45,7 @@ pub record IsRunAfter (start : Start) (before : List NumberedLine) (run : Run) :
 abbrev pub Prints : List ℕ → Told → Told → Type 0
 Prints piece old new = new.here.out ≡ old.here.out ++ piece
 
--- a ledger stands, if a board tells
+-- if the board has a model, it agrees with the ledger
 abbrev pub LedgerStands : Ledger → Option Told → Clock → Type 0
 LedgerStands ledger told clock = Stands ledger.journal.standing ledger.account.state told clock
 

@@ -153,7 +153,7 @@ impl LineReader {
         self.read_to_line_feed(source)
     }
 
-    // The same, if no line feed is held yet.
+    // `find_line`, when the buffer has no line feed yet.
     fn read_to_line_feed<S: Source>(&mut self, source: &mut S) -> Result<Option<usize>, NextRefused>
         requires { Lacks 10 self.old.held }
         ensures finds { Finds result self.new (S.left source.new) }

@@ -4,7 +4,7 @@ use Rattle.std.specs.Global.{Vec}
 use Rattle.std.specs.Vec.{vec_capacity, vec_len}
 use Rattle.ras_texts.specs.declared.order.TheConstants.{ORDER_LENGTH}
 
--- the text has room for the lines of so many orders
+-- the text has room for the lines of this many orders
 abbrev pub HasOrderRoom : ℕ → Vec ℕ → Type 0
 HasOrderRoom orders text = vec_len text + ORDER_LENGTH * orders ≤ vec_capacity text
 

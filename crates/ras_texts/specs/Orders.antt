@@ -12,7 +12,7 @@ use Rattle.ras_account.specs.Account.{State}
 use Rattle.ras_account.specs.Modules.{Module}
 use Rattle.ras_texts.specs.Text.{address_text, label_text, line_with}
 
--- the line of a page in a state: none, where it is kept in use
+-- the line of a page in a state: none, if it is kept in use
 abbrev pub state_line : ℕ → PageState → List ℕ
 state_line page Kept = []
 state_line page Soft = line_with (codes "order soft page=" ++ address_text page)
@@ -26,7 +26,7 @@ module_line label = line_with (codes "order module label=" ++ label_text label)
 abbrev pub module_label : List (Bytes × Module) → ℕ → Bytes
 module_label modules place = option_map_or (λ (row : Bytes × Module). row.0) (slice_get modules place) []
 
--- the line of an order, where these modules have rows
+-- the line of an order, if these modules have rows
 abbrev pub order_line : List (Bytes × Module) → Order → List ℕ
 order_line modules (Ordered.TheVariants.Soft page) = state_line page Soft
 order_line modules (Ordered.TheVariants.Hard page) = state_line page Hard

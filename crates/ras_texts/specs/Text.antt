@@ -48,7 +48,7 @@ abbrev pub page_text : Option ℕ → List ℕ
 page_text None = codes "-"
 page_text (Some page) = address_text page
 
--- a module's label, where one is known
+-- a module's label, if one is known
 abbrev pub label_text : List ℕ → List ℕ
 label_text label = if length label == 0 then codes "-" else label
 
@@ -79,7 +79,7 @@ abbrev pub retire_line : ℕ → ℕ → List ℕ
 retire_line boot dropped =
     line_with (codes "retire boot=" ++ decimal boot ++ codes " names=" ++ decimal dropped)
 
--- the line of a name that an account knows: stale where its boot is retired, and else a repeat
+-- the line of a name that an account knows: stale if its boot is retired, and else a repeat
 abbrev pub known_line : State → Name → List ℕ
 known_line account name =
     line_with ((if is_retired account.floor name then codes "stale " else codes "repeat ") ++ name_text name)

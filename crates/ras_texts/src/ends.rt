@@ -24,7 +24,7 @@ pub fn done_line(alloc: Global, number: u64) -> Result<Vec<u8>, NoMemory>
     Ok(text)
 }
 
-/// Adds the line that an event ends with, by the number of its line. It takes no memory where the
+/// Adds the line that an event ends with, by the number of its line. It takes no memory if the
 /// text has room for the line.
 ///
 /// # Errors

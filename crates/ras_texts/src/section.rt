@@ -57,7 +57,7 @@ pub fn push_other(text: &mut Vec<u8>, guid: Uuid) -> Result<(), NoMemory>
     Ok(())
 }
 
-// Adds the type of a memory error, where it is told.
+// Adds the type of a memory error, if it is told.
 fn push_type(text: &mut Vec<u8>, kind: Option<u8>) -> Result<(), NoMemory>
     ensures { OnOk result (text.new.items ≡ text.old.items ++ told_text type_text kind) }
 {
@@ -77,7 +77,7 @@ fn push_known_type(text: &mut Vec<u8>, kind: u8) -> Result<(), NoMemory>
     }
 }
 
-// The name of a type of memory errors, where it has one.
+// The name of a type of memory errors, if it has one.
 #[tactic(auto, unfolding(crate::specs::Sections::type_text))]
 fn type_word(kind: u8) -> Option<&'static [u8]>
     ensures { MatchOption result (type_text kind ≡ codes "type-" ++ decimal kind)
@@ -112,7 +112,7 @@ fn push_field(text: &mut Vec<u8>, head: &[u8], value: u8) -> Result<(), NoMemory
     push_number(text, u64::from(value))
 }
 
-// Adds a field that is a number, where it is told.
+// Adds a field that is a number, if it is told.
 fn push_place(text: &mut Vec<u8>, head: &[u8], value: Option<u16>) -> Result<(), NoMemory>
     ensures { OnOk result
         (text.new.items ≡ text.old.items ++ (head.now ++ told_text decimal value)) }
@@ -124,7 +124,7 @@ fn push_place(text: &mut Vec<u8>, head: &[u8], value: Option<u16>) -> Result<(),
     }
 }
 
-// Adds a field of 16 hexadecimal digits, where it is told.
+// Adds a field of 16 hexadecimal digits, if it is told.
 fn push_digits(text: &mut Vec<u8>, head: &[u8], value: Option<u64>) -> Result<(), NoMemory>
     ensures { OnOk result
         (text.new.items ≡ text.old.items ++ (head.now ++ told_text digits_text value)) }

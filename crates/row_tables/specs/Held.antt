@@ -51,7 +51,7 @@ module _ {K R : Type 0} where
     abbrev pub waiting_with : Held K R → List K → List K
     waiting_with held keys = held.waiting ++ added_keys same (all_keys held) keys
 
-    -- the table with this row at a key, which is held already or is held now behind the others
+    -- the table with this row at a key, which is held already or is held now after the others
     abbrev pub with_row : Held K R → K → R → Held K R
     with_row held key row = record {
       rows = updated_rows same key row (λ old. row) held.rows;

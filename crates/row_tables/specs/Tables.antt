@@ -27,7 +27,7 @@ module _ {K : Type 0} (same : K → K → Bool) where
   abbrev pub table : {X R : Type 0} → (X → Option K) → (List X → R) → List X → List (K × R)
   table {X} {R} key row xs = map {B = K × R} (λ k. (k, row (of_key key xs k))) (distinct_keys (filter_map key xs))
 
-  -- a table with the row of a key changed in its place, or with a new row behind the others
+  -- a table with the row of a key changed in its place, or with a new row after the others
   abbrev pub updated_rows : {R : Type 0} → K → R → (R → R) → List (K × R) → List (K × R)
   updated_rows k new change [] = (k, new) ∷ []
   updated_rows k new change (e ∷ es) = if same k e.0 then (e.0, change e.1) ∷ es else e ∷ updated_rows k new change es

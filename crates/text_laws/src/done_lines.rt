@@ -39,7 +39,7 @@ pub fn done_lines_count_events()
     ensures whole { (events : List PrintedEvent) (more : List ℕ) → All IsPrintedEvent events
         → done_count (printed_events events ++ more) ≡ length events + done_count more }
 
-    // A beginning of what is printed of events, and of quiet lines behind them, holds all that is
+    // A beginning of what is printed of events, and of quiet lines after them, holds all that is
     // printed of as many events as it says are done: these are the first ones.
     ensures begun { (events : List PrintedEvent) (last part rest : List ℕ)
         → All IsPrintedEvent events → AreQuietLines last

@@ -16,7 +16,7 @@ not_told t e = cc
 
 -- One call
 
--- Whatever a stop during a call or after it leaves has a property, where every Left that its step
+-- Whatever a stop during a call or after it leaves has a property, if every Left that its step
 -- leads to has it.
 pub adds_after : (Step : Left → Left → Type 0) (P : Left → Type 0) (old new : Clock) → Passes Step old new → ((left : Left) → After old Step left → P left) → Adds P old new
 adds_after Step P old new passes leads = record {
@@ -24,7 +24,7 @@ adds_after Step P old new passes leads = record {
   each = λ t left within may. elim (passes.each t left within may) [ inl before ↦ inl before | inr after ↦ inr (leads left after) ];
 }
 
--- the same where a stop before the call leaves just what is told
+-- the same if a stop before the call leaves just what is told
 pub at_rest : (Step : Left → Left → Type 0) (t : Told) (told : Option Told) (old : Clock) (left : Left) → Rests t told old → After old Step left → Step t.here left
 at_rest Step t told old left rests after = subst (λ (l : Left). Step l left) (rests.only after.from after.was) after.by
 
@@ -93,7 +93,7 @@ all_same t left zero one store out =
     ∙ (ap (λ (records : List Stored). record left { file0 = t.here.file0; file1 = t.here.file1; store = records }) store
     ∙ ap (λ text. record t.here { out = text }) out))
 
--- A file was changed and then synced, where a stop left just what was told.
+-- A file was changed and then synced, if a stop left just what was told.
 pub rests_through : (file : FileNo) (Step : List ℕ → List ℕ → Type 0) (t there : Told) (told_old told_new : Option Told) (old mid new : Clock) → Rests t told_old old
     → Passes (InFile file Step) old mid → Passes Same mid new → IsSynced file (file_of file there) new → told_new ≡ Some there
     → there.here ≡ with_file_in file (file_of file there) t.here → Rests there told_new new

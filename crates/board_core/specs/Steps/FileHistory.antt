@@ -17,7 +17,7 @@ abbrev pub bytes_after_all : FileNo → List Change → List ℕ → List ℕ
 bytes_after_all file [] bytes = bytes
 bytes_after_all file (change ∷ changes) bytes = bytes_after_all file changes (bytes_after file change bytes)
 
--- what the disk has of it, where it has these bytes before the change
+-- what the disk has of it, if it has these bytes before the change
 abbrev pub disk_after : FileNo → Change → List ℕ → DiskFile → DiskFile
 disk_after Zero (wrote Zero place new) bytes file = with_range place (length new) file
 disk_after One (wrote One place new) bytes file = with_range place (length new) file

@@ -10,12 +10,12 @@ use Rattle.board_core.specs.Told.{Torn}
 use Rattle.board_core.specs.DiskModel.{greatest_length, MayLeaveFile, Disk, MayLeave, Call, writes, syncs, stores, prints, rests, disk_file, after, after_all, piece_of, MayLeaveSince, disk_clock}
 use Rattle.board_core.specs.Steps.DiskLemmas.{torn_before, settled_only, begins_none, nothing_begins}
 
--- a store that is one or the other, where both are the same
+-- a store that is one or the other, if both are the same
 pub becomes_same : (old new : List Stored) → Becomes old old new → new ≡ old
 becomes_same old new (inl is) = is
 becomes_same old new (inr is) = is
 
--- what may be left where no call is in work may be left during each
+-- what may be left if no call is in work may be left during each
 pub call_more : (disk : Disk) (call : Call) (left : Left) → MayLeave disk rests left → MayLeave disk call left
 call_more disk call left may = record {
   zero = may.zero;

@@ -77,7 +77,7 @@ impl Board for MemBoard {
             (clock_of self.old.past)
             (clock_of self.new.past) }
         ensures cause { FailsAs disk_call self.old.faults self.new.faults result }
-        // Where it failed it has written nothing.
+        // If it failed it has written nothing.
         ensures does { Performs disk_call
             (past_after result (wrote file place bytes.now) self.old.past) self.old self.new
             result }
@@ -95,7 +95,7 @@ impl Board for MemBoard {
         ensures synced { OnOk result
             (IsSynced file (file_of file (told_of self.old)) (clock_of self.new.past)) }
         ensures cause { FailsAs disk_call self.old.faults self.new.faults result }
-        // Where it failed it has settled nothing.
+        // If it failed it has settled nothing.
         ensures does { Performs disk_call
             (past_after result (synced file) self.old.past) self.old self.new result }
         ensures listed { ListsCall (Sync file) self.old self.new result }
@@ -134,7 +134,7 @@ impl Board for MemBoard {
             (clock_of self.old.past) (clock_of self.new.past) }
         ensures cause { FailsAs device_call self.old.faults self.new.faults result }
         ensures device { IsDevice (device_of (told_of self.old)) }
-        // Where it failed the device has done nothing.
+        // If it failed the device has done nothing.
         ensures does { Performs device_call
             (past_after result (acted (wrote_register reg value)) self.old.past) self.old
             self.new result }
@@ -174,7 +174,7 @@ impl Board for MemBoard {
         ensures stops { Passes Same (clock_of self.old.past) (clock_of self.new.past) }
         ensures cause { FailsAs device_call self.old.faults self.new.faults result }
         ensures device { IsDevice (device_of (told_of self.old)) }
-        // Where it failed it has written nothing.
+        // If it failed it has written nothing.
         ensures does { Performs device_call
             (past_after result (acted (wrote_range place bytes.now)) self.old.past)
             self.old self.new result }
@@ -199,7 +199,7 @@ impl Board for MemBoard {
         ensures still { PassesAtRefusal result (clock_of self.old.past) (clock_of self.new.past) }
         ensures cause { FailsAs device_call self.old.faults self.new.faults (put_failure result) }
         ensures device { IsDevice (device_of (told_of self.old)) }
-        // Where it failed nothing was put.
+        // If it failed nothing was put.
         ensures does { Performs device_call
             (past_after result (acted (put_record id bytes.now)) self.old.past) self.old
             self.new (put_failure result) }
@@ -217,7 +217,7 @@ impl Board for MemBoard {
         ensures printed { OnOk result (Leads (InOut (Appends bytes.now)) (clock_of self.old.past)
             (clock_of self.new.past)) }
         ensures cause { FailsAs print_call self.old.faults self.new.faults result }
-        // Where it failed it has printed nothing.
+        // If it failed it has printed nothing.
         ensures does { Performs print_call
             (past_after result (printed bytes.now) self.old.past) self.old self.new result }
         ensures listed { ListsNone self.old self.new }

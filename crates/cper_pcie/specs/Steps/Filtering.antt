@@ -22,7 +22,7 @@ sections_in (sections.Block block) = block_sections block
 abbrev pub taken_from : Name → List Found → List Taken
 taken_from name found = filter_map (pcie_section name) found
 
--- the block of a line has at most so many bytes
+-- the block of a line has at most this many bytes
 abbrev pub FewBytes : ℕ → Line → Type 0
 FewBytes most (Reported (Block boot seconds source number bytes)) = length bytes ≤ most
 FewBytes most line = ⊤

@@ -226,7 +226,7 @@ fn write_inside(
     board.write_at(file, place, bytes)
 }
 
-// What a call answered, with the count of its faults raised where it failed.
+// What a call answered, with the count of its faults raised if it failed.
 fn count_failure<T>(answer: Result<T, Failed>, faults: &mut u64) -> Result<T, Failed>
     ensures ok { IfOk answer (λ value. result ≡ Ok value) }
     ensures err { OnErr answer (IsErr result) }

@@ -12,7 +12,7 @@ use std::test::Fail;
 
 const PICKS: &[Pick] = &[Pick::Old, Pick::New, Pick::Fill(0xa5)];
 
-// What is printed of a run over the module and the everyday line where the line is news, and where
+// What is printed of a run over the module and the everyday line if the line is news, and if
 // it isn't.
 const NEWS: &[u8] = b"done 1\ndone 2\nlog bank=1/0/7/1000 t=100 class=CE weight=1 label=DIMM_A1 \
 page=0000000012345000 code=memory:RD:0 threshold=none over=0 mark=- ripv=0 eipv=0 mcip=0\ndone 3\n\

@@ -5,7 +5,7 @@ use Rattle.std.proofs.lemmas.List.{length-take-le, take-append-drop}
 use Rattle.dimm_topology.specs.declared.label.TheConstants.{MOST_LABEL_BYTES}
 use Rattle.dimm_topology.specs.Labels.{Bytes, is_label_or_none}
 
--- the room holds the bytes, which are a label or none, and zeros behind them
+-- the room holds the bytes, which are a label or none, and zeros after them
 pub record IsRoom (room : List ℕ) (len : ℕ) : Type 0 where
   pub size : length room ≡ MOST_LABEL_BYTES
   pub within : len ≤ MOST_LABEL_BYTES

@@ -17,7 +17,7 @@ use Rattle.erst_driver.specs.declared.step.Step.{Step}
 use Rattle.erst_driver.specs.Operations.{after_step, after_steps, actions_of, write_steps, checks, listings, ids_steps, told_by, device_calls, put_in_range, fetch_calls, write_calls}
 use Rattle.erst_driver.specs.Answers.{answer_of, store_after_write}
 
--- where a board tells a device
+-- if a board tells a device
 abbrev pub Over : (Told → Type 0) → Option Told → Type 0
 Over P None = Unit {0}
 Over P (Some t) = IsDevice (device_of t) → P t
@@ -27,7 +27,7 @@ pub record HasDevice (lists : List (List InstructionEntry)) (told : Option Told)
   pub admitted : IsAdmittedTable lists
   pub device : IfSome told (λ t. IsDevice (device_of t))
 
--- so many actions, of which none failed
+-- actions, of which none failed
 abbrev pub Called : List (List InstructionEntry) → ℕ → Option Told → Option Told → Type 0
 Called lists count old new = ((count ≡ 0) × (new ≡ old)) ⊎ HasDevice lists old
 
@@ -90,7 +90,7 @@ abbrev pub StoreIn : Plan → Option Told → List Stored → List Stored → Ty
 StoreIn plan None old new = Unit {0}
 StoreIn plan (Some t) old new = IsDevice (device_of t) → (new ≡ old) ⊎ ComesThrough (plan (device_of t)) (device_of t) new
 
--- a device that is asked so many times at most, and what comes of that
+-- a device that is asked at most n times, and what comes of that
 abbrev pub asks_within : ℕ → ℕ → List Step
 asks_within most busy = if nat_lt busy most then checks (busy + 1) else checks most
 

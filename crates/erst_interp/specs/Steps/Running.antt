@@ -110,7 +110,7 @@ Moves (Err Register) outcome t new = IsCutShort (state_of outcome).calls t new
 Moves (Err why) (goes s) t new = ⊥
 Moves (Err why) (stops cause s) t new = (cause ≡ why) × (new ≡ Some (told_after s t))
 
--- the place of a stretch in the range, where it is inside
+-- the place of a stretch in the range, if it is inside
 abbrev pub IsPlace : ℕ → ℕ → Option ℕ → Type 0
 IsPlace address count None = is_inside address count ≡ false
 IsPlace address count (Some place) = (is_inside address count ≡ true) × (place ≡ address - range_address) × (place + count ≤ range_length)

@@ -17,7 +17,7 @@ abbrev pub GivesStore : {X Y : Type 0} → (X → Y) → Result X StoreRefused �
 GivesStore view (Ok x) read = read ≡ Ok (view x)
 GivesStore view (Err e) read = FailsStore e read
 
--- a number of so many bytes and the bytes after it
+-- a number of n bytes and the bytes after it
 abbrev pub front_number : ℕ → List ℕ → Result (ℕ × List ℕ) StoreRefused
 front_number width bytes =
     if nat_lt (length bytes) width then Err Malformed else Ok (number_at 0 width bytes, drop width bytes)
@@ -37,7 +37,7 @@ may_follow r before = not (holds r.id before) && is_none (refusal_of r.id r.byte
 abbrev pub with_next : Stored → List Stored → Result (List Stored) StoreRefused
 with_next r before = if may_follow r before then Ok (before ++ r ∷ []) else Err Malformed
 
--- so many records and nothing after them, after those that were read before
+-- n records and nothing after them, after those that were read before
 unfoldable pub records_at : ℕ → List Stored → List ℕ → Result (List Stored) StoreRefused
 records_at zero before bytes = if nat_eq (length bytes) 0 then Ok before else Err Malformed
 records_at (suc count) before bytes = do

@@ -30,7 +30,7 @@ pub record AreModules (rows : List (Bytes × Module)) : Type 0 where
 pub record ArePages (rows : List (ℕ × PageRow)) : Type 0 where
   pub once : IsDistinct nat_eq (keys_of rows)
 
--- the names, the rows and the floor of an account stand in the bytes behind the numbers at the
+-- the names, the rows and the floor of an account stand in the bytes after the numbers at the
 -- front, of which this is the floor
 pub record Holds (version : Version) (front : ℕ) (bytes : List ℕ) (a : State) : Type 0 where
   pub after_names : List ℕ

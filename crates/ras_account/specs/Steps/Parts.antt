@@ -1,4 +1,4 @@
--- What contracts see of the parts of an account, each with what waits behind it.
+-- What contracts see of the parts of an account, each with what waits after it.
 use Rattle.std.specs.Prelude.{◌≡◌, ◌≤◌, IfSome, length, Bool, if◌then◌else◌, List, ◌++◌, take, drop}
 use Rattle.std.specs.List.{list_any, AllByRecursion}
 use Rattle.mca_status.specs.declared.classes.TheConstants.{CLASS_COUNT}

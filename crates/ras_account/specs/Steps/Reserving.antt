@@ -58,7 +58,7 @@ pub record Shadows (a b : State) (fresh : List Entry) (names : NameList) (module
   pub entries : min tally.entries greatest ≡ min (a.entries + length fresh) greatest
   pub total : min tally.total greatest ≡ min (a.total + weights_in (items_of fresh)) greatest
 
--- what is noted of entries behind an account, by what then waits behind it
+-- what is noted of entries after an account, by what then waits after it
 pub record Noted (a : State) (waiting : Waiting) (tally : Tally) (entries : List Entry) : Type 0 where
   pub names_are : waiting.names ≡ names_of (fresh_entries_in a entries)
   pub labels : waiting.labels ≡ added_keys same_label (keys_of a.modules) (labels_in (items_of (fresh_entries_in a entries)))

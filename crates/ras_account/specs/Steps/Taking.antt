@@ -25,7 +25,7 @@ use Rattle.ras_account.specs.Continued.{knows, pages_after, account_after_item, 
 use Rattle.ras_account.specs.Orders.{page_order_in, module_order_in, orders_along, orders_at}
 use Rattle.ras_account.specs.View.{View, Waiting, OrderList, labels_in, pages_in, then_waits, added_by}
 
--- whether an entry is fresh where this floor and these limits are in force, but for a name that is
+-- whether an entry is fresh if this floor and these limits are in force, but for a name that is
 -- held
 abbrev pub is_news : ℕ → Limit → Limit → Entry → Bool
 is_news floor limit module_limit (FactEntry fact) = not (is_retired floor fact.name)
@@ -40,7 +40,7 @@ holds_name a (PageLimit limit) = false
 holds_name a (Retire boot) = false
 holds_name a (ModuleLimit limit) = false
 
--- whether the name of an entry is the first of names that wait; so it is where it has none
+-- whether the name of an entry is the first of names that wait; so it is if it has none
 abbrev pub name_waits_first : List Name → Entry → Bool
 name_waits_first names (FactEntry fact) = is_among (take 1 names) fact.name
 name_waits_first names (PageLimit limit) = true
@@ -90,7 +90,7 @@ pub record IsNext (v : View) (item : Item) : Type 0 where
   pub page : IfSome item.page (λ page. IsTrue (is_ready nat_eq (record { rows = v.state.pages; waiting = v.waiting.pages }) page))
   pub total : v.state.total + item.weight ≤ MOST_TOTAL
 
--- orders with some behind them, which take as much of the room
+-- orders with some after them, which take as much of the room
 pub record GivesOrders (old new : OrderList) (more : List Order) : Type 0 where
   pub orders : new.orders ≡ old.orders ++ more
   pub room : new.room + length more ≡ old.room
@@ -110,7 +110,7 @@ sightings_at a seconds items = sightings_of a.limit a.module_limit seconds items
 abbrev pub orders_of_items_at : State → ℕ → List Item → List Order
 orders_of_items_at a seconds items = orders_along a (sightings_at a seconds items)
 
--- an account with these items more, and what waits behind what they took
+-- an account with these items more, and what waits after what they took
 pub record TakesItems (old new : View) (seconds : ℕ) (items : List Item) : Type 0 where
   pub state : new.state ≡ account_after_items old.state (sightings_at old.state seconds items)
   pub names : new.waiting.names ≡ old.waiting.names

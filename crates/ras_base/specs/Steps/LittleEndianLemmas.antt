@@ -47,7 +47,7 @@ number_at-more : (place width : ℕ) (bytes : List ℕ)
 unfolding number_at
 number_at-more place width bytes = refl
 
--- behind bytes that were passed
+-- after bytes that were passed
 pub number_at-drop : (n place width : ℕ) (bytes : List ℕ) → number_at place width (drop n bytes) ≡ number_at (n + place) width bytes
 number_at-drop n place zero bytes = number_at-none place (drop n bytes) ∙ sym (number_at-none (n + place) bytes)
 number_at-drop n place (suc width) bytes =
@@ -100,7 +100,7 @@ number_at-le_4 place bytes = number_at-cut place 4 bytes ∙ sym (from_le_bytes-
 pub number_at-le_8 : (place : ℕ) (bytes : List ℕ) → number_at place 8 bytes ≡ from_le_bytes w64 (take 8 (drop place bytes))
 number_at-le_8 place bytes = number_at-cut place 8 bytes ∙ sym (from_le_bytes-at_8 (take 8 (drop place bytes)))
 
--- a number of so many bytes fits them
+-- a number of n bytes fits them
 pub number_at-lt : (place width : ℕ) (bytes : List ℕ) → AreBytes bytes → number_at place width bytes < 256 ^ width
 number_at-lt place zero bytes fits = omega (arith, number_at-none place bytes)
 number_at-lt place (suc width) bytes fits =

@@ -46,7 +46,7 @@ pub record AreLinesActs (start : Start) (script : List ℕ) (t : Told) (acts : L
   pub lines : AreActsAlong start (places_before_refusal start (places (reads_of script))) t along
   pub is : acts ≡ along ++ script_asked start script (after_acts along t)
 
--- What the record store was asked behind these lines: nothing, or what the next line asks; t is told
+-- What the record store was asked after these lines: nothing, or what the next line asks; t is told
 -- by then.
 pub record IsAsked (start : Start) (script : List ℕ) (before : List NumberedLine) (t : Told) (asked : List Act) : Type 0 where
   pub read : NumberedLine
@@ -65,7 +65,7 @@ pub record AreAllAsked (start : Start) (script : List ℕ) (exit : Exit) (before
   pub ends : ((exit ≡ script_exit script) × (asked ≡ [])) ⊎ IsAsked start script before t asked
 
 -- So it is if a run comes to an answer among its lines. If memory ran out there, or the source failed,
--- nothing was asked behind them.
+-- nothing was asked after them.
 abbrev pub AsksBy : Start → List ℕ → List NumberedLine → Told → List Act → Exit → CallEnding → Type 0
 AsksBy start script before t asked exit answered = AreAllAsked start script exit before t asked
 AsksBy start script before t asked exit (faulted kind) = ⊤
@@ -114,13 +114,13 @@ Ends see exit result line old new =
 
 -- ---- a script, over a journal that was opened
 
--- What was asked behind these lines left the record store as it was: it was nothing, or the line was
+-- What was asked after these lines left the record store as it was: it was nothing, or the line was
 -- refused, and not because the device was busy for too long.
 abbrev pub KeepsStore : Start → List ℕ → List NumberedLine → Told → List Act → Type 0
 KeepsStore start script before t asked =
     (asked ≡ []) ⊎ ((end : Exit) × AreAllAsked start script end before t asked × (end ≢ ErstBusy))
 
--- What is printed behind these lines: the last line, if the run came so far; t is told behind them.
+-- What is printed after these lines: the last line, if the run came so far; t is told after them.
 abbrev pub IsLastBy : Start → List ℕ → List NumberedLine → Told → List Act → Exit → CallEnding → List Act → Type 0
 IsLastBy start script before t asked exit answered last =
     AreAllAsked start script exit before t asked × (last ≡ last_acts start before exit)
@@ -145,7 +145,7 @@ pub record DoesScript {X : Type 0} (see : X → Seen) (start : Start) (script : 
 abbrev pub TakesScript : {X : Type 0} → (X → Seen) → Start → List ℕ → Told → Exit → X → X → Type 0
 TakesScript see start script t exit old new = ((exit ≡ NoMemory) × (new ≡ old)) ⊎ DoesScript see start script t exit old new
 
--- It did that, and its source was left alone, or lines were taken of it behind the orders.
+-- It did that, and its source was left alone, or lines were taken of it after the orders.
 pub record ComesScript {X : Type 0} (see : X → Seen) (Same : Type 0) (start : Start) (script : List ℕ) (t : Told) (exit : Exit) (left : Option (List ℕ)) (old new : X) : Type 0 where
   pub does : TakesScript see start script t exit old new
   pub reads : Same ⊎ EndsAhead (exit ≡ SourceFault) start script (lines_from start t.here.out) left (see new).told

@@ -70,7 +70,7 @@ pub record AtLine (start : Start) (script : List ℕ) (out : List ℕ) (left : L
 abbrev pub LinesMoment : Start → List ℕ → List ℕ → Left → Type 0
 LinesMoment start script out left = BetweenLines start script out left ⊎ AtLine start script out left
 
--- The store at the end of a run: what these lines left, if none is refused; or what the line behind
+-- The store at the end of a run: what these lines left, if none is refused; or what the line after
 -- them left, which is refused.
 pub record LeftByRefused (start : Start) (script : List ℕ) (before : List NumberedLine) (exit : Exit) (store : List Stored) : Type 0 where
   pub read : NumberedLine

@@ -47,7 +47,7 @@ pub record KeepsNews (account : State) (all taken left : List Piece) (number : �
   pub news_are : news ≡ fresh_entries_in account (entries_in taken)
   pub text_is : text ≡ text_along account taken
 
--- the news of an event: some entries, their link, and room for so many orders
+-- the news of an event: some entries, their link, and room for this number of orders
 pub record IsNewsOf (room : ℕ) (news : News) : Type 0 where
   pub some : 1 ≤ length news.entries.items
   pub link : news.link ≡ link_bytes news.entries.items

@@ -17,7 +17,7 @@ pub record AreSyncs {T E : Type 0} (result : Result T E) (calls : List DiskCall)
   pub begins : IsPrefixOf calls (Sync Zero ∷ Sync One ∷ [])
   pub done : OnOk result (calls ≡ Sync Zero ∷ Sync One ∷ [])
 
--- Size and ReadAt calls, of which this holds where all went well
+-- Size and ReadAt calls, of which this holds if all went well
 pub record AreReads {T E : Type 0} (result : Result T E) (Done : List DiskCall → Type 0) (calls : List DiskCall) : Type 0 where
   pub alone : All IsReading calls
   pub done : OnOk result (Done calls)
@@ -33,7 +33,7 @@ pub record WritesIn (file : FileNo) (Are : List DiskCall → Type 0) (old new : 
   pub is : new ≡ with_calls made (with_file file bytes old)
   pub are : Are made
 
--- where the journal stands behind the checkpoint of this account, with numbers of 64 bits
+-- where the journal stands after the checkpoint of this account, with numbers of 64 bits
 abbrev pub standing_begun : State → Bool → Standing
 standing_begun account shut = record {
   file = Zero;

@@ -1,4 +1,4 @@
--- What is answered where a journal file is read.
+-- What is answered when a journal file is read.
 use Rattle.std.specs.Prelude.{◌≡◌, ℕ, Result, Ok, Err}
 use Rattle.ras_account.specs.Account.{State}
 use Rattle.ras_journal.specs.File.{FileFront}

@@ -16,7 +16,7 @@ use Rattle.ras_recover.specs.Steps.Looking.{AreReads}
 use Rattle.ras_recover.specs.DiskCalls.{Calls}
 use Rattle.ras_recover.specs.Recovering.{KeepsTold}
 
--- the place behind the bytes that are held
+-- the place after the bytes that are held
 abbrev pub end_of : Window → ℕ
 end_of window = window.start + length window.bytes.items
 
@@ -32,7 +32,7 @@ pub record IsWindowOf (file : SizedFile) (window : Window) (bytes : List ℕ) : 
   pub size : file.size ≡ length bytes
   pub held : window.bytes.items ≡ take (length window.bytes.items) (drop window.start bytes)
 
--- where a board tells
+-- if a board tells
 abbrev pub Sees : SizedFile → Option Told → Window → Type 0
 Sees file told window = IfSome told (λ t. IsWindowOf file window (file_of file.no t))
 
@@ -70,7 +70,7 @@ read_failure (Err Disk) = Err Disk
 read_failure (Err (Damaged place)) = Ok tt
 read_failure (Err NoMemory) = Ok tt
 
--- Size and ReadAt calls alone were made, of which this holds where all went well.
+-- Size and ReadAt calls alone were made, of which this holds if all went well.
 pub record LooksAt {T E : Type 0} (failure : Result T E → Result (Unit {0}) E) (result : Result T E) (Done : Told → List DiskCall → Type 0)
     (told_old : Option Told) (old : Clock) (before : Faults) (told_new : Option Told) (new : Clock) (now : Faults) : Type 0 where
   pub keeps : KeepsTold told_old old told_new new
@@ -82,16 +82,16 @@ Looks failure result Done told_old old before told_new new now = LooksAt failure
 
 -- ---- pieces that suffice
 
--- A field of so many bytes at a place is held, where so many bytes are, or the file's end cuts it.
+-- A field of n bytes at a place is held, if n bytes are, or the file's end cuts it.
 abbrev pub IsHeld : ℕ → ℕ → List ℕ → Type 0
 IsHeld count held bytes = (count ≤ held) ⊎ (length bytes < count)
 
--- of these bytes behind a gate so many suffice for its link
+-- this many of the bytes after a gate suffice for its link
 pub record LinkHeld (held : ℕ) (bytes : List ℕ) : Type 0 where
   pub gate : min 5 (length bytes) ≤ held
   pub payload : (count : ℕ) → field is_open_of 0 1 bytes ≡ Ok true → field (number_of 4) 1 4 bytes ≡ Ok count → IsHeld (5 + count) held bytes
 
--- of these bytes of a file so many suffice for its checkpoint
+-- this many of a file's bytes suffice for its checkpoint
 pub record FrontHeld (held : ℕ) (bytes : List ℕ) : Type 0 where
   pub fields : min 25 (length bytes) ≤ held
   pub checkpoint : (count : ℕ) (version : Version) → has_open_gate bytes ≡ true → field version_of 1 8 bytes ≡ Ok version → field (number_of 8) 17 8 bytes ≡ Ok count → IsHeld (25 + count) held bytes

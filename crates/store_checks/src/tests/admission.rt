@@ -62,7 +62,7 @@ const CHANGED: [(usize, Row, bool); 31] = [
     (6, Row(5, 3, 1, 0, 0, VALUE, 0x9c, ALL), false),
     (6, Row(5, 2, 0, 0, 0, VALUE, 0, ALL), false),
     // the answer's read: a mask of too few bits, an offset, another value to compare with, and
-    // comparing where more than a bit is answered
+    // comparing if more than a bit is answered
     (9, Row(6, 1, 0, 0, 0, VALUE, 0, ALL), false),
     (11, Row(7, 0, 0, 0, 0, VALUE, 0, 0x7f), false),
     (11, Row(7, 0, 0, 0, 1, VALUE, 0, ALL), false),
@@ -87,7 +87,7 @@ fn judges_each_rule(rt: HostRuntime) {
 }
 
 // Entries that break a rule, whether they come after all others or before them. The last one is
-// that of a table which tests the device before it acts: where Value holds all ones it skips the
+// that of a table which tests the device before it acts: if Value holds all ones it skips the
 // write.
 const MORE: [Row; 11] = [
     // a second write to Action, a second input, a read after the answer's
@@ -129,7 +129,7 @@ fn refuses_one_entry_more(rt: HostRuntime) {
     }
 }
 
-// Whether the plain table is admitted behind so many entries NOOP.
+// Whether the plain table is admitted after so many entries NOOP.
 fn admits_behind_many(alloc: Global, count: usize) -> Option<bool> {
     let before = vec![in alloc; Row(3, 4, 0, 0, 0, 0, 0, ALL); count].ok()?;
     admits_behind(alloc, &before)

@@ -8,7 +8,7 @@ use std::test::Fail;
 
 const REFUSED: Answer = Answer::Refused(DriverRefused::Register);
 
-// The access as it is listed where its call failed.
+// The access as it is listed if its call failed.
 fn as_failed(access: Access) -> Access {
     match access {
         Access::Read(reg, _) => Access::Read(reg, 0),
@@ -16,7 +16,7 @@ fn as_failed(access: Access) -> Access {
     }
 }
 
-// Where a write's call of this number fails, it is the last one.
+// If a write's call of this number fails, it is the last one.
 fn ends_at(alloc: Global, fails: u64) -> Result<bool, Fail> {
     let seen = play(alloc, Start { fails, ..USUAL }, &[Operation::Write(7)])?;
     Ok(seen.answers.as_slice() == [REFUSED].as_slice() && are_writing_up_to(&seen.accesses, fails))

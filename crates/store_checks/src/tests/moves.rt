@@ -36,7 +36,7 @@ fn rows_of(alloc: Global, wanted: Move) -> Option<Vec<Row>> {
     .ok()
 }
 
-// Runs a table over a board whose range begins with the numbers from 1 on; None where the range
+// Runs a table over a board whose range begins with the numbers from 1 on; None if the range
 // can't be written or read.
 fn run_over(table: &Table, board: &mut MemBoard) -> Option<Moved> {
     if !range_write(board, &[1, 2, 3, 4, 5, 6, 7, 8]) {

@@ -62,7 +62,7 @@ fn set_head(bytes: &mut [u8], count: usize) {
     mend(bytes);
 }
 
-/// Sets a number of four bytes, where the bytes reach so far and it fits.
+/// Sets a number of four bytes, if the bytes reach so far and it fits.
 pub fn set_number(bytes: &mut [u8], place: usize, number: usize) {
     let Ok(number) = u32::try_from(number) else {
         return;

@@ -15,7 +15,7 @@ fn file_with(alloc: Global, id: u64, bytes: &[u8]) -> Result<Vec<u8>, Fail> {
     }
 }
 
-// How many records bytes are the file of; None where they are malformed.
+// How many records bytes are the file of; None if they are malformed.
 fn count_in(alloc: Global, bytes: &[u8]) -> Result<Option<usize>, Fail> {
     match Store::from_bytes(alloc, bytes) {
         Ok(store) => Ok(Some(store.len())),
