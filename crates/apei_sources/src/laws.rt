@@ -1,6 +1,8 @@
 //! What is said of tables and blocks for every list of bytes.
 
 ghost use Rattle.std.specs.Prelude.{◌≡◌, ◌≤◌, ◌↔◌, ◌+◌, ℕ, List, length, take, Some, None, Ok, Err};
+ghost use Rattle.apei_sources.specs.declared.entries.TheConstants.{ENTRY_HEADER_LENGTH, LONG_ENTRY_HEADER_LENGTH, TIMESTAMP_REVISION};
+ghost use Rattle.apei_sources.specs.declared.sources.TheConstants.{BANK_LENGTH, SOURCE_HEAD_LENGTH};
 ghost use Rattle.apei_sources.specs.declared.blocks.TheConstants.{BLOCK_HEADER_LENGTH};
 ghost use Rattle.apei_sources.specs.declared.hest_table.TheConstants.{HEST_FIXED_LENGTH};
 ghost use Rattle.apei_sources.specs.declared.bert_table.TheConstants.{BERT_FIXED_LENGTH};
@@ -52,4 +54,17 @@ pub fn only_own_bytes()
     ensures silent { (bytes others : List ℕ) → BLOCK_HEADER_LENGTH ≤ length bytes
         → BLOCK_HEADER_LENGTH ≤ length others
         → block_status bytes ≡ 0 → block_status others ≡ 0 → block_of others ≡ block_of bytes }
+{}
+
+/// The numbers that the definitions cite by name, those of ACPI 6.5, sections 18.3.1 and 18.3.2. The function does
+/// nothing: its clauses are what it is for.
+pub fn numbers_in_digits()
+    ensures block { BLOCK_HEADER_LENGTH ≡ 20 }
+    ensures entry { ENTRY_HEADER_LENGTH ≡ 64 }
+    ensures long_entry { LONG_ENTRY_HEADER_LENGTH ≡ 72 }
+    ensures timestamp { TIMESTAMP_REVISION ≡ 3 }
+    ensures hest { HEST_FIXED_LENGTH ≡ 40 }
+    ensures bank { BANK_LENGTH ≡ 28 }
+    ensures source { SOURCE_HEAD_LENGTH ≡ 4 }
+    ensures bert { BERT_FIXED_LENGTH ≡ 48 }
 {}

@@ -15,5 +15,7 @@ mod tables;
 pub use bert_table::{Bert, read_bert};
 pub use blocks::{Block, read_block};
 pub use hest_table::{Hest, read_hest};
-pub use laws::{entries_fill_the_data, only_own_bytes, sources_are_laid_end_to_end};
+pub use laws::{
+    entries_fill_the_data, numbers_in_digits, only_own_bytes, sources_are_laid_end_to_end,
+};
 pub use refusals::{BlockRefused, TableRefused};

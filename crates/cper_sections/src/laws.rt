@@ -1,6 +1,9 @@
 //! What is said of sections for every list of bytes.
 
 ghost use Rattle.std.specs.Prelude.{◌≡◌, ◌≤◌, ◌<◌, ◌+◌, ℕ, List, length, sum_by, slice_get, Some, false};
+ghost use Rattle.cper_sections.specs.declared.memory.TheConstants.{OLD_LENGTH, RANK_LENGTH};
+ghost use Rattle.cper_sections.specs.declared.processor.TheConstants.{LENGTH};
+ghost use Rattle.cper_sections.specs.declared.x64.TheConstants.{CONTEXT_HEADER_LENGTH, FIXED_LENGTH, STRUCTURE_LENGTH};
 ghost use Rattle.cper_sections.specs.X64.{x64_validation, stated_contexts, contexts_at, contexts_of, has_context, context_of, bytes_taken, context_bytes};
 
 /// The contexts of an IA32/X64 section are packed after its structures and lie inside it: each
@@ -17,4 +20,15 @@ pub fn contexts_are_the_first_that_fit()
     ensures ended { (bytes : List ℕ)
         → length (contexts_of bytes) < stated_contexts (x64_validation bytes)
         → has_context (context_bytes bytes (length (contexts_of bytes))) ≡ false }
+{}
+
+/// The numbers that the definitions cite by name, those of UEFI 2.10, appendix N.2.4 and N.2.5. The function does
+/// nothing: its clauses are what it is for.
+pub fn numbers_in_digits()
+    ensures memory { OLD_LENGTH ≡ 73 }
+    ensures rank { RANK_LENGTH ≡ 80 }
+    ensures processor { LENGTH ≡ 192 }
+    ensures x64 { FIXED_LENGTH ≡ 64 }
+    ensures structure { STRUCTURE_LENGTH ≡ 64 }
+    ensures context { CONTEXT_HEADER_LENGTH ≡ 16 }
 {}

@@ -10,7 +10,7 @@ mod sections;
 mod x64;
 
 pub use guids::{SectionType, guid_at, section_type_of};
-pub use laws::contexts_are_the_first_that_fit;
+pub use laws::{contexts_are_the_first_that_fit, numbers_in_digits};
 pub use memory::MemSection;
 pub use processor::ProcSection;
 pub use sections::{Descriptor, RawSection, Section, SectionRefused, read_section};

@@ -5,6 +5,6 @@ mod laws;
 mod script;
 mod summary;
 
-pub use laws::load_laws;
+pub use laws::{load_laws, numbers_in_digits};
 pub use script::{MOST_LINES, load_script};
 pub use summary::load_line;
