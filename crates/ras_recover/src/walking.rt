@@ -9,7 +9,7 @@ ghost use Rattle.ras_journal.specs.Recovered.{is_shut};
 ghost use Rattle.ras_recover.specs.Steps.Looking.{ReadsPart};
 ghost use Rattle.ras_recover.specs.OpeningCalls.{ReadsStanding};
 ghost use Rattle.ras_recover.specs.Steps.Reading.{front_at};
-ghost use Rattle.ras_recover.specs.Steps.Windows.{end_of, Spans, Sees, IsAnswer, IsNoDamage, Looks, LooksAt, read_failure, LinkHeld, FrontHeld, IsBegun, IsBroken};
+ghost use Rattle.ras_recover.specs.Steps.Windows.{Covers, end_of, IsAnswer, IsNoDamage, Looks, LooksAt, read_failure, LinkHeld, FrontHeld, IsBegun, IsBroken};
 
 use crate::file::{first_place, front_len, has_open_gate, is_shut};
 use crate::links::{link_len, next_place};
@@ -41,10 +41,8 @@ fn hold_link<B: Board>(
     window: &mut Window,
     board: &mut B,
 ) -> Result<(), ReadRefused>
-    requires spans { Spans file gate window.old }
-    requires sees { Sees file (B.told board.old) window.old }
-    ensures spans { OnOk result (Spans file gate window.new) }
-    ensures sees { OnOk result (Sees file (B.told board.new) window.new) }
+    requires covers { Covers file gate (B.told board.old) window.old }
+    ensures covers { OnOk result (Covers file gate (B.told board.new) window.new) }
     ensures held { OnOk result (IfSome (B.told board.old)
         (λ t. LinkHeld (end_of window.new - gate) (drop gate (file_of file.no t)))) }
     ensures unread { IfErr result IsNoDamage }
@@ -78,17 +76,15 @@ fn next_in<B: Board>(
 ) -> Result<Option<Place>, ReadRefused>
     requires waiting { account.old.waiting ≡ nothing }
     requires links { place.links + 1 < 2 ^ 64 }
-    requires spans { Spans file place.gate window.old }
-    requires sees { Sees file (B.told board.old) window.old }
+    requires covers { Covers file place.gate (B.told board.old) window.old }
     ensures read { IfSome (B.told board.old)
         (λ t. IsAnswer (λ next. option_map (λ p. front_at p account.new.state) next) result
         (next_front (front_at place account.old.state) (file_of file.no t))) }
-    ensures kept { result ≡ Ok None → account.new.state ≡ account.old.state }
-    ensures closed { result ≡ Ok None → place.gate < end_of window.new }
+    ensures closed { result ≡ Ok None
+        → (account.new.state ≡ account.old.state) × (place.gate < end_of window.new) }
     ensures waiting { OnOk result (account.new.waiting ≡ nothing) }
-    ensures links { IfOk result (λ next. IfSome next (λ p. p.links ≡ place.links + 1)) }
-    ensures spans { IfOk result (λ next. IfSome next (λ p. Spans file p.gate window.new)) }
-    ensures sees { OnOk result (Sees file (B.told board.new) window.new) }
+    ensures next { IfOk result (λ next. IfSome next (λ p. (p.links ≡ place.links + 1)
+        × Covers file p.gate (B.told board.new) window.new)) }
     ensures looks { Looks read_failure result
         (ReadsPart file.no (end_of window.old) (end_of window.new))
         (B.told board.old) (B.clock board.old) (B.faults board.old)
@@ -121,8 +117,7 @@ fn last_in<B: Board>(
 ) -> Result<Place, ReadRefused>
     requires waiting { account.old.waiting ≡ nothing }
     requires links { first.links ≡ 0 }
-    requires spans { Spans file first.gate window.old }
-    requires sees { Sees file (B.told board.old) window.old }
+    requires covers { Covers file first.gate (B.told board.old) window.old }
     ensures read { IfSome (B.told board.old)
         (λ t. IsAnswer (λ place. front_at place account.new.state) result
         (whole_front (length (file_of file.no t)) (front_at first account.old.state)
@@ -151,10 +146,8 @@ fn hold_front<B: Board>(
     window: &mut Window,
     board: &mut B,
 ) -> Result<(), ReadRefused>
-    requires spans { Spans file 0 window.old }
-    requires sees { Sees file (B.told board.old) window.old }
-    ensures spans { OnOk result (Spans file 0 window.new) }
-    ensures sees { OnOk result (Sees file (B.told board.new) window.new) }
+    requires covers { Covers file 0 (B.told board.old) window.old }
+    ensures covers { OnOk result (Covers file 0 (B.told board.new) window.new) }
     ensures held { OnOk result (IfSome (B.told board.old)
         (λ t. FrontHeld (end_of window.new) (file_of file.no t))) }
     ensures unread { IfErr result IsNoDamage }
@@ -184,8 +177,7 @@ fn first_in<B: Board>(
     window: &mut Window,
     board: &mut B,
 ) -> Result<FileRead, ReadRefused>
-    requires spans { Spans file 0 window.old }
-    requires sees { Sees file (B.told board.old) window.old }
+    requires covers { Covers file 0 (B.told board.old) window.old }
     ensures begun { IfOk result (λ r. IfSome (B.told board.old)
         (λ t. IsBegun taken (file_of file.no t)
         (option_map (λ p. front_at p.0 p.1.state) r.front))) }
@@ -193,10 +185,8 @@ fn first_in<B: Board>(
         (λ t. IsBroken taken (file_of file.no t) refused)) }
     ensures shut { IfOk result (λ r. IfSome (B.told board.old)
         (λ t. r.shut ≡ is_shut (file_of file.no t))) }
-    ensures waiting { IfOk result (λ r. IfSome r.front (λ p. p.1.waiting ≡ nothing)) }
-    ensures links { IfOk result (λ r. IfSome r.front (λ p. p.0.links ≡ 0)) }
-    ensures spans { IfOk result (λ r. IfSome r.front (λ p. Spans file p.0.gate window.new)) }
-    ensures sees { OnOk result (Sees file (B.told board.new) window.new) }
+    ensures front { IfOk result (λ r. IfSome r.front (λ p. (p.1.waiting ≡ nothing)
+        × ((p.0.links ≡ 0) × Covers file p.0.gate (B.told board.new) window.new))) }
     ensures looks { Looks read_failure result
         (ReadsPart file.no (end_of window.old) (end_of window.new))
         (B.told board.old) (B.clock board.old) (B.faults board.old)

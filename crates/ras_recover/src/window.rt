@@ -3,7 +3,7 @@ ghost use Rattle.std.specs.Prelude.{◌≡◌, ◌+◌, ◌-◌, ◌≤◌, [], 
 ghost use Rattle.board_core.specs.Told.{file_of};
 ghost use Rattle.ras_journal.specs.declared.limits.TheConstants.{LONGEST_FILE};
 ghost use Rattle.ras_recover.specs.Steps.Looking.{ReadsPart};
-ghost use Rattle.ras_recover.specs.Steps.Windows.{end_of, Spans, Sees, IsNoDamage, Looks, read_failure};
+ghost use Rattle.ras_recover.specs.Steps.Windows.{Covers, end_of, IsNoDamage, Looks, read_failure};
 
 use crate::place::ReadRefused;
 use board_core::{Board, Failed, FileNo};
@@ -58,12 +58,10 @@ impl Window {
         requires within { place + count ≤ file.size }
         requires short { file.size ≤ LONGEST_FILE }
         requires size { IfSome (B.told board.old) (λ t. file.size ≡ length (file_of file.no t)) }
-        ensures start { OnOk result (self.new.start ≡ place) }
-        ensures spans { OnOk result (Spans file place self.new) }
+        ensures covers { OnOk result (Covers file place (B.told board.new) self.new) }
         ensures within { OnOk result (end_of self.new ≤ place + count) }
         ensures all { OnOk result (IfSome (B.told board.old)
             (λ t. end_of self.new ≡ place + count)) }
-        ensures sees { OnOk result (Sees file (B.told board.new) self.new) }
         ensures unread { IfErr result IsNoDamage }
         ensures looks { Looks read_failure result (ReadsPart file.no place (place + count))
             (B.told board.old) (B.clock board.old) (B.faults board.old)
@@ -91,10 +89,8 @@ impl Window {
         count: usize,
         board: &mut B,
     ) -> Result<(), ReadRefused>
-        requires spans { Spans file place self.old }
-        requires sees { Sees file (B.told board.old) self.old }
-        ensures spans { OnOk result (Spans file place self.new) }
-        ensures sees { OnOk result (Sees file (B.told board.new) self.new) }
+        requires covers { Covers file place (B.told board.old) self.old }
+        ensures covers { OnOk result (Covers file place (B.told board.new) self.new) }
         ensures held { OnOk result (IfSome (B.told board.old)
             (λ t. min (place + count) file.size ≤ end_of self.new)) }
         ensures unread { IfErr result IsNoDamage }

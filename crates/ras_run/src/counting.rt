@@ -13,7 +13,7 @@ ghost use Rattle.ras_exit.specs.Causes.{BoardCause, Causes};
 ghost use Rattle.ras_exit.specs.Endings.{EndsBy, IsStop, ending_of};
 ghost use Rattle.ras_run.specs.LineActs.{made_acts, news_acts};
 ghost use Rattle.ras_run.specs.Taking.{CanBeKept, CountsMade, CountsNews};
-ghost use Rattle.ras_run.specs.Taking.{IsReady, LedgerStands};
+ghost use Rattle.ras_run.specs.Taking.{IsReady};
 ghost use Rattle.ras_texts.specs.OrderRoom.{HasOrderRoom};
 ghost use Rattle.ras_texts.specs.Orders.{order_lines};
 
@@ -41,8 +41,7 @@ pub fn take_made<B: Board>(
     board: &mut B,
 ) -> Result<(), Exit>
     requires fit { IsFit made }
-    requires usable { ledger.old.journal.failed ≡ false }
-    requires stands { LedgerStands ledger.old (B.told board.old) (B.clock board.old) }
+    requires ready { IsReady ledger.old (B.told board.old) (B.clock board.old) }
 
     ensures counts { CountsMade made result ledger.old ledger.new }
     ensures does { Does (looks B.told B.clock B.faults)
@@ -99,8 +98,7 @@ pub(crate) fn keep<B: Board>(
     ledger: &mut Ledger,
     board: &mut B,
 ) -> Result<(), Exit>
-    requires usable { ledger.old.journal.failed ≡ false }
-    requires stands { LedgerStands ledger.old (B.told board.old) (B.clock board.old) }
+    requires ready { IsReady ledger.old (B.told board.old) (B.clock board.old) }
     requires can_take { IfSome news (CanTake ledger.old.account) }
     requires can_keep { IfSome news CanBeKept }
     requires room { IfSome news (λ news. HasOrderRoom news.orders.room text.old) }

@@ -54,8 +54,7 @@ pub fn take_line<B: Board>(
     board: &mut B,
 ) -> Result<(), Exit>
     requires short { length bytes.now ≤ LONGEST_LINE }
-    requires usable { run.old.ledger.journal.failed ≡ false }
-    requires stands { LedgerStands run.old.ledger (B.told board.old) (B.clock board.old) }
+    requires ready { IsReady run.old.ledger (B.told board.old) (B.clock board.old) }
 
     ensures takes { (start : Start) (before : List NumberedLine) → IsRunAfter start before run.old
         → (t : Told) → B.told board.old ≡ Some t → IsBoardAfter start before t

@@ -16,7 +16,7 @@ ghost use Rattle.ras_records.specs.Polls.{look_calls, readable_ids};
 ghost use Rattle.ras_run.specs.Steps.Clearing.{CanClear, clearing_acts};
 ghost use Rattle.ras_run.specs.LineActs.{DoesAsking, polled_acts};
 ghost use Rattle.ras_run.specs.Status.{polling_refusal};
-ghost use Rattle.ras_run.specs.Taking.{CountsMade, CountsPolled, IsReady, LedgerStands};
+ghost use Rattle.ras_run.specs.Taking.{CountsMade, CountsPolled, IsReady};
 
 use crate::counting::{keep, prepare_made};
 use crate::driving::driver_exit;
@@ -50,8 +50,7 @@ pub(crate) fn poll_store<B: Board>(
     ledger: &mut Ledger,
     board: &mut B,
 ) -> Result<(), Exit>
-    requires usable { ledger.old.journal.failed ≡ false }
-    requires stands { LedgerStands ledger.old (B.told board.old) (B.clock board.old) }
+    requires ready { IsReady ledger.old (B.told board.old) (B.clock board.old) }
 
     ensures counts { (t : Told) → B.told board.old ≡ Some t → IsAdmittedTable driver.now
         → let made = polled topology.now seconds t.here.store in
@@ -90,8 +89,7 @@ fn take_looked<B: Board>(
     board: &mut B,
 ) -> Result<(), Exit>
     requires fit { IsFit looked.made }
-    requires usable { ledger.old.journal.failed ≡ false }
-    requires stands { LedgerStands ledger.old (B.told board.old) (B.clock board.old) }
+    requires ready { IsReady ledger.old (B.told board.old) (B.clock board.old) }
 
     ensures counts { (t : Told) → B.told board.old ≡ Some t
         → CanClear driver.now looked.readable.items t

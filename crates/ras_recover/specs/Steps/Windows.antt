@@ -36,6 +36,11 @@ pub record IsWindowOf (file : SizedFile) (window : Window) (bytes : List ℕ) : 
 abbrev pub Sees : SizedFile → Option Told → Window → Type 0
 Sees file told window = IfSome told (λ t. IsWindowOf file window (file_of file.no t))
 
+-- A window spans a place of a file, and holds what the file has there.
+pub record Covers (file : SizedFile) (place : ℕ) (told : Option Told) (window : Window) : Type 0 where
+  pub spans : Spans file place window
+  pub sees : Sees file told window
+
 -- What is answered is what the file holds, seen so, or the place of its damage, unless a disk call
 -- failed or memory ran out.
 abbrev pub IsAnswer : {T A : Type 0} → (T → A) → Result T ReadRefused → Result A ℕ → Type 0

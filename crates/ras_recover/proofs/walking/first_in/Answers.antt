@@ -6,20 +6,20 @@ use Rattle.ras_recover.proofs.walking.first_in.Goals as goal
 
 pub returns-in-Ok-first_place-clause-begun : goal.returns-in-Ok-first_place-clause-begun
 returns-in-Ok-first_place-clause-begun g c =
-    begun_some c.args.taken c.args.file c.hold_front.new.window c.rest-front.result.now _ (Ok (front_at c.in-Ok-first_place.first.0 c.in-Ok-first_place.first.1.state)) c.in-Ok.ensures.spans
-    (seen_before c.args.file c.hold_front.new.window _ _ c.hold_front.ensures.looks.keeps.here c.in-Ok.ensures.sees) c.in-Ok.ensures.held c.rest-front.ensures
+    begun_some c.args.taken c.args.file c.hold_front.new.window c.rest-front.result.now _ (Ok (front_at c.in-Ok-first_place.first.0 c.in-Ok-first_place.first.1.state)) c.in-Ok.ensures.covers.spans
+    (seen_before c.args.file c.hold_front.new.window _ _ c.hold_front.ensures.looks.keeps.here c.in-Ok.ensures.covers.sees) c.in-Ok.ensures.held c.rest-front.ensures
     (sym c.has_open_gate.ensures ∙ c.if-not-has_open_gate.false) c.in-Ok-first_place.ensures.read
 
 pub returns-in-Ok-first_place-clause-shut : goal.returns-in-Ok-first_place-clause-shut
 returns-in-Ok-first_place-clause-shut g c =
     open_there c.args.file (Ok (front_at c.in-Ok-first_place.first.0 c.in-Ok-first_place.first.1.state)) c.args.taken _
-    (begun_some c.args.taken c.args.file c.hold_front.new.window c.rest-front.result.now _ (Ok (front_at c.in-Ok-first_place.first.0 c.in-Ok-first_place.first.1.state)) c.in-Ok.ensures.spans
-    (seen_before c.args.file c.hold_front.new.window _ _ c.hold_front.ensures.looks.keeps.here c.in-Ok.ensures.sees) c.in-Ok.ensures.held c.rest-front.ensures
+    (begun_some c.args.taken c.args.file c.hold_front.new.window c.rest-front.result.now _ (Ok (front_at c.in-Ok-first_place.first.0 c.in-Ok-first_place.first.1.state)) c.in-Ok.ensures.covers.spans
+    (seen_before c.args.file c.hold_front.new.window _ _ c.hold_front.ensures.looks.keeps.here c.in-Ok.ensures.covers.sees) c.in-Ok.ensures.held c.rest-front.ensures
     (sym c.has_open_gate.ensures ∙ c.if-not-has_open_gate.false) c.in-Ok-first_place.ensures.read)
 
 pub returns-in-Err-Damaged-clause-broken : goal.returns-in-Err-Damaged-clause-broken
 returns-in-Err-Damaged-clause-broken g c =
     let told = rw c.in-Err-Damaged.field-0-is at c.in-Err-Damaged.ensures in
-    begun_some c.args.taken c.args.file c.hold_front.new.window c.rest-front.result.now _ (Err c.in-Err-Damaged.at) c.in-Ok.ensures.spans
-    (seen_before c.args.file c.hold_front.new.window _ _ c.hold_front.ensures.looks.keeps.here c.in-Ok.ensures.sees) c.in-Ok.ensures.held c.rest-front.ensures
+    begun_some c.args.taken c.args.file c.hold_front.new.window c.rest-front.result.now _ (Err c.in-Err-Damaged.at) c.in-Ok.ensures.covers.spans
+    (seen_before c.args.file c.hold_front.new.window _ _ c.hold_front.ensures.looks.keeps.here c.in-Ok.ensures.covers.sees) c.in-Ok.ensures.held c.rest-front.ensures
     (sym c.has_open_gate.ensures ∙ c.if-not-has_open_gate.false) told.read

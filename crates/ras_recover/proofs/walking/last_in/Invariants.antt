@@ -2,7 +2,7 @@ use Rattle.std.proofs.Common.{◌≡◌, Ok}
 use Rattle.ras_account.specs.View.{nothing}
 use Rattle.ras_recover.specs.Steps.Looking.{ReadsPart}
 use Rattle.ras_recover.specs.Steps.Reading.{front_at}
-use Rattle.ras_recover.specs.Steps.Windows.{end_of, Spans, Sees, Looks, read_failure}
+use Rattle.ras_recover.specs.Steps.Windows.{Covers, end_of, Looks, read_failure}
 use Rattle.ras_recover.proofs.HoldingLemmas.{GoesOn}
 use Rattle.ras_recover.proofs.walking.last_in.Given as goal
 
@@ -11,8 +11,7 @@ abbrev pub invariant-loop : goal.invariant-loop
 invariant-loop g l = record {
   waiting : l.account.waiting ≡ nothing;
   links : l.place.links ≡ l.counter;
-  spans : Spans l.file l.place.gate l.window;
-  sees : Sees l.file (g.B.Board.told l.board) l.window;
+  covers : Covers l.file l.place.gate (g.B.Board.told l.board) l.window;
   goes_on : GoesOn l.file (g.B.Board.told l.fn.board) l.counter (front_at l.fn.first l.fn.account.state) (front_at l.place l.account.state);
   looks : Looks read_failure (Ok (tt {0})) (ReadsPart l.file.no (end_of l.fn.window) (end_of l.window))
       (g.B.Board.told l.fn.board) (g.B.Board.clock l.fn.board) (g.B.Board.faults l.fn.board) (g.B.Board.told l.board) (g.B.Board.clock l.board) (g.B.Board.faults l.board);

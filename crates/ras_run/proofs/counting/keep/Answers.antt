@@ -33,7 +33,7 @@ returns-clause-ready g c =
     let stands : Stands (standing_kept s a news.link) (account_after_all a news.entries.items) (see c.keep.new.board).told (see c.keep.new.board).clock =
     stands_on (keeping_acts s a news.link) s (standing_kept s a news.link) a (account_after_all a news.entries.items) (see c.args.board.now) (see c.keep.new.board)
     (λ t at. keeping_ends s a news.entries.items news.link t (c.in-Ok.ensures.can tt) c.in-Ok.ensures.full (links_of a news can take.within) at)
-    c.requires.stands c.in-Ok.ensures.does in
+    c.requires.ready.stands c.in-Ok.ensures.does in
     record {
       usable = ap (λ (j : JournalView). j.failed) c.in-Ok.ensures.ledger.1;
       stands = rw (ap (λ (j : JournalView). j.standing) c.in-Ok.ensures.ledger.1, state) stands;

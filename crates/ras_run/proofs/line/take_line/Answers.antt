@@ -58,7 +58,7 @@ returns-in-Some-clause-does g c = λ start before is t at board.
 pub returns-in-Some-clause-ready : goal.returns-in-Some-clause-ready
 returns-in-Some-clause-ready g c =
     ready_printed (looks g.B.Board.told g.B.Board.clock g.B.Board.faults) (known_line c.args.run.now.ledger.account.state c.in-Some.name) (done_line c.args.number) c.args.run.now.ledger c.end_repeat.result _ _
-    (record { usable = c.requires.usable; stands = c.requires.stands }) c.end_repeat.ensures.does
+    c.requires.ready c.end_repeat.ensures.does
 
 pub returns-in-Nothing-clause-takes : goal.returns-in-Nothing-clause-takes
 returns-in-Nothing-clause-takes g c = λ start before is t at board.

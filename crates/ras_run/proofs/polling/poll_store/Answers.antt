@@ -16,10 +16,13 @@ use Rattle.ras_run.proofs.polling.poll_store.Goals as goal
 same_told : (t u : Told) → Some t ≡ Some u → t ≡ u
 same_told t u is = cc
 
-pub take_looked-requires-clause-stands : goal.take_looked-requires-clause-stands
-take_looked-requires-clause-stands g c =
+pub take_looked-requires-clause-ready : goal.take_looked-requires-clause-ready
+take_looked-requires-clause-ready g c =
     let see = looks g.B.Board.told g.B.Board.clock g.B.Board.faults in
-    stands_called see (λ t. look_calls c.args.driver.now t) c.args.ledger.now.journal.standing c.args.ledger.now.account.state c.args.board.now c.look.new.board c.in-Ok.ensures.kept c.in-Ok.ensures.does c.requires.stands
+    record {
+      usable = c.requires.ready.usable;
+      stands = stands_called see (λ t. look_calls c.args.driver.now t) c.args.ledger.now.journal.standing c.args.ledger.now.account.state c.args.board.now c.look.new.board c.in-Ok.ensures.kept c.in-Ok.ensures.does c.requires.ready.stands;
+    }
 
 pub returns-in-Ok-clause-counts : goal.returns-in-Ok-clause-counts
 returns-in-Ok-clause-counts g c = λ t is admitted.
