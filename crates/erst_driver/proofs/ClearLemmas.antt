@@ -1,5 +1,5 @@
 -- What the actions of a clear come to.
-use Rattle.std.proofs.Common.{◌≡◌, ◌∙◌, ℕ, Bool, true, false, nat_eq, List, [], ◌∷◌, length, Option, Some, None, refl, sym, subst, inl, inr, arith, if◌then◌else◌}
+use Rattle.std.proofs.Common.{◌≡◌, ◌∙◌, ℕ, Bool, true, false, nat_eq, List, [], ◌∷◌, length, Option, Some, None, refl, sym, ap, subst, inl, inr, arith, if◌then◌else◌}
 use Rattle.std.proofs.lemmas.Bool.Decides.{nat_tests}
 use Rattle.std.specs.Prelude.{◌⊎◌, IfSome}
 use Rattle.erst_store.specs.declared.device.Command.TheVariants.{Clear}
@@ -12,8 +12,8 @@ use Rattle.erst_store.specs.Device.{Device, act, busy_device}
 use Rattle.erst_store.specs.DeviceLaws.{IsDevice}
 use Rattle.board_core.specs.Told.{Told, device_of}
 use Rattle.erst_driver.specs.Operations.{actions_of, clear_steps, after_steps}
-use Rattle.erst_driver.specs.Answers.{found_status, answer_of, answer_on_found}
-use Rattle.erst_driver.specs.Steps.Operating.{Clears, StoreIn, ComesThrough}
+use Rattle.erst_driver.specs.Answers.{Clears, found_status, answer_of, answer_on_found}
+use Rattle.erst_driver.specs.Steps.Operating.{StoreIn, ComesThrough}
 use Rattle.erst_driver.proofs.OperationLemmas.{Carries, through_operation, store_after, answer_is}
 
 without-empty : (id : ℕ) (rs : List Stored) → nat_eq (length rs) 0 ≡ true → rs ≡ without id rs
@@ -83,6 +83,6 @@ clear_stops id (Some t) old new device law is = elim (is device) [
   | inr through ↦
       elim (through_operation (clear_steps id) (device_of t) (found_status id t.here.store) (without id t.here.store) (clear_carries id (device_of t)) new through) [
         | inl before ↦ inl (before ∙ sym (law t refl))
-        | inr after ↦ inr after
+        | inr after ↦ inr (after ∙ ap (without id) (sym (law t refl)))
       ]
 ]

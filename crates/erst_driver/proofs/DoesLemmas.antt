@@ -21,8 +21,8 @@ use Rattle.erst_interp.proofs.MomentLemmas.{here_after}
 use Rattle.erst_driver.specs.declared.refusals.DriverRefused.{DriverRefused}
 use Rattle.erst_driver.specs.declared.refusals.DriverRefused.TheVariants.{Register, Busy, NoMemory, Status as EndedWith}
 use Rattle.erst_driver.specs.declared.step.Step.{Step}
-use Rattle.erst_driver.specs.Steps.Operating.{HasCall, Stays, Leaves}
-use Rattle.erst_driver.specs.Answers.{DoesListing, HasCauseIn, IsMemoryOnly, IsAnswered, driver_end}
+use Rattle.erst_driver.specs.Steps.Operating.{HasCall, Leaves}
+use Rattle.erst_driver.specs.Answers.{DoesListing, HasCauseIn, IsMemoryOnly, IsAnswered, Stays, driver_end}
 use Rattle.erst_driver.specs.Operations.{AreInside, Inside, checks, device_calls, end_by, ends, finishes, is_free_in_time, asks, most_checks, without_input}
 
 -- ---- lists of calls
@@ -191,10 +191,10 @@ module _ {X : Type 0} (see : X → Seen) (a b : X)
 
   -- one after which the store is this one
   module _ (calls : List DeviceCall) (t : Told) (is : (see a).told ≡ Some t) (has : HasCall calls) (store : List Stored) (after : (after_acts (acts_of calls) t).here.store ≡ store)
-      (Step : Option Told → List Stored → List Stored → Type 0) (becomes : (x y : List Stored) → Step (Some t) x y → Becomes store x y)
+      (Step : Option Told → List Stored → List Stored → Type 0) (becomes : (new : List Stored) → Step (Some t) t.here.store new → Becomes store t.here.store new)
       (passes : Passes (InStore (Step (see a).told)) (see a).clock (see b).clock) where
     store_moments : (left : Left) → InStore (Step (see a).told) t.here left → Moment (acts_of calls) t left
-    store_moments left by = elim (becomes t.here.store by.store (subst (λ (o : Option Told). Step o t.here.store by.store) is by.step)) [
+    store_moments left by = elim (becomes by.store (subst (λ (o : Option Told). Step o t.here.store by.store) is by.step)) [
       | inl same ↦ subst (λ (l : Left). Moment (acts_of calls) t l) (sym (by.rest ∙ ap (λ (s : List Stored). record t.here { store = s }) same)) (moment_before calls t has)
       | inr new ↦ subst (λ (l : Left). Moment (acts_of calls) t l) (sym (by.rest ∙ ap (λ (s : List Stored). record t.here { store = s }) (new ∙ sym after) ∙ sym (here_after calls t))) (moment_after calls t has)
     ]

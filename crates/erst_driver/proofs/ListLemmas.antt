@@ -22,8 +22,8 @@ use Rattle.erst_driver.specs.declared.refusals.DriverRefused.{DriverRefused}
 use Rattle.erst_driver.specs.declared.refusals.DriverRefused.TheVariants.{Register, Busy, Status, NoMemory}
 use Rattle.erst_driver.specs.declared.step.Step.{Step}
 use Rattle.erst_driver.specs.Operations.{without_input, listings, ids_steps, after_step, after_steps, device_calls, list_calls, told_by}
-use Rattle.erst_driver.specs.Answers.{IsMemoryOnly, HasCauseIn}
-use Rattle.erst_driver.specs.Steps.Operating.{Begins, HasCall, Leaves, Stays, Over, HasDevice, Starves, Plan, ComesThrough, StoreIn, Done, CutIn, FailsIn, IsBeginning, Acted, Acts, Quietly, FailsQuietly, EndsListing, ListsOut, Collected, Collects, ListsAll, Tells}
+use Rattle.erst_driver.specs.Answers.{IsMemoryOnly, HasCauseIn, Stays}
+use Rattle.erst_driver.specs.Steps.Operating.{Begins, HasCall, Leaves, Over, HasDevice, Starves, Plan, ComesThrough, StoreIn, Done, CutIn, FailsIn, IsBeginning, Acted, Acts, Quietly, FailsQuietly, EndsListing, ListsOut, Collected, Collects, ListsAll, Tells}
 use Rattle.erst_interp.specs.Admission.{IsAdmittedTable}
 use Rattle.erst_driver.proofs.DeviceLemmas.{over_told}
 use Rattle.erst_driver.proofs.DoesLemmas.{has_call}

@@ -25,8 +25,8 @@ use Rattle.erst_driver.specs.declared.step.Step.{Step}
 use Rattle.erst_driver.specs.declared.refusals.DriverRefused.{DriverRefused}
 use Rattle.erst_driver.specs.declared.refusals.DriverRefused.TheVariants.{Register, Busy, NoMemory, Status as EndedWith}
 use Rattle.erst_driver.specs.Operations.{is_free_in_time, actions_of, read_steps, after_steps, device_calls, fetch_calls, told_by}
-use Rattle.erst_driver.specs.Answers.{read_calls, Answer, by_status, found_status, answer_of, answer_on_found, AnswersAs, HasCauseIn, HoldsRecord}
-use Rattle.erst_driver.specs.Steps.Operating.{Leaves, Stays, Over, HasDevice, StoreIn, ComesThrough, Done, FailsFetch, Answered, Operates, Reads, Fetched}
+use Rattle.erst_driver.specs.Answers.{read_calls, Answer, by_status, found_status, answer_of, answer_on_found, AnswersAs, HasCauseIn, HoldsRecord, Stays}
+use Rattle.erst_driver.specs.Steps.Operating.{Leaves, Over, HasDevice, StoreIn, ComesThrough, Done, FailsFetch, Answered, Operates, Reads, Fetched}
 use Rattle.erst_driver.proofs.PlanLemmas.{over_device, over_both_device, over_both, over_more, everywhere}
 use Rattle.erst_driver.proofs.DeviceLemmas.{over_told}
 use Rattle.erst_driver.proofs.OperationLemmas.{Carries, through_operation, range_after, answer_is, passes_at}

@@ -24,8 +24,8 @@ use Rattle.erst_interp.proofs.BreakLemmas.{off_more, off_after}
 use Rattle.erst_interp.proofs.TouchLemmas.{well_both, well_fails, fails_more}
 use Rattle.erst_driver.specs.declared.refusals.DriverRefused.TheVariants.{Register, Busy, NoMemory, Status as EndedWith}
 use Rattle.erst_driver.specs.Operations.{actions_of, write_steps, after_steps, device_calls, put_in_range, write_calls}
-use Rattle.erst_driver.specs.Answers.{Answer, answer_of, written_id, is_put_refused, put_status, store_after_write, answer_on_put, AnswersAs, HasCauseIn}
-use Rattle.erst_driver.specs.Steps.Operating.{Leaves, Puts, Over, StoreIn, ComesThrough, Tells, Done, Operates, StoreInWrite, Written, FailsWrite, Writes}
+use Rattle.erst_driver.specs.Answers.{Answer, answer_of, written_id, is_put_refused, put_status, store_after_write, answer_on_put, AnswersAs, HasCauseIn, Puts}
+use Rattle.erst_driver.specs.Steps.Operating.{Leaves, Over, StoreIn, ComesThrough, Tells, Done, Operates, StoreInWrite, Written, FailsWrite, Writes}
 use Rattle.erst_driver.proofs.PlanLemmas.{over_at, over_more, everywhere}
 use Rattle.erst_driver.proofs.OperationLemmas.{Carries, through_operation, answer_is, passes_at}
 
@@ -117,7 +117,7 @@ module _ (bytes : List ℕ) (long : header_length ≤ length bytes) (short : len
     | inr through ↦
         elim (through_operation write_steps (device_of (put_in_range bytes t)) (put_status (written_id bytes) t.here.store) (store_after_write bytes t.here.store) (write_carries t) y through) [
           | inl before ↦ inl (before ∙ sym (law t refl))
-          | inr after ↦ inr after
+          | inr after ↦ inr (after ∙ ap (store_after_write bytes) (sym (law t refl)))
         ]
   ]
 

@@ -1,12 +1,14 @@
 -- What an operation answers, and what it leaves.
-use Rattle.std.specs.Prelude.{◌≡◌, ◌≢◌, ℕ, ◌-◌, Bool, ◌||◌, nat_eq, List, ◌++◌, length, replicate, Some, Result, Ok, Err, if◌then◌else◌}
+use Rattle.std.specs.Prelude.{◌≡◌, ◌≢◌, ℕ, ◌-◌, Bool, ◌||◌, nat_eq, List, ◌++◌, length, replicate, Option, None, Some, Result, Ok, Err, if◌then◌else◌}
 use Rattle.ras_base.specs.LittleEndian.{number_at}
 use Rattle.erst_store.specs.declared.device.CommandStatus.{CommandStatus}
 use Rattle.erst_store.specs.declared.device.CommandStatus.TheVariants.{Success, NotEnoughSpace, StoreEmpty, NotFound}
 use Rattle.erst_store.specs.Actions.{range_length}
-use Rattle.erst_store.specs.Store.{Stored, holds, bytes_under, with_record, is_reserved, is_full_for}
+use Rattle.erst_store.specs.Store.{Stored, holds, bytes_under, with_record, without, is_reserved, is_full_for}
 use Rattle.erst_store.specs.Device.{Device, status_number, id_place}
 use Rattle.board_core.specs.Cause.{Faults, device_call}
+use Rattle.board_core.specs.Stop.{Becomes}
+use Rattle.board_core.specs.Told.{Told}
 use Rattle.board_core.specs.Doing.{DeviceCall, Does, Ended, Raises, Seen, broke, ended_by, went_well}
 use Rattle.erst_interp.specs.declared.entries.InstructionEntry.{InstructionEntry}
 use Rattle.erst_interp.specs.Run.{acts_of}
@@ -112,6 +114,24 @@ IsMemoryOnly (Ok x) = Unit {0}
 IsMemoryOnly (Err Register) = Unit {0}
 IsMemoryOnly (Err NoMemory) = Unit {0}
 IsMemoryOnly (Err why) = ⊥
+
+-- ---- what a stop during an operation leaves of the record store, over what a stop before it might
+-- have left; of a board that tells nothing this says nothing
+
+-- It stays.
+abbrev pub Stays : Option Told → List Stored → List Stored → Type 0
+Stays None old new = Unit {0}
+Stays (Some t) old new = new ≡ old
+
+-- It is as it was, or without the record under this identifier.
+abbrev pub Clears : ℕ → Option Told → List Stored → List Stored → Type 0
+Clears id None old new = Unit {0}
+Clears id (Some t) old new = Becomes (without id old) old new
+
+-- It is as it was, or with this record put.
+abbrev pub Puts : List ℕ → Option Told → List Stored → List Stored → Type 0
+Puts bytes None old new = Unit {0}
+Puts bytes (Some t) old new = Becomes (store_after_write bytes old) old new
 
 -- ---- what a read leaves in a buffer of the range's length
 

@@ -15,7 +15,7 @@ ghost use Rattle.erst_store.specs.Store.{ids, most_records};
 ghost use Rattle.erst_interp.specs.Admission.{IsAdmittedTable};
 ghost use Rattle.erst_interp.specs.Run.{KeepsButDevice, IsCutShort, acts_of};
 ghost use Rattle.erst_driver.specs.Operations.{AreInside, Inside, actions_of, asks, finishes, clear_calls, list_calls, write_calls, put_in_range};
-ghost use Rattle.erst_driver.specs.Answers.{read_calls, driver_end, DoesListing, answer_within, answer_at, answer_of, answer_on_found, AnswersAs, HasCauseIn, HoldsRecord, IsAnswered, IsMemoryOnly, written_id, answer_on_put};
+ghost use Rattle.erst_driver.specs.Answers.{read_calls, driver_end, DoesListing, answer_within, answer_at, answer_of, answer_on_found, Clears, AnswersAs, HasCauseIn, HoldsRecord, IsAnswered, IsMemoryOnly, Puts, Stays, written_id, answer_on_put};
 ghost use Rattle.erst_driver.specs.Steps.Operating.{asks_within, answers_within, HasDevice, CalledAs, Acts, Runs, Operates, Reads, ListsOut, Collects, ListsAll, Writes};
 
 use crate::refusals::DriverRefused;
@@ -74,9 +74,8 @@ impl Driver {
     /// action; the record is removed even so. `Status` comes after the operation was ended: 4
     /// if the store is empty, and 5 if it has no such record.
     ///
-    /// What its calls leave, and what a stop leaves at each moment of them, stands at
-    /// [`crate::operations_on_the_store`]: the store as it was or without the record, and all else
-    /// as it was.
+    /// At each moment a stop leaves what one before the call might have left, or this without the
+    /// record. What the calls themselves leave stands at [`crate::operations_on_the_store`].
     pub fn clear<B: Board>(&self, id: u64, board: &mut B) -> Result<(), DriverRefused>
         ensures does { IfSome (B.told board.old) (λ t. Does (looks B.told B.clock B.faults)
             (acts_of (clear_calls self.now id (device_of t))) (ended_by driver_end result)
@@ -84,6 +83,8 @@ impl Driver {
         ensures answers { IfSome (B.told board.old)
             (λ t. AnswersAs result (answer_on_found id (device_of t))) }
         ensures kept { Relates KeepsButDevice (B.told board.old) (B.told board.new) }
+        ensures stops { Passes (InStore (Clears id (B.told board.old))) (B.clock board.old)
+            (B.clock board.new) }
         ensures cause { HasCauseIn result (B.faults board.old) (B.faults board.new) }
         ensures refused { IsAnswered result }
         ensures device { IfSome (B.told board.old) (λ t. IsDevice (device_of t)) }
@@ -99,7 +100,8 @@ impl Driver {
     /// `Register` comes only if a call of the board failed, which is then the last one. `Busy`
     /// comes if the device was busy at `MOST_CHECKS` checks, the last of which is then the last
     /// action. `Status` comes after the operation was ended: 4 if the store is empty, and 5
-    /// if it has no such record. At each moment a stop leaves all as it was.
+    /// if it has no such record. At each moment a stop leaves what one before the call might
+    /// have left.
     pub fn read<B: Board>(
         &self,
         id: u64,
@@ -115,6 +117,8 @@ impl Driver {
         ensures record_read { OnOk result (IfSome (B.told board.old)
             (λ t. HoldsRecord id t.here.store buf.new)) }
         ensures kept { Relates KeepsButDevice (B.told board.old) (B.told board.new) }
+        ensures stops { Passes (InStore (Stays (B.told board.old))) (B.clock board.old)
+            (B.clock board.new) }
         ensures cause { HasCauseIn result (B.faults board.old) (B.faults board.new) }
         ensures refused { IsAnswered result }
         ensures device { IfSome (B.told board.old) (λ t. IsDevice (device_of t)) }
@@ -132,9 +136,8 @@ impl Driver {
     /// action; the record is put even so. `Status` comes after the operation was ended: 1 if
     /// the identifier is 0 or all ones, or the store is full and has no record under it.
     ///
-    /// What its calls leave, and what a stop leaves at each moment of them, stands at
-    /// [`crate::operations_on_the_store`]: the store as it was or with the record, and all else as
-    /// it was.
+    /// At each moment a stop leaves what one before the call might have left, or this with the
+    /// record put. What the calls themselves leave stands at [`crate::operations_on_the_store`].
     pub fn write<B: Board>(&self, bytes: &[u8], board: &mut B) -> Result<(), DriverRefused>
         requires long { header_length ≤ length bytes.now }
         requires short { length bytes.now ≤ range_length }
@@ -145,6 +148,8 @@ impl Driver {
         ensures answers { IfSome (B.told board.old)
             (λ t. AnswersAs result (answer_on_put (written_id bytes.now) (device_of t))) }
         ensures kept { Relates KeepsButDevice (B.told board.old) (B.told board.new) }
+        ensures stops { Passes (InStore (Puts bytes.now (B.told board.old))) (B.clock board.old)
+            (B.clock board.new) }
         ensures cause { HasCauseIn result (B.faults board.old) (B.faults board.new) }
         ensures refused { IsAnswered result }
         ensures device { IfSome (B.told board.old) (λ t. IsDevice (device_of t)) }
@@ -199,7 +204,7 @@ impl Driver {
     ///
     /// `Register` comes only if a call of the board failed, which is then the last one, and
     /// `NoMemory` only if memory runs out, after some of the actions. No other refusal comes. At
-    /// each moment a stop leaves all as it was.
+    /// each moment a stop leaves what one before the call might have left.
     pub fn ids<B: Board>(&self, alloc: Global, board: &mut B) -> Result<Vec<u64>, DriverRefused>
         ensures does { IfSome (B.told board.old) (λ t. DoesListing (looks B.told B.clock B.faults)
             (list_calls self.now (device_of t)) result board.old board.new) }
@@ -208,6 +213,8 @@ impl Driver {
         ensures few { IfOk result (λ found. length found.items ≤ most_records) }
         ensures refused { IsMemoryOnly result }
         ensures kept { Relates KeepsButDevice (B.told board.old) (B.told board.new) }
+        ensures stops { Passes (InStore (Stays (B.told board.old))) (B.clock board.old)
+            (B.clock board.new) }
         ensures cause { HasCauseIn result (B.faults board.old) (B.faults board.new) }
         ensures device { IfSome (B.told board.old) (λ t. IsDevice (device_of t)) }
     {

@@ -1,9 +1,8 @@
 -- What private functions say of the actions that they run.
 use Rattle.std.specs.Prelude.{◌≡◌, ℕ, ◌+◌, ◌≤◌, ◌⊎◌, nat_lt, if◌then◌else◌, min, length, take, drop, List, [], ◌∷◌, ◌++◌, Option, Some, None, Result, Ok, Err, IfSome}
-use Rattle.erst_store.specs.Store.{Stored, most_records, ids, without}
+use Rattle.erst_store.specs.Store.{Stored, most_records, ids}
 use Rattle.erst_store.specs.Device.{Device}
 use Rattle.erst_store.specs.DeviceLaws.{IsDevice, left_to_list}
-use Rattle.board_core.specs.Stop.{Becomes}
 use Rattle.board_core.specs.Told.{Told, device_of}
 use Rattle.erst_interp.specs.declared.entries.InstructionEntry.{InstructionEntry}
 use Rattle.erst_interp.specs.Admission.{IsAdmittedTable}
@@ -15,7 +14,7 @@ use Rattle.erst_driver.specs.declared.refusals.DriverRefused.{DriverRefused}
 use Rattle.erst_driver.specs.declared.refusals.DriverRefused.TheVariants.{Register, Busy, NoMemory}
 use Rattle.erst_driver.specs.declared.step.Step.{Step}
 use Rattle.erst_driver.specs.Operations.{after_step, after_steps, actions_of, write_steps, checks, listings, ids_steps, told_by, device_calls, put_in_range, fetch_calls, write_calls}
-use Rattle.erst_driver.specs.Answers.{answer_of, store_after_write}
+use Rattle.erst_driver.specs.Answers.{answer_of}
 
 -- if a board tells a device
 abbrev pub Over : (Told → Type 0) → Option Told → Type 0
@@ -57,23 +56,6 @@ abbrev pub Leaves : {T : Type 0} → Result T DriverRefused → Told → Option 
 Leaves (Err Register) old new calls = IsCutShort calls old new
 Leaves (Err NoMemory) old new calls = Begins calls old new
 Leaves result old new calls = new ≡ Some (after_acts (acts_of calls) old)
-
--- ---- what a stop during an operation leaves of the record store
-
--- It is as before, or without the record of this identifier.
-abbrev pub Clears : ℕ → Option Told → List Stored → List Stored → Type 0
-Clears id None old new = Unit {0}
-Clears id (Some t) old new = Becomes (without id t.here.store) old new
-
--- It is as before, or with this record put.
-abbrev pub Puts : List ℕ → Option Told → List Stored → List Stored → Type 0
-Puts bytes None old new = Unit {0}
-Puts bytes (Some t) old new = Becomes (store_after_write bytes t.here.store) old new
-
--- It stays.
-abbrev pub Stays : Option Told → List Stored → List Stored → Type 0
-Stays None old new = Unit {0}
-Stays (Some t) old new = new ≡ old
 
 -- ---- plans
 

@@ -35,3 +35,7 @@ returns-clause-does g c =
     (does_listing (looks g.B.Board.told g.B.Board.clock g.B.Board.faults) c.args.board.now c.list_all.new.board (λ n left. g.met.B.Board.store_is_left c.list_all.new.board n left)
     (list_calls lists (device_of t)) t is (ids_calls lists (device_of t) has.admitted) stops
     result (at_told _ told t leaves is) (all_cause (λ v. v.items) lists _ _ result all) (all_refused (λ v. v.items) lists _ _ result all)))
+
+pub returns-clause-stops : goal.returns-clause-stops
+returns-clause-stops g c = all_stays (λ v. v.items) c.args.self.now _ _ c.list_all.result c.list_all.ensures.device c.list_all.ensures.all
+    (λ t left. g.met.B.Board.store_is_left c.args.board.now t left)

@@ -37,3 +37,7 @@ returns-clause-does g c =
     does_quietly (looks g.B.Board.told g.B.Board.clock g.B.Board.faults) c.args.board.now c.operate_and_fetch.new.board (λ n left. g.met.B.Board.store_is_left c.operate_and_fetch.new.board n left)
     (read_calls lists id d) t is (more_calls (device_calls lists (actions_of (read_steps id) d) d) (fetch_calls (answer_on_found id d)) some) stops
     result (at_told _ told t leaves is) (read_cause lists id c.operate_and_fetch.new.buf _ _ result reads) c.operate_and_fetch.ensures.refused))
+
+pub returns-clause-stops : goal.returns-clause-stops
+returns-clause-stops g c = read_stays c.args.self.now c.args.id c.operate_and_fetch.new.buf _ _ c.operate_and_fetch.result c.operate_and_fetch.ensures.device
+    (rw c.read_steps-steps.ensures at c.operate_and_fetch.ensures.reads) (λ t left. g.met.B.Board.store_is_left c.args.board.now t left)

@@ -1,8 +1,7 @@
 use Rattle.std.proofs.Common.{inl, inr}
 use Rattle.board_core.specs.Doing.{looks}
 use Rattle.board_core.specs.Told.{device_of}
-use Rattle.erst_driver.specs.Steps.Operating.{Puts}
-use Rattle.erst_driver.specs.Answers.{store_after_write}
+use Rattle.erst_driver.specs.Answers.{Puts, store_after_write}
 use Rattle.erst_driver.specs.Operations.{write_calls}
 use Rattle.erst_driver.proofs.DoesLemmas.{at_told, does_nothing_else, does_to_store, over_each}
 use Rattle.erst_driver.proofs.ToldLemmas.{write_after}
@@ -39,7 +38,11 @@ returns-clause-does g c =
       | inr filled ↦ does_to_store see c.args.board.now c.put_and_operate.new.board (λ n left. g.met.B.Board.store_is_left c.put_and_operate.new.board n left)
           calls t is tt (store_after_write bytes t.here.store)
           (write_after lists bytes t c.requires.long c.requires.short c.requires.whole filled.0 filled.1 here)
-          (Puts bytes) (λ x y becomes. becomes)
+          (Puts bytes) (λ new becomes. becomes)
           (write_puts bytes c.requires.long c.requires.short c.requires.whole lists _ _ result device writes (λ n left. g.met.B.Board.store_is_left c.args.board.now n left))
           result (at_told _ told t leaves is) cause c.put_and_operate.ensures.refused
     ]))
+
+pub returns-clause-stops : goal.returns-clause-stops
+returns-clause-stops g c = write_puts c.args.bytes.now c.requires.long c.requires.short c.requires.whole c.args.self.now _ _ c.put_and_operate.result
+    c.put_and_operate.ensures.device c.put_and_operate.ensures.writes (λ t left. g.met.B.Board.store_is_left c.args.board.now t left)
