@@ -1,8 +1,8 @@
 -- What a print does, told by each of its sides.
-use Rattle.std.proofs.Common.{◌≡◌, ℕ, ◌==◌, true, false, List, [], ◌∷◌, length, Option, None, Some, Result, Ok, Err, OnOk, OnErr, IfErr, refl, sym, ap, subst, append-nil, inl, inr, arith}
+use Rattle.std.proofs.Common.{◌≡◌, ℕ, ◌==◌, true, false, List, [], ◌∷◌, ◌++◌, length, Option, None, Some, Result, Ok, Err, OnOk, OnErr, IfErr, refl, sym, ap, subst, append-nil, inl, inr, arith}
 use Rattle.std.proofs.lemmas.Bool.Decides.{nat_tests}
 use Rattle.board_core.specs.Cause.{Faults, Kind, print_call}
-use Rattle.board_core.specs.Clock.{Adds, Rests}
+use Rattle.board_core.specs.Clock.{Adds, After, Clock, LeftNow, Passes, Rests}
 use Rattle.board_core.specs.Steps.ClockLemmas.{adds_weaker}
 use Rattle.board_core.specs.Stop.{Begins, InOut, Left}
 use Rattle.board_core.specs.Told.{FailsPrint, Relates, Steps, Told, after_print}
@@ -19,6 +19,21 @@ use Rattle.ras_exit.specs.declared.exit.Exit.TheVariants.{PrintFault}
 pub nothing_printed : {X : Type 0} (see : X → Seen) (text : List ℕ) (x : X) → (length text == 0) ≡ true → Does see (print_acts text) went_well x x
 nothing_printed see [] x none = does_nothing see x
 nothing_printed see (b ∷ text) x none = absurd (grind (arith, nat_tests))
+
+-- where there is no text, a beginning of it is nothing, and so is all of it
+pub nothing_of : (text : List ℕ) (clock : Clock) → (length text == 0) ≡ true → (left : Left) → LeftNow clock left → After clock (InOut (λ old new. new ≡ old ++ text)) left
+nothing_of [] clock none left now = record { from = left; was = now; by = record { text = left.out; step = sym (append-nil left.out); rest = refl } }
+nothing_of (b ∷ text) clock none left now = absurd (grind (arith, nat_tests))
+
+pub nothing_passes : (text : List ℕ) (clock : Clock) → (length text == 0) ≡ true → Passes (InOut (Begins text)) clock clock
+nothing_passes text clock none = record {
+  later = omega arith;
+  kept = λ t left within may. may;
+  each = λ t left within may. inl may;
+  ends = λ left now. (
+      let after = nothing_of text clock none left now in
+      record { from = after.from; was = after.was; by = record { text = after.by.text; step = record { part = text; missing = []; splits = append-nil text; is = after.by.step }; rest = after.by.rest } });
+}
 
 pub one_print : (text : List ℕ) → (length text == 0) ≡ false → print_acts text ≡ prints text ∷ []
 one_print [] some = absurd (grind (arith, nat_tests))

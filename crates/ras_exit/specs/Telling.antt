@@ -1,5 +1,7 @@
--- What a call has printed, by how it ends.
+-- What a call has printed, by how it ends, and what a stop leaves of it.
 use Rattle.std.specs.Prelude.{◌≡◌, ℕ, List, ◌++◌}
+use Rattle.board_core.specs.Clock.{After, Clock}
+use Rattle.board_core.specs.Stop.{Begins, InOut, Left}
 use Rattle.board_core.specs.Told.{Told}
 use Rattle.ras_base.specs.Prefix.{IsPrefixOf}
 use Rattle.ras_exit.specs.declared.exit.Exit.{Exit}
@@ -19,3 +21,8 @@ pub record Tells (exit : Exit) (text : List ℕ) (result : Exit) (before now : T
   pub answers : OnAnswer result (result ≡ exit)
   pub begun : PrintsPart text before.here.out now.here.out
   pub whole : OnAnswer result (now.here.out ≡ before.here.out ++ text)
+
+-- What a stop of the machine leaves of a call that only prints this text: what one before the call may
+-- have left, with a beginning of the text printed after it.
+abbrev pub PrintMoment : Clock → List ℕ → Left → Type 0
+PrintMoment clock text left = After clock (InOut (Begins text)) left

@@ -1,9 +1,11 @@
 //! A text that is printed by one call.
 
-ghost use Rattle.std.specs.Prelude.{◌≡◌, Err, OnErr};
+ghost use Rattle.std.specs.Prelude.{◌≡◌, Err, OnErr, OnOk};
 ghost use Rattle.board_core.specs.Cause.{print_call};
+ghost use Rattle.board_core.specs.Clock.{Leads, Passes};
 ghost use Rattle.board_core.specs.Device.{LeavesDevice};
 ghost use Rattle.board_core.specs.Doing.{Does, looks, one_end};
+ghost use Rattle.board_core.specs.Stop.{Appends, Begins, InOut};
 ghost use Rattle.ras_exit.specs.Acts.{print_acts};
 
 use crate::Exit;
@@ -18,7 +20,10 @@ pub fn print<B: Board>(text: &[u8], board: &mut B) -> Result<(), Exit>
     ensures does { Does (looks B.told B.clock B.faults) (print_acts text.now)
         (one_end print_call result) board.old board.new }
     ensures exit { OnErr result (result ≡ Err Exit.PrintFault) }
-    // Also if a stop before might have left something else than the board tells.
+    // The rest holds also if a stop before might have left something else than the board tells.
+    ensures stops { Passes (InOut (Begins text.now)) (B.clock board.old) (B.clock board.new) }
+    ensures printed { OnOk result
+        (Leads (InOut (Appends text.now)) (B.clock board.old) (B.clock board.new)) }
     ensures device { LeavesDevice (B.told board.old) (B.told board.new)
         (B.clock board.old) (B.clock board.new) }
 {

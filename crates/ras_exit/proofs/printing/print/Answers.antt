@@ -4,12 +4,18 @@ use Rattle.board_core.specs.Doing.{looks, prints}
 use Rattle.board_core.specs.Stop.{Begins, InOut}
 use Rattle.board_core.proofs.DoingLemmas.{does_act}
 use Rattle.ras_exit.proofs.DeviceLemmas.{device_not_printed, device_printed, device_stays}
-use Rattle.ras_exit.proofs.PrintLemmas.{nothing_printed, one_print}
+use Rattle.ras_exit.proofs.PrintLemmas.{nothing_of, nothing_passes, nothing_printed, one_print}
 use Rattle.ras_exit.proofs.printing.print.Goals as goal
 
 pub returns-then-is_empty-clause-does : goal.returns-then-is_empty-clause-does
 returns-then-is_empty-clause-does g c =
     nothing_printed (looks g.B.Board.told g.B.Board.clock g.B.Board.faults) c.args.text.now c.args.board.now (sym c.if-is_empty.ensures)
+
+pub returns-then-is_empty-clause-stops : goal.returns-then-is_empty-clause-stops
+returns-then-is_empty-clause-stops g c = nothing_passes c.args.text.now _ (sym c.if-is_empty.ensures)
+
+pub returns-then-is_empty-clause-printed : goal.returns-then-is_empty-clause-printed
+returns-then-is_empty-clause-printed g c = nothing_of c.args.text.now _ (sym c.if-is_empty.ensures)
 
 pub returns-then-is_empty-clause-device : goal.returns-then-is_empty-clause-device
 returns-then-is_empty-clause-device g c = device_stays _ _
