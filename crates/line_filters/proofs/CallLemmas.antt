@@ -1,6 +1,9 @@
 -- A call of a filter as a whole.
 use Rattle.std.proofs.Common.{◌≡◌, ℕ, ◌+◌, ◌≤◌, true, List, [], ◌++◌, length, Option, None, Some, IfSome, IsSomeAnd, Result, Ok, Err, refl, ap, sym, ◌∙◌, subst, append_assoc, append-nil, length-append, arith, inl, inr}
 use Rattle.std.specs.Prelude.{IfErr}
+use Rattle.board_core.specs.Clock.{Adds, Clock, Leads, Passes}
+use Rattle.board_core.specs.Doing.{Seen}
+use Rattle.board_core.specs.Stop.{Appends, Begins, InOut}
 use Rattle.board_core.specs.Told.{FailsPrint, Relates, Told, after_print}
 use Rattle.ras_base.specs.Prefix.{IsPrefixOf}
 use Rattle.ras_script.specs.declared.reader.TheConstants.{LONGEST_LINE, LONGEST_SCRIPT}
@@ -8,11 +11,14 @@ use Rattle.ras_script.specs.Reader.{Reader}
 use Rattle.ras_exit.specs.declared.exit.Exit.{Exit}
 use Rattle.ras_exit.specs.declared.exit.Exit.TheVariants.{Done, PrintFault, NoMemory}
 use Rattle.ras_exit.specs.Endings.{CallEnding, IfAnswered, IsAnswer, IsLineExit, OnAnswer, answered, ending_of, is_answered}
+use Rattle.ras_exit.specs.Telling.{PrintMoment}
 use Rattle.ras_exit.proofs.EndingLemmas.{on_answer, on_cut}
 use Rattle.line_filters.specs.Filter.{Filter}
-use Rattle.line_filters.specs.Filters.{Filters, OfBoth, TakesOf, closing_text, filter_exit, filter_output, script_unprinted}
+use Rattle.line_filters.specs.Filters.{Filters, OfBoth, StopsFiltering, TakesOf, closing_text, filter_exit, filter_output, script_unprinted}
 use Rattle.line_filters.specs.Steps.Reading.{HasTaken}
 use Rattle.line_filters.specs.Steps.Filtering.{Ends, LinesEnd, exit_of}
+use Rattle.line_filters.proofs.EndLemmas.{EndsBoth}
+use Rattle.line_filters.proofs.MomentLemmas.{stops_more}
 
 -- what holds at an answer
 answer_holds : (exit : Exit) (P : Type 0) → IsAnswer exit → OnAnswer exit P → P
@@ -24,8 +30,15 @@ answer_holds exit P answer holds = by (ending_of exit) answer holds
 
 -- ---- what is told
 
-module _ (whole : Filter) (script : List ℕ) (before : Told) (exit : Exit) (filter : Filter) (reader : Reader) (rest : List ℕ) (mid : Told)
-    (has : HasTaken script reader rest) (ends : LinesEnd whole script before exit filter reader.taken mid) where
+module _ (whole : Filter) (script : List ℕ) (before : Told) (exit : Exit) (filter : Filter) (reader : Reader) (rest : List ℕ) (mid : Told) (a b : Clock)
+    (has : HasTaken script reader rest) (ends : LinesEnd whole script before a exit filter reader.taken mid b) where
+  -- what an answer of the lines says
+  abbrev AtAnswer : Type 0
+  AtAnswer = (exit ≡ filter_exit whole script) × (filter_output whole script ≡ ends.printed ++ closing_text filter [] exit) × Leads (InOut (Appends ends.printed)) a b
+
+  answered_so : IsAnswer exit → AtAnswer
+  answered_so answer = answer_holds exit AtAnswer answer ends.answers
+
   filters_made : (result : Exit) (part : List ℕ) → IsPrefixOf (ends.printed ++ part) (filter_output whole script) → OnAnswer result (result ≡ filter_exit whole script)
       → OnAnswer result (before.here.out ++ (ends.printed ++ part) ≡ before.here.out ++ filter_output whole script) → Filters whole result script rest before (after_print part mid)
   filters_made result part begins answers all =
@@ -50,29 +63,71 @@ module _ (whole : Filter) (script : List ℕ) (before : Told) (exit : Exit) (fil
       subst (λ now. Filters whole result script rest before now) (ap (λ out. record mid { here = record mid.here { out = out } }) (append-nil mid.here.out))
       (filters_made result [] (subst (λ p. IsPrefixOf p (filter_output whole script)) (sym (append-nil ends.printed)) ends.begins) answers all)
 
-  filters_end : (result : Exit) (new : Option Told) → Ends exit result (closing_text filter [] exit) (Some mid) new → IsSomeAnd new (Filters whole result script rest before)
-  filters_end result new (inr (cut, is, same)) = rw (same, is) (filters_same exit (on_cut exit (exit ≡ filter_exit whole script) cut) (on_cut exit (before.here.out ++ (ends.printed ++ []) ≡ before.here.out ++ filter_output whole script) cut))
-  filters_end result new (inl (answer, inr (inr (is, same)))) = rw (same, is) (filters_same NoMemory tt tt)
-  filters_end result new (inl (answer, inl (is, steps))) =
+  -- ---- the last text
+
+  filters_end : {X : Type 0} (see : X → Seen) (x y : X) (result : Exit) → (see x).told ≡ Some mid → Ends see exit result (closing_text filter [] exit) x y → IsSomeAnd (see y).told (Filters whole result script rest before)
+  filters_end see x y result tells (inr (cut, is, same)) =
+      rw (same, tells, is) (filters_same exit (on_cut exit (exit ≡ filter_exit whole script) cut) (on_cut exit (before.here.out ++ (ends.printed ++ []) ≡ before.here.out ++ filter_output whole script) cut))
+  filters_end see x y result tells (inl (answer, inr (inr (is, same)))) = rw (same, tells, is) (filters_same NoMemory tt tt)
+  filters_end see x y result tells (inl (answer, inl (is, says))) =
       let closing : List ℕ = closing_text filter [] exit in
-      let holds : (exit ≡ filter_exit whole script) × (filter_output whole script ≡ ends.printed ++ closing) = answer_holds exit ((exit ≡ filter_exit whole script) × (filter_output whole script ≡ ends.printed ++ closing)) answer ends.answers in
-      rw (steps, is) (filters_made exit closing ([], append-nil (ends.printed ++ closing) ∙ sym holds.1) (on_answer exit (exit ≡ filter_exit whole script) holds.0)
+      let holds : AtAnswer = answered_so answer in
+      rw (says.told, tells, is) (filters_made exit closing ([], append-nil (ends.printed ++ closing) ∙ sym holds.1) (on_answer exit (exit ≡ filter_exit whole script) holds.0)
       (on_answer exit (before.here.out ++ (ends.printed ++ closing) ≡ before.here.out ++ filter_output whole script) (ap (λ out. before.here.out ++ out) (sym holds.1))))
-  filters_end result new (inl (answer, inr (inl (is, fails)))) = rw is (by new fails)
+  filters_end see x y result tells (inl (answer, inr (inl (is, fails)))) =
+      rw is (by (see y).told (subst (λ told. Relates (FailsPrint (closing_text filter [] exit)) told (see y).told) tells fails.told))
     where
       by : (new : Option Told) → Relates (FailsPrint (closing_text filter [] exit)) (Some mid) new → IsSomeAnd new (Filters whole PrintFault script rest before)
-      by None fails = absurd fails
+      by None failed = absurd failed
       by (Some now) (part, missing, splits, printed) =
-          let closing : List ℕ = closing_text filter [] exit in
-          let holds : (exit ≡ filter_exit whole script) × (filter_output whole script ≡ ends.printed ++ closing) = answer_holds exit ((exit ≡ filter_exit whole script) × (filter_output whole script ≡ ends.printed ++ closing)) answer ends.answers in
+          let holds : AtAnswer = answered_so answer in
           rw printed (filters_made PrintFault part (missing, append_assoc ends.printed part missing ∙ ap (λ out. ends.printed ++ out) splits ∙ sym holds.1) tt tt)
 
-pub filters_on : (whole : Filter) (script : List ℕ) (before : Told) (exit found result : Exit) (filter : Filter) (reader : Reader) (left : Option (List ℕ)) (mid new : Option Told) → exit ≡ found → IsSomeAnd left (HasTaken script reader)
-    → IsSomeAnd mid (LinesEnd whole script before found filter reader.taken) → Ends exit result (closing_text filter [] exit) mid new → IsSomeAnd left (λ rest. IsSomeAnd new (Filters whole result script rest before))
-filters_on whole script before exit found result filter reader None mid new same has ends says = absurd has
-filters_on whole script before exit found result filter reader (Some rest) None new same has ends says = absurd ends
-filters_on whole script before exit found result filter reader (Some rest) (Some t) new same has ends says =
-    filters_end whole script before exit filter reader rest t has (subst (λ e. LinesEnd whole script before e filter reader.taken t) (sym same) ends) result new says
+pub filters_on : {X : Type 0} (see : X → Seen) (whole : Filter) (script : List ℕ) (before : Told) (a : Clock) (exit found result : Exit) (filter : Filter) (reader : Reader) (left : Option (List ℕ)) (x y : X) → exit ≡ found
+    → IsSomeAnd left (HasTaken script reader) → EndsBoth whole script before a found filter reader.taken (see x).told (see x).clock → Ends see exit result (closing_text filter [] exit) x y
+    → IsSomeAnd left (λ rest. IsSomeAnd (see y).told (Filters whole result script rest before))
+filters_on see whole script before a exit found result filter reader None x y same has ends says = absurd has
+filters_on see whole script before a exit found result filter reader (Some rest) x y same has ends says = by (see x).told refl ends
+  where
+    by : (told : Option Told) → (see x).told ≡ told → EndsBoth whole script before a found filter reader.taken told (see x).clock → IsSomeAnd (see y).told (Filters whole result script rest before)
+    by None tells never = absurd never
+    by (Some t) tells there =
+        filters_end whole script before exit filter reader rest t a (see x).clock has (subst (λ e. LinesEnd whole script before a e filter reader.taken t (see x).clock) (sym same) there) see x y result tells says
+
+-- ---- what stops leave
+
+module _ {X : Type 0} (see : X → Seen) (whole : Filter) (script : List ℕ) (before : Told) (a : Clock) (exit result : Exit) (filter : Filter) (taken : ℕ) (now : Told) (x y : X) (ends : LinesEnd whole script before a exit filter taken now (see x).clock) where
+  abbrev whole_text : List ℕ
+  whole_text = filter_output whole script
+
+  unmoved : y ≡ x → Adds (PrintMoment a whole_text) a (see y).clock
+  unmoved same = subst (λ z. Adds (PrintMoment a whole_text) a (see z).clock) (sym same) ends.stops
+
+  closes : IsAnswer exit → Passes (InOut (Begins (closing_text filter [] exit))) (see x).clock (see y).clock → Adds (PrintMoment a whole_text) a (see y).clock
+  closes answer passes =
+      let closing : List ℕ = closing_text filter [] exit in
+      let holds = answer_holds exit ((exit ≡ filter_exit whole script) × (whole_text ≡ ends.printed ++ closing) × Leads (InOut (Appends ends.printed)) a (see x).clock) answer ends.answers in
+      stops_more whole_text ends.printed closing [] a (see x).clock (see y).clock (ap (λ out. ends.printed ++ out) (append-nil closing) ∙ sym holds.1) ends.stops holds.2 passes
+
+  stops_end : Ends see exit result (closing_text filter [] exit) x y → Adds (PrintMoment a whole_text) a (see y).clock
+  stops_end (inr (cut, is, same)) = unmoved same
+  stops_end (inl (answer, inr (inr (is, same)))) = unmoved same
+  stops_end (inl (answer, inl (is, says))) = closes answer says.stops
+  stops_end (inl (answer, inr (inl (is, fails)))) = closes answer fails.stops
+
+pub filters_stop : {X : Type 0} (see : X → Seen) (whole : Filter) (script : List ℕ) (before : Told) (a : Clock) (exit found result : Exit) (filter : Filter) (taken : ℕ) (x y : X) → exit ≡ found
+    → EndsBoth whole script before a found filter taken (see x).told (see x).clock → Ends see exit result (closing_text filter [] exit) x y → Adds (PrintMoment a (filter_output whole script)) a (see y).clock
+filters_stop see whole script before a exit found result filter taken x y same ends says = by (see x).told ends
+  where
+    by : (told : Option Told) → EndsBoth whole script before a found filter taken told (see x).clock → Adds (PrintMoment a (filter_output whole script)) a (see y).clock
+    by None never = absurd never
+    by (Some t) there = stops_end see whole script before a exit result filter taken t x y (subst (λ e. LinesEnd whole script before a e filter taken t (see x).clock) (sym same) there) says
+
+pub stops_both : (filter : Filter) (left : Option (List ℕ)) (told : Option Told) (a b : Clock) → ((script : List ℕ) (t : Told) → left ≡ Some script → told ≡ Some t → Adds (PrintMoment a (filter_output filter script)) a b)
+    → StopsFiltering filter left told a b
+stops_both filter None told a b holds = tt
+stops_both filter (Some script) None a b holds = tt
+stops_both filter (Some script) (Some t) a b holds = holds script t refl refl
 
 pub of_both : (P : List ℕ → List ℕ → Told → Told → Type 0) (left later : Option (List ℕ)) (told now : Option Told)
     → ((script : List ℕ) (t : Told) → left ≡ Some script → told ≡ Some t → IsSomeAnd later (λ rest. IsSomeAnd now (P script rest t))) → OfBoth P left later told now
@@ -100,24 +155,24 @@ filters_nothing whole (Some script) (Some t) = record {
 
 -- ---- what is taken
 
-done_before : (exit result : Exit) (text : List ℕ) (old new : Option Told) → Ends exit result text old new → result ≡ Done → exit ≡ Done
-done_before exit result text old new (inr cut) done = sym cut.1 ∙ done
-done_before exit result text old new (inl (answer, inl said)) done = sym said.0 ∙ done
-done_before exit result text old new (inl (answer, inr (inl failed))) done = let e = sym failed.0 ∙ done in absurd cc
-done_before exit result text old new (inl (answer, inr (inr short))) done = let e = sym short.0 ∙ done in absurd cc
+done_before : {X : Type 0} (see : X → Seen) (exit result : Exit) (text : List ℕ) (x y : X) → Ends see exit result text x y → result ≡ Done → exit ≡ Done
+done_before see exit result text x y (inr cut) done = sym cut.1 ∙ done
+done_before see exit result text x y (inl (answer, inl said)) done = sym said.0 ∙ done
+done_before see exit result text x y (inl (answer, inr (inl failed))) done = let e = sym failed.0 ∙ done in absurd cc
+done_before see exit result text x y (inl (answer, inr (inr short))) done = let e = sym short.0 ∙ done in absurd cc
 
 all_lines : (ended : Result (Unit {0}) Exit) → IfErr ended IsLineExit → exit_of ended ≡ Done → ended ≡ Ok tt
 all_lines (Ok done) stop is = refl
 all_lines (Err exit) stop is = absurd (subst IsLineExit is stop)
 
-pub takes_at : (ended : Result (Unit {0}) Exit) (exit result : Exit) (text : List ℕ) (old new : Option Told) (script : List ℕ) (reader : Reader) (left : Option (List ℕ)) → exit ≡ exit_of ended → Ends exit result text old new
+pub takes_at : {X : Type 0} (see : X → Seen) (ended : Result (Unit {0}) Exit) (exit result : Exit) (text : List ℕ) (x y : X) (script : List ℕ) (reader : Reader) (left : Option (List ℕ)) → exit ≡ exit_of ended → Ends see exit result text x y
     → IfErr ended IsLineExit → (ended ≡ Ok tt → left ≡ Some []) → reader.taken ≤ LONGEST_SCRIPT + 1 → IsSomeAnd left (HasTaken script reader) → IsSomeAnd left (TakesOf result script)
-takes_at ended exit result text old new script reader None found ends stop all few has = absurd has
-takes_at ended exit result text old new script reader (Some rest) found ends stop all few has = record {
+takes_at see ended exit result text x y script reader None found ends stop all few has = absurd has
+takes_at see ended exit result text x y script reader (Some rest) found ends stop all few has = record {
   taken = has.taken;
   splits = has.splits;
   few = (let count = has.count in omega arith);
-  all = λ done. same (all (all_lines ended stop (sym found ∙ done_before exit result text old new ends done)));
+  all = λ done. same (all (all_lines ended stop (sym found ∙ done_before see exit result text x y ends done)));
 }
   where
     same : Some rest ≡ Some [] → rest ≡ []

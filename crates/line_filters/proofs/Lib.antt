@@ -1,3 +1,4 @@
+pub mod MomentLemmas
 pub mod ReadingLemmas
 pub mod StepLemmas
 pub mod EndLemmas

@@ -2,6 +2,7 @@
 use Rattle.std.specs.Prelude.{◌≡◌, ℕ, ◌+◌, ◌-◌, ◌≤◌, List, [], ◌∷◌, ◌++◌, length, nat_lt, take, Option, None, Some, IfSome, IsSomeAnd, Result, Ok, Err, if◌then◌else◌, ⊤}
 use Rattle.std.specs.List.{flat_map}
 use Rattle.std.specs.Option.{option_map}
+use Rattle.board_core.specs.Clock.{Adds, Clock}
 use Rattle.board_core.specs.Told.{Told}
 use Rattle.ras_script.specs.declared.line.LineRefused.{LineRefused}
 use Rattle.ras_script.specs.declared.reader.TheConstants.{LONGEST_LINE, LONGEST_SCRIPT}
@@ -11,7 +12,7 @@ use Rattle.ras_exit.specs.declared.exit.Exit.TheVariants.{Done, BadLine, SourceF
 use Rattle.ras_exit.specs.Endings.{unread_exit}
 use Rattle.ras_exit.specs.ScriptEnd.{ending_exit}
 use Rattle.ras_exit.specs.StopLine.{stop_line}
-use Rattle.ras_exit.specs.Telling.{OnlyText, Tells}
+use Rattle.ras_exit.specs.Telling.{OnlyText, PrintMoment, Tells}
 use Rattle.line_filters.specs.Filter.{Filter}
 
 -- the texts before the first refused line, and why that one is refused
@@ -99,6 +100,13 @@ abbrev pub OfBoth : (List ℕ → List ℕ → Told → Told → Type 0)
 OfBoth P (Some script) left (Some before) now =
     IsSomeAnd left (λ rest. IsSomeAnd now (P script rest before))
 OfBoth P script left before now = ⊤
+
+-- Whatever a stop at a moment of a call leaves, only a beginning of what is printed of the script is new
+-- in it. Of a source or a board that tells nothing this says nothing.
+abbrev pub StopsFiltering : Filter → Option (List ℕ) → Option Told → Clock → Clock → Type 0
+StopsFiltering filter (Some script) (Some before) old new =
+    Adds (PrintMoment old (filter_output filter script)) old new
+StopsFiltering filter script before old new = ⊤
 
 -- What is taken of a script, of which this is left: one byte past the longest script at most, and
 -- all of it if the call is done.

@@ -1,12 +1,13 @@
 //! The lines of a source, each filtered and its text printed before the next one is read.
 
 ghost use Rattle.std.specs.Prelude.{◌≡◌, ◌+◌, ◌≤◌, ◌∷◌, ◌++◌, ℕ, List, [], length, Ok, Err, OnOk, Some, IfErr, IfSome, IsSomeAnd};
+ghost use Rattle.board_core.specs.Doing.{looks};
 ghost use Rattle.board_core.specs.Told.{Told};
 ghost use Rattle.ras_script.specs.declared.reader.TheConstants.{LONGEST_LINE, LONGEST_SCRIPT};
 ghost use Rattle.ras_exit.specs.Causes.{BoardCause, Causes, SourceCause};
 ghost use Rattle.board_core.specs.Device.{LeavesDevice};
 ghost use Rattle.ras_exit.specs.Endings.{IsAnswer, IsCut, IsLineExit, IsStop};
-ghost use Rattle.line_filters.specs.Filters.{Filters, IsFilterExit, OfBoth, TakesOf, closing_text};
+ghost use Rattle.line_filters.specs.Filters.{Filters, IsFilterExit, OfBoth, StopsFiltering, TakesOf, closing_text};
 ghost use Rattle.line_filters.specs.Steps.Reading.{HasTaken};
 ghost use Rattle.line_filters.specs.Steps.Filtering.{Ends, LinesEnd, TakesLine, exit_of};
 
@@ -30,6 +31,9 @@ pub fn filter_lines<S: Source, B: Board, F: LineFilter>(
         (S.left source.new) (B.told board.old) (B.told board.new) }
     ensures takes { IfSome (S.left source.old)
         (λ script. IsSomeAnd (S.left source.new) (TakesOf result script)) }
+    // Also if a stop before might have left something else than the board tells.
+    ensures stops { StopsFiltering (F.makes filter.old) (S.left source.old) (B.told board.old)
+        (B.clock board.old) (B.clock board.new) }
     ensures exits { IsFilterExit result }
     ensures source { SourceCause result (S.faults source.old) (S.faults source.new) }
     ensures board { BoardCause result (B.faults board.old) (B.faults board.new) }
@@ -67,8 +71,9 @@ fn take_lines<S: Source, B: Board, F: LineFilter>(
     requires fresh { reader.old ≡ record { line = []; held = []; taken = 0 } }
     requires first { F.taken filter.old ≡ 0 }
     ensures ends { (script : List ℕ) (t : Told) → S.left source.old ≡ Some script
-        → B.told board.old ≡ Some t → IsSomeAnd (B.told board.new) (LinesEnd (F.makes filter.old)
-        script t (exit_of result) (F.makes filter.new) reader.new.taken) }
+        → B.told board.old ≡ Some t → IsSomeAnd (B.told board.new) (λ now. LinesEnd
+        (F.makes filter.old) script t (B.clock board.old) (exit_of result) (F.makes filter.new)
+        reader.new.taken now (B.clock board.new)) }
     ensures takes { (script : List ℕ) → S.left source.old ≡ Some script
         → IsSomeAnd (S.left source.new) (HasTaken script reader.new) }
     ensures ended { result ≡ Ok tt
@@ -113,8 +118,8 @@ fn take_line<B: Board, F: LineFilter>(
 ) -> Result<(), Exit>
     requires short { length line.now ≤ LONGEST_LINE }
     requires few { F.taken filter.old ≤ LONGEST_SCRIPT }
-    ensures takes { TakesLine result number line.now (F.makes filter.old) (F.makes filter.new)
-        text.new.items (B.told board.old) (B.told board.new) }
+    ensures takes { TakesLine (looks B.told B.clock B.faults) result number line.now
+        (F.makes filter.old) (F.makes filter.new) text.new.items board.old board.new }
     ensures taken { OnOk result (F.taken filter.new ≡ F.taken filter.old + 1) }
     ensures most { F.taken filter.new ≤ F.taken filter.old + 1 }
     ensures exits { IfErr result IsFilterExit }
@@ -141,8 +146,8 @@ fn end_lines<B: Board, F: LineFilter>(
 ) -> Exit
     requires taken { F.taken filter.now ≤ LONGEST_SCRIPT + 1 }
     requires exits { IsFilterExit exit }
-    ensures ends { Ends exit result (closing_text (F.makes filter.now) [] exit)
-        (B.told board.old) (B.told board.new) }
+    ensures ends { Ends (looks B.told B.clock B.faults) exit result
+        (closing_text (F.makes filter.now) [] exit) board.old board.new }
     ensures cut { IsCut exit → board.new ≡ board.old }
     ensures exits { IsFilterExit result }
     ensures faults { IsAnswer exit → BoardCause result (B.faults board.old) (B.faults board.new) }

@@ -8,4 +8,4 @@ pub returns-in-Err-print-clause-ends : goal.returns-in-Err-print-clause-ends
 returns-in-Err-print-clause-ends g c =
     let closing = closing_text (g.F.LineFilter.makes c.args.filter.now) [] c.args.exit in
     let text = c.deref.ensures.value ∙ (c.in-Ok.ensures ∙ ap (λ bytes. bytes ++ closing) c.clear.ensures.items) in
-    ends_unprinted (looks g.B.Board.told g.B.Board.clock g.B.Board.faults) _ _ c.args.exit c.in-Err-print.fault closing (sym c.is_answer.ensures ∙ c.if-not-is_answer.false) (rw (← text) c.in-Err-print.ensures.does) c.in-Err-print.ensures.exit
+    ends_unprinted (looks g.B.Board.told g.B.Board.clock g.B.Board.faults) _ _ c.args.exit c.in-Err-print.fault closing (sym c.is_answer.ensures ∙ c.if-not-is_answer.false) (rw (← text) c.in-Err-print.ensures.does) (rw (← text) c.in-Err-print.ensures.stops) c.in-Err-print.ensures.exit

@@ -11,7 +11,7 @@ use Rattle.line_filters.proofs.filtering.take_lines.Given as goal
 abbrev pub invariant-loop-number : goal.invariant-loop-number
 invariant-loop-number g l = record {
   along : (script : List ℕ) (t : Told) → g.S.Source.left l.fn.source ≡ Some script → g.B.Board.told l.fn.board ≡ Some t
-      → AlongBoth (g.F.LineFilter.makes l.fn.filter) script t l.number (g.F.LineFilter.makes l.filter) l.reader (g.S.Source.left l.source) (g.B.Board.told l.board);
+      → AlongBoth (g.F.LineFilter.makes l.fn.filter) script t (g.B.Board.clock l.fn.board) l.number (g.F.LineFilter.makes l.filter) l.reader (g.S.Source.left l.source) (g.B.Board.told l.board) (g.B.Board.clock l.board);
   taken : (script : List ℕ) → g.S.Source.left l.fn.source ≡ Some script → IsSomeAnd (g.S.Source.left l.source) (HasTaken script l.reader);
   counted : l.number ≤ given_count l.reader;
   few : l.number ≤ LONGEST_SCRIPT + 1;
