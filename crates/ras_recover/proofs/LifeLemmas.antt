@@ -166,7 +166,7 @@ module _ {B : Type 0} (see : B → Seen) where
   formats_behind account life here left behind formats = record {
     now = behind.now;
     continues = behind.continues;
-    recovers = subst (λ (a : State). Recovers a left) (sym (none_of behind.now here behind.recovers.is formats.none).account_is) formats.recovers;
+    recovers = subst (λ (a : State). Recovers a left) (sym (none_of behind.now here behind.recovers.is formats.none.none).account_is) formats.recovers;
   }
 
   opening_adds : TellsLeft → (account : State) (life : Life) (old : Site B) (new : B) → Holds account life old → Works see an_opening old new → Adds (RecoversBehind account (cut life an_opening)) (clock old.board) (clock new)

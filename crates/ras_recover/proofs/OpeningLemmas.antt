@@ -147,7 +147,7 @@ first_moment account shut t left holds is shut_is moment =
     let recovers : Recovers account (with_file_in Zero by.bytes here) = first_recovers account (checkpoint_bytes Two account) here none by.bytes short
     (formatting_reads None shut here.file0 by.bytes 1 (checkpoint_bytes Two account) account shut_is (begins account (checkpoint_bytes Two account) can) by.step) in
     record {
-      none = holds.none;
+      none = record { recovers = holds.recovers ∙ ap (λ (a : State). Ok a) none.account_is; none = holds.none };
       recovers = subst (λ (a : State). Recovers a left) none.account_is (subst (λ (l : Left). Recovers account l) (sym by.rest) recovers);
       few = subst HasFewLinks (sym by.rest) (record {
         zero = formatting_few shut here.file0 by.bytes 1 (checkpoint_bytes Two account) account shut_is (begins account (checkpoint_bytes Two account) can) by.step (few_absent here.file0 (absent None here.file0 none.zero));

@@ -14,10 +14,15 @@ use Rattle.ras_journal.specs.Recovered.{HasFewLinks, JournalFile, Refusal, journ
 use Rattle.ras_journal.specs.Appending.{Before}
 use Rattle.ras_recover.specs.Formatting.{behind_gate, formatting_acts}
 
--- While file 0 is formatted, whatever a stop leaves recovers the empty account, and neither file, if
--- it stands, has more than 256 links. All but file 0 is as it was.
-pub record FormatsFirst (here left : Left) : Type 0 where
+-- no file stands: this account is recovered, and there is no position
+pub record HoldsNone (account : State) (here : Left) : Type 0 where
+  pub recovers : recovered here.file0 here.file1 ≡ Ok account
   pub none : position_of here.file0 here.file1 ≡ None
+
+-- While file 0 is formatted, since no file stands, whatever a stop leaves recovers the empty account, and
+-- neither file, if it stands, has more than 256 links. All but file 0 is as it was.
+pub record FormatsFirst (here left : Left) : Type 0 where
+  pub none : HoldsNone (account_of empty) here
   pub recovers : Recovers (account_of empty) left
   pub few : HasFewLinks left
   pub rest : left ≡ with_file_in Zero left.file0 here
@@ -31,11 +36,6 @@ Opening clock here left = LeftNow clock left ⊎ FormatsFirst here left
 pub record IsOpened (standing : Standing) (account : State) (told : Option Told) (clock : Clock) : Type 0 where
   pub there : Told
   pub before : Before standing account there told clock
-
--- no file stands: this account is recovered, and there is no position
-pub record HoldsNone (account : State) (here : Left) : Type 0 where
-  pub recovers : recovered here.file0 here.file1 ≡ Ok account
-  pub none : position_of here.file0 here.file1 ≡ None
 
 -- ---- what is written
 

@@ -18,7 +18,7 @@ CountsEarlier clock = (s t : ℕ) (left : Left) → s ≤ t → clock.may_leave_
 pub opening_left : (s : Standing) (a : State) (t : Told) (told : Option Told) (old : Clock) (left : Left) → Before s a t told old → Opening old t.here left → left ≡ t.here
 opening_left s a t told old left before (inl was) = before.rests.only left was
 opening_left s a t told old left before (inr formats) =
-    absurd (let none : position_of t.here.file0 t.here.file1 ≡ None = formats.none in let some : position_of t.here.file0 t.here.file1 ≡ Some s = before.at.position in cc)
+    absurd (let none : position_of t.here.file0 t.here.file1 ≡ None = formats.none.none in let some : position_of t.here.file0 t.here.file1 ≡ Some s = before.at.position in cc)
 
 pub here_kept : (s : Standing) (a : State) (t u : Told) (told : Option Told) (old : Clock) → Before s a t told old → AfterOpening t u → u.here ≡ t.here
 here_kept s a t u told old before opened =
