@@ -140,3 +140,8 @@ pub record HoldsRecord (id : ℕ) (store : List Stored) (buffer : List ℕ) : Ty
   pub bytes : List ℕ
   pub found : bytes_under id store ≡ Some bytes
   pub is : buffer ≡ bytes ++ replicate (range_length - length bytes) 0
+
+-- A call of the device failed if and only if the operation says so, and it takes no memory.
+pub record EndsOperation {T : Type 0} (result : Result T DriverRefused) (before now : Faults) : Type 0 where
+  pub cause : HasCauseIn result before now
+  pub refused : IsAnswered result

@@ -15,7 +15,7 @@ ghost use Rattle.erst_store.specs.Store.{ids, most_records};
 ghost use Rattle.erst_interp.specs.Admission.{IsAdmittedTable};
 ghost use Rattle.erst_interp.specs.Run.{KeepsButDevice, IsCutShort, acts_of};
 ghost use Rattle.erst_driver.specs.Operations.{AreInside, Inside, actions_of, asks, finishes, clear_calls, list_calls, write_calls, put_in_range};
-ghost use Rattle.erst_driver.specs.Answers.{read_calls, driver_end, DoesListing, answer_within, answer_at, answer_of, answer_on_found, Clears, AnswersAs, HasCauseIn, HoldsRecord, IsAnswered, IsMemoryOnly, Puts, Stays, written_id, answer_on_put};
+ghost use Rattle.erst_driver.specs.Answers.{read_calls, driver_end, DoesListing, EndsOperation, answer_within, answer_at, answer_of, answer_on_found, Clears, AnswersAs, HasCauseIn, HoldsRecord, IsAnswered, IsMemoryOnly, Puts, Stays, written_id, answer_on_put};
 ghost use Rattle.erst_driver.specs.Steps.Operating.{asks_within, answers_within, HasDevice, CalledAs, Acts, Runs, Operates, Reads, ListsOut, Collects, ListsAll, Writes};
 
 use crate::refusals::DriverRefused;
@@ -85,8 +85,7 @@ impl Driver {
         ensures kept { Relates KeepsButDevice (B.told board.old) (B.told board.new) }
         ensures stops { Passes (InStore (Clears id (B.told board.old))) (B.clock board.old)
             (B.clock board.new) }
-        ensures cause { HasCauseIn result (B.faults board.old) (B.faults board.new) }
-        ensures refused { IsAnswered result }
+        ensures ends { EndsOperation result (B.faults board.old) (B.faults board.new) }
         ensures device { IfSome (B.told board.old) (λ t. IsDevice (device_of t)) }
     {
         let steps = clear_steps(id);
@@ -119,8 +118,7 @@ impl Driver {
         ensures kept { Relates KeepsButDevice (B.told board.old) (B.told board.new) }
         ensures stops { Passes (InStore (Stays (B.told board.old))) (B.clock board.old)
             (B.clock board.new) }
-        ensures cause { HasCauseIn result (B.faults board.old) (B.faults board.new) }
-        ensures refused { IsAnswered result }
+        ensures ends { EndsOperation result (B.faults board.old) (B.faults board.new) }
         ensures device { IfSome (B.told board.old) (λ t. IsDevice (device_of t)) }
     {
         let steps = read_steps(id);
@@ -150,8 +148,7 @@ impl Driver {
         ensures kept { Relates KeepsButDevice (B.told board.old) (B.told board.new) }
         ensures stops { Passes (InStore (Puts bytes.now (B.told board.old))) (B.clock board.old)
             (B.clock board.new) }
-        ensures cause { HasCauseIn result (B.faults board.old) (B.faults board.new) }
-        ensures refused { IsAnswered result }
+        ensures ends { EndsOperation result (B.faults board.old) (B.faults board.new) }
         ensures device { IfSome (B.told board.old) (λ t. IsDevice (device_of t)) }
     {
         self.put_and_operate(bytes, board)

@@ -5,7 +5,7 @@ ghost use Rattle.board_core.specs.Doing.{Does, ended_by, looks};
 ghost use Rattle.board_core.specs.Told.{Relates, device_of};
 ghost use Rattle.erst_store.specs.DeviceLaws.{IsDevice};
 ghost use Rattle.erst_interp.specs.Run.{KeepsButDevice, acts_of};
-ghost use Rattle.erst_driver.specs.Answers.{AnswersAs, HasCauseIn, IsAnswered, driver_end};
+ghost use Rattle.erst_driver.specs.Answers.{AnswersAs, EndsOperation, driver_end};
 ghost use Rattle.erst_driver.specs.Operations.{clear_calls};
 ghost use Rattle.ras_records.specs.Each.{each_answer, each_calls};
 
@@ -27,8 +27,7 @@ pub fn clear_all<B: Board>(driver: &Driver, ids: &[u64], board: &mut B) -> Resul
     ensures answers { IfSome (B.told board.old)
         (λ t. AnswersAs result (each_answer (clear_calls driver.now) ids.now t)) }
     ensures kept { Relates KeepsButDevice (B.told board.old) (B.told board.new) }
-    ensures cause { HasCauseIn result (B.faults board.old) (B.faults board.new) }
-    ensures refused { IsAnswered result }
+    ensures ends { EndsOperation result (B.faults board.old) (B.faults board.new) }
     ensures device { ids.now ≢ [] → IfSome (B.told board.old) (λ t. IsDevice (device_of t)) }
 {
     for id in ids {

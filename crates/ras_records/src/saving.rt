@@ -6,7 +6,7 @@ ghost use Rattle.board_core.specs.Told.{Relates, device_of};
 ghost use Rattle.erst_store.specs.Device.{length_place};
 ghost use Rattle.erst_store.specs.DeviceLaws.{IsDevice};
 ghost use Rattle.erst_interp.specs.Run.{KeepsButDevice, acts_of};
-ghost use Rattle.erst_driver.specs.Answers.{AnswersAs, HasCauseIn, IsAnswered, answer_on_put, driver_end, written_id};
+ghost use Rattle.erst_driver.specs.Answers.{AnswersAs, EndsOperation, answer_on_put, driver_end, written_id};
 ghost use Rattle.erst_driver.specs.Operations.{write_calls};
 ghost use Rattle.ras_base.specs.LittleEndian.{number_at};
 
@@ -33,8 +33,7 @@ pub fn save<B: Board>(
     ensures answers { IfSome (B.told board.old)
         (λ t. AnswersAs result (answer_on_put (written_id bytes.now) (device_of t))) }
     ensures kept { Relates KeepsButDevice (B.told board.old) (B.told board.new) }
-    ensures cause { HasCauseIn result (B.faults board.old) (B.faults board.new) }
-    ensures refused { IsAnswered result }
+    ensures ends { EndsOperation result (B.faults board.old) (B.faults board.new) }
     ensures device { IfSome (B.told board.old) (λ t. IsDevice (device_of t)) }
 {
     driver.write(bytes, board)

@@ -42,10 +42,10 @@ pub returns-in-Err-clause-does : goal.returns-in-Err-clause-does
 returns-in-Err-clause-does g c = λ t is can.
     rw c.driver_exit.ensures
     (failed_does (looks g.B.Board.told g.B.Board.clock g.B.Board.faults) c.args.driver.now c.args.text.now c.args.done.now c.args.ids.now t c.args.board.now c.print.new.board is can c.in_ok-print.ensures.does
-    c.in-Err.refused c.in-Err.ensures.refused c.in-Err.ensures.answers c.clear_all.new.board c.in-Err.ensures.does)
+    c.in-Err.refused c.in-Err.ensures.ends.refused c.in-Err.ensures.answers c.clear_all.new.board c.in-Err.ensures.does)
 
 pub returns-in-Err-clause-fails : goal.returns-in-Err-clause-fails
 returns-in-Err-clause-fails g c = λ t is can.
     rw c.driver_exit.ensures
     (failed_ends (looks g.B.Board.told g.B.Board.clock g.B.Board.faults) c.args.driver.now c.args.text.now c.args.done.now c.args.ids.now t c.args.board.now c.print.new.board is can c.in_ok-print.ensures.does
-    c.in-Err.refused c.in-Err.ensures.refused c.in-Err.ensures.answers)
+    c.in-Err.refused c.in-Err.ensures.ends.refused c.in-Err.ensures.answers)

@@ -42,13 +42,13 @@ returns-in-Ok-clause-ready g c = λ ledger ready.
 pub returns-clause-ends : goal.returns-clause-ends
 returns-clause-ends g c =
     if_some (g.B.Board.told c.args.board.now) _ (λ t. EndsUnless (saving_refusal t.volatile.slow c.args.id t.here.store) (Err c.driver_exit.result))
-    (λ t gives. subst (λ exit. EndsUnless (saving_refusal t.volatile.slow c.args.id t.here.store) (Err exit)) (sym c.driver_exit.ensures) (not_saved c.args.id c.args.bytes.now c.requires t c.in-Err.refused c.in-Err.ensures.refused gives)) c.in-Err.ensures.answers
+    (λ t gives. subst (λ exit. EndsUnless (saving_refusal t.volatile.slow c.args.id t.here.store) (Err exit)) (sym c.driver_exit.ensures) (not_saved c.args.id c.args.bytes.now c.requires t c.in-Err.refused c.in-Err.ensures.ends.refused gives)) c.in-Err.ensures.answers
 
 pub returns-clause-does : goal.returns-clause-does
 returns-clause-does g c = λ t is.
     let see = looks g.B.Board.told g.B.Board.clock g.B.Board.faults in
     let told = g.B.Board.told c.args.board.now in
     rw c.driver_exit.ensures
-    (asked_refused see (IsDevice (device_of t)) (saving_refusal t.volatile.slow c.args.id t.here.store ≡ None) (acts_of (write_calls c.args.driver.now c.args.bytes.now (device_of t))) (print_acts (done_line c.args.number)) _ _ c.in-Err.refused c.in-Err.ensures.refused
+    (asked_refused see (IsDevice (device_of t)) (saving_refusal t.volatile.slow c.args.id t.here.store ≡ None) (acts_of (write_calls c.args.driver.now c.args.bytes.now (device_of t))) (print_acts (done_line c.args.number)) _ _ c.in-Err.refused c.in-Err.ensures.ends.refused
     (at_told (λ u. IsDevice (device_of u)) told t c.in-Err.ensures.device is)
     (at_told (λ u. Does see (acts_of (write_calls c.args.driver.now c.args.bytes.now (device_of u))) (driver_end c.in-Err.refused) c.args.board.now c.save.new.board) told t c.in-Err.ensures.does is))

@@ -40,10 +40,13 @@ returns-clause-kept g c =
     let id = c.args.id in
     kept_of c.args.self.now (actions_of (clear_steps id)) (answer_of (clear_steps id)) _ _ c.operate.result (rw c.clear_steps-steps.ensures at c.operate.ensures.operates)
 
-pub returns-clause-cause : goal.returns-clause-cause
-returns-clause-cause g c =
+pub returns-clause-ends : goal.returns-clause-ends
+returns-clause-ends g c =
     let id = c.args.id in
-    cause_of c.args.self.now (actions_of (clear_steps id)) (answer_of (clear_steps id)) _ _ c.operate.result (rw c.clear_steps-steps.ensures at c.operate.ensures.operates)
+    record {
+      cause = cause_of c.args.self.now (actions_of (clear_steps id)) (answer_of (clear_steps id)) _ _ c.operate.result (rw c.clear_steps-steps.ensures at c.operate.ensures.operates);
+      refused = c.operate.ensures.refused;
+    }
 
 pub returns-clause-stops : goal.returns-clause-stops
 returns-clause-stops g c =

@@ -18,8 +18,11 @@ returns-clause-record_read g c = read_found c.args.self.now c.args.id c.operate_
 pub returns-clause-kept : goal.returns-clause-kept
 returns-clause-kept g c = read_kept c.args.self.now c.args.id c.operate_and_fetch.new.buf _ _ c.operate_and_fetch.result (rw c.read_steps-steps.ensures at c.operate_and_fetch.ensures.reads)
 
-pub returns-clause-cause : goal.returns-clause-cause
-returns-clause-cause g c = read_cause c.args.self.now c.args.id c.operate_and_fetch.new.buf _ _ c.operate_and_fetch.result (rw c.read_steps-steps.ensures at c.operate_and_fetch.ensures.reads)
+pub returns-clause-ends : goal.returns-clause-ends
+returns-clause-ends g c = record {
+  cause = read_cause c.args.self.now c.args.id c.operate_and_fetch.new.buf _ _ c.operate_and_fetch.result (rw c.read_steps-steps.ensures at c.operate_and_fetch.ensures.reads);
+  refused = c.operate_and_fetch.ensures.refused;
+}
 
 pub returns-clause-does : goal.returns-clause-does
 returns-clause-does g c =

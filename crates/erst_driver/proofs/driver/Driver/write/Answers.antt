@@ -15,8 +15,11 @@ returns-clause-answers g c = over_device_told _ _ c.put_and_operate.ensures.devi
 pub returns-clause-kept : goal.returns-clause-kept
 returns-clause-kept g c = write_kept c.args.bytes.now c.args.self.now _ _ c.put_and_operate.result c.put_and_operate.ensures.writes
 
-pub returns-clause-cause : goal.returns-clause-cause
-returns-clause-cause g c = write_cause c.args.bytes.now c.args.self.now _ _ c.put_and_operate.result c.put_and_operate.ensures.writes
+pub returns-clause-ends : goal.returns-clause-ends
+returns-clause-ends g c = record {
+  cause = write_cause c.args.bytes.now c.args.self.now _ _ c.put_and_operate.result c.put_and_operate.ensures.writes;
+  refused = c.put_and_operate.ensures.refused;
+}
 
 pub returns-clause-does : goal.returns-clause-does
 returns-clause-does g c =
