@@ -166,6 +166,21 @@ def is_given(crate, item):
     return bool(path) and (bool(method) or item.file in (path, f"crates/{crate}/src/{module}.rt"))
 
 
+def with_clause(function, name):
+    """A function with what it asks of its callers and this one of its clauses."""
+    kept, clause = [], None
+    for line in function.lines:
+        clause = CLAUSE.match(line) or clause
+        if not clause or clause["kind"] == "requires" or clause["name"] == name:
+            kept.append(line)
+    return function._replace(lines=tuple(kept))
+
+
+def has_field(item, name):
+    """Whether an item is a record with a field of this name."""
+    return bool(item) and item.kind == "record" and any(line.startswith(f"  pub {name} :") for line in item.lines)
+
+
 # ---- what a name means
 
 
