@@ -42,7 +42,7 @@ impl<'a> Model for Block<'a> {
 /// It is refused with the first that applies of: `Short` below 20 bytes, or below 20 and the data's
 /// length if the status isn't 0; `EntryOut` if the header or the data of some entry passes
 /// the end of the data; `Section` if `read_section` refuses some entry's data.
-#[tactic(auto, unfolding(crate::specs::Blocks::block_of, crate::specs::Cut::cut, crate::specs::Cut::AreInside))]
+#[tactic(auto, unfolding(crate::specs::Blocks::block_of, crate::specs::Steps::Cut::cut, crate::specs::Steps::Cut::AreInside))]
 pub fn read_block(bytes: &[u8]) -> Result<Block<'_>, BlockRefused>
     ensures { result ≡ block_of bytes.now }
 {

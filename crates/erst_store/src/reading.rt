@@ -102,7 +102,7 @@ fn front_u64(bytes: &[u8]) -> Result<(u64, &[u8]), StoreRefused>
 }
 
 // The number of records that a file tells, and the bytes after it.
-#[tactic(auto, unfolding(crate::specs::StoreReading::count_at))]
+#[tactic(auto, unfolding(crate::specs::Steps::StoreReading::count_at))]
 fn count_of(bytes: &[u8]) -> Result<(u32, &[u8]), StoreRefused>
     ensures { GivesStore (λ x. (x.0, x.1.now)) result (count_at bytes.now) }
 {
@@ -113,7 +113,7 @@ fn count_of(bytes: &[u8]) -> Result<(u32, &[u8]), StoreRefused>
 }
 
 // The first record of these bytes, and the bytes after it.
-#[tactic(auto, unfolding(crate::specs::StoreReading::front_record))]
+#[tactic(auto, unfolding(crate::specs::Steps::StoreReading::front_record))]
 fn front_record(bytes: &[u8]) -> Result<(u64, &[u8], &[u8]), StoreRefused>
     ensures { GivesStore (λ x. (record { id = x.0; bytes = x.1.now }, x.2.now)) result (front_record bytes.now) }
 {
@@ -145,7 +145,7 @@ fn records_of(alloc: Global, count: u32, bytes: &[u8]) -> Result<Store, StoreRef
 }
 
 // The store whose file these bytes are, all of them.
-#[tactic(auto, unfolding(crate::specs::StoreReading::file_at))]
+#[tactic(auto, unfolding(crate::specs::Steps::StoreReading::file_at))]
 fn read_all(alloc: Global, bytes: &[u8]) -> Result<Store, StoreRefused>
     ensures { GivesStore (λ s. s) result (file_at bytes.now) }
 {

@@ -79,7 +79,7 @@ impl FileBoard {
     }
 
     // Does an action, and brings what it changes in the store into the store's file.
-    #[tactic(auto, using(erst_store::specs::ActionLemmas::kept))]
+    #[tactic(auto, using(erst_store::specs::Steps::ActionLemmas::kept))]
     fn act(&mut self, saved: Saved, action: u64) -> Result<(), Failed>
         ensures does { OnOk result (IsHere self.new.kept (act action saved.device)) }
         ensures cause { FailsAs device_call self.old.faults self.new.faults result }
