@@ -22,6 +22,7 @@ use Rattle.ras_exit.proofs.EndingLemmas.{memory_ran_out}
 use Rattle.ras_run.specs.Output.{output_at}
 use Rattle.ras_run.specs.Places.{Start, account_at, store_at}
 use Rattle.ras_daemon.specs.Ahead.{TakesAhead}
+use Rattle.ras_daemon.specs.RunOf.{run_of}
 use Rattle.ras_daemon.specs.Headline.{Headline, IsWhole, NeverOpens, Settles, StopsRecover, account_with, laid_with}
 use Rattle.ras_daemon.specs.Promises.{HasOpened, Ran, RunStops, StillTell}
 use Rattle.ras_daemon.specs.RunActs.{DidRun}
@@ -135,10 +136,10 @@ module _ (start : Start) (script : List ℕ) (old now : Told) where
 -- what a stop since the start of a run leaves
 pub always-headline : (old new : Clock) (start : Start) (script : List ℕ) (here : Left) → StopsRecover start old
     → ((left : Left) → LeftNow old left → left.out ≡ here.out) → ((left : Left) → LeftNow old left → left.store ≡ start.store)
-    → Adds (RunMoment old start script here) old new → Always new old.now (Headline start script here)
+    → Adds (RunMoment old start script here) old new → Always new old.now (Headline (run_of start script) here)
 always-headline old new start script here stops text store adds left may = by (adds.each old.now left (omega arith) may)
   where
-    by : old.may_leave_since old.now left ⊎ RunMoment old start script here left → Headline start script here left
+    by : old.may_leave_since old.now left ⊎ RunMoment old start script here left → Headline (run_of start script) here left
     by (inl before) = headline old start script here left stops (text left) (store left) (inl before)
     by (inr moment) = headline old start script here left stops (text left) (store left) moment
 
@@ -170,7 +171,7 @@ module _ {X : Type 0} (see : X → Seen) (account : State) (script : List ℕ) (
   run-moments does = run_stops see account script exit t old new recovers does
 
   -- from the moment on at which its journal is open
-  run-settles : Opens see start script exit t old new → Settles start script t.here (see old).clock (see new).clock
+  run-settles : Opens see start script exit t old new → Settles (run_of start script) t.here (see old).clock (see new).clock
   run-settles d = record {
     at = (see d.mid).clock.now;
     later = d.stops.later;
@@ -182,16 +183,16 @@ module _ {X : Type 0} (see : X → Seen) (account : State) (script : List ℕ) (
       adds : Adds (OpenMoment start script d.there.here.out) (see d.mid).clock (see new).clock
       adds = takes_stops see start script d.there exit d.mid new d.rests d.holds d.takes
 
-      begun : (left : Left) → RunMoment (see old).clock start script t.here left → LeftNow (see old).clock left ⊎ Headline start script t.here left
+      begun : (left : Left) → RunMoment (see old).clock start script t.here left → LeftNow (see old).clock left ⊎ Headline (run_of start script) t.here left
       begun left (inl now) = inl now
       begun left (inr moment) = inr (headline-since start script t.here left moment)
 
-      later : (left : Left) → OpenMoment start script d.there.here.out left → Headline start script t.here left
+      later : (left : Left) → OpenMoment start script d.there.here.out left → Headline (run_of start script) t.here left
       later left moment = headline-since start script t.here left (inr (d.holds.account, subst (λ out. OpenMoment start script out left) d.text moment))
 
-      rests : (left : Left) → LeftNow (see d.mid).clock left → Headline start script t.here left
+      rests : (left : Left) → LeftNow (see d.mid).clock left → Headline (run_of start script) t.here left
       rests left was =
-          subst (Headline start script t.here) (sym (d.rests.only left was))
+          subst (Headline (run_of start script) t.here) (sym (d.rests.only left was))
           (headline-nothing start script t.here d.there.here d.text (record { is = d.holds.at.recovers }) d.holds.board.store)
 
   never-opens : (Same : Type 0) → Same → DoesNotOpen see exit t old new → NeverOpens exit Same start t.here (see old).clock (see new).clock
@@ -202,11 +203,11 @@ module _ {X : Type 0} (see : X → Seen) (account : State) (script : List ℕ) (
   }
 
   pub run-settled : (Same : Type 0) (left : Option (List ℕ)) → Comes see Same start script exit t left old new
-      → Settles start script t.here (see old).clock (see new).clock ⊎ NeverOpens exit Same start t.here (see old).clock (see new).clock
+      → Settles (run_of start script) t.here (see old).clock (see new).clock ⊎ NeverOpens exit Same start t.here (see old).clock (see new).clock
   run-settled Same left comes = by comes.does comes.reads
     where
       by : DoesRun see start script exit t old new → Same ⊎ (Opens see start script exit t old new × EndsAhead (exit ≡ SourceFault) start script (lines_from start t.here.out) left (see new).told)
-          → Settles start script t.here (see old).clock (see new).clock ⊎ NeverOpens exit Same start t.here (see old).clock (see new).clock
+          → Settles (run_of start script) t.here (see old).clock (see new).clock ⊎ NeverOpens exit Same start t.here (see old).clock (see new).clock
       by (inl d) (inl same) = inr (never-opens Same same d)
       by (inl d) (inr read) = inl (run-settles read.0)
       by (inr d) reads = inl (run-settles d)

@@ -25,12 +25,14 @@ use Rattle.ras_run.specs.Moments.{IsBegun, course_at}
 use Rattle.ras_run.specs.Places.{Start, account_at, store_at}
 use Rattle.ras_run.specs.Status.{places_before_refusal}
 use Rattle.ras_exit.specs.Telling.{PrintsPart}
-use Rattle.ras_daemon.specs.Headline.{AtOpening, Headline, StopsRecover, account_with, laid_with, last_laid_with}
+use Rattle.ras_daemon.specs.Headline.{AtOpening, Headline, StopsRecover, account_with, laid_with}
+use Rattle.ras_daemon.specs.RunOf.{run_of}
 use Rattle.ras_daemon.specs.RunOutput.{closing_line, lines_output, output_upto, run_output}
 use Rattle.ras_daemon.specs.RunStatus.{run_exit}
 use Rattle.ras_daemon.specs.Steps.Running.{AreAccepted, AreAll, AreFirst, AtEnd, AtLine, AtStart, BetweenLines, OpenMoment, RunMoment, lines_from, outputs}
 use Rattle.ras_daemon.specs.Script.{events_of, is_event, line_after, reads_of}
-use Rattle.ras_daemon.specs.StoreDuring.{KeepsOthers, KeepsRecords, KnownBy, KnowsReadable, OnPoll, StoreDuring}
+use Rattle.ras_daemon.specs.Steps.ScriptHeadline.{KeepsOthers, OnPoll, StoreOnLine, last_laid_with}
+use Rattle.ras_daemon.specs.StoreDuring.{KeepsRecords, KnownBy, KnowsReadable}
 use Rattle.ras_daemon.proofs.CountLemmas.{account-first, count-first, events_among, output-first, tells-last}
 use Rattle.ras_daemon.proofs.EventLemmas.{PrintsEvent, Tells}
 use Rattle.ras_daemon.proofs.ListLemmas.{take-whole}
@@ -38,6 +40,7 @@ use Rattle.ras_daemon.proofs.FirstLinesLemmas.{closing-same, first-before, first
 use Rattle.ras_daemon.proofs.PlaceLemmas.{first_more, outputs-snoc}
 use Rattle.ras_daemon.proofs.CourseLemmas.{InLine, begun-now, end-now, left-next, line-course, part-now}
 use Rattle.ras_daemon.proofs.KeptLemmas.{StoreNow, cleared-during, first-kept, kept-during, kept-weaker, known-next, none-kept, store-during}
+use Rattle.ras_daemon.proofs.MachineLemmas.{to-machine}
 use Rattle.ras_daemon.proofs.StoreLemmas.{store-first}
 use Rattle.text_laws.proofs.DoneLemmas.{event_begun, none_done}
 use Rattle.text_laws.proofs.LineLemmas.{end_quiet, standing_quiet}
@@ -147,8 +150,8 @@ module _ (start : Start) (script : List ℕ) (here left : Left) where
       → (account ≡ account_with start script n) ⊎ (account ≡ account_with start script (n + 1))
       → (length (output_upto start script n) < length printed → account ≡ account_with start script (n + 1))
       → StoreNow (line_after start script n) (KnownBy account) (laid_with start script n) left.store
-      → KeepsRecords (last_laid_with start script n) (KnownBy account) (laid_with start script n) → Headline start script here left
-  headline-by printed n text begins count account recovers whole acknowledged store kept = record {
+      → KeepsRecords (last_laid_with start script n) (KnownBy account) (laid_with start script n) → Headline (run_of start script) here left
+  headline-by printed n text begins count account recovers whole acknowledged store kept = to-machine start script here left (record {
     printed = printed;
     text = text;
     begins = begins;
@@ -156,22 +159,22 @@ module _ (start : Start) (script : List ℕ) (here left : Left) where
     recovers = recovers;
     whole = subst (λ (k : ℕ). (account ≡ account_with start script k) ⊎ (account ≡ account_with start script (k + 1))) (sym count) whole;
     acknowledged = subst (λ (k : ℕ). length (output_upto start script k) < length printed → account ≡ account_with start script (k + 1)) (sym count) acknowledged;
-    store = subst (λ (k : ℕ). StoreDuring (line_after start script k) (laid_with start script k) left.store) (sym count) (store-during (laid_with start script n) left.store (KnownBy account) (line_after start script n) store);
+    store = subst (λ (k : ℕ). StoreOnLine (line_after start script k) (laid_with start script k) left.store) (sym count) (store-during (laid_with start script n) left.store (KnownBy account) (line_after start script n) store);
     cleared = subst (λ (k : ℕ). OnPoll (line_after start script k) ((left.store ≡ laid_with start script k → ⊥) → KnowsReadable (laid_with start script k) (KnownBy account))) (sym count)
         (cleared-during (laid_with start script n) left.store (KnownBy account) (line_after start script n) store);
     kept = subst (λ (k : ℕ). KeepsOthers (line_after start script k) (last_laid_with start script k) (KnownBy account) left.store) (sym count)
         (kept-during (line_after start script n) (last_laid_with start script n) (KnownBy account) (laid_with start script n) left.store store kept);
-  }
+  })
 
   -- nothing was printed
-  pub headline-nothing : left.out ≡ here.out → Recovers start.account left → left.store ≡ start.store → Headline start script here left
+  pub headline-nothing : left.out ≡ here.out → Recovers start.account left → left.store ≡ start.store → Headline (run_of start script) here left
   headline-nothing text recovers store =
       headline-by [] 0 (text ∙ sym (append-nil here.out)) (begins-start start script [] (at_start start) refl) refl start.account recovers (inl refl) (λ longer. absurd (omega arith))
       (inl store) (none-kept start script (KnownBy start.account))
 
   module _ (account : IsAccount start.account) where
     -- orders that stand at the start
-    pub headline-start : AtStart start here.out left → Headline start script here left
+    pub headline-start : AtStart start here.out left → Headline (run_of start script) here left
     headline-start at =
         headline-by at.text.part 0 at.text.is (begins-start start script at.text.part at.text.missing at.text.splits)
         (none_done (at_start start) at.text.part at.text.missing (standing_quiet start.account account) at.text.splits)
@@ -182,7 +185,7 @@ module _ (start : Start) (script : List ℕ) (here left : Left) where
     -- behind whole lines, with nothing of the next one printed
     headline-behind : (before : List NumberedLine) → AreFirst start script before → Recovers (account_at start before) left → left.out ≡ lines_from start here.out ++ outputs start before
         → StoreNow (line_after start script (events_among (places before))) (KnownBy (account_at start before)) (laid_with start script (events_among (places before))) left.store
-        → Headline start script here left
+        → Headline (run_of start script) here left
     headline-behind before first recovers text store =
         let n : ℕ = events_among (places before) in
         let printed : List ℕ = at_start start ++ outputs start before in
@@ -194,13 +197,13 @@ module _ (start : Start) (script : List ℕ) (here left : Left) where
         (λ longer. absurd (omega (arith, longer, ap (λ (text : List ℕ). length text) (output-first start script before first account))))
         store (first-kept start script before first account)
 
-    pub headline-between : BetweenLines start script (lines_from start here.out) left → Headline start script here left
+    pub headline-between : BetweenLines start script (lines_from start here.out) left → Headline (run_of start script) here left
     headline-between between =
         headline-behind between.before between.first between.recovers between.text (inl (between.store ∙ sym (store-first start script between.before between.first account)))
 
     -- all that the next line prints: these are whole lines
     headline-whole : (before : List NumberedLine) (read : NumberedLine) (part : List ℕ) → AreFirst start script (before ++ read ∷ []) → Recovers (account_at start (before ++ read ∷ [])) left
-        → left.out ≡ (lines_from start here.out ++ outputs start before) ++ part → part ≡ output_at start (before, read) → left.store ≡ store_at start (before ++ read ∷ []) → Headline start script here left
+        → left.out ≡ (lines_from start here.out ++ outputs start before) ++ part → part ≡ output_at start (before, read) → left.store ≡ store_at start (before ++ read ∷ []) → Headline (run_of start script) here left
     headline-whole before read part first recovers text is store =
         headline-between (record {
           before = before ++ read ∷ [];
@@ -224,7 +227,7 @@ module _ (start : Start) (script : List ℕ) (here left : Left) where
         → left.out ≡ (lines_from start here.out ++ outputs start before) ++ part → part ++ missing ≡ output_at start (before, read) → 1 ≤ length missing
         → PrintsEvent start (before, read)
         → StoreNow (line_after start script (events_among (places before))) (KnownBy (account_at start (before ++ read ∷ []))) (laid_with start script (events_among (places before))) left.store
-        → Headline start script here left
+        → Headline (run_of start script) here left
     headline-part before read part missing first recovers text splits some event store =
         let n : ℕ = events_among (places before) in
         let without : AreFirst start script before = first-without start script before read first in
@@ -241,7 +244,7 @@ module _ (start : Start) (script : List ℕ) (here left : Left) where
     module _ (before rest : List NumberedLine) (read : NumberedLine) (splits : before ++ read ∷ rest ≡ reads_of script) (accepted : AreAccepted start before) where
       -- a line that is no event prints nothing
       headline-next : (at : InLine start before read (lines_from start here.out ++ outputs start before) left) (missing : List ℕ) → at.text.missing ≡ missing → Tells start (before, read)
-          → Headline start script here left
+          → Headline (run_of start script) here left
       headline-next at [] none tells =
           headline-whole before read at.text.part (first_more start script before rest read splits accepted at.accepted) at.recovers at.text.is
           (sym (append-nil at.text.part) ∙ ap (λ (text : List ℕ). at.text.part ++ text) (sym none) ∙ at.text.splits)
@@ -259,14 +262,14 @@ module _ (start : Start) (script : List ℕ) (here left : Left) where
           ))
 
       headline-in : IsBegun (course_at start (before, read)) (lines_from start here.out ++ outputs start before) left ⊎ InLine start before read (lines_from start here.out ++ outputs start before) left
-          → Headline start script here left
+          → Headline (run_of start script) here left
       headline-in (inl begun) =
           headline-behind before (record { rest = read ∷ rest; splits = splits; accepted = accepted }) begun.recovers begun.text
           (begun-now start script before rest accepted account (KnownBy (account_at start before)) read left (lines_from start here.out ++ outputs start before) splits begun)
       headline-in (inr at) =
           headline-next at at.text.missing refl (tells-last start script before read (first_more start script before rest read splits accepted at.accepted) account)
 
-    pub headline-line : AtLine start script (lines_from start here.out) left → Headline start script here left
+    pub headline-line : AtLine start script (lines_from start here.out) left → Headline (run_of start script) here left
     headline-line at =
         headline-in at.before at.rest at.read at.splits at.accepted
         (line-course start at.before at.read (lines_from start here.out ++ outputs start at.before) left at.course)
@@ -288,7 +291,7 @@ module _ (start : Start) (script : List ℕ) (here left : Left) where
         ∙ account-first start script before all.first account
 
     -- the last line
-    pub headline-end : AtEnd start script (lines_from start here.out) left → Headline start script here left
+    pub headline-end : AtEnd start script (lines_from start here.out) left → Headline (run_of start script) here left
     headline-end at =
         let n : ℕ = events_among (places at.before) in
         let none : done_count at.text.part ≡ 0 = none_done (closing_line (account_at start at.before) at.exit) at.text.part at.text.missing (closing-quiet (account_at start at.before) at.exit) at.text.splits in
@@ -304,7 +307,7 @@ module _ (start : Start) (script : List ℕ) (here left : Left) where
 
 -- ---- at every moment
 
-pub headline-since : (start : Start) (script : List ℕ) (here left : Left) → AtOpening start here.out left ⊎ (IsAccount start.account × OpenMoment start script here.out left) → Headline start script here left
+pub headline-since : (start : Start) (script : List ℕ) (here left : Left) → AtOpening start here.out left ⊎ (IsAccount start.account × OpenMoment start script here.out left) → Headline (run_of start script) here left
 headline-since start script here left (inl opening) = headline-nothing start script here left opening.text opening.recovers opening.store
 headline-since start script here left (inr (account, inl at)) = headline-start start script here left account at
 headline-since start script here left (inr (account, inr (inl (inl between)))) = headline-between start script here left account between
@@ -313,6 +316,6 @@ headline-since start script here left (inr (account, inr (inr end))) = headline-
 
 pub headline : (clock : Clock) (start : Start) (script : List ℕ) (here left : Left) → StopsRecover start clock
     → (LeftNow clock left → left.out ≡ here.out) → (LeftNow clock left → left.store ≡ start.store)
-    → RunMoment clock start script here left → Headline start script here left
+    → RunMoment clock start script here left → Headline (run_of start script) here left
 headline clock start script here left stops text store (inl now) = headline-nothing start script here left (text now) (stops left now) (store now)
 headline clock start script here left stops text store (inr moment) = headline-since start script here left moment

@@ -52,9 +52,10 @@ use Rattle.ras_run.specs.Places.{Start, account_at, store_at}
 use Rattle.ras_run.specs.Status.{event_refusal}
 use Rattle.ras_run.specs.Taking.{IsAccepted}
 use Rattle.ras_run.proofs.PlaceLemmas.{account-snoc, store-snoc}
-use Rattle.ras_daemon.specs.Headline.{last_laid_with, laid_with}
+use Rattle.ras_daemon.specs.Headline.{laid_with}
 use Rattle.ras_daemon.specs.Steps.Running.{AreFirst}
-use Rattle.ras_daemon.specs.StoreDuring.{KeepsOthers, KeepsRecords, KnownBy, KnowsReadable, OnPoll, PutsAnew, StoreDuring}
+use Rattle.ras_daemon.specs.Steps.ScriptHeadline.{KeepsOthers, OnPoll, PutsAnew, StoreOnLine, last_laid_with}
+use Rattle.ras_daemon.specs.StoreDuring.{KeepsRecords, KnownBy, KnowsReadable}
 use Rattle.ras_daemon.proofs.CountLemmas.{events_among}
 use Rattle.ras_daemon.proofs.EventLemmas.{of-panic, tabled}
 use Rattle.ras_daemon.proofs.StoreLemmas.{last-first, put-taken, store-first, taken-ok}
@@ -79,20 +80,20 @@ abbrev pub StoreNow : Option Line → (Name → Type 0) → List Stored → List
 StoreNow next Known laid store = (store ≡ laid) ⊎ (PutsLine next laid store ⊎ ClearsKnown next Known laid store)
 
 module _ (laid store : List Stored) where
-  as-before : (next : Option Line) → store ≡ laid → StoreDuring next laid store
+  as-before : (next : Option Line) → store ≡ laid → StoreOnLine next laid store
   as-before None same = same
   as-before (Some (asks.Poll seconds)) same = record { count = 0; is = same }
   as-before (Some line) same = inl same
 
-  with-put : (line : Line) → store ≡ with_put_by line laid → StoreDuring (Some line) laid store
+  with-put : (line : Line) → store ≡ with_put_by line laid → StoreOnLine (Some line) laid store
   with-put (asks.Poll seconds) put = record { count = 0; is = put }
   with-put line put = inr put
 
   module _ (Known : Name → Type 0) where
-    pub store-during : (next : Option Line) → StoreNow next Known laid store → StoreDuring next laid store
+    pub store-during : (next : Option Line) → StoreNow next Known laid store → StoreOnLine next laid store
     store-during next (inl same) = as-before next same
-    store-during next (inr (inl (line, is, put))) = subst (λ (o : Option Line). StoreDuring o laid store) (sym is) (with-put line put)
-    store-during next (inr (inr clears)) = subst (λ (o : Option Line). StoreDuring o laid store) (sym clears.polls) (record { count = clears.count; is = clears.is })
+    store-during next (inr (inl (line, is, put))) = subst (λ (o : Option Line). StoreOnLine o laid store) (sym is) (with-put line put)
+    store-during next (inr (inr clears)) = subst (λ (o : Option Line). StoreOnLine o laid store) (sym clears.polls) (record { count = clears.count; is = clears.is })
 
     -- nothing is cleared before the names are known
     abbrev KnowsCleared : Type 0

@@ -11,6 +11,7 @@ pub mod FirstLinesLemmas
 pub mod EventLemmas
 pub mod CountLemmas
 pub mod StoreLemmas
+pub mod MachineLemmas
 pub mod KeptLemmas
 pub mod CourseLemmas
 pub mod HeadlineLemmas

@@ -27,7 +27,8 @@ use Rattle.ras_run.specs.Moments.{clears_store, stored_by}
 use Rattle.ras_run.specs.Places.{Start, store_at}
 use Rattle.ras_run.specs.Status.{event_refusal, put_refusal, refusal_at}
 use Rattle.ras_run.specs.Taking.{IsAccepted}
-use Rattle.ras_daemon.specs.Headline.{last_laid_with, laid_with, lines_with}
+use Rattle.ras_daemon.specs.Headline.{laid_with, lines_with}
+use Rattle.ras_daemon.specs.Steps.ScriptHeadline.{last_laid_with}
 use Rattle.ras_daemon.specs.Steps.Running.{AreAccepted, AreFirst}
 use Rattle.ras_daemon.specs.Script.{begun_of, begun_with, first_line, is_event, line_after, places_begun, reads_of}
 use Rattle.ras_daemon.proofs.CountLemmas.{events_among, first-events}

@@ -1,27 +1,29 @@
 -- What a stop at any moment of a run leaves, and what a run leaves where it ends.
-use Rattle.std.specs.Prelude.{◌≡◌, ℕ, ◌+◌, ◌<◌, ◌≤◌, ◌⊎◌, List, ◌++◌, length, map, take, Option, Some, ⊤}
+use Rattle.std.specs.Prelude.{◌≡◌, ℕ, ◌+◌, ◌<◌, ◌≤◌, ◌⊎◌, List, ◌++◌, length, map, take, Option, Some, Ok, ⊤}
 use Rattle.std.specs.List.{flat_map}
 use Rattle.board_core.specs.Clock.{Always, Clock, LeftNow}
 use Rattle.board_core.specs.Stop.{Left}
 use Rattle.board_core.specs.Told.{Told}
-use Rattle.erst_store.specs.Store.{Stored}
+use Rattle.cper_records.specs.Readable.{filled, read_under}
+use Rattle.erst_store.specs.Store.{Stored, bytes_under}
 use Rattle.ras_base.specs.Prefix.{IsPrefixOf}
 use Rattle.ras_account.specs.Account.{State}
 use Rattle.ras_account.specs.Continued.{account_after_all}
 use Rattle.ras_facts.specs.declared.entry.Entry.{Entry}
 use Rattle.ras_journal.specs.Recovered.{Recovers}
 use Rattle.ras_events.specs.Reports.{NumberedLine, Place, entries_at}
-use Rattle.ras_events.specs.Stores.{laid, last_laid}
+use Rattle.ras_events.specs.Stores.{laid}
 use Rattle.text_laws.specs.DoneLines.{done_count}
 use Rattle.ras_exit.specs.declared.exit.Exit.{Exit}
 use Rattle.ras_exit.specs.declared.exit.Exit.TheVariants.{DiskFault, NoMemory}
+use Rattle.ras_panic.specs.Reading.{stored_name}
 use Rattle.ras_run.specs.Places.{Start}
-use Rattle.ras_daemon.specs.RunOutput.{output_upto, run_output}
+use Rattle.ras_daemon.specs.Machine.{Run, account_upto, change_next, clears, last_upto, store_upto, text_of, text_upto}
 use Rattle.ras_daemon.specs.RunStatus.{start_of}
 use Rattle.ras_daemon.specs.Script.{events_of, line_after}
-use Rattle.ras_daemon.specs.StoreDuring.{KeepsOthers, KnownBy, KnowsReadable, OnPoll, StoreDuring, store_at_end}
+use Rattle.ras_daemon.specs.StoreDuring.{KnownBy, KnowsReadable, PutsUnder, StoreDuring, store_at_end}
 use Rattle.ras_daemon.specs.declared.word.Task.{Task}
-use Rattle.ras_daemon.specs.declared.word.Task.TheVariants.{Run}
+use Rattle.ras_daemon.specs.declared.word.Task.TheVariants as tasks
 
 -- what the first n events of a script report, and the account at the start with it
 abbrev pub reported : Start → List ℕ → ℕ → List Entry
@@ -30,45 +32,40 @@ reported start script n = flat_map (entries_at start.store) (take n (events_of s
 abbrev pub account_with : Start → List ℕ → ℕ → State
 account_with start script n = account_after_all start.account (reported start script n)
 
--- the lines of the first n events, the record store that they leave, and the bytes that they last
--- laid under an identifier
+-- the lines of the first n events, and the record store that they leave
 abbrev pub lines_with : Start → List ℕ → ℕ → List NumberedLine
 lines_with start script n = map (λ (place : Place). place.1) (take n (events_of start script))
 
 abbrev pub laid_with : Start → List ℕ → ℕ → List Stored
 laid_with start script n = laid start.store (lines_with start script n)
 
-abbrev pub last_laid_with : Start → List ℕ → ℕ → ℕ → Option (List ℕ)
-last_laid_with start script n id = last_laid start.store (lines_with start script n) id
-
--- A stop leaves this of a run: the text that was printed before it, and a beginning of what it
--- prints. If n events are done by what is printed, the files recover the account at the start with
--- what the first n events report, or the first n and one. Once a byte of the next event's output is
--- printed, it is the latter. The record store is what the first n events left, or one on the way of
--- the next: a poll clears no record before the account knows the name of each that can be read. Each
--- record that was last laid and can be read, and that the next event doesn't put anew, is in the store,
--- or the account knows its name.
-pub record Headline (start : Start) (script : List ℕ) (here left : Left) : Type 0 where
+-- What a stop leaves of a run.
+pub record Headline (run : Run) (here left : Left) : Type 0 where
+  -- The text that was printed before it, and a beginning of what the run prints. By that so many of its
+  -- events are done.
   pub printed : List ℕ
   pub text : left.out ≡ here.out ++ printed
-  pub begins : IsPrefixOf printed (run_output start script)
+  pub begins : IsPrefixOf printed (text_of run)
+  pub done : ℕ
+  pub counted : done_count printed ≡ done
+  -- The files recover the account at the start with what these events report, or with what the next one
+  -- reports too. Once a byte of what the next one prints is printed, it is the latter.
   pub account : State
   pub recovers : Recovers account left
-  pub whole :
-      (account ≡ account_with start script (done_count printed))
-      ⊎ (account ≡ account_with start script (done_count printed + 1))
-  pub acknowledged :
-      length (output_upto start script (done_count printed)) < length printed
-      → account ≡ account_with start script (done_count printed + 1)
-  pub store :
-      StoreDuring (line_after start script (done_count printed)) (laid_with start script (done_count printed)) left.store
+  pub whole : (account ≡ account_upto run done) ⊎ (account ≡ account_upto run (done + 1))
+  pub acknowledged : length (text_upto run done) < length printed → account ≡ account_upto run (done + 1)
+  -- The record store is what these events left, or one on the way of what the next one does to it. No
+  -- record is cleared before the account knows the name of each that can be read.
+  pub store : StoreDuring (change_next run done) (store_upto run done) left.store
   pub cleared :
-      OnPoll (line_after start script (done_count printed))
-      (¬ (left.store ≡ laid_with start script (done_count printed))
-      → KnowsReadable (laid_with start script (done_count printed)) (KnownBy account))
+      change_next run done ≡ clears → ¬ (left.store ≡ store_upto run done)
+      → KnowsReadable (store_upto run done) (KnownBy account)
+  -- Each record that was last put, or was there at the start, and that can be read is in the store, or the
+  -- account knows its name; but for one under the identifier under which the next event puts a record.
   pub kept :
-      KeepsOthers (line_after start script (done_count printed)) (last_laid_with start script (done_count printed))
-      (KnownBy account) left.store
+      (id : ℕ) (bytes own : List ℕ) → last_upto run done id ≡ Some bytes → read_under id (filled bytes) ≡ Ok own
+      → ¬ PutsUnder (change_next run done) id
+      → (bytes_under id left.store ≡ Some bytes) ⊎ KnownBy account (stored_name own)
 
 -- What is told if no call of the board failed: whole events, those that are done by what was printed,
 -- by how the run ended.
@@ -96,12 +93,12 @@ pub record NeverOpens (exit : Exit) (Same : Type 0) (start : Start) (here : Left
 
 -- There is a moment of a run from which the headline holds, whatever a stop at its start may leave:
 -- when its journal is open. A stop before it leaves that, or what the headline says.
-pub record Settles (start : Start) (script : List ℕ) (here : Left) (old new : Clock) : Type 0 where
+pub record Settles (run : Run) (here : Left) (old new : Clock) : Type 0 where
   pub at : ℕ
   pub later : old.now ≤ at
   pub within : at ≤ new.now
-  pub before : Always new old.now (λ left. LeftNow old left ⊎ Headline start script here left)
-  pub from : Always new at (Headline start script here)
+  pub before : Always new old.now (λ left. LeftNow old left ⊎ Headline run here left)
+  pub from : Always new at (Headline run here)
 
 -- whatever a stop at the start of a run may leave recovers the account at its start too
 abbrev pub StopsRecover : Start → Clock → Type 0
@@ -109,6 +106,6 @@ StopsRecover start clock = (left : Left) → LeftNow clock left → Recovers sta
 
 -- if the words ask for a run, source and board tell, and the files hold an account
 abbrev pub OverRun : (Start → List ℕ → Told → Type 0) → Option Task → Option (List ℕ) → Option Told → Type 0
-OverRun P (Some Run) (Some script) (Some t) =
+OverRun P (Some tasks.Run) (Some script) (Some t) =
     (account : State) → Recovers account t.here → P (start_of account t) script t
 OverRun P task script told = ⊤

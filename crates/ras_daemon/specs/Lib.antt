@@ -3,6 +3,8 @@ pub mod Commands
 pub mod Script
 pub mod RunStatus
 pub mod RunOutput
+pub mod Machine
+pub mod RunOf
 pub mod StoreDuring
 pub mod Headline
 pub mod Promises

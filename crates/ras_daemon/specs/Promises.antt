@@ -21,6 +21,7 @@ use Rattle.ras_texts.specs.Orders.{standing_lines}
 use Rattle.ras_daemon.specs.Ahead.{TakesAhead}
 use Rattle.ras_daemon.specs.Headline.{Headline, IsWhole, NeverOpens, Settles, StopsRecover}
 use Rattle.ras_daemon.specs.RunActs.{DidRun}
+use Rattle.ras_daemon.specs.RunOf.{run_of}
 use Rattle.ras_daemon.specs.RunOutput.{run_output}
 use Rattle.ras_daemon.specs.RunStatus.{run_exit}
 use Rattle.ras_daemon.specs.declared.word.Task.{Task}
@@ -67,11 +68,11 @@ pub record RunStops (exit : Exit) (Same : Type 0) (start : Start) (script : List
   -- A stop at any moment leaves the account at the start and a beginning of what this run reports, with
   -- each event that is done by what was printed; and of the record store what these events left, or what
   -- is on the way of the next.
-  pub once : StopsRecover start old → Always new old.now (Headline start script here)
+  pub once : StopsRecover start old → Always new old.now (Headline (run_of start script) here)
   -- Without that premise this holds from the moment on at which the journal was open; if it never was,
   -- the source is left alone, and a stop leaves what one at the start may have left, or the account at the
   -- start.
-  pub settled : Settles start script here old new ⊎ NeverOpens exit Same start here old new
+  pub settled : Settles (run_of start script) here old new ⊎ NeverOpens exit Same start here old new
   -- If no file that a stop at the start may leave has more than 256 links, none has that a stop may leave
   -- of the run.
   pub few : Always old old.now HasFewLinks → Always new old.now HasFewLinks

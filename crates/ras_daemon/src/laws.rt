@@ -15,7 +15,9 @@ ghost use Rattle.ras_account.specs.Fresh.{fresh_entries};
 ghost use Rattle.ras_account.specs.Modules.{Module, has_tripped};
 ghost use Rattle.ras_account.specs.Orders.{orders, orders_since_mark};
 ghost use Rattle.ras_run.specs.Places.{Start};
-ghost use Rattle.ras_daemon.specs.Headline.{account_with};
+ghost use Rattle.ras_daemon.specs.Headline.{account_with, laid_with};
+ghost use Rattle.ras_daemon.specs.Machine.{account_upto, store_upto, text_of, text_upto};
+ghost use Rattle.ras_daemon.specs.RunOf.{run_of};
 ghost use Rattle.ras_daemon.specs.RunOutput.{lines_output, output_upto, run_output};
 ghost use Rattle.ras_daemon.specs.RunStatus.{run_exit};
 ghost use Rattle.ras_daemon.specs.Runs.{AreJoined, BeginsWith, CountTheSame, Follows};
@@ -127,4 +129,21 @@ pub fn run_laws()
         (label : Bytes) (row : Module) → BeginsWith history start
         → lookup (same_label label) (account_with start script n).modules ≡ Some row
         → row.replace ≡ has_tripped (module_errors (history_after history start script n) label) }
+{}
+
+/// What a run is as it looks from outside. The function does nothing: its clauses are what it is
+/// for.
+pub fn outside_laws()
+    // Once some of its events are done it has the account, the record store and the text that the
+    // first events of its script give.
+    ensures account { (start : Start) (script : List ℕ) (n : ℕ)
+        → account_upto (run_of start script) n ≡ account_with start script n }
+    ensures store { (start : Start) (script : List ℕ) (n : ℕ)
+        → store_upto (run_of start script) n ≡ laid_with start script n }
+    ensures text { (start : Start) (script : List ℕ) (n : ℕ)
+        → text_upto (run_of start script) n ≡ output_upto start script n }
+
+    // And all that it prints is the output of its script.
+    ensures output { (start : Start) (script : List ℕ)
+        → text_of (run_of start script) ≡ run_output start script }
 {}

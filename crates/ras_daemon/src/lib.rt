@@ -11,7 +11,7 @@ mod running;
 mod word;
 
 pub use daemon::{promise_laws, rasd};
-pub use laws::run_laws;
+pub use laws::{outside_laws, run_laws};
 pub use load::loading_laws;
 pub use ras_exit::{Exit, Reason};
 pub use ras_texts::Listing;

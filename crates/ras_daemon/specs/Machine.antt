@@ -1,0 +1,72 @@
+-- A run as it looks from outside: what its events report, what they do to the record store, and what
+-- they print.
+use Rattle.std.specs.Prelude.{ℕ, nat_eq, List, ◌++◌, map, take, get_or, Option, Some, if◌then◌else◌}
+use Rattle.std.specs.List.{flat_map, fold}
+use Rattle.erst_store.specs.Store.{Stored, bytes_under}
+use Rattle.ras_account.specs.Account.{State}
+use Rattle.ras_account.specs.Continued.{account_after_all}
+use Rattle.ras_facts.specs.declared.entry.Entry.{Entry}
+use Rattle.ras_events.specs.Stores.{store_with, unreadable}
+
+-- What an event does to the record store: it leaves it, puts a record into it, or clears all of its
+-- records that can be read.
+pub data StoreChange : Type 0 where
+  keeps : StoreChange
+  puts : Stored → StoreChange
+  clears : StoreChange
+
+-- an event: the entries that it reports, what it does to the store, and all that it prints
+pub record RunEvent : Type 0 where
+  pub reports : List Entry
+  pub change : StoreChange
+  pub prints : List ℕ
+
+-- A run: the account and the record store at its start, the text before its events, the events that it
+-- does, and its last line. It begins these events, and maybe one more, at which it ends.
+pub record Run : Type 0 where
+  pub account : State
+  pub store : List Stored
+  pub opening : List ℕ
+  pub does : List RunEvent
+  pub begins : List RunEvent
+  pub closing : List ℕ
+
+-- all that a run prints
+abbrev pub text_of : Run → List ℕ
+text_of run = run.opening ++ (flat_map (λ (event : RunEvent). event.prints) run.does ++ run.closing)
+
+-- ---- once its first n events are done
+
+-- what it has printed
+abbrev pub text_upto : Run → ℕ → List ℕ
+text_upto run n = run.opening ++ flat_map (λ (event : RunEvent). event.prints) (take n run.does)
+
+-- the account at its start with what they report
+abbrev pub account_upto : Run → ℕ → State
+account_upto run n = account_after_all run.account (flat_map (λ (event : RunEvent). event.reports) (take n run.does))
+
+-- what they do to the store, in order
+abbrev pub changes_upto : Run → ℕ → List StoreChange
+changes_upto run n = map (λ (event : RunEvent). event.change) (take n run.does)
+
+-- the store that they leave
+abbrev pub store_changed : List Stored → StoreChange → List Stored
+store_changed store keeps = store
+store_changed store (puts r) = store_with r.id r.bytes store
+store_changed store clears = unreadable store
+
+abbrev pub store_upto : Run → ℕ → List Stored
+store_upto run n = fold store_changed run.store (changes_upto run n)
+
+-- The bytes that they last put under an identifier, or that stood there at the start. Those of a record
+-- that was cleared count still.
+abbrev pub last_changed : ℕ → Option (List ℕ) → StoreChange → Option (List ℕ)
+last_changed id last (puts r) = if nat_eq r.id id then Some r.bytes else last
+last_changed id last change = last
+
+abbrev pub last_upto : Run → ℕ → ℕ → Option (List ℕ)
+last_upto run n id = fold (last_changed id) (bytes_under id run.store) (changes_upto run n)
+
+-- what the event after them does to the store, if one is begun
+abbrev pub change_next : Run → ℕ → StoreChange
+change_next run n = get_or (map (λ (event : RunEvent). event.change) run.begins) n keeps
