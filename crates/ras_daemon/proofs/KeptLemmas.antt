@@ -49,7 +49,7 @@ use Rattle.ras_events.specs.Reports.{NumberedLine, entries_at, made_in, settings
 use Rattle.ras_events.specs.Stores.{found_after, last_laid, read_stored, store_after, store_with, unreadable, with_put_by, without_first}
 use Rattle.ras_events.proofs.StoreLemmas.{last_laid-cut}
 use Rattle.ras_run.specs.Places.{Start, account_at, store_at}
-use Rattle.ras_run.specs.Status.{event_refusal}
+use Rattle.ras_run.specs.Status.{event_refusal, refusal_at}
 use Rattle.ras_run.specs.Taking.{IsAccepted}
 use Rattle.ras_run.proofs.PlaceLemmas.{account-snoc, store-snoc}
 use Rattle.ras_daemon.specs.Headline.{laid_with}
@@ -58,6 +58,7 @@ use Rattle.ras_daemon.specs.Steps.ScriptHeadline.{KeepsOthers, OnPoll, PutsAnew,
 use Rattle.ras_daemon.specs.StoreDuring.{KeepsRecords, KnownBy, KnowsReadable}
 use Rattle.ras_daemon.proofs.CountLemmas.{events_among}
 use Rattle.ras_daemon.proofs.EventLemmas.{of-panic, tabled}
+use Rattle.ras_daemon.proofs.ListLemmas.{all-weaker}
 use Rattle.ras_daemon.proofs.StoreLemmas.{last-first, put-taken, store-first, taken-ok}
 
 -- ---- while the event of a line is taken
@@ -152,7 +153,7 @@ same_bytes : (xs ys : List ℕ) → Some xs ≡ Some ys → xs ≡ ys
 same_bytes xs ys is = cc
 
 module _ (rows : List Row) (seconds : ℕ) (own : List ℕ) where
-  abbrev told : FactOf
+  abbrev pub told : FactOf
   told = (stored_report rows seconds own).fact
 
   -- the report of a record is of the fact that stands in it
@@ -169,7 +170,7 @@ module _ (rows : List Row) (seconds : ℕ) (own : List ℕ) where
       by None = refl
       by (Some bank) = of-bank bank (bank_fact bank rows)
 
-  told-name : told.name ≡ stored_name own
+  pub told-name : told.name ≡ stored_name own
   told-name = ap (λ (fact : FactOf). fact.name) told-stored ∙ fact_is_named rows seconds own
 
   abbrev Knows : State → Type 0
@@ -235,7 +236,8 @@ module _ (start : Start) (before : List NumberedLine) (number : ℕ) (id : ℕ) 
       of-panic (λ (event : Result Event LineRefusal). event_refusal start (before, (number, Ok (asks.Panic id bank))) event ≡ None → is_full_for id (store_at start before) ≡ false)
       (λ why is. absurd cc) (settings_told before) id bank (saved-room (is_full_for id (store_at start before)) (is_free_in_time start.slow))
 
-  panic-taken : event_refusal start (before, (number, Ok (asks.Panic id bank))) (event_of (settings_told before) (asks.Panic id bank)) ≡ None → refusal_of id (panic_bytes id bank) (store_at start before) ≡ None
+  -- so its record finds room where its line isn't refused
+  pub panic-taken : event_refusal start (before, (number, Ok (asks.Panic id bank))) (event_of (settings_told before) (asks.Panic id bank)) ≡ None → refusal_of id (panic_bytes id bank) (store_at start before) ≡ None
   panic-taken taken =
       panic-fits id bank (store_at start before)
       (panic-free (settings_told before) id bank (taken-ok start before number (Ok (asks.Panic id bank)) (event_of (settings_told before) (asks.Panic id bank)) taken))
@@ -284,42 +286,42 @@ module _ (start : Start) where
       (λ why ok. absurd cc) (settings_told before).driver (Polled seconds)
       (λ ok. poll-knows (account_at start before) (settings_told before).topology seconds (store_at start before)) ok)
 
-  -- after these lines
-  abbrev KeepsAt : List NumberedLine → Type 0
+  -- after lines of which none is refused
+  abbrev pub KeepsAt : List NumberedLine → Type 0
   KeepsAt before = KeepsRecords (last_laid start.store before) (KnownAt before) (store_at start before)
 
   module _ (before : List NumberedLine) (number : ℕ) where
-    line-kept : (line : Line) → IsAccepted start (before, (number, Ok line)) → KeepsRecords (last_laid start.store before) (KnownAt (before ++ (number, Ok line) ∷ [])) (store_at start before)
+    line-kept : (line : Line) → refusal_at start (before, (number, Ok line)) ≡ None → KeepsRecords (last_laid start.store before) (KnownAt (before ++ (number, Ok line) ∷ [])) (store_at start before)
         → KeepsRecords (λ id. found_after id (last_laid start.store before id) (number, Ok line)) (KnownAt (before ++ (number, Ok line) ∷ [])) (store_after (store_at start before) (number, Ok line))
-    line-kept (asks.Put id put) accepted keeps =
+    line-kept (asks.Put id put) taken keeps =
         put-kept id put (last_laid start.store before) (KnownAt (before ++ (number, Ok (asks.Put id put)) ∷ [])) (store_at start before)
-        (put-taken number (refusal_of id put (store_at start before)) accepted.taken) keeps
-    line-kept (asks.Panic id bank) accepted keeps =
+        (put-taken number (refusal_of id put (store_at start before)) taken) keeps
+    line-kept (asks.Panic id bank) taken keeps =
         put-kept id (panic_bytes id bank) (last_laid start.store before) (KnownAt (before ++ (number, Ok (asks.Panic id bank)) ∷ [])) (store_at start before)
-        (panic-taken start before number id bank accepted.taken) keeps
-    line-kept (asks.Poll seconds) accepted keeps =
+        (panic-taken start before number id bank taken) keeps
+    line-kept (asks.Poll seconds) taken keeps =
         poll-kept (last_laid start.store before) (KnownAt (before ++ (number, Ok (asks.Poll seconds)) ∷ [])) (store_at start before)
-        (known-polled before number seconds (taken-ok start before number (Ok (asks.Poll seconds)) (event_of (settings_told before) (asks.Poll seconds)) accepted.taken)) keeps
-    line-kept line accepted keeps = keeps
+        (known-polled before number seconds (taken-ok start before number (Ok (asks.Poll seconds)) (event_of (settings_told before) (asks.Poll seconds)) taken)) keeps
+    line-kept line taken keeps = keeps
 
-    read-kept : (read : Result Line LineRefused) → IsAccepted start (before, (number, read)) → KeepsAt before → KeepsAt (before ++ (number, read) ∷ [])
-    read-kept (Ok line) accepted keeps = λ id bytes own there reads.
+    read-kept : (read : Result Line LineRefused) → refusal_at start (before, (number, read)) ≡ None → KeepsAt before → KeepsAt (before ++ (number, read) ∷ [])
+    read-kept (Ok line) taken keeps = λ id bytes own there reads.
         rw (store-snoc start before (number, Ok line))
-        (line-kept line accepted
+        (line-kept line taken
         (kept-weaker (last_laid start.store before) (KnownAt before) (KnownAt (before ++ (number, Ok line) ∷ [])) (store_at start before) (known-next before (number, Ok line)) keeps)
         id bytes own (sym (last_laid-cut start.store before ((number, Ok line) ∷ []) id) ∙ there) reads)
-    read-kept (Err why) accepted keeps = (let refused = accepted.taken in absurd cc)
+    read-kept (Err why) taken keeps = absurd cc
 
-  lines-kept : (before reads : List NumberedLine) → AllByRecursion (IsAccepted start) (places_behind before reads) → KeepsAt before → KeepsAt (before ++ reads)
-  lines-kept before [] accepted keeps = rw (append-nil before) keeps
-  lines-kept before (read ∷ reads) accepted keeps =
-      subst KeepsAt (append_assoc before (read ∷ []) reads) (lines-kept (before ++ read ∷ []) reads accepted.1 (read-kept before read.0 read.1 accepted.0 keeps))
+  pub lines-kept : (before reads : List NumberedLine) → AllByRecursion (λ place. refusal_at start place ≡ None) (places_behind before reads) → KeepsAt before → KeepsAt (before ++ reads)
+  lines-kept before [] taken keeps = rw (append-nil before) keeps
+  lines-kept before (read ∷ reads) taken keeps =
+      subst KeepsAt (append_assoc before (read ∷ []) reads) (lines-kept (before ++ read ∷ []) reads taken.1 (read-kept before read.0 read.1 taken.0 keeps))
 
   pub first-kept : (script : List ℕ) (before : List NumberedLine) (first : AreFirst start script before) → IsAccount start.account
       → KeepsRecords (last_laid_with start script (events_among (places before))) (KnownAt before) (laid_with start script (events_among (places before)))
   first-kept script before first account = λ id bytes own there reads.
       rw (store-first start script before first account)
-      (lines-kept [] before first.accepted (λ id bytes own there reads. inl there) id bytes own (sym (last-first start script before first account id) ∙ there) reads)
+      (lines-kept [] before (all-weaker (IsAccepted start) (λ place. refusal_at start place ≡ None) (λ place accepted. accepted.taken) (places before) first.accepted) (λ id bytes own there reads. inl there) id bytes own (sym (last-first start script before first account id) ∙ there) reads)
 
 -- at the start
 pub none-kept : (start : Start) (script : List ℕ) (Known : Name → Type 0) → KeepsRecords (last_laid_with start script 0) Known (laid_with start script 0)

@@ -93,10 +93,10 @@ orders-none start p is = ap (orders_along_entries (account_at start p.0)) (repor
 prefix-filter : {X : Type 0} (p : X → Bool) (xs ys : List X) → IsPrefixOf xs ys → IsPrefixOf (filter p xs) (filter p ys)
 prefix-filter p xs ys (rest, is) = (filter p rest, sym (filter-append p xs rest) ∙ ap (filter p) is)
 
-prefix-flat_map : {X Y : Type 0} (f : X → List Y) (xs ys : List X) → IsPrefixOf xs ys → IsPrefixOf (flat_map f xs) (flat_map f ys)
+pub prefix-flat_map : {X Y : Type 0} (f : X → List Y) (xs ys : List X) → IsPrefixOf xs ys → IsPrefixOf (flat_map f xs) (flat_map f ys)
 prefix-flat_map f xs ys (rest, is) = (flat_map f rest, sym (flat_map-append f xs rest) ∙ ap (flat_map f) is)
 
-prefix-take : {X : Type 0} (n : ℕ) (xs : List X) → IsPrefixOf (take n xs) xs
+pub prefix-take : {X : Type 0} (n : ℕ) (xs : List X) → IsPrefixOf (take n xs) xs
 prefix-take n xs = (drop n xs, take-append-drop n xs)
 
 before-front : (start : Start) (ps : List Place) → IsPrefixOf (places_before_refusal start ps) ps
@@ -134,7 +134,7 @@ places-unpolled : (before reads : List NumberedLine) → AllByRecursion IsNoPoll
 places-unpolled before [] all = tt
 places-unpolled before (read ∷ reads) all = (all.0, places-unpolled (before ++ read ∷ []) reads all.1)
 
-all-filter : {X : Type 0} (P : X → Type 0) (p : X → Bool) (xs : List X) → AllByRecursion P xs → AllByRecursion P (filter p xs)
+pub all-filter : {X : Type 0} (P : X → Type 0) (p : X → Bool) (xs : List X) → AllByRecursion P xs → AllByRecursion P (filter p xs)
 all-filter P p [] all = tt
 all-filter {X} P p (x ∷ xs) all = by (p x) (all-filter P p xs all.1)
   where
@@ -150,7 +150,7 @@ all-events : (script : List ℕ) → PollsNothing script → AllByRecursion IsUn
 all-events script none =
     all-filter IsUnpolledPlace is_event (places (reads_of script)) (places-unpolled [] (reads_of script) (recursion_from_All IsNoPoll (reads_of script) none))
 
-events-front : (start : Start) (script : List ℕ) (n : ℕ) → IsPrefixOf (take n (events_of start script)) (filter is_event (places (reads_of script)))
+pub events-front : (start : Start) (script : List ℕ) (n : ℕ) → IsPrefixOf (take n (events_of start script)) (filter is_event (places (reads_of script)))
 events-front start script n =
     let all : List Place = filter is_event (places (reads_of script)) in
     IsPrefixOf-trans (take n (events_of start script)) (events_of start script) all (prefix-take n (events_of start script))
@@ -327,6 +327,21 @@ module _ (given : History → List Order) (grows : (h : History) (e : Entry) →
       ∙ ap (λ (os : List Order). given history ++ os)
       (ap (flat_map (ordered_at start)) (sym same) ∙ sym (by-events (ordered_at start) (orders-none start) front) ∙ ap (flat_map (ordered_at start)) (sym passing))
 
+-- the orders of a history, and what stands after them
+module _ (h : History) where
+  pub pages-once : (page : ℕ) → AreOnceInOrder page (orders_for_page page (orders h))
+  pages-once page = subst (AreOnceInOrder page) (sym (page-orders page h)) (once_in_order (reports_of (sightings h)) page)
+
+  pub page-state : (page : ℕ) → state_in (account_of h).pages page ≡ state_under (orders_for_page page (orders h))
+  page-state page = state-under (reports_of (sightings h)) page ∙ ap state_under (sym (page-orders page h))
+
+  pub module-state : (label : Bytes) (row : Module) → lookup (same_label label) (account_of h).modules ≡ Some row → row.replace ≡ has_tripped (module_errors h label)
+  module-state label row there = by (is_seen h label) (sym (module-row h label) ∙ there)
+    where
+      by : (b : Bool) → (if b then Some (module_of h label) else None) ≡ Some row → row.replace ≡ has_tripped (module_errors h label)
+      by true is = ap (λ (m : Option Module). option_map_or (λ (m : Module). m.replace) m false) (sym is)
+      by false is = absurd cc
+
 module _ (history : History) (start : Start) (is : BeginsWith history start) (script : List ℕ) (n : ℕ) where
   abbrev after : History
   after = history_after history start script n
@@ -335,9 +350,7 @@ module _ (history : History) (start : Start) (is : BeginsWith history start) (sc
   orders-follow = given-follow orders (λ h e. refl) history start is script n
 
   pub page-once : (page : ℕ) → AreOnceInOrder page (orders_for_page page (orders history ++ ordered start script n))
-  page-once page =
-      subst (λ (given : List Order). AreOnceInOrder page (orders_for_page page given)) orders-follow
-      (subst (AreOnceInOrder page) (sym (page-orders page after)) (once_in_order (reports_of (sightings after)) page))
+  page-once page = subst (λ (given : List Order). AreOnceInOrder page (orders_for_page page given)) orders-follow (pages-once after page)
 
   pub module-once : (label : Bytes) → HasRow after label
       → orders_for_module (module_place after label) (orders_since_mark history ++ ordered start script n)
@@ -346,24 +359,17 @@ module _ (history : History) (start : Start) (is : BeginsWith history start) (sc
       ap (orders_for_module (module_place after label)) (sym (given-follow orders_since_mark (λ h e. refl) history start is script n))
       ∙ module-orders after label row
 
-  -- ---- what stands after the orders
-
   account-is : account_with start script n ≡ account_of after
   account-is = accounts-follow history start is script n
 
   pub page-stands : (page : ℕ) → state_in (account_with start script n).pages page ≡ state_under (orders_for_page page (orders history ++ ordered start script n))
   page-stands page =
       ap (λ (a : State). state_in a.pages page) account-is
-      ∙ state-under (reports_of (sightings after)) page
-      ∙ ap state_under (sym (page-orders page after))
+      ∙ page-state after page
       ∙ ap (λ (given : List Order). state_under (orders_for_page page given)) orders-follow
 
   pub module-stands : (label : Bytes) (row : Module) → lookup (same_label label) (account_with start script n).modules ≡ Some row → row.replace ≡ has_tripped (module_errors after label)
-  module-stands label row there = by (is_seen after label) (sym (module-row after label) ∙ ap (λ (a : State). lookup (same_label label) a.modules) (sym account-is) ∙ there)
-    where
-      by : (b : Bool) → (if b then Some (module_of after label) else None) ≡ Some row → row.replace ≡ has_tripped (module_errors after label)
-      by true is = ap (λ (m : Option Module). option_map_or (λ (m : Module). m.replace) m false) (sym is)
-      by false is = absurd cc
+  module-stands label row there = module-state after label row (ap (λ (a : State). lookup (same_label label) a.modules) (sym account-is) ∙ there)
 
 -- ---- lines behind others
 

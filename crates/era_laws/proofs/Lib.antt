@@ -1,0 +1,5 @@
+pub mod EraLemmas
+pub mod EraOrderLemmas
+pub mod PollLemmas
+pub mod ReplayLemmas
+pub mod RunEraLemmas
