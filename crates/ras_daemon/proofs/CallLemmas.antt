@@ -34,7 +34,7 @@ use Rattle.ras_daemon.proofs.RunLemmas.{disk_failed, opening_at, run_ends, run_s
 use Rattle.ras_daemon.proofs.AheadLemmas.{ahead_told}
 use Rattle.ras_daemon.proofs.DidLemmas.{opened_first, run_did}
 use Rattle.ras_daemon.proofs.FewLinksLemmas.{run-few}
-use Rattle.ras_daemon.specs.StoreDuring.{store_at_end}
+use Rattle.ras_daemon.specs.Steps.ScriptHeadline.{store_on_end}
 use Rattle.ras_daemon.specs.Steps.Running.{AreAll, AreFirst, EndsEarly, EndsIn, EndsAhead, EndsSo, OpenMoment, RunEnds, RunMoment, lines_from, outputs}
 use Rattle.ras_daemon.specs.Script.{line_after}
 use Rattle.ras_daemon.proofs.HeadlineLemmas.{closing-quiet, headline, headline-nothing, headline-since, moment-prints}
@@ -43,11 +43,12 @@ use Rattle.ras_daemon.proofs.CountLemmas.{account-first, count-first, events_amo
 use Rattle.ras_daemon.proofs.FirstLinesLemmas.{closing-same}
 use Rattle.ras_daemon.proofs.CourseLemmas.{end-store}
 use Rattle.ras_daemon.proofs.StoreLemmas.{store-first}
+use Rattle.ras_daemon.proofs.MachineLemmas.{account-same, end-same}
 use Rattle.ras_exit.specs.declared.exit.Exit.TheVariants.{DiskFault, ErstBusy, NoMemory, SourceFault}
 use Rattle.text_laws.proofs.DoneLemmas.{none_done}
 
 -- the store is kept, unless the device was busy for too long
-kept-at-end : (exit : Exit) (next : Option Line) (store : List Stored) → (exit ≡ ErstBusy → ⊥) → store_at_end exit next store ≡ store
+kept-at-end : (exit : Exit) (next : Option Line) (store : List Stored) → (exit ≡ ErstBusy → ⊥) → store_on_end exit next store ≡ store
 kept-at-end ErstBusy None store free = refl
 kept-at-end ErstBusy (Some line) store free = absurd (free refl)
 kept-at-end exit next store free = refl
@@ -81,40 +82,42 @@ module _ (start : Start) (script : List ℕ) (old now : Told) where
 
   -- whole events, by their number
   abbrev store-with : Exit → ℕ → List Stored
-  store-with exit n = store_at_end exit (line_after start script n) (laid_with start script n)
+  store-with exit n = store_on_end exit (line_after start script n) (laid_with start script n)
 
   whole-by : (exit : Exit) (printed : List ℕ) (n : ℕ) → now.here.out ≡ old.here.out ++ printed → done_count printed ≡ n → Recovers (account_with start script n) now.here
-      → now.here.store ≡ store-with exit n → IsWhole start script exit old now
+      → now.here.store ≡ store-with exit n → IsWhole (run_of start script) exit old now
   whole-by exit printed n text count recovers store = record {
     printed = printed;
     text = text;
-    recovers = subst (λ (k : ℕ). Recovers (account_with start script k) now.here) (sym count) recovers;
-    store = subst (λ (k : ℕ). now.here.store ≡ store-with exit k) (sym count) store;
+    done = n;
+    counted = count;
+    recovers = subst (λ (account : State). Recovers account now.here) (sym (account-same start script n)) recovers;
+    store = store ∙ sym (end-same start script exit n);
   }
 
   whole-lines : (exit : Exit) (before : List NumberedLine) (last : List ℕ) → AreFirst start script before → IsAccount start.account
       → Recovers (account_at start before) now.here → now.here.store ≡ store-with exit (events_among (places before)) → done_count last ≡ 0
-      → now.here.out ≡ old.here.out ++ ((standing_lines start.account ++ outputs start before) ++ last) → IsWhole start script exit old now
+      → now.here.out ≡ old.here.out ++ ((standing_lines start.account ++ outputs start before) ++ last) → IsWhole (run_of start script) exit old now
   whole-lines exit before last first account recovers store none text =
       whole-by exit ((standing_lines start.account ++ outputs start before) ++ last) (events_among (places before)) text
       (count-first start script before first account last ∙ omega (arith, none))
       (subst (λ (a : State). Recovers a now.here) (sym (account-first start script before first account)) recovers)
       store
 
-  whole-so : (exit : Exit) → EndsSo start script exit old.here.out now → IsWhole start script exit old now
+  whole-so : (exit : Exit) → EndsSo start script exit old.here.out now → IsWhole (run_of start script) exit old now
   whole-so exit ends =
       let last : List ℕ = closing_line (account_at start ends.before) exit in
       whole-lines exit ends.before last ends.all.first ends.account ends.recovers (end-store start script exit ends.before now.here.store ends.all ends.account ends.store)
       (none_done last last [] (closing-quiet (account_at start ends.before) exit) (append-nil last))
       (ends.text ∙ ap (λ (text : List ℕ). old.here.out ++ text) (sym (append_assoc (standing_lines start.account) (outputs start ends.before) last)))
 
-  early-lines : (exit : Exit) → (exit ≡ ErstBusy → ⊥) → EndsEarly start script old.here.out now → IsWhole start script exit old now
+  early-lines : (exit : Exit) → (exit ≡ ErstBusy → ⊥) → EndsEarly start script old.here.out now → IsWhole (run_of start script) exit old now
   early-lines exit free ends = by ends.text
     where
       left : (n : ℕ) → store_at start ends.before ≡ laid_with start script n → now.here.store ≡ store-with exit n
       left n is = ends.store ∙ is ∙ sym (kept-at-end exit (line_after start script n) (laid_with start script n) free)
 
-      by : (IsAccount start.account × (now.here.out ≡ old.here.out ++ (standing_lines start.account ++ outputs start ends.before))) ⊎ ((now.here.out ≡ old.here.out) × (ends.before ≡ [])) → IsWhole start script exit old now
+      by : (IsAccount start.account × (now.here.out ≡ old.here.out ++ (standing_lines start.account ++ outputs start ends.before))) ⊎ ((now.here.out ≡ old.here.out) × (ends.before ≡ [])) → IsWhole (run_of start script) exit old now
       by (inl (account, text)) =
           whole-lines exit ends.before [] ends.first account ends.recovers (left (events_among (places ends.before)) (sym (store-first start script ends.before ends.first account))) refl
           (text ∙ ap (λ (more : List ℕ). old.here.out ++ more) (sym (append-nil (standing_lines start.account ++ outputs start ends.before))))
@@ -122,10 +125,10 @@ module _ (start : Start) (script : List ℕ) (old now : Told) where
           whole-by exit [] 0 (text ∙ sym (append-nil old.here.out)) refl (subst (λ (reads : List NumberedLine). Recovers (account_at start reads) now.here) none ends.recovers)
           (left 0 (ap (store_at start) none))
 
-  pub ends-whole : (exit : Exit) → RunEnds start script exit old.here.out now → OnWhole exit (IsWhole start script exit old now)
+  pub ends-whole : (exit : Exit) → RunEnds start script exit old.here.out now → OnWhole exit (IsWhole (run_of start script) exit old now)
   ends-whole exit ends = by (ending_of exit) refl ends
     where
-      by : (ending : CallEnding) → ending_of exit ≡ ending → EndsIn start script exit ending old.here.out now → UnlessFaulted ending (IsWhole start script exit old now)
+      by : (ending : CallEnding) → ending_of exit ≡ ending → EndsIn start script exit ending old.here.out now → UnlessFaulted ending (IsWhole (run_of start script) exit old now)
       by answered is ends = whole-so exit ends
       by (faulted kind) is ends = tt
       by source_failed is ends = early-lines exit (λ busy. let e = sym is ∙ ap ending_of busy in cc) ends
@@ -171,7 +174,7 @@ module _ {X : Type 0} (see : X → Seen) (account : State) (script : List ℕ) (
   run-moments does = run_stops see account script exit t old new recovers does
 
   -- from the moment on at which its journal is open
-  run-settles : Opens see start script exit t old new → Settles (run_of start script) t.here (see old).clock (see new).clock
+  run-settles : Opens see start script exit t old new → Settles start script t.here (see old).clock (see new).clock
   run-settles d = record {
     at = (see d.mid).clock.now;
     later = d.stops.later;
@@ -203,11 +206,11 @@ module _ {X : Type 0} (see : X → Seen) (account : State) (script : List ℕ) (
   }
 
   pub run-settled : (Same : Type 0) (left : Option (List ℕ)) → Comes see Same start script exit t left old new
-      → Settles (run_of start script) t.here (see old).clock (see new).clock ⊎ NeverOpens exit Same start t.here (see old).clock (see new).clock
+      → Settles start script t.here (see old).clock (see new).clock ⊎ NeverOpens exit Same start t.here (see old).clock (see new).clock
   run-settled Same left comes = by comes.does comes.reads
     where
       by : DoesRun see start script exit t old new → Same ⊎ (Opens see start script exit t old new × EndsAhead (exit ≡ SourceFault) start script (lines_from start t.here.out) left (see new).told)
-          → Settles (run_of start script) t.here (see old).clock (see new).clock ⊎ NeverOpens exit Same start t.here (see old).clock (see new).clock
+          → Settles start script t.here (see old).clock (see new).clock ⊎ NeverOpens exit Same start t.here (see old).clock (see new).clock
       by (inl d) (inl same) = inr (never-opens Same same d)
       by (inl d) (inr read) = inl (run-settles read.0)
       by (inr d) reads = inl (run-settles d)

@@ -29,6 +29,7 @@ use Rattle.ras_daemon.specs.Script.{events_of}
 use Rattle.ras_daemon.proofs.CallLemmas.{text-so}
 use Rattle.ras_daemon.proofs.CountLemmas.{count-first, events_among}
 use Rattle.ras_daemon.proofs.HeadlineLemmas.{closing-quiet}
+use Rattle.ras_daemon.proofs.MachineLemmas.{store-same}
 
 -- ---- its done lines number its events
 
@@ -56,7 +57,9 @@ did_counted start script ending before now did = tt
 pub ran_stored : (Same : Type 0) (start : Start) (script left : List ℕ) (before now : Told) → Ran Done Same start script before left now → now.here.store ≡ laid_with start script (event_count start script)
 ran_stored Same start script left before now ran =
     let printed : ran.whole.printed ≡ run_output start script = append_cancel_left before.here.out ran.whole.printed (run_output start script) (sym ran.whole.text ∙ ran.output) in
-    ran.whole.store ∙ ap (laid_with start script) (ap done_count printed ∙ all_counted start script before now ran.acts)
+    ran.whole.store
+    ∙ store-same start script ran.whole.done
+    ∙ ap (laid_with start script) (sym ran.whole.counted ∙ ap done_count printed ∙ all_counted start script before now ran.acts)
 
 -- ---- one that no fault cut short and that is refused nowhere is done, where there is memory
 

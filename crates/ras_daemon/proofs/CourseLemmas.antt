@@ -29,7 +29,8 @@ use Rattle.ras_run.proofs.PlaceLemmas.{store-snoc}
 use Rattle.ras_daemon.specs.Headline.{laid_with}
 use Rattle.ras_daemon.specs.Steps.Running.{AreAccepted, AreAll, AreFirst, StoreAtEnd}
 use Rattle.ras_daemon.specs.Script.{is_event, line_after, reads_of}
-use Rattle.ras_daemon.specs.StoreDuring.{KnownBy, KnowsReadable, store_at_end}
+use Rattle.ras_daemon.specs.Steps.ScriptHeadline.{store_on_end}
+use Rattle.ras_daemon.specs.StoreDuring.{KnownBy, KnowsReadable}
 use Rattle.ras_daemon.proofs.CountLemmas.{events_among}
 use Rattle.ras_daemon.proofs.EventLemmas.{IsNotPoll}
 use Rattle.ras_daemon.proofs.KeptLemmas.{StoreNow, known-polled}
@@ -230,15 +231,15 @@ module _ (start : Start) (script : List ℕ) (before rest : List NumberedLine) (
 
   -- the record of a device that was busy for too long
   busy-line : (number : ℕ) (line : Line) (store : List Stored) → is_event (before, (number, Ok line)) ≡ true → Splits (number, Ok line) → refusal_at start (before, (number, Ok line)) ≡ Some ErstBusy
-      → store ≡ stored_by (event_of (settings_told before) line) (store_at start before) → store ≡ store_at_end ErstBusy (line_after start script events) (laid_with start script events)
+      → store ≡ stored_by (event_of (settings_told before) line) (store_at start before) → store ≡ store_on_end ErstBusy (line_after start script events) (laid_with start script events)
   busy-line number line store event splits refused is =
       is
       ∙ puts-same (store_at start before) (settings_told before) line (begun-ok start before number (Ok line) (event_of (settings_told before) line) ErstBusy refused tt)
       ∙ ap (with_put_by line) (sym (laid-here (number, Ok line) splits))
-      ∙ ap (λ (next : Option Line). store_at_end ErstBusy next (laid_with start script events)) (sym (line-refused start script before rest number line splits accepted ErstBusy event refused tt))
+      ∙ ap (λ (next : Option Line). store_on_end ErstBusy next (laid_with start script events)) (sym (line-refused start script before rest number line splits accepted ErstBusy event refused tt))
 
   busy-end : (read : NumberedLine) (store : List Stored) → Splits read → refusal_at start (before, read) ≡ Some ErstBusy
-      → store ≡ stored_by (event_at (before, read)) (store_at start before) → store ≡ store_at_end ErstBusy (line_after start script events) (laid_with start script events)
+      → store ≡ stored_by (event_at (before, read)) (store_at start before) → store ≡ store_on_end ErstBusy (line_after start script events) (laid_with start script events)
   busy-end (number, Err why) store splits refused is = absurd (false-not (begun-ok start before number (Err why) (event_at (before, (number, Err why))) ErstBusy refused tt))
     where
       false-not : false ≡ true → ⊥
@@ -247,13 +248,13 @@ module _ (start : Start) (script : List ℕ) (before rest : List NumberedLine) (
   busy-end (number, Ok line) store splits refused is = busy-line number line store refl splits refused is
 
   refused-end : (read : NumberedLine) (store : List Stored) (exit : Exit) → Splits read → refusal_at start (before, read) ≡ Some exit
-      → store ≡ refused_store exit (event_at (before, read)) (store_at start before) → store ≡ store_at_end exit (line_after start script events) (laid_with start script events)
+      → store ≡ refused_store exit (event_at (before, read)) (store_at start before) → store ≡ store_on_end exit (line_after start script events) (laid_with start script events)
   refused-end read store ErstBusy splits refused is = busy-end read store splits refused is
   refused-end read store exit splits refused is = is ∙ sym (laid-here read splits)
 
 -- ---- where a run ends
 
-other-end : (exit : Exit) (next : Option Line) (laid store : List Stored) → (exit ≡ ErstBusy → ⊥) → store ≡ laid → store ≡ store_at_end exit next laid
+other-end : (exit : Exit) (next : Option Line) (laid store : List Stored) → (exit ≡ ErstBusy → ⊥) → store ≡ laid → store ≡ store_on_end exit next laid
 other-end ErstBusy next laid store not same = absurd (not refl)
 other-end exit next laid store not same = same
 
@@ -269,13 +270,13 @@ script-end script = by (length (script_lines script).whole) (script_lines script
 module _ (start : Start) (script : List ℕ) (exit : Exit) (before : List NumberedLine) (store : List Stored) where
   -- a run that wasn't cut short at a device that is busy
   pub end-early : AreFirst start script before → IsAccount start.account → (exit ≡ ErstBusy → ⊥) → store ≡ store_at start before
-      → store ≡ store_at_end exit (line_after start script (events_among (places before))) (laid_with start script (events_among (places before)))
+      → store ≡ store_on_end exit (line_after start script (events_among (places before))) (laid_with start script (events_among (places before)))
   end-early first account not same =
       other-end exit (line_after start script (events_among (places before))) (laid_with start script (events_among (places before))) store not (same ∙ sym (store-first start script before first account))
 
   -- a run that comes to an answer
   pub end-store : AreAll start script exit before → IsAccount start.account → StoreAtEnd start script before exit store
-      → store ≡ store_at_end exit (line_after start script (events_among (places before))) (laid_with start script (events_among (places before)))
+      → store ≡ store_on_end exit (line_after start script (events_among (places before))) (laid_with start script (events_among (places before)))
   end-store all account (inl (ends, same)) = end-early all.first account (λ busy. script-end script (sym ends ∙ busy)) same
   end-store all account (inr left) =
       refused-end start script before left.rest all.first.accepted account left.read store exit left.splits left.refused left.is

@@ -1,5 +1,5 @@
 -- The run of a script has the script's account, record store and text, and so its headline.
-use Rattle.std.proofs.Common.{◌≡◌, ℕ, ◌+◌, zero, suc, ◌<◌, Bool, true, false, nat_eq, List, [], ◌∷◌, ◌++◌, length, map, take, drop, Option, None, Some, Result, Ok, Err, refl, sym, ap, subst, ◌∙◌, inl, inr}
+use Rattle.std.proofs.Common.{◌≡◌, ℕ, ◌+◌, zero, suc, ◌<◌, false, List, [], ◌∷◌, ◌++◌, length, map, take, drop, Option, None, Some, Ok, Err, refl, sym, ap, subst, ◌∙◌, inl, inr}
 use Rattle.std.specs.Prelude.{◌⊎◌, filter, get_or}
 use Rattle.std.specs.List.{AllByRecursion, flat_map, fold}
 use Rattle.std.specs.Option.{option_map_or}
@@ -11,7 +11,7 @@ use Rattle.ras_base.specs.Places.{places}
 use Rattle.ras_base.specs.Prefix.{IsPrefixOf}
 use Rattle.ras_account.specs.Continued.{account_after_all}
 use Rattle.ras_facts.specs.declared.entry.Entry.{Entry}
-use Rattle.ras_events.specs.Reports.{NumberedLine, Place, entries_at}
+use Rattle.ras_events.specs.Reports.{NumberedLine, Place}
 use Rattle.ras_events.specs.Stores.{found_after, laid, store_after}
 use Rattle.ras_run.specs.Output.{output_at}
 use Rattle.ras_run.specs.Places.{Start, account_at}
@@ -21,13 +21,15 @@ use Rattle.ras_script.specs.declared.line.Line.TheVariants.{Put, Panic, Poll}
 use Rattle.ras_texts.specs.Orders.{standing_lines}
 use Rattle.text_laws.specs.DoneLines.{done_count}
 use Rattle.ras_daemon.specs.Headline.{Headline, account_with, laid_with, lines_with}
-use Rattle.ras_daemon.specs.Machine.{Run, RunEvent, StoreChange, account_upto, change_next, changes_upto, clears, keeps, last_changed, last_upto, store_changed, store_upto, text_of, text_upto}
+use Rattle.ras_daemon.specs.Machine.{Run, RunEvent, StoreChange, account_upto, change_next, clears, keeps, last_changed, last_upto, store_changed, store_upto, text_of, text_upto}
 use Rattle.ras_daemon.specs.RunOf.{change_by, change_of, run_of, run_event_at}
 use Rattle.ras_daemon.specs.RunOutput.{closing_line, output_upto, run_output}
 use Rattle.ras_daemon.specs.RunStatus.{run_exit}
 use Rattle.ras_daemon.specs.Script.{begun_of, events_of, first_line, is_event, line_after, reads_of}
-use Rattle.ras_daemon.specs.Steps.ScriptHeadline.{KeepsOthers, OnPoll, PutsAnew, ScriptHeadline, StoreOnLine, last_laid_with}
-use Rattle.ras_daemon.specs.StoreDuring.{KnownBy, KnowsReadable, PutsUnder, StoreDuring}
+use Rattle.ras_exit.specs.declared.exit.Exit.{Exit}
+use Rattle.ras_exit.specs.declared.exit.Exit.TheVariants.{ErstBusy}
+use Rattle.ras_daemon.specs.Steps.ScriptHeadline.{KeepsOthers, OnPoll, PutsAnew, ScriptHeadline, StoreOnLine, last_laid_with, store_on_end}
+use Rattle.ras_daemon.specs.StoreDuring.{KnownBy, KnowsReadable, PutsUnder, StoreDuring, store_at_end}
 use Rattle.ras_daemon.proofs.ListLemmas.{flat_map-passing}
 use Rattle.ras_daemon.proofs.StoreLemmas.{no-line}
 
@@ -70,6 +72,13 @@ change-first start (suc n) [] = refl
 change-first start zero ((before, (number, Ok line)) ∷ ps) = refl
 change-first start zero ((before, (number, Err why)) ∷ ps) = refl
 change-first start (suc n) (p ∷ ps) = change-first start n ps
+
+end-line : (exit : Exit) (next : Option Line) (store : List Stored) → store_at_end exit (change_at next) store ≡ store_on_end exit next store
+end-line ErstBusy None store = refl
+end-line ErstBusy (Some (Put id bytes)) store = refl
+end-line ErstBusy (Some (Panic id bank)) store = refl
+end-line ErstBusy (Some line) store = refl
+end-line exit next store = refl
 
 -- ---- what is no event prints nothing
 
@@ -114,6 +123,13 @@ module _ (start : Start) (script : List ℕ) where
       let closing : List ℕ = closing_line (account_at start (reads_of script)) (run_exit start script) in
       ap (λ (text : List ℕ). standing_lines start.account ++ (text ++ closing))
       (flat_map-map (λ (event : RunEvent). event.prints) (run_event_at start) (filter is_event ps) ∙ flat_map-passing is_event (output_at start) ps (all-silent start ps))
+
+  -- the store where it ends
+  pub end-same : (exit : Exit) (n : ℕ) → store_at_end exit (change_next run n) (store_upto run n) ≡ store_on_end exit (line_after start script n) (laid_with start script n)
+  end-same exit n =
+      ap (λ (change : StoreChange). store_at_end exit change (store_upto run n)) (next-same n)
+      ∙ ap (store_at_end exit (change_at (line_after start script n))) (store-same n)
+      ∙ end-line exit (line_after start script n) (laid_with start script n)
 
 -- ---- while the next event is under way
 

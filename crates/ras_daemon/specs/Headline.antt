@@ -19,8 +19,9 @@ use Rattle.ras_exit.specs.declared.exit.Exit.TheVariants.{DiskFault, NoMemory}
 use Rattle.ras_panic.specs.Reading.{stored_name}
 use Rattle.ras_run.specs.Places.{Start}
 use Rattle.ras_daemon.specs.Machine.{Run, account_upto, change_next, clears, last_upto, store_upto, text_of, text_upto}
+use Rattle.ras_daemon.specs.RunOf.{run_of}
 use Rattle.ras_daemon.specs.RunStatus.{start_of}
-use Rattle.ras_daemon.specs.Script.{events_of, line_after}
+use Rattle.ras_daemon.specs.Script.{events_of}
 use Rattle.ras_daemon.specs.StoreDuring.{KnownBy, KnowsReadable, PutsUnder, StoreDuring, store_at_end}
 use Rattle.ras_daemon.specs.declared.word.Task.{Task}
 use Rattle.ras_daemon.specs.declared.word.Task.TheVariants as tasks
@@ -69,13 +70,13 @@ pub record Headline (run : Run) (here left : Left) : Type 0 where
 
 -- What is told if no call of the board failed: whole events, those that are done by what was printed,
 -- by how the run ended.
-pub record IsWhole (start : Start) (script : List ℕ) (exit : Exit) (before now : Told) : Type 0 where
+pub record IsWhole (run : Run) (exit : Exit) (before now : Told) : Type 0 where
   pub printed : List ℕ
   pub text : now.here.out ≡ before.here.out ++ printed
-  pub recovers : Recovers (account_with start script (done_count printed)) now.here
-  pub store :
-      now.here.store
-      ≡ store_at_end exit (line_after start script (done_count printed)) (laid_with start script (done_count printed))
+  pub done : ℕ
+  pub counted : done_count printed ≡ done
+  pub recovers : Recovers (account_upto run done) now.here
+  pub store : now.here.store ≡ store_at_end exit (change_next run done) (store_upto run done)
 
 -- what stands while the journal is opened: the files recover the account at the start, and store and
 -- text are as they were
@@ -93,12 +94,12 @@ pub record NeverOpens (exit : Exit) (Same : Type 0) (start : Start) (here : Left
 
 -- There is a moment of a run from which the headline holds, whatever a stop at its start may leave:
 -- when its journal is open. A stop before it leaves that, or what the headline says.
-pub record Settles (run : Run) (here : Left) (old new : Clock) : Type 0 where
+pub record Settles (start : Start) (script : List ℕ) (here : Left) (old new : Clock) : Type 0 where
   pub at : ℕ
   pub later : old.now ≤ at
   pub within : at ≤ new.now
-  pub before : Always new old.now (λ left. LeftNow old left ⊎ Headline run here left)
-  pub from : Always new at (Headline run here)
+  pub before : Always new old.now (λ left. LeftNow old left ⊎ Headline (run_of start script) here left)
+  pub from : Always new at (Headline (run_of start script) here)
 
 -- whatever a stop at the start of a run may leave recovers the account at its start too
 abbrev pub StopsRecover : Start → Clock → Type 0

@@ -1,5 +1,5 @@
--- A run as it looks from outside: what its events report, what they do to the record store, and what
--- they print.
+-- A run as it looks from outside, whatever its script says: events that report, change the record store,
+-- and print.
 use Rattle.std.specs.Prelude.{ℕ, nat_eq, List, ◌++◌, map, take, get_or, Option, Some, if◌then◌else◌}
 use Rattle.std.specs.List.{flat_map, fold}
 use Rattle.erst_store.specs.Store.{Stored, bytes_under}
@@ -8,21 +8,22 @@ use Rattle.ras_account.specs.Continued.{account_after_all}
 use Rattle.ras_facts.specs.declared.entry.Entry.{Entry}
 use Rattle.ras_events.specs.Stores.{store_with, unreadable}
 
--- What an event does to the record store: it leaves it, puts a record into it, or clears all of its
--- records that can be read.
+-- What an event does to the record store: it leaves it as it is, puts a record into it, or clears it of
+-- all records that can be read.
 pub data StoreChange : Type 0 where
   keeps : StoreChange
   puts : Stored → StoreChange
   clears : StoreChange
 
--- an event: the entries that it reports, what it does to the store, and all that it prints
+-- an event: the entries that it reports, what it does to the store, and what it prints
 pub record RunEvent : Type 0 where
   pub reports : List Entry
   pub change : StoreChange
   pub prints : List ℕ
 
 -- A run: the account and the record store at its start, the text before its events, the events that it
--- does, and its last line. It begins these events, and maybe one more, at which it ends.
+-- does, those that it begins, and its last line. It begins those that it does, and then maybe one at
+-- which it ends.
 pub record Run : Type 0 where
   pub account : State
   pub store : List Stored
@@ -49,7 +50,7 @@ account_upto run n = account_after_all run.account (flat_map (λ (event : RunEve
 abbrev pub changes_upto : Run → ℕ → List StoreChange
 changes_upto run n = map (λ (event : RunEvent). event.change) (take n run.does)
 
--- the store that they leave
+-- a store after a change, and the store that they leave
 abbrev pub store_changed : List Stored → StoreChange → List Stored
 store_changed store keeps = store
 store_changed store (puts r) = store_with r.id r.bytes store
@@ -58,8 +59,8 @@ store_changed store clears = unreadable store
 abbrev pub store_upto : Run → ℕ → List Stored
 store_upto run n = fold store_changed run.store (changes_upto run n)
 
--- The bytes that they last put under an identifier, or that stood there at the start. Those of a record
--- that was cleared count still.
+-- The bytes under an identifier: those that they last put there, or else those at the start. They count
+-- still if their record was cleared.
 abbrev pub last_changed : ℕ → Option (List ℕ) → StoreChange → Option (List ℕ)
 last_changed id last (puts r) = if nat_eq r.id id then Some r.bytes else last
 last_changed id last change = last
@@ -67,6 +68,6 @@ last_changed id last change = last
 abbrev pub last_upto : Run → ℕ → ℕ → Option (List ℕ)
 last_upto run n id = fold (last_changed id) (bytes_under id run.store) (changes_upto run n)
 
--- what the event after them does to the store, if one is begun
+-- what the next event does to the store, if one is begun after them
 abbrev pub change_next : Run → ℕ → StoreChange
 change_next run n = get_or (map (λ (event : RunEvent). event.change) run.begins) n keeps

@@ -49,7 +49,7 @@ pub record Ran (exit : Exit) (Same : Type 0) (start : Start) (script : List ℕ)
   pub output : OnAnswer exit (now.here.out ≡ before.here.out ++ run_output start script)
   pub begun : PrintsPart (run_output start script) before.here.out now.here.out
   -- But for a fault of the board whole events were done.
-  pub whole : OnWhole exit (IsWhole start script exit before now)
+  pub whole : OnWhole exit (IsWhole (run_of start script) exit before now)
   -- Its acts were done in order: the opening's, the print of the orders that stand, those of each line
   -- before the first refused one, those by which that one asks the record store, if it is of a kind that
   -- does, and the print of the last line. At an answer all of them were, and each line was accepted. If a
@@ -72,7 +72,7 @@ pub record RunStops (exit : Exit) (Same : Type 0) (start : Start) (script : List
   -- Without that premise this holds from the moment on at which the journal was open; if it never was,
   -- the source is left alone, and a stop leaves what one at the start may have left, or the account at the
   -- start.
-  pub settled : Settles (run_of start script) here old new ⊎ NeverOpens exit Same start here old new
+  pub settled : Settles start script here old new ⊎ NeverOpens exit Same start here old new
   -- If no file that a stop at the start may leave has more than 256 links, none has that a stop may leave
   -- of the run.
   pub few : Always old old.now HasFewLinks → Always new old.now HasFewLinks

@@ -1,4 +1,4 @@
--- The run that a script gives, by if it starts.
+-- The run of a script, by if it starts.
 use Rattle.std.specs.Prelude.{List, ℕ, map, Ok, Err}
 use Rattle.std.specs.Option.{option_map_or}
 use Rattle.ras_script.specs.declared.line.Line.{Line}
@@ -13,7 +13,7 @@ use Rattle.ras_daemon.specs.RunOutput.{closing_line}
 use Rattle.ras_daemon.specs.RunStatus.{run_exit}
 use Rattle.ras_daemon.specs.Script.{begun_of, events_of, reads_of}
 
--- what a line does to the record store: a poll clears it
+-- what a line does to the record store, as the event that it asks for: a poll clears it
 abbrev pub change_of : Line → StoreChange
 change_of (Poll seconds) = clears
 change_of line = option_map_or puts (put_by line) keeps
@@ -22,7 +22,7 @@ abbrev pub change_by : NumberedLine → StoreChange
 change_by (number, Ok line) = change_of line
 change_by (number, Err why) = keeps
 
--- a line at its place
+-- the event of a line at its place
 abbrev pub run_event_at : Start → Place → RunEvent
 run_event_at start place = record {
   reports = entries_at start.store place;
@@ -30,7 +30,8 @@ run_event_at start place = record {
   prints = output_at start place;
 }
 
--- the orders that stand at the start, the events of the script, and the last line
+-- It prints the orders that stand in the account first, then what the events of the script print, and
+-- then the last line.
 abbrev pub run_of : Start → List ℕ → Run
 run_of start script = record {
   account = start.account;

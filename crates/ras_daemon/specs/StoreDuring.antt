@@ -5,12 +5,11 @@ use Rattle.cper_records.specs.Readable.{filled, read_under}
 use Rattle.erst_store.specs.Store.{Stored, bytes_under}
 use Rattle.ras_account.specs.Account.{State}
 use Rattle.ras_account.specs.Continued.{knows}
-use Rattle.ras_events.specs.Stores.{with_put_by, without_first}
+use Rattle.ras_events.specs.Stores.{without_first}
 use Rattle.ras_facts.specs.declared.name.Name.{Name}
 use Rattle.ras_exit.specs.declared.exit.Exit.{Exit}
 use Rattle.ras_exit.specs.declared.exit.Exit.TheVariants.{ErstBusy}
 use Rattle.ras_panic.specs.Reading.{stored_name}
-use Rattle.ras_script.specs.declared.line.Line.{Line}
 use Rattle.ras_daemon.specs.Machine.{StoreChange, clears, puts, store_changed}
 
 -- a store less its first records that can be read, as many as were cleared
@@ -48,6 +47,6 @@ KeepsRecords last Known store =
 
 -- The store that a run leaves where it ends: a device that was busy for too long has the record that the
 -- next event was to save even so.
-abbrev pub store_at_end : Exit → Option Line → List Stored → List Stored
-store_at_end ErstBusy (Some line) store = with_put_by line store
+abbrev pub store_at_end : Exit → StoreChange → List Stored → List Stored
+store_at_end ErstBusy (puts r) store = store_changed store (puts r)
 store_at_end exit next store = store

@@ -8,6 +8,8 @@ use Rattle.ras_account.specs.Account.{State}
 use Rattle.ras_facts.specs.declared.name.Name.{Name}
 use Rattle.ras_journal.specs.Recovered.{Recovers}
 use Rattle.ras_events.specs.Stores.{last_laid, with_put_by}
+use Rattle.ras_exit.specs.declared.exit.Exit.{Exit}
+use Rattle.ras_exit.specs.declared.exit.Exit.TheVariants.{ErstBusy}
 use Rattle.ras_panic.specs.Reading.{stored_name}
 use Rattle.ras_run.specs.Places.{Start}
 use Rattle.ras_script.specs.declared.line.Line.{Line}
@@ -25,6 +27,11 @@ StoreOnLine (Some (Poll seconds)) store left = ClearsFirst store left
 StoreOnLine (Some line) store left = Becomes (with_put_by line store) store left
 StoreOnLine None store left = left ≡ store
 
+-- the store where a run ends, by the line of the next event
+abbrev pub store_on_end : Exit → Option Line → List Stored → List Stored
+store_on_end ErstBusy (Some line) store = with_put_by line store
+store_on_end exit next store = store
+
 -- P holds if the next event polls the store
 abbrev pub OnPoll : Option Line → Type 0 → Type 0
 OnPoll (Some (Poll seconds)) P = P
@@ -36,7 +43,7 @@ PutsAnew (Some (Put put bytes)) id = put ≡ id
 PutsAnew (Some (Panic put bank)) id = put ≡ id
 PutsAnew line id = ⊥
 
--- of the identifiers under which the event of a line puts no record
+-- what `KeepsRecords` says, of the identifiers under which the event of a line puts no record
 abbrev pub KeepsOthers : Option Line → (ℕ → Option (List ℕ)) → (Name → Type 0) → List Stored → Type 0
 KeepsOthers next last Known store =
     (id : ℕ) (bytes own : List ℕ) → last id ≡ Some bytes → read_under id (filled bytes) ≡ Ok own
@@ -46,7 +53,7 @@ KeepsOthers next last Known store =
 abbrev pub last_laid_with : Start → List ℕ → ℕ → ℕ → Option (List ℕ)
 last_laid_with start script n id = last_laid start.store (lines_with start script n) id
 
--- what `Headline` says of the run of a script
+-- What `Headline` says of the run of a script: each follows from the other.
 pub record ScriptHeadline (start : Start) (script : List ℕ) (here left : Left) : Type 0 where
   pub printed : List ℕ
   pub text : left.out ≡ here.out ++ printed
