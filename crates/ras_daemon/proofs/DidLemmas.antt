@@ -11,14 +11,13 @@ use Rattle.board_core.proofs.DoingLemmas.{after-append, fails_first, fails_then}
 use Rattle.ras_base.specs.Prefix.{IsPrefixOf}
 use Rattle.ras_recover.specs.DiskCalls.{IsBeginning, Makes, with_calls}
 use Rattle.ras_recover.specs.Opening.{opening_acts}
-use Rattle.ras_recover.specs.OpeningActs.{AreOpeningActs, FailsOpening}
+use Rattle.ras_recover.specs.OpeningActs.{AreOpeningActs, LeavesUnopened}
 use Rattle.ras_recover.specs.OpeningCalls.{AfterRecovery, IsRecoveryOf, MakesOpening}
-use Rattle.ras_recover.proofs.OpeningActsLemmas.{after_reading, listed_alone}
+use Rattle.ras_recover.proofs.OpeningActsLemmas.{FailsOpening, after_reading, formatting_fails, listed_alone, recovery_fails}
 use Rattle.ras_recover.proofs.OpeningCallsLemmas.{opens_calls, reads_all, recovery_on}
 use Rattle.ras_exit.specs.Endings.{CallEnding, EndsBy, IfAnswered, OnlyFault, answered, ending_of, faulted, source_failed, starved}
 use Rattle.ras_exit.specs.declared.exit.Exit.{Exit}
-use Rattle.ras_exit.specs.declared.exit.Exit.TheVariants.{SourceFault}
-use Rattle.ras_exit.proofs.EndingLemmas.{memory_ran_out}
+use Rattle.ras_exit.specs.declared.exit.Exit.TheVariants.{DiskFault, SourceFault}
 use Rattle.ras_base.specs.Places.{places}
 use Rattle.ras_run.specs.LineActs.{HoldsAfter}
 use Rattle.ras_run.specs.Places.{Start}
@@ -29,7 +28,7 @@ use Rattle.ras_daemon.specs.Steps.Running.{EndsAhead, ReadAhead, lines_from, out
 use Rattle.ras_daemon.specs.Script.{reads_in, reads_of}
 use Rattle.ras_daemon.specs.RunActs.{AreRunActs, AreRunCalls, AreScriptActs, DidAll, DidOf, DidRun, ListsAccesses, TookAll, last_acts, orders_acts, script_asked}
 use Rattle.ras_daemon.specs.RunStatus.{run_exit}
-use Rattle.ras_daemon.proofs.RunLemmas.{disk_failed}
+use Rattle.ras_daemon.proofs.RunLemmas.{not_starved}
 use Rattle.ras_daemon.proofs.ScriptLemmas.{script_some, takes_did, took_all}
 use Rattle.ras_daemon.proofs.AlongActLemmas.{acts_along}
 
@@ -146,8 +145,11 @@ run_did see start script exit t old new (inl d) = by (ending_of exit) refl d.cut
     by answered so never = absurd never
     by source_failed so never = absurd never
     by (faulted kind) so only =
-        rw only (some-weaker (FailsOpening t) (DidRun start script (faulted disk_call) t) (see new).told (λ u failed. not_read start script t u failed) (d.fails (disk_failed exit (so ∙ ap faulted only))))
-    by starved so any = some-weaker (AfterRecovery t) (DidRun start script starved t) (see new).told (λ u after. read_some start script t u after) (d.kept (memory_ran_out exit so))
+        rw only (some-weaker (LeavesUnopened (exit ≡ DiskFault) t) (DidRun start script (faulted disk_call) t) (see new).told
+        (λ u either. not_read start script t u (elim either [ inl read ↦ recovery_fails t u read | inr failed ↦ formatting_fails t u failed.1 ])) d.unopened)
+    by starved so any =
+        some-weaker (LeavesUnopened (exit ≡ DiskFault) t) (DidRun start script starved t) (see new).told
+        (λ u either. elim either [ inl read ↦ read_some start script t u read | inr failed ↦ absurd (not_starved exit so failed.0) ]) d.unopened
 
 -- ---- the opening comes first
 

@@ -22,7 +22,7 @@ use Rattle.ras_journal.specs.Appending.{Before}
 use Rattle.ras_ledger.specs.declared.ledger.Ledger.{Ledger}
 use Rattle.ras_recover.specs.DiskCalls.{IsBeginning, IsReading, Makes}
 use Rattle.ras_recover.specs.Opening.{Opening, standing_opened}
-use Rattle.ras_recover.specs.OpeningActs.{FailsOpening}
+use Rattle.ras_recover.specs.OpeningActs.{LeavesUnopened}
 use Rattle.ras_recover.specs.OpeningCalls.{AfterOpening, AfterRecovery, IsRecovery, MakesOpening}
 use Rattle.ras_recover.specs.Recovering.{file_number}
 use Rattle.ras_recover.proofs.OpeningCallsLemmas.{refused_keeps, refused_recovers, told_opened}
@@ -194,6 +194,11 @@ pub disk_failed : (exit : Exit) → ending_of exit ≡ faulted disk_call → exi
 disk_failed DiskFault is = refl
 disk_failed exit is = absurd cc
 
+pub not_starved : (exit : Exit) → ending_of exit ≡ starved → exit ≡ DiskFault → ⊥
+not_starved exit starving disk =
+    let never : faulted disk_call ≡ starved = sym (ap ending_of disk) ∙ starving in
+    cc
+
 refused_exits : (held : Result State Refusal) (why exit : Exit) → refusal_exit held ≡ Some why → OpensLedger (Err exit) held → (exit ≡ why) ⊎ ((exit ≡ DiskFault) ⊎ (exit ≡ NoMemory))
 refused_exits held why exit is opens = by (ending_of exit) refl opens
   where
@@ -326,13 +331,13 @@ starved_refused Same (Some t) clock same = refuses_whole NoMemory Same clock clo
 pub none_called : {X : Type 0} (see : X → Seen) (start : Start) (script : List ℕ) (t : Told) (x : X) → (see x).told ≡ Some t → DoesRun see start script NoMemory t x x
 none_called see start script t x is =
     let opened : AfterOpening t t = told_opened (Some t) (Some t) (recovery_none t) in
-    inl (record { cut = tt; told = rw is opened; kept = λ memory. rw is (recovery_none t); fails = λ disk. absurd cc; stops = adds_none (Opening (see x).clock t.here) (see x).clock })
+    inl (record { cut = tt; told = rw is opened; unopened = rw is (inl (recovery_none t)); stops = adds_none (Opening (see x).clock t.here) (see x).clock })
 
 -- the journal wasn't opened
 pub not_opened : {X : Type 0} (see : X → Seen) (account : State) (script : List ℕ) (exit result : Exit) (line : List ℕ) (t : Told) (a b new : X) → (see a).told ≡ Some t → Recovers account t.here
-    → IfSome (see a).told (λ u. OpensLedger (Err exit) (recovered u.here.file0 u.here.file1)) → Relates AfterOpening (see a).told (see b).told → (exit ≡ NoMemory → Relates AfterRecovery (see a).told (see b).told)
-    → (exit ≡ DiskFault → Relates FailsOpening (see a).told (see b).told) → Adds (Opening (see a).clock t.here) (see a).clock (see b).clock → Ends see exit result line b new → DoesRun see (start_of account t) script result t a new
-not_opened see account script exit result line t a b new is recovers opens after kept fails stops ends = by ends
+    → IfSome (see a).told (λ u. OpensLedger (Err exit) (recovered u.here.file0 u.here.file1)) → Relates AfterOpening (see a).told (see b).told
+    → Relates (LeavesUnopened (exit ≡ DiskFault)) (see a).told (see b).told → Adds (Opening (see a).clock t.here) (see a).clock (see b).clock → Ends see exit result line b new → DoesRun see (start_of account t) script result t a new
+not_opened see account script exit result line t a b new is recovers opens after unopened stops ends = by ends
   where
     cut : IsCutOpening exit
     cut = cut_opening exit account (recovered t.here.file0 t.here.file1) recovers.is (if_told (λ u. OpensLedger (Err exit) (recovered u.here.file0 u.here.file1)) (see a).told t is opens)
@@ -342,7 +347,7 @@ not_opened see account script exit result line t a b new is recovers opens after
 
     by : Ends see exit result line b new → DoesRun see (start_of account t) script result t a new
     by (inl said) = absurd (not_both exit (cut_is exit cut) said.0)
-    by (inr ended) = rw (ended.1, ended.2) (inl (record { cut = cut; told = some AfterOpening after; kept = λ memory. some AfterRecovery (kept memory); fails = λ disk. some FailsOpening (fails disk); stops = stops }))
+    by (inr ended) = rw (ended.1, ended.2) (inl (record { cut = cut; told = some AfterOpening after; unopened = some (LeavesUnopened (exit ≡ DiskFault)) unopened; stops = stops }))
 
 -- it was opened
 pub ledger_holds : (start : Start) (ledger : Ledger) (u : Told) (told : Option Told) (clock : Clock) → IsStart start ledger u → IsAccount ledger.account.state → Before ledger.journal.standing ledger.account.state u told clock → HoldsAfter start [] u
@@ -397,21 +402,20 @@ module _ {X : Type 0} (see : X → Seen) (account : State) (script : List ℕ) (
   abbrev start : Start
   start = start_of account t
 
-  early_by : (ending : CallEnding) → ending_of exit ≡ ending → EndsBy ⊥ ⊤ (OnlyFault disk_call) ending → (u : Told) → AfterOpening t u → (exit ≡ NoMemory → AfterRecovery t u) → EndsIn start script exit ending t.here.out u
-  early_by answered so never u after kept = absurd never
-  early_by source_failed so never u after kept = absurd never
-  early_by (faulted kind) so only u after kept = tt
-  early_by starved so any u after kept =
-      let keeps = kept (memory_ran_out exit so) in
-      early_none start script t u (record { is = rw (keeps.file0, keeps.file1) recovers.is }) keeps.store keeps.text
+  early_by : (ending : CallEnding) → ending_of exit ≡ ending → EndsBy ⊥ ⊤ (OnlyFault disk_call) ending → (u : Told) → LeavesUnopened (exit ≡ DiskFault) t u → EndsIn start script exit ending t.here.out u
+  early_by answered so never u unopened = absurd never
+  early_by source_failed so never u unopened = absurd never
+  early_by (faulted kind) so only u unopened = tt
+  early_by starved so any u (inl kept) = early_none start script t u (record { is = rw (kept.file0, kept.file1) recovers.is }) kept.store kept.text
+  early_by starved so any u (inr failed) = absurd (not_starved exit so failed.0)
 
   pub run_ends : DoesRun see start script exit t old new → IsSomeAnd (see new).told (RunEnds start script exit t.here.out)
   run_ends (inr d) = subst (λ out. IsSomeAnd (see new).told (RunEnds start script exit out)) d.text (takes_runs see start script d.there exit d.mid new d.rests d.holds d.takes)
-  run_ends (inl d) = by (see new).told d.told d.kept
+  run_ends (inl d) = by (see new).told d.unopened
     where
-      by : (told : Option Told) → IsSomeAnd told (AfterOpening t) → (exit ≡ NoMemory → IsSomeAnd told (AfterRecovery t)) → IsSomeAnd told (RunEnds start script exit t.here.out)
-      by None after kept = absurd after
-      by (Some u) after kept = early_by (ending_of exit) refl d.cut u after kept
+      by : (told : Option Told) → IsSomeAnd told (LeavesUnopened (exit ≡ DiskFault) t) → IsSomeAnd told (RunEnds start script exit t.here.out)
+      by None never = absurd never
+      by (Some u) unopened = early_by (ending_of exit) refl d.cut u unopened
 
   pub run_stops : DoesRun see start script exit t old new → Adds (RunMoment (see old).clock start script t.here) (see old).clock (see new).clock
   run_stops (inl d) = opening_moments account script t (see old).clock (see new).clock recovers d.stops

@@ -4,16 +4,16 @@ use Rattle.std.specs.Prelude.{Bool}
 use Rattle.board_core.specs.declared.board.Access.{Access}
 use Rattle.board_core.specs.declared.board.DiskCall.{DiskCall}
 use Rattle.board_core.specs.Cause.{disk_call}
-use Rattle.board_core.specs.Doing.{Act, Breaks, Does, FailsActs, Seen, after_acts, calls}
+use Rattle.board_core.specs.Doing.{Act, Does, FailsActs, Seen, after_acts, calls}
 use Rattle.board_core.specs.Stop.{Left}
 use Rattle.board_core.specs.Told.{Told, Relates, with_call}
 use Rattle.board_core.proofs.DoingLemmas.{fails_then}
 use Rattle.ras_account.specs.Account.{State}
 use Rattle.ras_recover.specs.declared.refused.OpenRefused.{OpenRefused}
-use Rattle.ras_recover.specs.declared.refused.OpenRefused.TheVariants.{Disk}
+use Rattle.ras_recover.specs.declared.refused.OpenRefused.TheVariants.{Damaged, Disk, NoMemory, TooLong}
 use Rattle.ras_recover.specs.DiskCalls.{with_calls}
 use Rattle.ras_recover.specs.Opening.{opening_acts}
-use Rattle.ras_recover.specs.OpeningActs.{FailsOpening}
+use Rattle.ras_recover.specs.OpeningActs.{AreOpeningActs, FailsFormatting, LeavesUnopened}
 use Rattle.ras_recover.specs.OpeningCalls.{AfterRecovery, IsRecoveryOf}
 use Rattle.ras_recover.specs.Recovering.{open_refused_end}
 use Rattle.ras_recover.proofs.CallsLemmas.{relates_then, relates_weaker}
@@ -53,9 +53,15 @@ listed_alone t u made file0 file1 store out volatile accesses listed =
         ∙ (ap (λ records. record u.here { file0 = t.here.file0; file1 = t.here.file1; store = records }) store
         ∙ ap (λ text. record t.here { out = text }) out))
 
--- ---- a call of the recovery failed
+-- ---- a call failed, as one of an opening's acts
 
-recovery_fails : (t u : Told) → AfterRecovery t u → FailsOpening t u
+pub record FailsOpening (t u : Told) : Type 0 where
+  pub acts : List Act
+  pub are : AreOpeningActs t.here acts
+  pub fails : FailsActs disk_call acts t u
+
+-- While the files are read nothing tells a call that failed from one that went well.
+pub recovery_fails : (t u : Told) → AfterRecovery t u → FailsOpening t u
 recovery_fails t u after =
     let made : List DiskCall = after.calls.made in
     let begun = after.calls.are in
@@ -73,26 +79,41 @@ recovery_fails t u after =
           (subst (λ (l : List DiskCall). FailsActs disk_call (map calls l ++ opening_acts t.here) t (with_calls made t)) there (reading_fails made rest (opening_acts t.here) t long));
     }
 
-pub fails_recovering : (a b : Option Told) → Relates AfterRecovery a b → Relates FailsOpening a b
-fails_recovering a b after = relates_weaker AfterRecovery FailsOpening recovery_fails a b after
-
--- ---- a call of the formatting failed
-
-formatting_fails : (account : State) (shut : Bool) (x y z : Told) → Recovered account shut x y → FailsActs disk_call (first_acts shut account) y z → FailsOpening x z
-formatting_fails account shut x y z ((none, shut_is), reads) fails =
-    let first : List Act = map calls reads.made in
-    let there : y ≡ after_acts first x = reads.is ∙ sym (after_reading reads.made x) in
-    let acts : first_acts shut account ≡ opening_acts x.here = acts_are account x.here shut none shut_is in
+pub formatting_fails : (t u : Told) → FailsFormatting t u → FailsOpening t u
+formatting_fails t u formatting =
+    let first : List Act = map calls formatting.recovery in
     record {
-      acts = first ++ opening_acts x.here;
-      are = record { recovery = reads.made; recovers = reads.are; is = refl };
-      fails = fails_then disk_call first (opening_acts x.here) x z
-          (subst (λ (v : Told). FailsActs disk_call (opening_acts x.here) v z) there (subst (λ (l : List Act). FailsActs disk_call l y z) acts fails));
+      acts = first ++ opening_acts t.here;
+      are = record { recovery = formatting.recovery; recovers = formatting.recovers; is = refl };
+      fails = fails_then disk_call first (opening_acts t.here) t u
+          (subst (λ (v : Told). FailsActs disk_call (opening_acts t.here) v u) (sym (after_reading formatting.recovery t)) formatting.fails);
     }
 
-pub fails_formatting : {X : Type 0} (see : X → Seen) (account : State) (shut : Bool) (why : OpenRefused) (old : Option Told) (a b : X) → why ≡ Disk → Relates (Recovered account shut) old (see a).told
-    → Does see (first_acts shut account) (open_refused_end why) a b → Relates FailsOpening old (see b).told
-fails_formatting see account shut why old a b is reads does = by (subst (λ (w : OpenRefused). Does see (first_acts shut account) (open_refused_end w) a b) is does)
-  where
-    by : Breaks disk_call (first_acts shut account) (see a) (see b) → Relates FailsOpening old (see b).told
-    by breaks = relates_then (Recovered account shut) (FailsActs disk_call (first_acts shut account)) FailsOpening (formatting_fails account shut) old (see a).told (see b).told reads breaks.told
+-- ---- what an opening leaves that wasn't answered Ok
+
+pub unopened_read : (Failed : Type 0) (a b : Option Told) → Relates AfterRecovery a b → Relates (LeavesUnopened Failed) a b
+unopened_read Failed a b after = relates_weaker AfterRecovery (LeavesUnopened Failed) (λ t u read. inl read) a b after
+
+pub unopened_for : (Failed Other : Type 0) (a b : Option Told) → (Failed → Other) → Relates (LeavesUnopened Failed) a b → Relates (LeavesUnopened Other) a b
+unopened_for Failed Other a b more leaves =
+    relates_weaker (LeavesUnopened Failed) (LeavesUnopened Other) (λ t u either. elim either [ inl read ↦ inl read | inr failed ↦ inr (more failed.0, failed.1) ]) a b leaves
+
+broke_off : (account : State) (shut : Bool) (x y z : Told) → Recovered account shut x y → FailsActs disk_call (first_acts shut account) y z → FailsFormatting x z
+broke_off account shut x y z ((none, shut_is), reads) fails = record {
+  recovery = reads.made;
+  recovers = reads.are;
+  fails = subst (λ (v : Told). FailsActs disk_call (opening_acts x.here) v z) reads.is
+      (subst (λ (acts : List Act). FailsActs disk_call acts y z) (acts_are account x.here shut none shut_is) fails);
+}
+
+unopened_still : {X : Type 0} (see : X → Seen) (Failed : Type 0) (old : Option Told) (a b : X) → Relates AfterRecovery old (see a).told → b ≡ a → Relates (LeavesUnopened Failed) old (see b).told
+unopened_still see Failed old a b after same = subst (λ x. Relates (LeavesUnopened Failed) old (see x).told) (sym same) (unopened_read Failed old (see a).told after)
+
+pub unopened_formatting : {X : Type 0} (see : X → Seen) (account : State) (shut : Bool) (why : OpenRefused) (old : Option Told) (a b : X)
+    → Relates (Recovered account shut) old (see a).told → Relates AfterRecovery old (see a).told → Does see (first_acts shut account) (open_refused_end why) a b → Relates (LeavesUnopened (why ≡ Disk)) old (see b).told
+unopened_formatting see account shut Disk old a b is after breaks =
+    relates_then (Recovered account shut) (FailsActs disk_call (first_acts shut account)) (LeavesUnopened (Disk ≡ Disk))
+    (λ x y z recovers fails. inr (refl, broke_off account shut x y z recovers fails)) old (see a).told (see b).told is breaks.told
+unopened_formatting see account shut TooLong old a b is after same = unopened_still see (TooLong ≡ Disk) old a b after same
+unopened_formatting see account shut (Damaged file place) old a b is after same = unopened_still see (Damaged file place ≡ Disk) old a b after same
+unopened_formatting see account shut NoMemory old a b is after same = unopened_still see (NoMemory ≡ Disk) old a b after same

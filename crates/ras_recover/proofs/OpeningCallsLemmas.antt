@@ -276,10 +276,6 @@ refusal_cause T see acts TooLong f a b is same = no_faults f (see b).faults tt (
 refusal_cause T see acts (Damaged file place) f a b is same = no_faults f (see b).faults tt (ap (λ x. (see x).faults) same ∙ is)
 refusal_cause T see acts NoMemory f a b is same = no_faults f (see b).faults tt (ap (λ x. (see x).faults) same ∙ is)
 
--- if memory ran out nothing was called
-pub none_called : {X : Type 0} (see : X → Seen) (acts : List Act) (why : OpenRefused) (a b : X) → why ≡ NoMemory → Does see acts (open_refused_end why) a b → b ≡ a
-none_called see acts why a b is does = subst (λ (w : OpenRefused). Does see acts (open_refused_end w) a b) is does
-
 -- ---- what was called
 
 -- an opening that was answered `Ok` made the calls of a whole one

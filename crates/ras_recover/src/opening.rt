@@ -14,8 +14,8 @@ ghost use Rattle.ras_recover.specs.Formatting.{behind_gate, formatting_acts};
 ghost use Rattle.ras_recover.specs.Recovering.{RefusesHeld, TellsHeld, open_end, open_failure};
 ghost use Rattle.ras_recover.specs.Steps.Looking.{standing_begun};
 ghost use Rattle.ras_recover.specs.Opening.{Opening, IsOpened, standing_opened};
-ghost use Rattle.ras_recover.specs.OpeningActs.{FailsOpening};
-ghost use Rattle.ras_recover.specs.OpeningCalls.{AfterOpening, AfterRecovery, MakesOpening};
+ghost use Rattle.ras_recover.specs.OpeningActs.{LeavesUnopened};
+ghost use Rattle.ras_recover.specs.OpeningCalls.{AfterOpening, MakesOpening};
 
 use crate::formatting::{format_file, next_bytes};
 use crate::recovering::recover_files;
@@ -95,13 +95,10 @@ pub fn open_journal<B: Board>(
     // nothing else.
     ensures told { Relates AfterOpening (B.told board.old) (B.told board.new) }
     ensures opens { OnOk result (Relates MakesOpening (B.told board.old) (B.told board.new)) }
-    // If memory runs out nothing was written.
-    ensures kept { result ≡ Err OpenRefused.NoMemory
-        → Relates AfterRecovery (B.told board.old) (B.told board.new) }
-    // If a disk call failed it is one of the acts of an opening, and the last that was begun: a call
-    // of a recovery of the files there, or one of the formatting.
-    ensures fails { result ≡ Err OpenRefused.Disk
-        → Relates FailsOpening (B.told board.old) (B.told board.new) }
+    // Once it has answered anything else nothing was written, unless a disk call failed that
+    // formats file 0.
+    ensures unopened { IfErr result (λ refused.
+        Relates (LeavesUnopened (refused ≡ OpenRefused.Disk)) (B.told board.old) (B.told board.new)) }
 
     ensures cause { FailsAs disk_call (B.faults board.old) (B.faults board.new)
         (open_failure result) }

@@ -6,8 +6,8 @@ use Rattle.board_core.specs.Doing.{Act, Breaks, GoesWell, Seen, after_acts}
 use Rattle.board_core.specs.Told.{Told}
 use Rattle.ras_base.specs.Places.{places}
 use Rattle.ras_recover.specs.Opening.{Opening}
-use Rattle.ras_recover.specs.OpeningActs.{FailsOpening}
-use Rattle.ras_recover.specs.OpeningCalls.{AfterOpening, AfterRecovery, MakesOpening}
+use Rattle.ras_recover.specs.OpeningActs.{LeavesUnopened}
+use Rattle.ras_recover.specs.OpeningCalls.{AfterOpening, MakesOpening}
 use Rattle.ras_events.specs.Reports.{NumberedLine, event_at}
 use Rattle.ras_exit.specs.Acts.{AreStill, ended_with, print_acts}
 use Rattle.ras_exit.specs.Causes.{BoardCause, Causes, SourceCause}
@@ -156,8 +156,7 @@ pub record ComesScript {X : Type 0} (see : X → Seen) (Same : Type 0) (start : 
 pub record DoesNotOpen {X : Type 0} (see : X → Seen) (exit : Exit) (t : Told) (old new : X) : Type 0 where
   pub cut : EndsBy ⊥ (Unit {0}) (OnlyFault disk_call) (ending_of exit)
   pub told : IsSomeAnd (see new).told (AfterOpening t)
-  pub kept : exit ≡ NoMemory → IsSomeAnd (see new).told (AfterRecovery t)
-  pub fails : exit ≡ DiskFault → IsSomeAnd (see new).told (FailsOpening t)
+  pub unopened : IsSomeAnd (see new).told (LeavesUnopened (exit ≡ DiskFault) t)
   pub stops : Adds (Opening (see old).clock t.here) (see old).clock (see new).clock
 
 -- It was opened, and then the script was taken.

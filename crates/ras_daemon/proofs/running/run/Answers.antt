@@ -1,4 +1,4 @@
-use Rattle.std.proofs.Common.{◌≡◌, ap, Err, inl, refl}
+use Rattle.std.proofs.Common.{◌≡◌, inl, refl}
 use Rattle.board_core.specs.Doing.{looks}
 use Rattle.ras_exit.specs.declared.exit.Exit.TheVariants.{NoMemory}
 use Rattle.ras_recover.specs.OpeningCalls.{AfterOpening}
@@ -52,7 +52,7 @@ returns-clause-comes g c =
     over_run (λ start script told. Comes see (c.args.source.now ≡ c.args.source.now) start script c.end_run-in-Err-open.result told (g.S.Source.left c.args.source.now) c.args.board.now c.end_run-in-Err-open.new.board) _ _
     (λ account script t left is recovers. record {
       does = not_opened see account script c.in-Err-open.exit c.end_run-in-Err-open.result _ t c.args.board.now c.open.new.board c.end_run-in-Err-open.new.board is recovers
-          c.in-Err-open.ensures.opens.held c.in-Err-open.ensures.does.told (λ memory. c.in-Err-open.ensures.does.kept (ap Err memory)) (λ disk. c.in-Err-open.ensures.does.fails (ap Err disk)) (c.in-Err-open.ensures.stops t is) c.end_run-in-Err-open.ensures.ends;
+          c.in-Err-open.ensures.opens.held c.in-Err-open.ensures.does.told c.in-Err-open.ensures.does.unopened (c.in-Err-open.ensures.stops t is) c.end_run-in-Err-open.ensures.ends;
       reads = inl refl;
     })
 

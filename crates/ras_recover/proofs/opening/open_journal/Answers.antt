@@ -1,21 +1,20 @@
-use Rattle.std.proofs.Common.{◌≡◌, ap, ◌∙◌}
+use Rattle.std.proofs.Common.{ap, ◌∙◌}
 use Rattle.board_core.specs.Doing.{looks}
 use Rattle.ras_account.specs.declared.account.Account.{Account}
 use Rattle.ras_journal.specs.declared.journal.Journal.{Journal}
 use Rattle.ras_journal.specs.View.{JournalView}
 use Rattle.ras_recover.specs.Recovering.{open_end}
-use Rattle.ras_recover.specs.declared.refused.OpenRefused.TheVariants.{Disk, NoMemory}
 use Rattle.ras_recover.proofs.KeepingLemmas.{no_faults, same_faults}
 use Rattle.ras_recover.proofs.OpeningLemmas.{first_acts, is_opened, opening_opens, opening_stops, shut_still, stands_first, zero_is_shut}
-use Rattle.ras_recover.proofs.OpeningActsLemmas.{fails_formatting, fails_recovering}
-use Rattle.ras_recover.proofs.OpeningCallsLemmas.{none_called, opens_formatted, opens_standing, recovered_none, refusal_cause, told_formatted, told_opened}
+use Rattle.ras_recover.proofs.OpeningActsLemmas.{unopened_formatting, unopened_read}
+use Rattle.ras_recover.proofs.OpeningCallsLemmas.{opens_formatted, opens_standing, recovered_none, refusal_cause, told_formatted, told_opened}
 use Rattle.ras_recover.proofs.opening.open_journal.Goals as goal
 
 pub returns-in-Err-clause-told : goal.returns-in-Err-clause-told
 returns-in-Err-clause-told g c = told_opened _ _ c.recover_files.ensures.told
 
-pub returns-in-Err-clause-fails : goal.returns-in-Err-clause-fails
-returns-in-Err-clause-fails g c = λ is. fails_recovering _ _ c.recover_files.ensures.told
+pub returns-in-Err-clause-unopened : goal.returns-in-Err-clause-unopened
+returns-in-Err-clause-unopened g c = unopened_read _ _ _ c.recover_files.ensures.told
 
 -- a file stands
 
@@ -80,17 +79,11 @@ returns-in-Ok-format_first-clause-opens g c =
     (recovered_none c.in-Ok.recovered.0.account.state c.in-Ok.recovered.1.0 c.in-Ok.recovered.1.1 _ _ c.in-Ok.ensures.recovers (rw (← c.in_default.is) c.in-Ok.ensures.standing) c.in-Ok.ensures.shut c.in-Ok.ensures.reads)
     c.in-Ok-format_first.ensures.does.told
 
-pub returns-in-Err-format_first-clause-kept : goal.returns-in-Err-format_first-clause-kept
-returns-in-Err-format_first-clause-kept g c = λ is.
-    let e : c.in-Err-format_first.refused ≡ NoMemory = cc in
-    rw (none_called (looks g.B.Board.told g.B.Board.clock g.B.Board.faults) (first_acts c.in-Ok.recovered.1.0 c.in-Ok.recovered.0.account.state) c.in-Err-format_first.refused _ _ e c.in-Err-format_first.ensures.does) c.recover_files.ensures.told
-
-pub returns-in-Err-format_first-clause-fails : goal.returns-in-Err-format_first-clause-fails
-returns-in-Err-format_first-clause-fails g c = λ is.
-    let e : c.in-Err-format_first.refused ≡ Disk = cc in
-    fails_formatting (looks g.B.Board.told g.B.Board.clock g.B.Board.faults) c.in-Ok.recovered.0.account.state c.in-Ok.recovered.1.0 c.in-Err-format_first.refused _ _ _ e
+pub returns-in-Err-format_first-clause-unopened : goal.returns-in-Err-format_first-clause-unopened
+returns-in-Err-format_first-clause-unopened g c =
+    unopened_formatting (looks g.B.Board.told g.B.Board.clock g.B.Board.faults) c.in-Ok.recovered.0.account.state c.in-Ok.recovered.1.0 c.in-Err-format_first.refused _ _ _
     (recovered_none c.in-Ok.recovered.0.account.state c.in-Ok.recovered.1.0 c.in-Ok.recovered.1.1 _ _ c.in-Ok.ensures.recovers (rw (← c.in_default.is) c.in-Ok.ensures.standing) c.in-Ok.ensures.shut c.in-Ok.ensures.reads)
-    c.in-Err-format_first.ensures.does
+    c.recover_files.ensures.told c.in-Err-format_first.ensures.does
 
 pub returns-in-Ok-format_first-clause-cause : goal.returns-in-Ok-format_first-clause-cause
 returns-in-Ok-format_first-clause-cause g c = no_faults _ _ tt (c.in-Ok-format_first.ensures.does.faults ∙ same_faults _ _ tt c.in-Ok.ensures.cause)
