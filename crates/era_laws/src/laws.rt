@@ -25,7 +25,6 @@ ghost use Rattle.ras_events.specs.Stores.{with_put_by};
 ghost use Rattle.ras_run.specs.Places.{Start};
 ghost use Rattle.ras_daemon.specs.Headline.{Settles, StopsRecover, account_with, laid_with};
 ghost use Rattle.ras_daemon.specs.Promises.{RunStops};
-ghost use Rattle.ras_daemon.specs.RunOf.{run_of};
 ghost use Rattle.ras_daemon.specs.RunStatus.{start_of};
 ghost use Rattle.ras_daemon.specs.Runs.{CountTheSame, IsTakenWhole, ReportsFacts, event_count};
 ghost use Rattle.ras_daemon.specs.Runs.{facts_of, logged};
@@ -65,26 +64,22 @@ pub fn era_laws<S: Source, B: Board>()
     // the board tells where the run ends.
     ensures stopped { (exit : Exit) (first last : S) (old new : B) (era : Era)
         → Recovers era.account era.told.here → StopsRecover (start_in era) (B.clock old)
-        → RunStops exit (last ≡ first) (start_in era) era.script era.told.here
-        (B.clock old) (B.clock new)
+        → RunStops B.told B.clock exit (last ≡ first) (start_in era) era.script era.told old new
         → (B.clock new).may_leave_since (B.clock old).now era.left → IsEra era }
     ensures ended { (exit : Exit) (first last : S) (old new : B) (now : Told) (era : Era)
         → Recovers era.account era.told.here → StopsRecover (start_in era) (B.clock old)
-        → RunStops exit (last ≡ first) (start_in era) era.script era.told.here
-        (B.clock old) (B.clock new)
+        → RunStops B.told B.clock exit (last ≡ first) (start_in era) era.script era.told old new
         → B.told new ≡ Some now → era.left ≡ now.here → IsEra era }
 
     // A process may die and the machine go on, with writes under way. What a stop of the next run
     // leaves is an era from the moment on at which its journal is open. A stop before that leaves
     // an era too, or what one at the very start of this run might have left.
     ensures settled { (old new : B) (era : Era) → Recovers era.account era.told.here
-        → (settles : Settles (run_of (start_in era) era.script) era.told.here
-        (B.clock old) (B.clock new))
-        → (B.clock new).may_leave_since settles.at era.left → IsEra era }
+        → (settles : Settles B.told B.clock (start_in era) era.script era.told old new)
+        → (B.clock new).may_leave_since (B.clock settles.opened).now era.left → IsEra era }
     ensures went_on { (exit : Exit) (first last : S) (old new : B) (era : Era)
         → Recovers era.account era.told.here
-        → RunStops exit (last ≡ first) (start_in era) era.script era.told.here
-        (B.clock old) (B.clock new)
+        → RunStops B.told B.clock exit (last ≡ first) (start_in era) era.script era.told old new
         → (B.clock new).may_leave_since (B.clock old).now era.left
         → LeftNow (B.clock old) era.left ⊎ IsEra era }
 

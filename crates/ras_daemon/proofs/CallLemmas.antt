@@ -3,7 +3,8 @@ use Rattle.std.proofs.Common.{◌≡◌, ℕ, ◌≤◌, List, [], ◌++◌, Opt
 use Rattle.std.specs.Prelude.{◌⊎◌, IsSomeAnd, ⊤}
 use Rattle.std.specs.List.{flat_map}
 use Rattle.board_core.specs.Cause.{disk_call}
-use Rattle.board_core.specs.Clock.{Adds, Always, Clock, LeftNow}
+use Rattle.board_core.specs.Clock.{Adds, Always, Clock, LeftNow, Rests}
+use Rattle.board_core.specs.Steps.ClockLemmas.{adds_weaker}
 use Rattle.board_core.specs.Stop.{Left}
 use Rattle.board_core.specs.Told.{Told}
 use Rattle.erst_store.specs.Store.{Stored}
@@ -11,6 +12,8 @@ use Rattle.ras_base.specs.Places.{places}
 use Rattle.ras_account.specs.Account.{State}
 use Rattle.ras_account.specs.Accounts.{IsAccount}
 use Rattle.ras_journal.specs.Recovered.{Recovers}
+use Rattle.ras_recover.specs.Opening.{Opening}
+use Rattle.ras_recover.specs.OpeningActs.{AreOpeningActs}
 use Rattle.ras_script.specs.declared.line.Line.{Line}
 use Rattle.ras_texts.specs.Orders.{standing_lines}
 use Rattle.ras_events.specs.Reports.{NumberedLine}
@@ -22,18 +25,18 @@ use Rattle.ras_exit.proofs.EndingLemmas.{memory_ran_out}
 use Rattle.ras_run.specs.Output.{output_at}
 use Rattle.ras_run.specs.Places.{Start, account_at, store_at}
 use Rattle.ras_daemon.specs.Ahead.{TakesAhead}
+use Rattle.ras_daemon.specs.Headline.{AtOpening, Headline, IsWhole, NeverOpens, Settles, StopsRecover, account_with, laid_with}
 use Rattle.ras_daemon.specs.RunOf.{run_of}
-use Rattle.ras_daemon.specs.Headline.{Headline, IsWhole, NeverOpens, Settles, StopsRecover, account_with, laid_with}
 use Rattle.ras_daemon.specs.Promises.{HasOpened, Ran, RunStops, StillTell}
 use Rattle.ras_daemon.specs.RunActs.{DidRun}
 use Rattle.ras_daemon.specs.RunOutput.{closing_line, run_output}
 use Rattle.ras_daemon.specs.RunStatus.{run_exit, start_of}
-use Rattle.board_core.specs.Doing.{Seen}
+use Rattle.board_core.specs.Doing.{Act, Seen, after_acts}
 use Rattle.ras_daemon.specs.Steps.Doing.{Comes, DoesNotOpen, DoesRun, Opens}
 use Rattle.ras_daemon.proofs.RunLemmas.{disk_failed, opening_at, run_ends, run_stops}
 use Rattle.ras_daemon.proofs.AheadLemmas.{ahead_told}
-use Rattle.ras_daemon.proofs.DidLemmas.{opened_first, run_did}
-use Rattle.ras_daemon.proofs.FewLinksLemmas.{run-few}
+use Rattle.ras_daemon.proofs.DidLemmas.{opened_acts, opened_first, run_did}
+use Rattle.ras_daemon.proofs.FewLinksLemmas.{opened-few, run-few}
 use Rattle.ras_daemon.specs.Steps.ScriptHeadline.{store_on_end}
 use Rattle.ras_daemon.specs.Steps.Running.{AreAll, AreFirst, EndsEarly, EndsIn, EndsAhead, EndsSo, OpenMoment, RunEnds, RunMoment, lines_from, outputs}
 use Rattle.ras_daemon.specs.Script.{line_after}
@@ -170,25 +173,29 @@ module _ {X : Type 0} (see : X → Seen) (account : State) (script : List ℕ) (
   abbrev start : Start
   start = start_of account t
 
-  run-moments : DoesRun see start script exit t old new → Adds (RunMoment (see old).clock start script t.here) (see old).clock (see new).clock
-  run-moments does = run_stops see account script exit t old new recovers does
+  abbrev told_by : X → Option Told
+  told_by x = (see x).told
+
+  abbrev clock_by : X → Clock
+  clock_by x = (see x).clock
 
   -- from the moment on at which its journal is open
-  run-settles : Opens see start script exit t old new → Settles start script t.here (see old).clock (see new).clock
+  run-settles : Opens see start script exit t old new → Settles told_by clock_by start script t old new
   run-settles d = record {
-    at = (see d.mid).clock.now;
-    later = d.stops.later;
-    within = adds.later;
-    before = λ left may. elim ((run-moments (inr d)).each (see old).clock.now left (omega arith) may) [ inl was ↦ inl was | inr moment ↦ begun left moment ];
+    opened = d.mid;
+    just = record { acts = first.0; are = first.1; rests = subst (λ (u : Told). Rests u (see d.mid).told (see d.mid).clock) first.2 d.rests };
+    before = adds_weaker (Opening (see old).clock t.here) (λ left. LeftNow (see old).clock left ⊎ AtOpening start t.here.out left) (see old).clock (see d.mid).clock d.stops (λ left opening.
+        opening_at account t (see old).clock left recovers opening);
+    behind = adds_weaker (OpenMoment start script d.there.here.out) (Headline (run_of start script) t.here) (see d.mid).clock (see new).clock adds later;
     from = λ left may. elim (adds.each (see d.mid).clock.now left (omega arith) may) [ inl was ↦ rests left was | inr moment ↦ later left moment ];
+    few = λ few. opened-few see start script exit t old new few d;
   }
     where
+      first : (acts : List Act) × AreOpeningActs t.here acts × (d.there ≡ after_acts acts t)
+      first = opened_acts t d.there d.makes
+
       adds : Adds (OpenMoment start script d.there.here.out) (see d.mid).clock (see new).clock
       adds = takes_stops see start script d.there exit d.mid new d.rests d.holds d.takes
-
-      begun : (left : Left) → RunMoment (see old).clock start script t.here left → LeftNow (see old).clock left ⊎ Headline (run_of start script) t.here left
-      begun left (inl now) = inl now
-      begun left (inr moment) = inr (headline-since start script t.here left moment)
 
       later : (left : Left) → OpenMoment start script d.there.here.out left → Headline (run_of start script) t.here left
       later left moment = headline-since start script t.here left (inr (d.holds.account, subst (λ out. OpenMoment start script out left) d.text moment))
@@ -206,11 +213,11 @@ module _ {X : Type 0} (see : X → Seen) (account : State) (script : List ℕ) (
   }
 
   pub run-settled : (Same : Type 0) (left : Option (List ℕ)) → Comes see Same start script exit t left old new
-      → Settles start script t.here (see old).clock (see new).clock ⊎ NeverOpens exit Same start t.here (see old).clock (see new).clock
+      → Settles told_by clock_by start script t old new ⊎ NeverOpens exit Same start t.here (see old).clock (see new).clock
   run-settled Same left comes = by comes.does comes.reads
     where
       by : DoesRun see start script exit t old new → Same ⊎ (Opens see start script exit t old new × EndsAhead (exit ≡ SourceFault) start script (lines_from start t.here.out) left (see new).told)
-          → Settles start script t.here (see old).clock (see new).clock ⊎ NeverOpens exit Same start t.here (see old).clock (see new).clock
+          → Settles told_by clock_by start script t old new ⊎ NeverOpens exit Same start t.here (see old).clock (see new).clock
       by (inl d) (inl same) = inr (never-opens Same same d)
       by (inl d) (inr read) = inl (run-settles read.0)
       by (inr d) reads = inl (run-settles d)
@@ -233,12 +240,12 @@ module _ {X : Type 0} (see : X → Seen) (Same : Type 0) (account : State) (scri
   stops = run_stops see account script exit t old new recovers comes.does
 
   -- what stops leave
-  pub run-stops : RunStops exit Same begins script t.here (see old).clock (see new).clock
+  pub run-stops : RunStops (λ x. (see x).told) (λ x. (see x).clock) exit Same begins script t old new
   run-stops = record {
     later = stops.later;
     once = λ recover. always-headline (see old).clock (see new).clock begins script t.here recover (λ left may. first.text t left is may) (λ left may. first.store t left is may) stops;
     settled = run-settled see account script exit t old new recovers Same left comes;
-    few = run-few see begins script exit t old new (first.now t is) comes.does;
+    few = λ few. run-few see begins script exit t old new few comes.does;
   }
 
   -- what is told at its end

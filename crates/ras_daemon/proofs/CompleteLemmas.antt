@@ -3,8 +3,10 @@ use Rattle.std.proofs.Common.{◌≡◌, ℕ, List, [], length, Option, None, So
 use Rattle.std.proofs.lemmas.List.{append_cancel_left}
 use Rattle.std.specs.Prelude.{◌≢◌, ◌⊎◌}
 use Rattle.board_core.specs.Cause.{Faults}
+use Rattle.board_core.specs.Clock.{Always, Clock, LeftNow}
 use Rattle.board_core.specs.Told.{Told}
 use Rattle.ras_account.specs.Accounts.{IsAccount}
+use Rattle.ras_journal.specs.Recovered.{HasFewLinks}
 use Rattle.ras_events.specs.Reports.{NumberedLine, Place}
 use Rattle.ras_exit.specs.declared.exit.Exit.{Exit}
 use Rattle.ras_exit.specs.declared.exit.Exit.TheVariants.{Done, ErstStatus, NoMemory}
@@ -19,7 +21,7 @@ use Rattle.ras_daemon.specs.Commands.{MayEnd}
 use Rattle.ras_daemon.specs.declared.word.Task.{Task}
 use Rattle.ras_daemon.specs.declared.word.Task.TheVariants.{Run, Report, Load, Pcie, Klog}
 use Rattle.ras_daemon.specs.Headline.{laid_with}
-use Rattle.ras_daemon.specs.Promises.{Caused, IsQuiet, IsQuietBoard, Ran}
+use Rattle.ras_daemon.specs.Promises.{Caused, IsQuiet, IsQuietBoard, Ran, RunStops}
 use Rattle.ras_daemon.specs.RunActs.{DidAll, DidRun}
 use Rattle.ras_daemon.specs.RunOutput.{closing_line, run_output}
 use Rattle.ras_daemon.specs.RunStatus.{run_exit}
@@ -96,3 +98,9 @@ may_code task exit code may is = by task (subst (MayEnd task) is may)
     by (Some (Load n)) (inr (inr is)) = absurd cc
     by (Some Pcie) never = absurd never
     by (Some (Klog boot mask)) never = absurd never
+
+-- ---- how many links its files have
+
+pub stops_few : {X : Type 0} (told : X → Option Told) (clock : X → Clock) (exit : Exit) (Same : Type 0) (start : Start) (script : List ℕ) (t : Told) (old new : X) → LeftNow (clock old) t.here
+    → RunStops told clock exit Same start script t old new → Always (clock old) (clock old).now HasFewLinks → Always (clock new) (clock old).now HasFewLinks
+stops_few told clock exit Same start script t old new here stops always left may = elim (stops.few (always t.here here) left may) [ inl was ↦ always left was | inr few ↦ few ]

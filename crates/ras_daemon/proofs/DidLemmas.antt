@@ -53,7 +53,7 @@ abbrev RunDid : Start → List ℕ → CallEnding → Told → Told → Type 0
 RunDid start script ending t now = (acts : List Act) × AreRunActs start script t acts × DidOf acts ending t now
 
 -- the acts of an opening
-opened_acts : (t there : Told) → MakesOpening t there → (first : List Act) × AreOpeningActs t.here first × (there ≡ after_acts first t)
+pub opened_acts : (t there : Told) → MakesOpening t there → (first : List Act) × AreOpeningActs t.here first × (there ≡ after_acts first t)
 opened_acts t there makes = (
   map calls makes.recovery ++ opening_acts t.here,
   record { recovery = makes.recovery; recovers = makes.recovers; is = refl },

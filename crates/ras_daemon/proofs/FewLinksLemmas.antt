@@ -1,15 +1,17 @@
 -- No file that stands has more than 256 links at a moment of a run.
-use Rattle.std.proofs.Common.{◌≡◌, ℕ, List, [], ◌∷◌, ◌++◌, sym, ap, subst, ◌∙◌, inl, inr}
+use Rattle.std.proofs.Common.{◌≡◌, ℕ, List, [], ◌∷◌, ◌++◌, sym, ap, subst, ◌∙◌, inl, inr, arith}
+use Rattle.std.specs.Prelude.{◌⊎◌}
 use Rattle.std.specs.List.{AllByRecursion}
-use Rattle.board_core.specs.Clock.{Adds, Always, LeftNow, Rests}
-use Rattle.board_core.specs.Steps.ClockLemmas.{adds_none, adds_weaker, always_goes_on}
+use Rattle.board_core.specs.Clock.{Adds, Always, Clock, LeftNow, Rests}
+use Rattle.board_core.specs.Steps.ClockLemmas.{adds_none, adds_weaker, always_at_rest, always_goes_on}
 use Rattle.board_core.specs.Doing.{Act, Moment, Seen, after_acts}
 use Rattle.board_core.specs.Stop.{Left}
 use Rattle.board_core.specs.Told.{Told}
 use Rattle.board_core.proofs.DoingLemmas.{after-append, moment_parts}
 use Rattle.ras_base.specs.Places.{places, places_behind}
 use Rattle.ras_journal.specs.Recovered.{HasFewLinks}
-use Rattle.ras_recover.proofs.OpeningFewLemmas.{opened_few, openings_few}
+use Rattle.ras_recover.specs.Opening.{Opening}
+use Rattle.ras_recover.proofs.OpeningFewLemmas.{opened_few}
 use Rattle.ras_events.specs.Reports.{NumberedLine, event_at}
 use Rattle.ras_exit.specs.Endings.{CallEnding, answered, ending_of, faulted}
 use Rattle.ras_exit.specs.declared.exit.Exit.{Exit}
@@ -19,7 +21,7 @@ use Rattle.ras_run.specs.Taking.{IsAccepted}
 use Rattle.ras_run.proofs.LineFewLemmas.{asking_few, few_same, line_few, line_few_done, print_few, printed_few}
 use Rattle.ras_run.proofs.LineLawLemmas.{line_holds}
 use Rattle.ras_texts.specs.Orders.{standing_lines}
-use Rattle.ras_daemon.specs.Steps.Doing.{AreAllAsked, DoesFirst, DoesPart, DoesRun, DoesScript, IsLastBy, KeepsStore, MayAsk, TakesScript}
+use Rattle.ras_daemon.specs.Steps.Doing.{AreAllAsked, DoesFirst, DoesPart, DoesRun, DoesScript, IsLastBy, KeepsStore, MayAsk, Opens, TakesScript}
 use Rattle.ras_daemon.specs.RunActs.{AreDoneAlong, AreScriptActs, orders_acts}
 use Rattle.ras_daemon.specs.RunOutput.{closing_line}
 use Rattle.ras_daemon.specs.Steps.Running.{AreFirst}
@@ -131,9 +133,29 @@ module _ {X : Type 0} (see : X → Seen) (start : Start) (script : List ℕ) (t 
 
 -- ---- a run
 
-pub run-few : {X : Type 0} (see : X → Seen) (start : Start) (script : List ℕ) (exit : Exit) (t : Told) (old new : X) → LeftNow (see old).clock t.here → DoesRun see start script exit t old new
-    → Always (see old).clock (see old).clock.now HasFewLinks → Always (see new).clock (see old).clock.now HasFewLinks
-run-few see start script exit t old new here (inl d) few = openings_few (see old).clock (see new).clock t.here few d.stops
-run-few see start script exit t old new here (inr d) few =
-    always_goes_on HasFewLinks (see old).clock.now (see d.mid).clock (see new).clock (openings_few (see old).clock (see d.mid).clock t.here few d.stops) d.stops.later
-    (takes_few_links see start script d.there exit d.mid new d.rests d.holds (opened_few t d.there (few t.here here) d.makes) d.takes)
+-- what a stop at its start may leave, or files with few links
+abbrev pub FewSince : Clock → Left → Type 0
+FewSince clock left = LeftNow clock left ⊎ HasFewLinks left
+
+opening_few : (clock : Clock) (here left : Left) → Opening clock here left → FewSince clock left
+opening_few clock here left (inl now) = inl now
+opening_few clock here left (inr formats) = inr formats.few
+
+opened_since : (a b : Clock) (here : Left) → Adds (Opening a here) a b → Always b a.now (FewSince a)
+opened_since a b here adds left may = elim (adds.each a.now left (omega arith) may) [ inl was ↦ inl was | inr opening ↦ opening_few a here left opening ]
+
+module _ {X : Type 0} (see : X → Seen) (start : Start) (script : List ℕ) (exit : Exit) (t : Told) (old new : X) (few : HasFewLinks t.here) where
+  taken_few : (d : Opens see start script exit t old new) → Adds HasFewLinks (see d.mid).clock (see new).clock
+  taken_few d = takes_few_links see start script d.there exit d.mid new d.rests d.holds (opened_few t d.there few d.makes) d.takes
+
+  -- from the moment on at which the journal was opened
+  pub opened-few : (d : Opens see start script exit t old new) → Always (see new).clock (see d.mid).clock.now HasFewLinks
+  opened-few d =
+      always_goes_on HasFewLinks (see d.mid).clock.now (see d.mid).clock (see new).clock
+      (always_at_rest HasFewLinks d.there (see d.mid).told (see d.mid).clock d.rests (opened_few t d.there few d.makes)) (omega arith) (taken_few d)
+
+  pub run-few : DoesRun see start script exit t old new → Always (see new).clock (see old).clock.now (FewSince (see old).clock)
+  run-few (inl d) = opened_since (see old).clock (see new).clock t.here d.stops
+  run-few (inr d) =
+      always_goes_on (FewSince (see old).clock) (see old).clock.now (see d.mid).clock (see new).clock (opened_since (see old).clock (see d.mid).clock t.here d.stops) d.stops.later
+      (adds_weaker HasFewLinks (FewSince (see old).clock) (see d.mid).clock (see new).clock (taken_few d) (λ left has. inr has))

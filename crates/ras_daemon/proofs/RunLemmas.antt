@@ -1,5 +1,5 @@
 -- A run from its start: the journal is opened, or it is refused.
-use Rattle.std.proofs.Common.{◌≡◌, ℕ, false, List, [], ◌∷◌, ◌++◌, Option, None, Some, IfSome, IsSomeAnd, Result, Ok, Err, refl, ap, sym, ◌∙◌, subst, append-nil, inl, inr, unwrap_or}
+use Rattle.std.proofs.Common.{◌≡◌, ℕ, false, List, [], ◌∷◌, ◌++◌, Option, None, Some, IfSome, IsSomeAnd, Result, Ok, Err, refl, ap, sym, ◌∙◌, subst, append-nil, arith, inl, inr, unwrap_or}
 use Rattle.std.specs.Prelude.{◌⊎◌, ⊤}
 use Rattle.std.proofs.lemmas.List.Elements.{All-nil}
 use Rattle.board_core.specs.declared.board.DiskCall.{DiskCall}
@@ -17,7 +17,7 @@ use Rattle.ras_base.specs.Prefix.{IsPrefixOf}
 use Rattle.ras_account.specs.Account.{State, account_of}
 use Rattle.ras_account.specs.Accounts.{IsAccount}
 use Rattle.ras_account.specs.History.{empty}
-use Rattle.ras_journal.specs.Recovered.{JournalFile, Recovers, Refusal, damaged, journal_of, position_of, recovered, too_long}
+use Rattle.ras_journal.specs.Recovered.{Recovers, Refusal, damaged, recovered, too_long}
 use Rattle.ras_journal.specs.Appending.{Before}
 use Rattle.ras_ledger.specs.declared.ledger.Ledger.{Ledger}
 use Rattle.ras_recover.specs.DiskCalls.{IsBeginning, IsReading, Makes}
@@ -34,9 +34,10 @@ use Rattle.ras_exit.proofs.EndingLemmas.{ends_weaker, memory_ran_out, not_both, 
 use Rattle.ras_run.specs.LineActs.{HoldsAfter}
 use Rattle.ras_run.specs.Places.{Start}
 use Rattle.ras_exit.specs.StopLine.{stop_line}
-use Rattle.ras_exit.specs.Telling.{Tells}
+use Rattle.ras_exit.specs.Telling.{PrintMoment, Tells}
 use Rattle.ras_run.specs.Files.{KeepsFiles, files_refusal, refusal_exit}
 use Rattle.ras_run.specs.Taking.{IsReady, OpensLedger, Prints}
+use Rattle.ras_run.proofs.OpenLemmas.{CountsEarlier}
 use Rattle.ras_daemon.specs.Steps.Doing.{Comes, ComesScript, DoesRun, Ends, Opens as OpensRun, TakesScript}
 use Rattle.ras_daemon.specs.Promises.{EndsRefused, OverRefused, Refuses}
 use Rattle.ras_daemon.specs.Headline.{AtOpening, OverRun}
@@ -63,16 +64,6 @@ over_refused P (Some before) new holds = holds before refl
 
 ok_same : {A E : Type 0} (x y : A) → ◌≡◌ {A = Result A E} (Ok x) (Ok y) → x ≡ y
 ok_same {A} {E} x y is = ap (λ (r : Result A E). result_unwrap_or r x) is
-
--- where no file stands the files recover the empty account
-pub none_empty : (account : State) (file0 file1 : List ℕ) → recovered file0 file1 ≡ Ok account → position_of file0 file1 ≡ None → account ≡ account_of empty
-unfolding recovered position_of
-none_empty account file0 file1 recovers none = by (journal_of file0 file1) refl
-  where
-    by : (r : Result (Option JournalFile) Refusal) → journal_of file0 file1 ≡ r → account ≡ account_of empty
-    by (Err why) is = let e = rw is at recovers in absurd cc
-    by (Ok None) is = let e : ◌≡◌ {A = Result State Refusal} (Ok (account_of empty)) (Ok account) = rw is at recovers in sym (ok_same (account_of empty) account e)
-    by (Ok (Some journal)) is = let e = rw is at none in absurd cc
 
 -- ---- the start
 
@@ -106,7 +97,7 @@ told_both P told new t u one two relates = subst (λ n. Relates P (Some t) n) tw
 pub opening_at : (account : State) (t : Told) (a : Clock) (left : Left) → Recovers account t.here → Opening a t.here left → LeftNow a left ⊎ AtOpening (start_of account t) t.here.out left
 opening_at account t a left recovers (inl now) = inl now
 opening_at account t a left recovers (inr formats) =
-    let same : account ≡ account_of empty = none_empty account t.here.file0 t.here.file1 recovers.is formats.none in
+    let same : account ≡ account_of empty = ok_same account (account_of empty) (sym recovers.is ∙ formats.none.recovers) in
     inr (record { recovers = rw same formats.recovers; store = ap (λ (l : Left). l.store) formats.rest; text = ap (λ (l : Left). l.out) formats.rest })
 
 pub opening_moments : (account : State) (script : List ℕ) (t : Told) (a b : Clock) → Recovers account t.here → Adds (Opening a t.here) a b
@@ -159,12 +150,12 @@ refuses_cut why result before now ends calls cut text keeps = (
   calls,
 )
 
--- with both
+-- with both, and with what stops leave
 refuses_whole : (result : Exit) (Same : Type 0) (a b : Clock) (before : Told) (new : Option Told) (refusal : Option Exit) → Same → LeavesDevice (Some before) new a b
-    → IfSome refusal (λ why. IsSomeAnd new (RefusesSo why result before)) → IfSome refusal (λ why. IsSomeAnd new (Refuses result Same a b why before))
-refuses_whole result Same a b before new None same device so = tt
-refuses_whole result Same a b before None (Some why) same device so = absurd so
-refuses_whole result Same a b before (Some now) (Some why) same device so = record { ends = so.0; tells = so.1; files = so.2; calls = so.3; device = device; unread = same }
+    → IfSome refusal (λ why. Adds (PrintMoment a (stop_line why)) a b) → IfSome refusal (λ why. IsSomeAnd new (RefusesSo why result before)) → IfSome refusal (λ why. IsSomeAnd new (Refuses result Same a b why before))
+refuses_whole result Same a b before new None same device stops so = tt
+refuses_whole result Same a b before None (Some why) same device stops so = absurd so
+refuses_whole result Same a b before (Some now) (Some why) same device stops so = record { ends = so.0; tells = so.1; files = so.2; stops = stops; calls = so.3; device = device; unread = same }
 
 some_same : {A : Type 0} (x y : A) → Some x ≡ Some y → x ≡ y
 some_same x y is = ap (λ o. unwrap_or o x) is
@@ -291,13 +282,63 @@ pub refused_none : (P : Exit → Told → Told → Type 0) (told new : Option To
 refused_none P None new account is = tt
 refused_none P (Some t) new account is = rw (opened_not (recovered t.here.file0 t.here.file1) account is) tt
 
+-- ---- what stops leave of files that are refused
+
+-- a beginning of a text may be nothing
+none_begun : (clock : Clock) (text : List ℕ) (left : Left) → LeftNow clock left → PrintMoment clock text left
+none_begun clock text left now = record {
+  from = left;
+  was = now;
+  by = record { text = left.out; step = record { part = []; missing = text; splits = refl; is = sym (append-nil left.out) }; rest = refl };
+}
+
+module _ (a b : Clock) (before : Told) (why : Exit) (refused : files_refusal before.here ≡ Some why) (opening : Adds (Opening a before.here) a b) (earlier : CountsEarlier b) where
+  never_formats : (left : Left) → Opening a before.here left → LeftNow a left
+  never_formats left (inl now) = now
+  never_formats left (inr formats) =
+      let err = refusal_err (recovered before.here.file0 before.here.file1) why refused in
+      let both : ◌≡◌ {A = Result State Refusal} (Ok (account_of empty)) (Err err.0) = sym formats.none.recovers ∙ err.1 in
+      absurd cc
+
+  unopened : Adds (LeftNow a) a b
+  unopened = adds_weaker (Opening a before.here) (LeftNow a) a b opening never_formats
+
+  -- a stop then leaves what one before the opening may have left
+  left_before : (left : Left) → LeftNow b left → LeftNow a left
+  left_before left now = elim (unopened.each a.now left (omega arith) (earlier a.now b.now left unopened.later now)) [ inl was ↦ was | inr was ↦ was ]
+
+  unprinted : Adds (PrintMoment a (stop_line why)) a b
+  unprinted = adds_weaker (LeftNow a) (PrintMoment a (stop_line why)) a b unopened (none_begun a (stop_line why))
+
+  last_printed : (c : Clock) → Adds (PrintMoment b (stop_line why)) b c → Adds (PrintMoment a (stop_line why)) a c
+  last_printed c prints =
+      adds_both (PrintMoment a (stop_line why)) a b c unprinted
+      (adds_weaker (PrintMoment b (stop_line why)) (PrintMoment a (stop_line why)) b c prints (λ left by. record { from = by.from; was = left_before by.from by.was; by = by.by }))
+
+refused_stops : {X : Type 0} (see : X → Seen) (exit result : Exit) (state : State) (before : Told) (old mid new : X) (refusal : Option Exit) → files_refusal before.here ≡ refusal → OpensLedger (Err exit) (recovered before.here.file0 before.here.file1)
+    → Adds (Opening (see old).clock before.here) (see old).clock (see mid).clock → CountsEarlier (see mid).clock → Ends see exit result (closing_line state exit) mid new
+    → Adds (PrintMoment (see mid).clock (closing_line state exit)) (see mid).clock (see new).clock → IfSome refusal (λ why. Adds (PrintMoment (see old).clock (stop_line why)) (see old).clock (see new).clock)
+refused_stops see exit result state before old mid new None is opens opening earlier ends prints = tt
+refused_stops see exit result state before old mid new (Some why) is opens opening earlier ends prints = by ends (refused_as (recovered before.here.file0 before.here.file1) why exit is opens)
+  where
+    by : Ends see exit result (closing_line state exit) mid new → (exit ≡ why) ⊎ IsCut exit → Adds (PrintMoment (see old).clock (stop_line why)) (see old).clock (see new).clock
+    by (inr cut) found =
+        subst (λ x. Adds (PrintMoment (see old).clock (stop_line why)) (see old).clock (see x).clock) (sym cut.2) (unprinted (see old).clock (see mid).clock before why is opening earlier)
+    by (inl said) (inr cut) = absurd (not_both exit cut said.0)
+    by (inl said) (inl same) =
+        last_printed (see old).clock (see mid).clock before why is opening earlier (see new).clock
+        (subst (λ line. Adds (PrintMoment (see mid).clock line) (see mid).clock (see new).clock) (ap (closing_line state) same ∙ refusal_line (recovered before.here.file0 before.here.file1) why state is) prints)
+
 pub files_refused : {X : Type 0} (see : X → Seen) (Same : Type 0) (exit result : Exit) (state : State) (old mid new : X) → Same → LeavesDevice (see old).told (see new).told (see old).clock (see new).clock
     → Relates AfterOpening (see old).told (see mid).told → IfSome (see old).told (λ t. OpensLedger (Err exit) (recovered t.here.file0 t.here.file1)) → Ends see exit result (closing_line state exit) mid new
-    → OverRefused (Refuses result Same (see old).clock (see new).clock) (Some Run) (see old).told (see new).told
-files_refused see Same exit result state old mid new same device after opens ends =
+    → ((t : Told) → (see old).told ≡ Some t → Adds (Opening (see old).clock t.here) (see old).clock (see mid).clock) → CountsEarlier (see mid).clock
+    → Adds (PrintMoment (see mid).clock (closing_line state exit)) (see mid).clock (see new).clock → OverRefused (Refuses result Same (see old).clock (see new).clock) (Some Run) (see old).told (see new).told
+files_refused see Same exit result state old mid new same device after opens ends opening earlier prints =
     over_refused (Refuses result Same (see old).clock (see new).clock) (see old).told (see new).told (λ before one.
     refuses_whole result Same (see old).clock (see new).clock before (see new).told (files_refusal before.here) same
-    (subst (λ o. LeavesDevice o (see new).told (see old).clock (see new).clock) one device) (refused_so see exit result state before old mid new one after opens ends))
+    (subst (λ o. LeavesDevice o (see new).told (see old).clock (see new).clock) one device)
+    (refused_stops see exit result state before old mid new (files_refusal before.here) refl (if_told (λ t. OpensLedger (Err exit) (recovered t.here.file0 t.here.file1)) (see old).told before one opens) (opening before one) earlier ends prints)
+    (refused_so see exit result state before old mid new one after opens ends))
 
 -- ---- a run, from what its parts did
 
@@ -322,8 +363,12 @@ recovery_none t = record {
 
 pub starved_refused : (Same : Type 0) (told : Option Told) (clock : Clock) → Same → OverRefused (Refuses NoMemory Same clock clock) (Some Run) told told
 starved_refused Same None clock same = tt
-starved_refused Same (Some t) clock same = refuses_whole NoMemory Same clock clock t (Some t) (files_refusal t.here) same (device_stays (Some t) clock) (by (files_refusal t.here))
+starved_refused Same (Some t) clock same = refuses_whole NoMemory Same clock clock t (Some t) (files_refusal t.here) same (device_stays (Some t) clock) (still (files_refusal t.here)) (by (files_refusal t.here))
   where
+    still : (refusal : Option Exit) → IfSome refusal (λ why. Adds (PrintMoment clock (stop_line why)) clock clock)
+    still None = tt
+    still (Some why) = adds_none (PrintMoment clock (stop_line why)) clock
+
     by : (refusal : Option Exit) → IfSome refusal (λ why. IsSomeAnd (Some t) (RefusesSo why NoMemory t))
     by None = tt
     by (Some why) = refuses_cut why NoMemory t t (inr (inr (inr refl))) (recovery_none t).calls refl (sym (append-nil t.here.out)) (record { file0 = refl; file1 = refl })

@@ -1,12 +1,13 @@
 -- A call that only prints a text changes nothing else that is told, and prints it whole if it
 -- answers its exit.
 use Rattle.std.proofs.Common.{◌≡◌, ℕ, List, ◌++◌, Option, Some, None, refl, sym, ap, ◌∙◌}
-use Rattle.board_core.specs.Clock.{Clock}
+use Rattle.board_core.specs.Clock.{Adds, Clock}
 use Rattle.board_core.specs.Device.{LeavesDevice}
 use Rattle.board_core.specs.Told.{Relates, Told}
 use Rattle.ras_exit.specs.declared.exit.Exit.{Exit}
 use Rattle.ras_exit.specs.declared.exit.Exit.TheVariants.{NoMemory, Usage}
 use Rattle.ras_exit.specs.StopLine.{stop_line}
+use Rattle.ras_exit.specs.Telling.{PrintMoment}
 use Rattle.ras_daemon.specs.Commands.{ByTask, OnlyTells}
 use Rattle.ras_daemon.proofs.RunLemmas.{answer_weaker}
 use Rattle.ras_daemon.proofs.SaidLemmas.{Printed, none_printed}
@@ -35,5 +36,5 @@ module _ (exit : Exit) (text : List ℕ) where
   none_told told = only_told NoMemory told told (none_printed exit NoMemory text told told tt refl)
 
 pub usage_commands : (exit : Exit) (task : Option Task) (script left : Option (List ℕ)) (before now : Option Told) (old new : Clock) → task ≡ None
-    → Relates (Printed Usage exit (stop_line Usage)) before now → LeavesDevice before now old new → ByTask exit task script left before now old new
-usage_commands exit task script left before now old new none said device = rw none (record { tells = only_told Usage (stop_line Usage) exit before now said; device = device })
+    → Relates (Printed Usage exit (stop_line Usage)) before now → Adds (PrintMoment old (stop_line Usage)) old new → LeavesDevice before now old new → ByTask exit task script left before now old new
+usage_commands exit task script left before now old new none said stops device = rw none (record { tells = only_told Usage (stop_line Usage) exit before now said; stops = stops; device = device })

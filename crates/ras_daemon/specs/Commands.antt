@@ -1,16 +1,16 @@
 -- What each command tells, and how it may end.
-use Rattle.std.specs.Prelude.{◌≡◌, ◌≢◌, ℕ, ◌⊎◌, List, Option, None, Some, ⊤}
-use Rattle.board_core.specs.Clock.{Clock}
+use Rattle.std.specs.Prelude.{◌≡◌, ◌≢◌, ℕ, ◌⊎◌, List, Option, None, Some, IfSome, ⊤}
+use Rattle.board_core.specs.Clock.{Adds, Clock}
 use Rattle.board_core.specs.Device.{LeavesDevice}
 use Rattle.board_core.specs.Told.{Relates, Told}
 use Rattle.ras_exit.specs.declared.exit.Exit.{Exit}
 use Rattle.ras_exit.specs.declared.exit.Exit.TheVariants.{Done, ErstStatus, NoMemory, PrintFault, Usage}
 use Rattle.ras_exit.specs.StopLine.{stop_line}
-use Rattle.ras_exit.specs.Telling.{OnlyText, Tells}
+use Rattle.ras_exit.specs.Telling.{OnlyText, PrintMoment, Tells}
 use Rattle.cper_pcie.specs.Filter.{pcie_filter}
-use Rattle.line_filters.specs.Filters.{Filters, IsFilterExit, OfBoth}
+use Rattle.line_filters.specs.Filters.{Filters, IsFilterExit, OfBoth, StopsFiltering}
 use Rattle.ras_klog.specs.Klog.{klog_filter}
-use Rattle.ras_listing.specs.Reporting.{IsReportExit, Reports}
+use Rattle.ras_listing.specs.Reporting.{IsReportExit, ReportMoment, Reports, report_output}
 use Rattle.ras_daemon.specs.Loading.{load_output}
 use Rattle.ras_daemon.specs.declared.word.Task.{Task}
 use Rattle.ras_daemon.specs.declared.word.Task.TheVariants.{Run, Report, Load, Pcie, Klog}
@@ -20,26 +20,34 @@ pub record OnlyTells (exit : Exit) (text : List ℕ) (result : Exit) (before now
   pub tells : Tells exit text result before now
   pub only : OnlyText before now
 
--- So much is told by a command that is no run, and it leaves the device alone.
-pub record Leaves (Tells : Type 0) (before now : Option Told) (old new : Clock) : Type 0 where
+-- So much is told by a command that is no run, and so much is left by a stop of the machine at any moment
+-- of it. It leaves the device alone.
+pub record Leaves (Tells Stops : Type 0) (before now : Option Told) (old new : Clock) : Type 0 where
   pub tells : Tells
+  pub stops : Stops
   pub device : LeavesDevice before now old new
 
--- What a command tells by what its source has left and its board tells, before and now. Of a run
--- clauses of their own tell. Words of no form print the usage line.
+-- What a command tells by what its source has left and its board tells, before and now, and what stops
+-- leave of it: only a beginning of its text is new. Of a run clauses of their own tell. Words of no form
+-- print the usage line.
 abbrev pub ByTask : Exit → Option Task
     → Option (List ℕ) → Option (List ℕ) → Option Told → Option Told → Clock → Clock → Type 0
 ByTask exit None script left before now old new =
-    Leaves (Relates (OnlyTells Usage (stop_line Usage) exit) before now) before now old new
+    Leaves (Relates (OnlyTells Usage (stop_line Usage) exit) before now)
+    (Adds (PrintMoment old (stop_line Usage)) old new) before now old new
 ByTask exit (Some Run) script left before now old new = ⊤
 ByTask exit (Some (Report listing)) script left before now old new =
-    Leaves (Relates (Reports listing exit) before now) before now old new
+    Leaves (Relates (Reports listing exit) before now)
+    (IfSome before (λ t. Adds (ReportMoment old (report_output listing t.here) t.here) old new)) before now old new
 ByTask exit (Some (Load n)) script left before now old new =
-    Leaves (Relates (OnlyTells Done (load_output n) exit) before now) before now old new
+    Leaves (Relates (OnlyTells Done (load_output n) exit) before now)
+    (Adds (PrintMoment old (load_output n)) old new) before now old new
 ByTask exit (Some Pcie) script left before now old new =
-    Leaves (OfBoth (Filters pcie_filter exit) script left before now) before now old new
+    Leaves (OfBoth (Filters pcie_filter exit) script left before now)
+    (StopsFiltering pcie_filter script before old new) before now old new
 ByTask exit (Some (Klog boot cap)) script left before now old new =
-    Leaves (OfBoth (Filters (klog_filter boot cap) exit) script left before now) before now old new
+    Leaves (OfBoth (Filters (klog_filter boot cap) exit) script left before now)
+    (StopsFiltering (klog_filter boot cap) script before old new) before now old new
 
 -- how a run over a script that is made up may end
 abbrev pub IsLoadExit : Exit → Type 0

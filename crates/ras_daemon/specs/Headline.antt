@@ -1,7 +1,8 @@
 -- What a stop at any moment of a run leaves, and what a run leaves where it ends.
-use Rattle.std.specs.Prelude.{◌≡◌, ℕ, ◌+◌, ◌<◌, ◌≤◌, ◌⊎◌, List, ◌++◌, length, map, take, Option, Some, Ok, ⊤}
+use Rattle.std.specs.Prelude.{◌≡◌, ℕ, ◌+◌, ◌<◌, ◌⊎◌, List, ◌++◌, length, map, take, Option, Some, Ok, ⊤}
 use Rattle.std.specs.List.{flat_map}
-use Rattle.board_core.specs.Clock.{Always, Clock, LeftNow}
+use Rattle.board_core.specs.Clock.{Adds, Always, Clock, LeftNow, Rests}
+use Rattle.board_core.specs.Doing.{Act, after_acts}
 use Rattle.board_core.specs.Stop.{Left}
 use Rattle.board_core.specs.Told.{Told}
 use Rattle.cper_records.specs.Readable.{filled, read_under}
@@ -10,7 +11,8 @@ use Rattle.ras_base.specs.Prefix.{IsPrefixOf}
 use Rattle.ras_account.specs.Account.{State}
 use Rattle.ras_account.specs.Continued.{account_after_all}
 use Rattle.ras_facts.specs.declared.entry.Entry.{Entry}
-use Rattle.ras_journal.specs.Recovered.{Recovers}
+use Rattle.ras_journal.specs.Recovered.{HasFewLinks, Recovers}
+use Rattle.ras_recover.specs.OpeningActs.{AreOpeningActs}
 use Rattle.ras_events.specs.Reports.{NumberedLine, Place, entries_at}
 use Rattle.ras_events.specs.Stores.{laid}
 use Rattle.text_laws.specs.DoneLines.{done_count}
@@ -92,14 +94,25 @@ pub record NeverOpens (exit : Exit) (Same : Type 0) (start : Start) (here : Left
   pub unread : Same
   pub always : Always new old.now (λ left. LeftNow old left ⊎ AtOpening start here.out left)
 
--- There is a moment of a run from which the headline holds, whatever a stop at its start may leave:
--- when its journal is open. A stop before it leaves that, or what the headline says.
-pub record Settles (start : Start) (script : List ℕ) (here : Left) (old new : Clock) : Type 0 where
-  pub at : ℕ
-  pub later : old.now ≤ at
-  pub within : at ≤ new.now
-  pub before : Always new old.now (λ left. LeftNow old left ⊎ Headline (run_of start script) here left)
-  pub from : Always new at (Headline (run_of start script) here)
+-- The opening of a journal was answered just now, over what was told before it: both files are synced.
+-- Just the acts of an opening are done, and a stop leaves just what is told.
+pub record IsJustOpen (before : Told) (told : Option Told) (clock : Clock) : Type 0 where
+  pub acts : List Act
+  pub are : AreOpeningActs before.here acts
+  pub rests : Rests (after_acts acts before) told clock
+
+-- A run opened its journal, over what was told at its start. A stop before the opening was answered leaves
+-- what one at the start may have left, or what stands while the journal is opened. From that moment on the
+-- headline holds, whatever a stop at the start may leave; and no file that stands has more than 256 links,
+-- if none had that was told at the start.
+pub record Settles {X : Type 0} (told : X → Option Told) (clock : X → Clock) (start : Start) (script : List ℕ) (t : Told) (old new : X) : Type 0 where
+  -- the board at that moment
+  pub opened : X
+  pub just : IsJustOpen t (told opened) (clock opened)
+  pub before : Adds (λ left. LeftNow (clock old) left ⊎ AtOpening start t.here.out left) (clock old) (clock opened)
+  pub behind : Adds (Headline (run_of start script) t.here) (clock opened) (clock new)
+  pub from : Always (clock new) (clock opened).now (Headline (run_of start script) t.here)
+  pub few : HasFewLinks t.here → Always (clock new) (clock opened).now HasFewLinks
 
 -- whatever a stop at the start of a run may leave recovers the account at its start too
 abbrev pub StopsRecover : Start → Clock → Type 0

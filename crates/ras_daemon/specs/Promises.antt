@@ -2,9 +2,8 @@
 use Rattle.std.specs.Prelude.{◌≡◌, ℕ, ◌≤◌, ◌⊎◌, List, ◌++◌, Option, Some, IfSome, IsSomeAnd, ⊤}
 use Rattle.board_core.specs.declared.board.DiskCall.{DiskCall}
 use Rattle.board_core.specs.Cause.{Faults, Kind, Rose, count_of}
-use Rattle.board_core.specs.Clock.{Always, Clock}
+use Rattle.board_core.specs.Clock.{Adds, Always, Clock, LeftNow}
 use Rattle.board_core.specs.Device.{LeavesDevice}
-use Rattle.board_core.specs.Stop.{Left}
 use Rattle.board_core.specs.Told.{Told}
 use Rattle.ras_journal.specs.Recovered.{HasFewLinks}
 use Rattle.ras_recover.specs.DiskCalls.{IsBeginning, Makes}
@@ -12,7 +11,7 @@ use Rattle.ras_recover.specs.OpeningCalls.{IsOpening, IsRecovery}
 use Rattle.ras_exit.specs.Causes.{BoardCause, SourceCause}
 use Rattle.ras_exit.specs.Endings.{OnAnswer, OnWhole, ending_of}
 use Rattle.ras_exit.specs.StopLine.{stop_line}
-use Rattle.ras_exit.specs.Telling.{PrintsPart, Tells}
+use Rattle.ras_exit.specs.Telling.{PrintMoment, PrintsPart, Tells}
 use Rattle.ras_exit.specs.declared.exit.Exit.{Exit}
 use Rattle.ras_exit.specs.declared.exit.Exit.TheVariants.{DiskFault, NoMemory, PrintFault}
 use Rattle.ras_run.specs.Files.{KeepsFiles, files_refusal}
@@ -61,21 +60,24 @@ pub record Ran (exit : Exit) (Same : Type 0) (start : Start) (script : List ℕ)
   -- The source was read only once the journal was open and its orders were printed.
   pub opened : Same ⊎ HasOpened start before now
 
--- What stops of the machine leave of a run that began over this.
-pub record RunStops (exit : Exit) (Same : Type 0) (start : Start) (script : List ℕ) (here : Left) (old new : Clock) : Type 0 where
+-- What stops of the machine leave of a run that began over this, from the old board to the new one, each
+-- of which tells something and has a clock.
+pub record RunStops {X : Type 0} (told : X → Option Told) (clock : X → Clock) (exit : Exit) (Same : Type 0) (start : Start) (script : List ℕ) (t : Told) (old new : X) : Type 0 where
   -- Time goes on. So what the board tells at the end is among what a stop since the start may leave.
-  pub later : old.now ≤ new.now
+  pub later : (clock old).now ≤ (clock new).now
   -- A stop at any moment leaves the account at the start and a beginning of what this run reports, with
   -- each event that is done by what was printed; and of the record store what these events left, or what
   -- is on the way of the next.
-  pub once : StopsRecover start old → Always new old.now (Headline (run_of start script) here)
-  -- Without that premise this holds from the moment on at which the journal was open; if it never was,
-  -- the source is left alone, and a stop leaves what one at the start may have left, or the account at the
-  -- start.
-  pub settled : Settles start script here old new ⊎ NeverOpens exit Same start here old new
-  -- If no file that a stop at the start may leave has more than 256 links, none has that a stop may leave
-  -- of the run.
-  pub few : Always old old.now HasFewLinks → Always new old.now HasFewLinks
+  pub once : StopsRecover start (clock old) → Always (clock new) (clock old).now (Headline (run_of start script) t.here)
+  -- Without that premise this holds from the moment on at which the opening of the journal was answered;
+  -- if it never was, the source is left alone, and a stop leaves what one at the start may have left, or
+  -- the account at the start.
+  pub settled :
+      Settles told clock start script t old new
+      ⊎ NeverOpens exit Same start t.here (clock old) (clock new)
+  -- If no file that is told at the start has more than 256 links, a stop leaves none that has, but for
+  -- what one at the start may have left.
+  pub few : HasFewLinks t.here → Always (clock new) (clock old).now (λ left. LeftNow (clock old) left ⊎ HasFewLinks left)
 
 -- if source and board tell at the end
 abbrev pub StillTell : (List ℕ → Told → Type 0) → Option (List ℕ) → Option Told → Type 0
@@ -92,6 +94,8 @@ pub record Refuses (exit : Exit) (Same : Type 0) (old new : Clock) (why : Exit) 
   pub ends : EndsRefused why exit
   pub tells : Tells why (stop_line why) exit before now
   pub files : KeepsFiles before now
+  -- A stop at any moment leaves what one at the start may have left, with a beginning of that line.
+  pub stops : Adds (PrintMoment old (stop_line why)) old new
   -- The disk calls are those of a recovery, or a beginning of them.
   pub calls : Makes (IsBeginning IsRecovery) before now
   pub device : LeavesDevice (Some before) (Some now) old new

@@ -1,9 +1,11 @@
 //! The top call.
 
-ghost use Rattle.std.specs.Prelude.{◌≡◌, ◌≢◌, ◌⊎◌, ℕ, List, Option, length};
+ghost use Rattle.std.specs.Prelude.{◌≡◌, ◌≢◌, ◌⊎◌, ℕ, List, Option, Some, length};
 ghost use Rattle.board_core.specs.Cause.{Faults};
+ghost use Rattle.board_core.specs.Clock.{Always};
 ghost use Rattle.board_core.specs.Told.{Told};
 ghost use Rattle.ras_exit.specs.Endings.{OnAnswer};
+ghost use Rattle.ras_journal.specs.Recovered.{HasFewLinks};
 ghost use Rattle.ras_recover.specs.DiskCalls.{IsBeginning, Makes};
 ghost use Rattle.ras_run.specs.Places.{Start};
 ghost use Rattle.text_laws.specs.DoneLines.{done_count};
@@ -48,8 +50,8 @@ pub fn rasd<S: Source, B: Board>(
 
     // What a stop of the machine at any moment of it leaves.
     ensures stops { OverRun (λ start script told.
-        RunStops result (source.new ≡ source.old) start script told.here
-        (B.clock board.old) (B.clock board.new))
+        RunStops B.told B.clock result (source.new ≡ source.old) start script told
+        board.old board.new)
         (task_of words.now) (S.left source.old) (B.told board.old) }
 
     // If the files are damaged or too long, a run says so, and leaves them and all else.
@@ -92,7 +94,7 @@ pub fn rasd<S: Source, B: Board>(
 
 /// What else holds of a run, by what `rasd` promises of it. The function does nothing: its clauses
 /// are what it is for.
-pub fn promise_laws<S: Source>()
+pub fn promise_laws<S: Source, B: Board>()
     // If it comes to an answer its done lines number its events.
     ensures counted { (exit : Exit) (first last : S) (start : Start) (script left : List ℕ)
         (before now : Told) → Ran exit (last ≡ first) start script before left now
@@ -111,6 +113,14 @@ pub fn promise_laws<S: Source>()
     ensures stored { (first last : S) (start : Start) (script left : List ℕ) (before now : Told)
         → Ran Exit.Done (last ≡ first) start script before left now
         → now.here.store ≡ laid_with start script (event_count start script) }
+
+    // If no file that a stop at its start may leave has more than 256 links, none has that a stop
+    // at any moment of it may leave.
+    ensures few { (exit : Exit) (first last : S) (start : Start) (script : List ℕ) (t : Told)
+        (old new : B) → B.told old ≡ Some t
+        → RunStops B.told B.clock exit (last ≡ first) start script t old new
+        → Always (B.clock old) (B.clock old).now HasFewLinks
+        → Always (B.clock new) (B.clock old).now HasFewLinks }
 
     // If no count of faults rose, a run that is refused nowhere is done, unless memory ran out.
     ensures complete { (exit : Exit) (first last : S) (start : Start) (script left : List ℕ)

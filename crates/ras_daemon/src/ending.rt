@@ -1,9 +1,11 @@
 //! The end of a run, and its last line.
 
 ghost use Rattle.std.specs.Prelude.{◌≡◌, ◌⊎◌, IfOk};
+ghost use Rattle.board_core.specs.Clock.{Adds};
 ghost use Rattle.board_core.specs.Device.{LeavesDevice};
 ghost use Rattle.board_core.specs.Doing.{looks};
 ghost use Rattle.ras_exit.specs.Endings.{IsAnswer};
+ghost use Rattle.ras_exit.specs.Telling.{PrintMoment};
 ghost use Rattle.ras_daemon.specs.Steps.Doing.{Ends, Says};
 ghost use Rattle.ras_daemon.specs.RunOutput.{closing_line};
 
@@ -35,6 +37,8 @@ pub fn closing_line(alloc: Global, exit: Exit, account: &Account) -> Result<Vec<
 pub fn end_run<B: Board>(alloc: Global, exit: Exit, account: &Account, board: &mut B) -> Exit
     ensures ends { Ends (looks B.told B.clock B.faults) exit result
         (closing_line account.now.state exit) board.old board.new }
+    ensures stops { Adds (PrintMoment (B.clock board.old) (closing_line account.now.state exit))
+        (B.clock board.old) (B.clock board.new) }
     ensures device { LeavesDevice (B.told board.old) (B.told board.new)
         (B.clock board.old) (B.clock board.new) }
 {
@@ -56,6 +60,8 @@ pub fn last_line<B: Board>(line: &[u8], exit: Exit, board: &mut B) -> Exit
     ensures says { Says (looks B.told B.clock B.faults) exit result line.now
         board.old board.new }
     ensures exits { (result ≡ exit) ⊎ (result ≡ Exit.PrintFault) }
+    ensures stops { Adds (PrintMoment (B.clock board.old) line.now) (B.clock board.old)
+        (B.clock board.new) }
     ensures device { LeavesDevice (B.told board.old) (B.told board.new)
         (B.clock board.old) (B.clock board.new) }
 {

@@ -1,10 +1,12 @@
 //! A run over a script that is made up, on a board in memory.
 
 ghost use Rattle.std.specs.Prelude.{◌≡◌, ◌≤◌, ◌-◌, ◌/◌, ℕ, length, IfOk};
+ghost use Rattle.board_core.specs.Clock.{Adds};
 ghost use Rattle.board_core.specs.Device.{LeavesDevice};
 ghost use Rattle.board_core.specs.Told.{Relates};
 ghost use Rattle.mca_status.specs.declared.classes.ItemClass.TheVariants.{Ce};
 ghost use Rattle.ras_exit.specs.Causes.{BoardCause};
+ghost use Rattle.ras_exit.specs.Telling.{PrintMoment};
 ghost use Rattle.ras_load.specs.LoadScript.{load_script};
 ghost use Rattle.ras_load.specs.Summary.{class_total};
 ghost use Rattle.ras_load.specs.declared.script.TheConstants.{MOST_LINES};
@@ -29,6 +31,8 @@ pub fn load<B: Board>(alloc: Global, n: u64, board: &mut B) -> Exit
     requires { n ≤ MOST_LINES }
     ensures loads { Relates (OnlyTells Exit.Done (load_output n) result)
         (B.told board.old) (B.told board.new) }
+    ensures stops { Adds (PrintMoment (B.clock board.old) (load_output n)) (B.clock board.old)
+        (B.clock board.new) }
     ensures exits { IsLoadExit result }
     ensures board { BoardCause result (B.faults board.old) (B.faults board.new) }
     ensures device { LeavesDevice (B.told board.old) (B.told board.new)

@@ -11,11 +11,11 @@ returns-clause-begins g c = λ board account t recovers rests. stops-recover (g.
 
 pub returns-clause-stopped : goal.returns-clause-stopped
 returns-clause-stopped g c = λ exit first last old new era opens recover stops may.
-    era-stopped exit (last ≡ first) (g.B.Board.clock old) (g.B.Board.clock new) era opens stops recover may
+    era-stopped g.B.Board.told g.B.Board.clock exit (last ≡ first) old new era opens stops recover may
 
 pub returns-clause-ended : goal.returns-clause-ended
 returns-clause-ended g c = λ exit first last old new now era opens recover stops told is.
-    era-ended exit (last ≡ first) (g.B.Board.clock old) (g.B.Board.clock new) era opens stops recover
+    era-ended g.B.Board.told g.B.Board.clock exit (last ≡ first) old new era opens stops recover
     (λ s t left within may. g.met.B.Board.counts_earlier new s t left within may) now.here (g.met.B.Board.told_may_be_left new now told) is
 
 pub returns-clause-settled : goal.returns-clause-settled
@@ -23,7 +23,7 @@ returns-clause-settled g c = λ old new era opens settles may. record { opens = 
 
 pub returns-clause-went_on : goal.returns-clause-went_on
 returns-clause-went_on g c = λ exit first last old new era opens stops may.
-    era-went-on exit (last ≡ first) (g.B.Board.clock old) (g.B.Board.clock new) era opens stops may
+    era-went-on g.B.Board.told g.B.Board.clock exit (last ≡ first) old new era opens stops may
 
 pub returns-clause-counts : goal.returns-clause-counts
 returns-clause-counts g c = each-counts

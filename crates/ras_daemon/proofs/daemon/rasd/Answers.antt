@@ -6,7 +6,7 @@ use Rattle.ras_exit.specs.declared.exit.Exit.TheVariants.{Usage}
 use Rattle.ras_daemon.specs.Promises.{Ran, RunStops, StillTell}
 use Rattle.ras_daemon.specs.Task.{task_of}
 use Rattle.ras_daemon.proofs.CallLemmas.{run-ran, run-stops}
-use Rattle.ras_daemon.proofs.FilterLemmas.{filters_as}
+use Rattle.ras_daemon.proofs.FilterLemmas.{filters_as, stops_as}
 use Rattle.ras_daemon.proofs.RunLemmas.{over_comes}
 use Rattle.ras_daemon.proofs.SaidLemmas.{says_causes, says_printed}
 use Rattle.ras_daemon.proofs.TellingLemmas.{usage_commands}
@@ -40,7 +40,7 @@ pub returns-in-Some-Run-clause-stops : goal.returns-in-Some-Run-clause-stops
 returns-in-Some-Run-clause-stops g c =
     let see = looks g.B.Board.told g.B.Board.clock g.B.Board.faults in
     over_comes see (c.run.new.source ≡ c.args.source.now)
-    (λ start script told. RunStops c.run.result (c.run.new.source ≡ c.args.source.now) start script told.here (g.B.Board.clock c.args.board.now) (g.B.Board.clock c.run.new.board))
+    (λ start script told. RunStops g.B.Board.told g.B.Board.clock c.run.result (c.run.new.source ≡ c.args.source.now) start script told c.args.board.now c.run.new.board)
     (task_of c.args.words.now) (g.S.Source.left c.args.source.now) (g.S.Source.left c.run.new.source) (g.B.Board.told c.args.board.now) c.run.result c.args.board.now c.run.new.board
     (sym c.task_of.ensures.task ∙ c.in-Some-Run.is ∙ ap Some c.in-Some-Run.field-0-is)
     (λ account script t left is recovers comes. run-stops see (c.run.new.source ≡ c.args.source.now) account script c.run.result t (g.S.Source.left c.run.new.source) c.args.board.now c.run.new.board is recovers
@@ -59,6 +59,7 @@ returns-in-Some-Klog-clause-commands g c =
     rw (sym c.task_of.ensures.task ∙ c.in-Some-Klog.is ∙ ap Some c.in-Some-Klog.field-0-is)
     (record {
       tells = filters_as _ _ exit _ _ _ _ c.new-filter-in-Some-Klog.ensures.makes c.filter_lines-in-Some-Klog.ensures.filters;
+      stops = stops_as _ _ _ _ _ _ c.new-filter-in-Some-Klog.ensures.makes c.filter_lines-in-Some-Klog.ensures.stops;
       device = c.filter_lines-in-Some-Klog.ensures.device;
     })
 
@@ -66,7 +67,7 @@ pub returns-in-None-clause-commands : goal.returns-in-None-clause-commands
 returns-in-None-clause-commands g c =
     usage_commands c.last_line.result _ _ _ _ _ _ _ (sym c.task_of.ensures.task ∙ c.in-None.is)
     (says_printed (looks g.B.Board.told g.B.Board.clock g.B.Board.faults) Usage c.last_line.result (stop_line Usage) c.args.board.now c.last_line.new.board c.last_line.ensures.says)
-    c.last_line.ensures.device
+    c.last_line.ensures.stops c.last_line.ensures.device
 
 pub returns-in-None-clause-causes : goal.returns-in-None-clause-causes
 returns-in-None-clause-causes g c =
