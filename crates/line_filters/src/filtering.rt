@@ -68,8 +68,8 @@ fn take_lines<S: Source, B: Board, F: LineFilter>(
     source: &mut S,
     board: &mut B,
 ) -> Result<(), Exit>
-    requires fresh { reader.old ≡ record { line = []; held = []; taken = 0 } }
-    requires first { F.taken filter.old ≡ 0 }
+    requires begins { (reader.old ≡ record { line = []; held = []; taken = 0 })
+        × (F.taken filter.old ≡ 0) }
     ensures ends { (script : List ℕ) (t : Told) → S.left source.old ≡ Some script
         → B.told board.old ≡ Some t → IsSomeAnd (B.told board.new) (λ now. LinesEnd
         (F.makes filter.old) script t (B.clock board.old) (exit_of result) (F.makes filter.new)
@@ -78,12 +78,11 @@ fn take_lines<S: Source, B: Board, F: LineFilter>(
         → IsSomeAnd (S.left source.new) (HasTaken script reader.new) }
     ensures ended { result ≡ Ok tt
         → IfSome (S.left source.old) (λ script. S.left source.new ≡ Some []) }
-    ensures few { reader.new.taken ≤ LONGEST_SCRIPT + 1 }
-    ensures exits { IsFilterExit (exit_of result) }
-    ensures stop { IfErr result IsLineExit }
-    ensures taken { F.taken filter.new ≤ LONGEST_SCRIPT + 1 }
-    ensures source { Causes SourceCause result (S.faults source.old) (S.faults source.new) }
-    ensures faults { Causes BoardCause result (B.faults board.old) (B.faults board.new) }
+    ensures few { (reader.new.taken ≤ LONGEST_SCRIPT + 1)
+        × (F.taken filter.new ≤ LONGEST_SCRIPT + 1) }
+    ensures exits { IsFilterExit (exit_of result) × IfErr result IsLineExit }
+    ensures causes { Causes SourceCause result (S.faults source.old) (S.faults source.new)
+        × Causes BoardCause result (B.faults board.old) (B.faults board.new) }
     ensures device { LeavesDevice (B.told board.old) (B.told board.new)
         (B.clock board.old) (B.clock board.new) }
 {
@@ -120,8 +119,8 @@ fn take_line<B: Board, F: LineFilter>(
     requires few { F.taken filter.old ≤ LONGEST_SCRIPT }
     ensures takes { TakesLine (looks B.told B.clock B.faults) result number line.now
         (F.makes filter.old) (F.makes filter.new) text.new.items board.old board.new }
-    ensures taken { OnOk result (F.taken filter.new ≡ F.taken filter.old + 1) }
-    ensures most { F.taken filter.new ≤ F.taken filter.old + 1 }
+    ensures taken { OnOk result (F.taken filter.new ≡ F.taken filter.old + 1)
+        × (F.taken filter.new ≤ F.taken filter.old + 1) }
     ensures exits { IfErr result IsFilterExit }
     ensures stop { IfErr result IsStop }
     ensures faults { Causes BoardCause result (B.faults board.old) (B.faults board.new) }

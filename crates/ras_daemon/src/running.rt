@@ -60,8 +60,8 @@ fn take_script<S: Source, B: Board>(
     board: &mut B,
 ) -> Exit
     requires fresh { reader.old ≡ record { line = []; held = []; taken = 0 } }
-    requires ready { IsReady ledger (B.told board.old) (B.clock board.old) }
-    requires account { IsAccount ledger.account.state }
+    requires ledger { IsReady ledger (B.told board.old) (B.clock board.old)
+        × IsAccount ledger.account.state }
 
     ensures comes { (start : Start) (script : List ℕ) (t : Told) → IsStart start ledger t
         → S.left source.old ≡ Some script → B.told board.old ≡ Some t

@@ -1,13 +1,13 @@
 -- What an opening does to a board, as acts.
-use Rattle.std.specs.Prelude.{◌≡◌, ◌⊎◌, List, ◌++◌, map}
+use Rattle.std.specs.Prelude.{◌≡◌, ◌⊎◌, List, ◌++◌, map, IfErr, OnOk, Option, Result}
 use Rattle.board_core.specs.Cause.{disk_call}
 use Rattle.board_core.specs.declared.board.DiskCall.{DiskCall}
 use Rattle.board_core.specs.Doing.{Act, FailsActs, calls}
 use Rattle.board_core.specs.Stop.{Left}
-use Rattle.board_core.specs.Told.{Told}
+use Rattle.board_core.specs.Told.{Relates, Told}
 use Rattle.ras_recover.specs.DiskCalls.{with_calls}
 use Rattle.ras_recover.specs.Opening.{opening_acts}
-use Rattle.ras_recover.specs.OpeningCalls.{AfterRecovery, IsRecoveryOf}
+use Rattle.ras_recover.specs.OpeningCalls.{AfterOpening, AfterRecovery, IsRecoveryOf, MakesOpening}
 
 -- The journal is opened over the files that are here: all that counts of them is read, and if no
 -- file stands file 0 is formatted.
@@ -27,3 +27,12 @@ pub record FailsFormatting (old new : Told) : Type 0 where
 -- a disk call failed, this may be one of the formatting's.
 abbrev pub LeavesUnopened : Type 0 → Told → Told → Type 0
 LeavesUnopened Failed old new = AfterRecovery old new ⊎ (Failed × FailsFormatting old new)
+
+-- What an opening does: whatever it answers all is told as before, but for file 0 if no file stands, and
+-- its disk calls are those of an opening or a beginning of them. Once it has answered Ok, all that counts
+-- of the files was read, and exactly the formatting was written. Else nothing was written, unless a disk
+-- call failed that formats file 0.
+pub record DoesOpening {T E : Type 0} (IsFault : E → Type 0) (result : Result T E) (before now : Option Told) : Type 0 where
+  pub told : Relates AfterOpening before now
+  pub whole : OnOk result (Relates MakesOpening before now)
+  pub unopened : IfErr result (λ refused. Relates (LeavesUnopened (IsFault refused)) before now)

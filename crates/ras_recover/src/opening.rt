@@ -14,8 +14,7 @@ ghost use Rattle.ras_recover.specs.Formatting.{behind_gate, formatting_acts};
 ghost use Rattle.ras_recover.specs.Recovering.{RefusesHeld, TellsHeld, open_end, open_failure};
 ghost use Rattle.ras_recover.specs.Steps.Looking.{standing_begun};
 ghost use Rattle.ras_recover.specs.Opening.{Opening, IsOpened, standing_opened};
-ghost use Rattle.ras_recover.specs.OpeningActs.{LeavesUnopened};
-ghost use Rattle.ras_recover.specs.OpeningCalls.{AfterOpening, MakesOpening};
+ghost use Rattle.ras_recover.specs.OpeningActs.{DoesOpening};
 
 use crate::formatting::{format_file, next_bytes};
 use crate::recovering::recover_files;
@@ -76,8 +75,7 @@ pub fn open_journal<B: Board>(
     // What is answered is what the files hold.
     ensures recovers { IfSome (B.told board.old)
         (λ t. TellsHeld (λ r. r.0.state) result (recovered t.here.file0 t.here.file1)) }
-    ensures waiting { IfOk result (λ r. r.0.waiting ≡ nothing) }
-    ensures usable { IfOk result (λ r. r.1.failed ≡ false) }
+    ensures ready { IfOk result (λ r. (r.0.waiting ≡ nothing) × (r.1.failed ≡ false)) }
     ensures standing { IfOk result (λ r. IfSome (B.told board.old)
         (λ t. r.1.standing ≡ standing_opened t.here.file0 t.here.file1)) }
 
@@ -89,16 +87,9 @@ pub fn open_journal<B: Board>(
     ensures opened { IfOk result (λ r. (t : Told) → B.told board.old ≡ Some t
         → IsOpened r.1.standing r.0.state (B.told board.new) (B.clock board.new)) }
 
-    // Whatever it answers, all is told as before, but for file 0 if no file stands; and its disk
-    // calls are those of an opening or a beginning of them. Once it has answered `Ok`, all that
-    // counts of the files was read, and if no file stands generation 1 was written to file 0 and
-    // nothing else.
-    ensures told { Relates AfterOpening (B.told board.old) (B.told board.new) }
-    ensures opens { OnOk result (Relates MakesOpening (B.told board.old) (B.told board.new)) }
-    // Once it has answered anything else nothing was written, unless a disk call failed that
-    // formats file 0.
-    ensures unopened { IfErr result (λ refused.
-        Relates (LeavesUnopened (refused ≡ OpenRefused.Disk)) (B.told board.old) (B.told board.new)) }
+    // What it does, as acts and as disk calls, whatever it answers.
+    ensures does { DoesOpening (λ refused. refused ≡ OpenRefused.Disk) result
+        (B.told board.old) (B.told board.new) }
 
     ensures cause { FailsAs disk_call (B.faults board.old) (B.faults board.new)
         (open_failure result) }

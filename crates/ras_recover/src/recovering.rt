@@ -9,6 +9,7 @@ ghost use Rattle.ras_journal.specs.Recovered.{Refusal, too_long, is_shut, recove
 ghost use Rattle.ras_recover.specs.DiskCalls.{Calls, IsReading};
 ghost use Rattle.ras_recover.specs.Steps.Looking.{AreSyncs, AreReads};
 ghost use Rattle.ras_recover.specs.OpeningCalls.{AfterRecovery, IsRecoveryOf, ReadsBoth};
+ghost use Rattle.ras_recover.specs.Steps.Pair.{DoesRecovery};
 ghost use Rattle.ras_recover.specs.Recovering.{RefusesHeld, TellsHeld, KeepsTold, RestsHere, UnlessDisk, open_failure};
 
 use crate::pair::{read_both, recovered_of};
@@ -115,9 +116,7 @@ pub(crate) fn recover_files<B: Board>(
     ensures keeps { KeepsTold (B.told board.old) (B.clock board.old) (B.told board.new) (B.clock board.new) }
     ensures rests { UnlessDisk result ((t : Told) → B.told board.old ≡ Some t
         → RestsHere t.here (B.told board.new) (B.clock board.new)) }
-    ensures told { Relates AfterRecovery (B.told board.old) (B.told board.new) }
-    ensures reads { OnOk result (Relates (λ old. Calls (IsRecoveryOf old.here) old)
-        (B.told board.old) (B.told board.new)) }
+    ensures does { DoesRecovery result (B.told board.old) (B.told board.new) }
     ensures cause { FailsAs disk_call (B.faults board.old) (B.faults board.new) (open_failure result) }
 {
     match sync_both(board) {

@@ -15,8 +15,6 @@ use Rattle.ras_journal.specs.Recovered.{Refusal, recovered}
 use Rattle.ras_recover.specs.declared.refused.OpenRefused.{OpenRefused}
 use Rattle.ras_recover.specs.declared.refused.OpenRefused.TheVariants as opening
 use Rattle.ras_recover.specs.Opening.{standing_opened}
-use Rattle.ras_recover.specs.OpeningActs.{LeavesUnopened}
-use Rattle.ras_recover.specs.OpeningCalls.{AfterOpening, MakesOpening}
 use Rattle.ras_ledger.specs.declared.ledger.Ledger.{Ledger}
 use Rattle.ras_ledger.specs.Keeping.{Stands}
 use Rattle.ras_events.specs.declared.preparing.News.{News}
@@ -140,14 +138,6 @@ pub record Opened (result : Result Ledger Exit) (told now : Option Told) (clock 
   pub standing : IfOk result (λ ledger. IfSome told (λ t. ledger.journal.standing ≡ standing_opened t.here.file0 t.here.file1))
   pub ready : IfOk result (λ ledger. IsReady ledger now clock)
   pub account : IfOk result (λ ledger. IsAccount ledger.account.state)
-
--- What an opening does: whatever it answers all is told as before, but for file 0 if no file stands. Once
--- it is open, all that counts of the files was read, and exactly the formatting was written. Else nothing
--- was written, unless a disk call failed that formats file 0.
-pub record DoesOpening (result : Result Ledger Exit) (before now : Option Told) : Type 0 where
-  pub told : Relates AfterOpening before now
-  pub whole : OnOk result (Relates MakesOpening before now)
-  pub unopened : IfErr result (λ exit. Relates (LeavesUnopened (exit ≡ DiskFault)) before now)
 
 -- how it ends, and why
 pub record EndsOpening (result : Result Ledger Exit) (faults faults' : Faults) : Type 0 where

@@ -5,9 +5,10 @@ ghost use Rattle.board_core.specs.Clock.{Adds};
 ghost use Rattle.board_core.specs.Doing.{Does, looks};
 ghost use Rattle.board_core.specs.Told.{Told};
 ghost use Rattle.ras_recover.specs.Opening.{Opening};
+ghost use Rattle.ras_recover.specs.OpeningActs.{DoesOpening};
 ghost use Rattle.ras_texts.specs.Orders.{standing_lines};
 ghost use Rattle.ras_exit.specs.Acts.{part_end, print_acts};
-ghost use Rattle.ras_run.specs.Taking.{DoesOpening, EndsOpening, IsPrintExit, Opened, unopened_exit};
+ghost use Rattle.ras_run.specs.Taking.{EndsOpening, IsPrintExit, Opened, unopened_exit};
 
 use board_core::Board;
 use ras_account::Account;
@@ -25,7 +26,8 @@ use std::alloc::Global;
 /// failed, and `NoMemory` only if memory runs out.
 pub fn open<B: Board>(alloc: Global, board: &mut B) -> Result<Ledger, Exit>
     ensures opens { Opened result (B.told board.old) (B.told board.new) (B.clock board.new) }
-    ensures does { DoesOpening result (B.told board.old) (B.told board.new) }
+    ensures does { DoesOpening (λ exit. exit ≡ Exit.DiskFault) result
+        (B.told board.old) (B.told board.new) }
     ensures stops { (t : Told) → B.told board.old ≡ Some t
         → Adds (Opening (B.clock board.old) t.here) (B.clock board.old) (B.clock board.new) }
     ensures ends { EndsOpening result (B.faults board.old) (B.faults board.new) }

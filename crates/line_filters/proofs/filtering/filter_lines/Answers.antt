@@ -28,5 +28,5 @@ returns-clause-stops g c = stops_both (g.F.LineFilter.makes c.args.filter.now) (
 pub returns-clause-takes : goal.returns-clause-takes
 returns-clause-takes g c = if_known _ _ (λ script left.
     takes_at (looks g.B.Board.told g.B.Board.clock g.B.Board.faults) c.take_lines-ended.result c.exit_of.result c.end_lines.result _ c.take_lines-ended.new.board c.end_lines.new.board script c.take_lines-ended.new.reader
-    (g.S.Source.left c.take_lines-ended.new.source) c.exit_of.ensures c.end_lines.ensures.ends c.take_lines-ended.ensures.stop
-    (λ ok. script_known _ _ script left (c.take_lines-ended.ensures.ended ok)) c.take_lines-ended.ensures.few (c.take_lines-ended.ensures.takes script left))
+    (g.S.Source.left c.take_lines-ended.new.source) c.exit_of.ensures c.end_lines.ensures.ends c.take_lines-ended.ensures.exits.1
+    (λ ok. script_known _ _ script left (c.take_lines-ended.ensures.ended ok)) c.take_lines-ended.ensures.few.0 (c.take_lines-ended.ensures.takes script left))

@@ -11,11 +11,11 @@ use Rattle.line_filters.proofs.filtering.take_lines.Goals as goal
 
 pub loop-number-init : goal.loop-number-init
 loop-number-init g c = record {
-  along = λ script t left is. along_none _ script t _ _ _ _ c.requires.fresh left is;
-  taken = λ script is. takes_none script _ _ c.requires.fresh is;
+  along = λ script t left is. along_none _ script t _ _ _ _ c.requires.begins.0 left is;
+  taken = λ script is. takes_none script _ _ c.requires.begins.0 is;
   counted = omega arith;
   few = omega arith;
-  lines = c.requires.first;
+  lines = c.requires.begins.1;
   source = refl;
   faults = refl;
   device = device_stays _ _;
@@ -32,7 +32,7 @@ loop-number-preserved g c = record {
   taken = λ script is. (takes_more (Ok true) script c.loop-number.reader c.advance.new.self (g.S.Source.left c.loop-number.source) (g.S.Source.left c.advance.new.source) (moved_as _ (Ok true) c.loop-number.reader c.advance.new.self (g.S.Source.left c.loop-number.source) (g.S.Source.left c.advance.new.source) (ap Ok c.in-Ok-true.field-0-test) c.in-Ok-true.ensures.moves) (c.loop-number.invariant.taken script is));
   counted = (let more = c.in-Ok-true.ensures.given (ap Ok c.in-Ok-true.field-0-test) in let so_far = c.loop-number.invariant.counted in omega arith);
   few = (let more = c.in-Ok-true.ensures.given (ap Ok c.in-Ok-true.field-0-test) in let so_far = c.loop-number.invariant.counted in let few = c.in-Ok-true.ensures.few in omega arith);
-  lines = c.in_ok-take_line-in-Ok-true.ensures.taken ∙ ap (λ n. n + 1) c.loop-number.invariant.lines;
+  lines = c.in_ok-take_line-in-Ok-true.ensures.taken.0 ∙ ap (λ n. n + 1) c.loop-number.invariant.lines;
   source = c.in-Ok-true.ensures.cause ∙ c.loop-number.invariant.source;
   faults = c.in_ok-take_line-in-Ok-true.ensures.faults ∙ c.loop-number.invariant.faults;
   device = device_goes_on _ _ _ _ _ _ c.loop-number.invariant.device c.in_ok-take_line-in-Ok-true.ensures.device;

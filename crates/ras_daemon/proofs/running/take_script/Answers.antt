@@ -52,7 +52,7 @@ returns-clause-comes g c = λ start script t is_start left is.
       | in-Ok w ↦ rw w.in-Ok.is w.exit-is
       | in-Err-take_lines w ↦ rw w.in-Err-take_lines.is (w.exit-is, w.in-Err-take_lines.ensures.ends.stop)
     ]) in
-    let holds = printed_holds start [] (standing_lines start.account) t (ledger_holds start c.args.ledger t _ _ is_start c.requires.account (before_at _ _ _ _ t c.requires.ready.stands is)) in
+    let holds = printed_holds start [] (standing_lines start.account) t (ledger_holds start c.args.ledger t _ _ is_start c.requires.ledger.1 (before_at _ _ _ _ t c.requires.ledger.0.stands is)) in
     let lines_fault : c.match-take_lines.exit ≡ SourceFault → c.take_lines.result ≡ Err SourceFault = (λ fault. elim c.match-take_lines.branch [
       | in-Ok w ↦ (let e = sym w.exit-is ∙ fault in absurd cc)
       | in-Err-take_lines w ↦ w.in-Err-take_lines.is ∙ ap Err (sym w.exit-is ∙ fault)

@@ -10,11 +10,12 @@ use Rattle.ras_recover.proofs.OpeningActsLemmas.{unopened_formatting, unopened_r
 use Rattle.ras_recover.proofs.OpeningCallsLemmas.{opens_formatted, opens_standing, recovered_none, refusal_cause, told_formatted, told_opened}
 use Rattle.ras_recover.proofs.opening.open_journal.Goals as goal
 
-pub returns-in-Err-clause-told : goal.returns-in-Err-clause-told
-returns-in-Err-clause-told g c = told_opened _ _ c.recover_files.ensures.told
-
-pub returns-in-Err-clause-unopened : goal.returns-in-Err-clause-unopened
-returns-in-Err-clause-unopened g c = unopened_read _ _ _ c.recover_files.ensures.told
+pub returns-in-Err-clause-does : goal.returns-in-Err-clause-does
+returns-in-Err-clause-does g c = record {
+  told = told_opened _ _ c.recover_files.ensures.does.told;
+  whole = tt;
+  unopened = unopened_read _ _ _ c.recover_files.ensures.does.told;
+}
 
 -- a file stands
 
@@ -23,11 +24,12 @@ returns-in-Some-clause-opened g c = λ t told.
     let standing = ap (λ (v : JournalView). v.standing) c.at.ensures in
     rw standing (is_opened c.in-Ok.recovered.0.account.state c.in-Some.standing t _ _ _ told c.in-Ok.ensures.recovers (rw (← c.in-Some.is) c.in-Ok.ensures.standing) (c.in-Ok.ensures.rests t told))
 
-pub returns-in-Some-clause-told : goal.returns-in-Some-clause-told
-returns-in-Some-clause-told g c = told_opened _ _ c.recover_files.ensures.told
-
-pub returns-in-Some-clause-opens : goal.returns-in-Some-clause-opens
-returns-in-Some-clause-opens g c = opens_standing c.in-Some.standing _ _ (rw (← c.in-Some.is) c.in-Ok.ensures.standing) c.in-Ok.ensures.reads
+pub returns-in-Some-clause-does : goal.returns-in-Some-clause-does
+returns-in-Some-clause-does g c = record {
+  told = told_opened _ _ c.recover_files.ensures.does.told;
+  whole = opens_standing c.in-Some.standing _ _ (rw (← c.in-Some.is) c.in-Ok.ensures.standing) c.in-Ok.ensures.does.reads;
+  unopened = tt;
+}
 
 -- none stands
 
@@ -52,8 +54,8 @@ returns-in-Ok-format_first-clause-opened g c = λ t told.
     (opening_opens (looks g.B.Board.told g.B.Board.clock g.B.Board.faults) c.in-Ok.recovered.0.account.state c.in-Ok.recovered.1.0 c.in-Ok.recovered.1.1 c.args.board.now _ _ t told c.in-Ok.ensures.recovers (rw (← c.in_default.is) c.in-Ok.ensures.standing)
     c.in-Ok.ensures.shut (c.in-Ok.ensures.rests t told) (c.in-Ok-format_first.ensures.can tt) c.in-Ok-format_first.ensures.does)
 
-pub returns-in-Ok-format_first-clause-usable : goal.returns-in-Ok-format_first-clause-usable
-returns-in-Ok-format_first-clause-usable g c = ap (λ (v : JournalView). v.failed) c.in-Ok-format_first.ensures.journal
+pub returns-in-Ok-format_first-clause-ready : goal.returns-in-Ok-format_first-clause-ready
+returns-in-Ok-format_first-clause-ready g c = (c.in-Ok.ensures.waiting, ap (λ (v : JournalView). v.failed) c.in-Ok-format_first.ensures.journal)
 
 pub returns-in-Ok-format_first-clause-standing : goal.returns-in-Ok-format_first-clause-standing
 returns-in-Ok-format_first-clause-standing g c =
@@ -61,29 +63,27 @@ returns-in-Ok-format_first-clause-standing g c =
     rw standing
     (stands_first c.in-Ok.recovered.0.account.state c.in-Ok.recovered.1.0 c.in-Ok.recovered.1.1 _ c.in-Ok.ensures.recovers (rw (← c.in_default.is) c.in-Ok.ensures.standing) c.in-Ok.ensures.shut)
 
-pub returns-in-Ok-format_first-clause-told : goal.returns-in-Ok-format_first-clause-told
-returns-in-Ok-format_first-clause-told g c =
-    told_formatted (looks g.B.Board.told g.B.Board.clock g.B.Board.faults) c.in-Ok.recovered.0.account.state c.in-Ok.recovered.1.0 (open_end c.format_first.result) _ _ _
-    (recovered_none c.in-Ok.recovered.0.account.state c.in-Ok.recovered.1.0 c.in-Ok.recovered.1.1 _ _ c.in-Ok.ensures.recovers (rw (← c.in_default.is) c.in-Ok.ensures.standing) c.in-Ok.ensures.shut c.in-Ok.ensures.reads)
-    c.recover_files.ensures.told c.format_first.ensures.does
+pub returns-in-Ok-format_first-clause-does : goal.returns-in-Ok-format_first-clause-does
+returns-in-Ok-format_first-clause-does g c = record {
+  told = told_formatted (looks g.B.Board.told g.B.Board.clock g.B.Board.faults) c.in-Ok.recovered.0.account.state c.in-Ok.recovered.1.0 (open_end c.format_first.result) _ _ _
+      (recovered_none c.in-Ok.recovered.0.account.state c.in-Ok.recovered.1.0 c.in-Ok.recovered.1.1 _ _ c.in-Ok.ensures.recovers (rw (← c.in_default.is) c.in-Ok.ensures.standing) c.in-Ok.ensures.shut c.in-Ok.ensures.does.reads)
+      c.recover_files.ensures.does.told c.format_first.ensures.does;
+  whole = opens_formatted c.in-Ok.recovered.0.account.state c.in-Ok.recovered.1.0 _ _ _
+      (recovered_none c.in-Ok.recovered.0.account.state c.in-Ok.recovered.1.0 c.in-Ok.recovered.1.1 _ _ c.in-Ok.ensures.recovers (rw (← c.in_default.is) c.in-Ok.ensures.standing) c.in-Ok.ensures.shut c.in-Ok.ensures.does.reads)
+      c.in-Ok-format_first.ensures.does.told;
+  unopened = tt;
+}
 
-pub returns-in-Err-format_first-clause-told : goal.returns-in-Err-format_first-clause-told
-returns-in-Err-format_first-clause-told g c =
-    told_formatted (looks g.B.Board.told g.B.Board.clock g.B.Board.faults) c.in-Ok.recovered.0.account.state c.in-Ok.recovered.1.0 (open_end c.format_first.result) _ _ _
-    (recovered_none c.in-Ok.recovered.0.account.state c.in-Ok.recovered.1.0 c.in-Ok.recovered.1.1 _ _ c.in-Ok.ensures.recovers (rw (← c.in_default.is) c.in-Ok.ensures.standing) c.in-Ok.ensures.shut c.in-Ok.ensures.reads)
-    c.recover_files.ensures.told c.format_first.ensures.does
-
-pub returns-in-Ok-format_first-clause-opens : goal.returns-in-Ok-format_first-clause-opens
-returns-in-Ok-format_first-clause-opens g c =
-    opens_formatted c.in-Ok.recovered.0.account.state c.in-Ok.recovered.1.0 _ _ _
-    (recovered_none c.in-Ok.recovered.0.account.state c.in-Ok.recovered.1.0 c.in-Ok.recovered.1.1 _ _ c.in-Ok.ensures.recovers (rw (← c.in_default.is) c.in-Ok.ensures.standing) c.in-Ok.ensures.shut c.in-Ok.ensures.reads)
-    c.in-Ok-format_first.ensures.does.told
-
-pub returns-in-Err-format_first-clause-unopened : goal.returns-in-Err-format_first-clause-unopened
-returns-in-Err-format_first-clause-unopened g c =
-    unopened_formatting (looks g.B.Board.told g.B.Board.clock g.B.Board.faults) c.in-Ok.recovered.0.account.state c.in-Ok.recovered.1.0 c.in-Err-format_first.refused _ _ _
-    (recovered_none c.in-Ok.recovered.0.account.state c.in-Ok.recovered.1.0 c.in-Ok.recovered.1.1 _ _ c.in-Ok.ensures.recovers (rw (← c.in_default.is) c.in-Ok.ensures.standing) c.in-Ok.ensures.shut c.in-Ok.ensures.reads)
-    c.recover_files.ensures.told c.in-Err-format_first.ensures.does
+pub returns-in-Err-format_first-clause-does : goal.returns-in-Err-format_first-clause-does
+returns-in-Err-format_first-clause-does g c = record {
+  told = told_formatted (looks g.B.Board.told g.B.Board.clock g.B.Board.faults) c.in-Ok.recovered.0.account.state c.in-Ok.recovered.1.0 (open_end c.format_first.result) _ _ _
+      (recovered_none c.in-Ok.recovered.0.account.state c.in-Ok.recovered.1.0 c.in-Ok.recovered.1.1 _ _ c.in-Ok.ensures.recovers (rw (← c.in_default.is) c.in-Ok.ensures.standing) c.in-Ok.ensures.shut c.in-Ok.ensures.does.reads)
+      c.recover_files.ensures.does.told c.format_first.ensures.does;
+  whole = tt;
+  unopened = unopened_formatting (looks g.B.Board.told g.B.Board.clock g.B.Board.faults) c.in-Ok.recovered.0.account.state c.in-Ok.recovered.1.0 c.in-Err-format_first.refused _ _ _
+      (recovered_none c.in-Ok.recovered.0.account.state c.in-Ok.recovered.1.0 c.in-Ok.recovered.1.1 _ _ c.in-Ok.ensures.recovers (rw (← c.in_default.is) c.in-Ok.ensures.standing) c.in-Ok.ensures.shut c.in-Ok.ensures.does.reads)
+      c.recover_files.ensures.does.told c.in-Err-format_first.ensures.does;
+}
 
 pub returns-in-Ok-format_first-clause-cause : goal.returns-in-Ok-format_first-clause-cause
 returns-in-Ok-format_first-clause-cause g c = no_faults _ _ tt (c.in-Ok-format_first.ensures.does.faults ∙ same_faults _ _ tt c.in-Ok.ensures.cause)

@@ -6,11 +6,13 @@ pub returns-in-Ok-clause-rests : goal.returns-in-Ok-clause-rests
 returns-in-Ok-clause-rests g c = unless_disk c.recover_synced.result _ (λ t told.
     rests_still t.here _ _ _ _ (c.in-Ok.ensures.rests t told) c.recover_synced.ensures.keeps)
 
-pub returns-in-Ok-clause-told : goal.returns-in-Ok-clause-told
-returns-in-Ok-clause-told g c = told_recovered c.recover_synced.result _ _ (recovers _ _ c.recover_synced.result _ _ _ c.in-Ok.ensures.syncs c.recover_synced.ensures.reads)
+pub returns-in-Ok-clause-does : goal.returns-in-Ok-clause-does
+returns-in-Ok-clause-does g c =
+    let made = recovers _ _ c.recover_synced.result _ _ _ c.in-Ok.ensures.syncs c.recover_synced.ensures.reads in
+    record {
+      told = told_recovered c.recover_synced.result _ _ made;
+      reads = reads_recovered c.recover_synced.result _ _ made;
+    }
 
-pub returns-in-Ok-clause-reads : goal.returns-in-Ok-clause-reads
-returns-in-Ok-clause-reads g c = reads_recovered c.recover_synced.result _ _ (recovers _ _ c.recover_synced.result _ _ _ c.in-Ok.ensures.syncs c.recover_synced.ensures.reads)
-
-pub returns-in-Err-clause-told : goal.returns-in-Err-clause-told
-returns-in-Err-clause-told g c = told_unsynced c.sync_both.result _ _ c.sync_both.ensures.syncs
+pub returns-in-Err-clause-does : goal.returns-in-Err-clause-does
+returns-in-Err-clause-does g c = record { told = told_unsynced c.sync_both.result _ _ c.sync_both.ensures.syncs; reads = tt }
