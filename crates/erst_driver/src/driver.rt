@@ -137,8 +137,8 @@ impl Driver {
     /// At each moment a stop leaves what one before the call might have left, or this with the
     /// record put. What the calls themselves leave stands at [`crate::operations_on_the_store`].
     pub fn write<B: Board>(&self, bytes: &[u8], board: &mut B) -> Result<(), DriverRefused>
-        requires long { header_length ≤ length bytes.now }
-        requires short { length bytes.now ≤ range_length }
+        requires fits { (header_length ≤ length bytes.now)
+            × (length bytes.now ≤ range_length) }
         requires whole { number_at length_place 4 bytes.now ≡ length bytes.now }
         ensures does { IfSome (B.told board.old) (λ t. Does (looks B.told B.clock B.faults)
             (acts_of (write_calls self.now bytes.now (device_of t))) (ended_by driver_end result)

@@ -28,7 +28,7 @@ use crate::{RasWord, Task, task_of};
 use board_core::{Board, Source};
 use cper_pcie::PcieFilter;
 use line_filters::filter_lines;
-use ras_exit::Exit;
+use ras_exit::{Exit, usage_line};
 use ras_klog::KlogFilter;
 use ras_listing::report;
 use std::alloc::Global;
@@ -88,7 +88,7 @@ pub fn rasd<S: Source, B: Board>(
             let mut filter = KlogFilter::new(boot, cap);
             filter_lines(alloc, &mut filter, source, board)
         }
-        None => last_line(b"stop 1 usage\n", Exit::Usage, board),
+        None => last_line(usage_line(), Exit::Usage, board),
     }
 }
 

@@ -12,7 +12,7 @@ ghost use Rattle.ras_daemon.specs.RunOutput.{closing_line};
 use board_core::Board;
 use ras_account::Account;
 use ras_base::NoMemory;
-use ras_exit::{Exit, print, stop_line};
+use ras_exit::{Exit, busy_line, print, stop_line};
 use ras_texts::end_line;
 use std::alloc::Global;
 
@@ -46,7 +46,7 @@ pub fn end_run<B: Board>(alloc: Global, exit: Exit, account: &Account, board: &m
         return exit;
     }
     if let Exit::ErstBusy = exit {
-        return last_line(b"stop 10 busy\n", exit, board);
+        return last_line(busy_line(), exit, board);
     }
     match closing_line(alloc, exit, account) {
         Ok(line) => last_line(&line, exit, board),

@@ -66,9 +66,9 @@ returns-in-Some-Klog-clause-commands g c =
 pub returns-in-None-clause-commands : goal.returns-in-None-clause-commands
 returns-in-None-clause-commands g c =
     usage_commands c.last_line.result _ _ _ _ _ _ _ (sym c.task_of.ensures.task ∙ c.in-None.is)
-    (says_printed (looks g.B.Board.told g.B.Board.clock g.B.Board.faults) Usage c.last_line.result (stop_line Usage) c.args.board.now c.last_line.new.board c.last_line.ensures.says)
-    c.last_line.ensures.stops c.last_line.ensures.device
+    (says_printed (looks g.B.Board.told g.B.Board.clock g.B.Board.faults) Usage c.last_line.result (stop_line Usage) c.args.board.now c.last_line.new.board (rw c.usage_line.ensures at c.last_line.ensures.says))
+    (rw c.usage_line.ensures at c.last_line.ensures.stops) c.last_line.ensures.device
 
 pub returns-in-None-clause-causes : goal.returns-in-None-clause-causes
 returns-in-None-clause-causes g c =
-    says_causes (looks g.B.Board.told g.B.Board.clock g.B.Board.faults) Usage c.last_line.result (stop_line Usage) c.args.board.now c.last_line.new.board _ refl c.last_line.ensures.says
+    says_causes (looks g.B.Board.told g.B.Board.clock g.B.Board.faults) Usage c.last_line.result (stop_line Usage) c.args.board.now c.last_line.new.board _ refl (rw c.usage_line.ensures at c.last_line.ensures.says)

@@ -10,7 +10,7 @@ use Rattle.erst_driver.proofs.DeviceLemmas.{over_device_told}
 use Rattle.erst_driver.proofs.driver.Driver.write.Goals as goal
 
 pub returns-clause-answers : goal.returns-clause-answers
-returns-clause-answers g c = over_device_told _ _ c.put_and_operate.ensures.device (write_gives c.args.bytes.now c.requires.long c.requires.short c.requires.whole c.args.self.now _ _ c.put_and_operate.result c.put_and_operate.ensures.writes)
+returns-clause-answers g c = over_device_told _ _ c.put_and_operate.ensures.device (write_gives c.args.bytes.now c.requires.fits.0 c.requires.fits.1 c.requires.whole c.args.self.now _ _ c.put_and_operate.result c.put_and_operate.ensures.writes)
 
 pub returns-clause-kept : goal.returns-clause-kept
 returns-clause-kept g c = write_kept c.args.bytes.now c.args.self.now _ _ c.put_and_operate.result c.put_and_operate.ensures.writes
@@ -40,12 +40,12 @@ returns-clause-does g c =
           calls t is tt quiet result (at_told _ told t leaves is) cause c.put_and_operate.ensures.refused
       | inr filled ↦ does_to_store see c.args.board.now c.put_and_operate.new.board (λ n left. g.met.B.Board.store_is_left c.put_and_operate.new.board n left)
           calls t is tt (store_after_write bytes t.here.store)
-          (write_after lists bytes t c.requires.long c.requires.short c.requires.whole filled.0 filled.1 here)
+          (write_after lists bytes t c.requires.fits.0 c.requires.fits.1 c.requires.whole filled.0 filled.1 here)
           (Puts bytes) (λ new becomes. becomes)
-          (write_puts bytes c.requires.long c.requires.short c.requires.whole lists _ _ result device writes (λ n left. g.met.B.Board.store_is_left c.args.board.now n left))
+          (write_puts bytes c.requires.fits.0 c.requires.fits.1 c.requires.whole lists _ _ result device writes (λ n left. g.met.B.Board.store_is_left c.args.board.now n left))
           result (at_told _ told t leaves is) cause c.put_and_operate.ensures.refused
     ]))
 
 pub returns-clause-stops : goal.returns-clause-stops
-returns-clause-stops g c = write_puts c.args.bytes.now c.requires.long c.requires.short c.requires.whole c.args.self.now _ _ c.put_and_operate.result
+returns-clause-stops g c = write_puts c.args.bytes.now c.requires.fits.0 c.requires.fits.1 c.requires.whole c.args.self.now _ _ c.put_and_operate.result
     c.put_and_operate.ensures.device c.put_and_operate.ensures.writes (λ t left. g.met.B.Board.store_is_left c.args.board.now t left)
