@@ -1,7 +1,11 @@
 # What demo/bank-lines, demo/trace-lines and demo/ghes-lines share: numbers, and the words before a line of the kernel.
 
-# A hexadecimal word of any length in decimal.
+# A hexadecimal word of any length in decimal. What awk calls a number is exact up to 13 digits.
 function decimal(word,   digits, result, carry, k, i, digit) {
+    if (length(word) < 14) {
+        for (k = 1; k <= length(word); k++) result = result * 16 + index("123456789abcdef", substr(word, k, 1))
+        return sprintf("%.0f", result)
+    }
     digits = "0"
     for (k = 1; k <= length(word); k++) {
         carry = index("123456789abcdef", substr(word, k, 1))

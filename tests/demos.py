@@ -120,7 +120,8 @@ def checks_of_json():
     lines = printed_lines()
     for kind in KINDS:
         yield holds(f"no line begins with {kind}", any(it.startswith(kind) for it in lines))
-    seconds = [0, 86399, 951782399, 951782400, 4107542399, 253402300799, 253402300800, 2**64 - 1, *range(0, 10**11, 777777777)]
+    seconds = [0, 86399, 951782399, 951782400, 4107542399, 253402300799, 253402300800, 2**64 - 1]
+    seconds += range(0, 10**11, 777777777)
     lines += [f"log bert=1 t={it} empty" for it in seconds]
     output, status = output_of("json", "".join(f"{it}\n" for it in lines).encode())
     objects = output.decode().splitlines()
@@ -134,7 +135,8 @@ def checks_of_json():
 
 def flat(members):
     """Members with those of an object in an object behind its key."""
-    return [it for key, value in members for it in ([(key, {})] + flat(value) if isinstance(value, list) else [(key, value)])]
+    parts = [[(key, {}), *flat(value)] if isinstance(value, list) else [(key, value)] for key, value in members]
+    return [it for part in parts for it in part]
 
 
 # ---- demo/metrics
@@ -239,7 +241,8 @@ def checks_of_metrics(program):
     is_right = status == 0 and wanted.items() <= samples.items() and len(samples) == 20 + 3 + 2 + 2
     yield holds(f"metrics: {output.decode()}", is_right)
     later = "end entries=7 names=5\n"
-    for cut in ("", counts + pages, counts + "stop 7 file=0 place=1\n" + modules, counts + pages + later, later + pages + modules):
+    stopped, others = counts + "stop 7 file=0 place=1\n" + modules, (counts + pages + later, later + pages + modules)
+    for cut in ("", counts + pages, stopped, *others):
         ran = subprocess.run([DEMO / "metrics"], input=cut.encode(), capture_output=True)
         is_silent = (ran.stdout, ran.returncode) == (b"", 1) and ran.stderr.startswith(b"metrics: ")
         yield holds(f"metrics: something is told of {cut!r}", is_silent)
@@ -303,7 +306,8 @@ def checks_of_bank_lines():
     output, _ = output_of("bank-lines", plain.replace("TSC 0 ", "TSC ffffffffffffffff ").encode(), "3", "1000c14")
     yield holds("bank-lines: another counter than 0 doesn't stay", output.count(b" 7 18446744073709551615 1000c14 ") == 3)
     yield from checks_of_other_lines(plain)
-    yield from checks_of_words("bank-lines", ("3", "1000c14"), ("", "1000c14"), ("x", "1"), ("3", ""), ("3", "0x1"), ("3",))
+    wrong = (("", "1000c14"), ("x", "1"), ("3", ""), ("3", "0x1"), ("3",))
+    yield from checks_of_words("bank-lines", ("3", "1000c14"), *wrong)
     yield from checks_of_waiting("bank-lines", plain, "3", "1000c14")
 
 
@@ -320,21 +324,29 @@ def checks_of_other_lines(plain):
     lines = plain.splitlines(keepends=True)
     whole = said_by("bank-lines", plain, "3", "1000c14")[0]
     first, rest = whole.split("\n", 1)
+    within = "".join([*lines[:2], STRINGS_OF_A_DEVICE, *lines[2:]])
     tried = [
         ("a device's lines", STRINGS_OF_A_DEVICE + plain, whole, "not begun by the kernel"),
-        ("a device's lines within", "".join([*lines[:2], STRINGS_OF_A_DEVICE, *lines[2:]]), whole, "not begun by the kernel"),
-        ("AMD", plain.replace("PROCESSOR 0:306e4 TIME 1400000100", "PROCESSOR 2:a00f11 TIME 1400000100", 1), rest, "not of Intel"),
+        ("a device's lines within", within, whole, "not begun by the kernel"),
+        ("AMD", plain.replace("PROCESSOR 0:306e4", "PROCESSOR 2:a00f11", 1), rest, "not of Intel"),
         ("a cut report", "".join(lines[:2] + lines[4:]), rest, "not whole, left out: CPU 0 bank 7"),
         ("a cut log", "".join(lines[:3]), "", "not whole, left out: CPU 0 bank 7"),
     ]
     for old, new in (
-        ("CPU 0", "CPU 65536"), ("Bank 7", "Bank 256"), (": 8c00004000010090", ": 18c00004000010090"), ("TSC 0", "TSC 10000000000000000"),
-        ("ADDR 1", "ADDR 10000000000000000"), ("TIME 1", "TIME 99999999991"), ("Check: 0", "Check: x"), ("[  100.000002", "[" + "9" * 14 + ".000002"),
-    ):
+        ("CPU 0", "CPU 65536"), ("Bank 7", "Bank 256"), ("7: 8c", "7: 018c"), ("TSC 0", "TSC 1" + "0" * 16),
+        ("ADDR 1", "ADDR 1" + "0" * 16), ("TIME 1", "TIME 99999999991"), ("Check: 0", "Check: x"),
+        ("[  100.000002", "[" + "9" * 14 + ".000002"),
+    ):  # fmt: skip
         tried.append((new, plain.replace(old, new, 1), rest, "no such numbers"))
     for what, text, wanted, why in tried:
-        output, said = said_by("bank-lines", text, "3", "1000c14")
-        yield holds(f"bank-lines: {what}: {output}{said}", output == wanted and said.startswith(f"bank-lines: {why}"))
+        yield makes("bank-lines", what, text, wanted, f"bank-lines: {why}", "3", "1000c14")
+
+
+def makes(name, what, text, wanted, why, *words):
+    """Whether a script makes that of a text, and says why it left something out, or nothing."""
+    output, said = said_by(name, text, *words)
+    is_told = said.startswith(why) and bool(said) == bool(why)
+    return holds(f"{name}: {what}: {output}{said}", output == wanted and is_told)
 
 
 def checks_of_words(name, right, *wrong):
@@ -359,9 +371,9 @@ def checks_of_waiting(name, text, *words):
 # ---- demo/trace-lines
 
 TRACE = (
-    "           <...>-123     [002] ..... {stamp}: mce_record: CPU: {cpu}, MCGc/s: 1000c14/5, MC7: 8c00004000010090, IPID: {zero}, "
-    "ADDR/MISC/SYND: 0000000012345040/0000000000000086/{zero}, RIP: 10:<ffffffff81000000>, TSC: {tsc}, PROCESSOR: {vendor}:306e4, "
-    "TIME: 1400000000, SOCKET: 0, APIC: 0\n"
+    "           <...>-123     [002] ..... {stamp}: mce_record: CPU: {cpu}, MCGc/s: 1000c14/5, MC7: 8c00004000010090, "
+    "IPID: {zero}, ADDR/MISC/SYND: 0000000012345040/0000000000000086/{zero}, RIP: 10:<ffffffff81000000>, TSC: {tsc}, "
+    "PROCESSOR: {vendor}:306e4, TIME: 1400000000, SOCKET: 0, APIC: 0\n"
 )
 
 
@@ -373,20 +385,21 @@ def traced(stamp="12345.678901", cpu=3, tsc="3e8", vendor=0):
 def checks_of_trace_lines():
     """Each machine check of Intel that the kernel traces gives a line; others are told."""
     line = "bank 9 1400000000 3 7 {} 1000c14 5 8c00004000010090 12345040 86\n"
+    two = traced(tsc="0") + traced("12345.678902", tsc="0")
+    others = "# tracer: nop\n#\n" + traced() + "x-1 [000] ..... 1.000000: other: mce_record: CPU: 0\n"
     for what, text, wanted, why in (
         ("an error", traced(), line.format(1000), ""),
         ("the greatest counter", traced(tsc="f" * 16), line.format(2**64 - 1), ""),
         ("a polled error", traced(tsc="0"), line.format(12345678901), ""),
-        ("two of them", traced(tsc="0") + traced("12345.678902", tsc="0"), line.format(12345678901) + line.format(12345678902), ""),
-        ("other lines", "# tracer: nop\n#\n" + traced() + "x-1 [000] ..... 1.000000: other: mce_record: CPU: 0\n", line.format(1000), ""),
+        ("two of them", two, line.format(12345678901) + line.format(12345678902), ""),
+        ("other lines", others, line.format(1000), ""),
         ("a process with spaces", traced().replace("<...>", "a b: [1] c"), line.format(1000), ""),
         ("AMD", traced(vendor=2) + traced(), line.format(1000), "trace-lines: not of Intel, left out: CPU 3 bank 7"),
         ("a wrong CPU", traced(cpu=65536) + traced(), line.format(1000), "trace-lines: not understood, left out: "),
         ("another form", traced().replace("ADDR/MISC/SYND", "ADDR"), "", "trace-lines: not understood, left out: "),
         ("a cut line", traced()[:150] + "\n" + traced(), line.format(1000), "trace-lines: not understood, left out: "),
     ):
-        output, said = said_by("trace-lines", text, "9")
-        yield holds(f"trace-lines: {what}: {output}{said}", output == wanted and said.startswith(why) and bool(said) == bool(why))
+        yield makes("trace-lines", what, text, wanted, why, "9")
     yield from checks_of_words("trace-lines", ("9",), (), ("",), ("9", "1"))
     yield from checks_of_waiting("trace-lines", traced(), "9")
 
@@ -413,6 +426,7 @@ def checks_of_ghes_lines(program):
     table = re.search(r"(?m)^let SOURCES (\w+)$", (TESTS / "rows.txt").read_text())[1]
     lines = f"hest {table}\nghes 7 160 1 100000001 {block}\n"
     lines_within = re.sub(r"(?m)^\[.*?\]", "[  100.000005] usb 1-1: Product:", REPORT.replace("80001000", "7f000000"))
+    lines_within = REPORT.replace("[  100.000006]", lines_within + "[  100.000006]")
     two = REPORT + re.sub(r"\[  100", "[  101", REPORT).replace("{1}", "{2}")
     second = f"ghes 7 161 1 101000001 {block}\n"
     for what, text, wanted, why in (
@@ -420,13 +434,12 @@ def checks_of_ghes_lines(program):
         ("with a host", REPORT.replace("] {", "] node7 kernel: {"), lines, ""),
         ("two reports", two, lines + second, ""),
         ("another line within", REPORT.replace("[  100.000006]", "[  100.000005] eth0: up\n[  100.000006]"), lines, ""),
-        ("a device's lines within", REPORT.replace("[  100.000006]", lines_within + "[  100.000006]"), lines, "ghes-lines: not begun by"),
+        ("a device's lines within", lines_within, lines, "ghes-lines: not begun by"),
         ("no first line", REPORT[REPORT.index("\n") + 1 :], "", "ghes-lines: without its first line"),
         ("no brackets", re.sub(r"(?m)^\[.*?\] ", "", REPORT), "", "ghes-lines: without a source or a time"),
         ("another section", REPORT.replace("memory error", "PCIe error"), "", "ghes-lines: not about memory"),
     ):
-        output, said = said_by("ghes-lines", text, "7", "60")
-        yield holds(f"ghes-lines: {what}: {output}{said}", output == wanted and said.startswith(why) and bool(said) == bool(why))
+        yield makes("ghes-lines", what, text, wanted, why, "7", "60")
     yield from checks_of_words("ghes-lines", ("7", "60"), (), ("",), ("7", "x"), ("7", "1", "2"))
     yield from checks_of_waiting("ghes-lines", two + "[  200.000000] eth0: up\n", "7", "60")
     yield from checks_of_many_sources(program)
@@ -440,7 +453,8 @@ def checks_of_many_sources(program):
     with tempfile.TemporaryDirectory() as folder:
         ran = subprocess.run([program, "run"], input=output.encode(), capture_output=True, cwd=folder)
     is_short = all(len(line) < 4096 for line in output.splitlines())
-    yield holds(f"ghes-lines: many sources: {ran.stdout[-99:]}", is_short and ran.stdout.endswith(b"end entries=60 names=60\n"))
+    is_taken = ran.stdout.endswith(b"end entries=60 names=60\n")
+    yield holds(f"ghes-lines: many sources: {ran.stdout[-99:]}", is_short and is_taken)
 
 
 # ---- demo/put-lines
@@ -461,7 +475,8 @@ def checks_of_put_lines():
     """Each record is put whole under its identifier; what comes before a cut one too, and nothing of that."""
     data, first = (DEMO / "firmware.records").read_bytes(), 353
     line, second = put_of(data[:first]), put_of(data[first:])
-    odd = {it: record_of(*it) for it in ((0, 400), (2**64 - 1, 5000), (7, 16385), (8, 20_000), (9, 128), (10, 16384), (11, 129))}
+    kinds = ((0, 400), (2**64 - 1, 5000), (7, 16385), (8, 20_000), (9, 128), (10, 16384), (11, 129))
+    odd = {it: record_of(*it) for it in kinds}
     taken = b"".join(put_of(odd[it]) for it in ((9, 128), (10, 16384), (11, 129)))
     tried = [(data, line + second, 0), (b"", b"", 0), (data[:first] * 30, line * 30, 0)]
     tried += [(data[: first + n], line, 1) for n in (1, 20, 24, 127, 352)]
@@ -469,12 +484,14 @@ def checks_of_put_lines():
     tried += [(b"".join(odd.values()), taken, 1), (data[:first] + odd[8, 20_000][:-1], line, 1)]
     for records, wanted, status in tried:
         ran = subprocess.run([DEMO / "put-lines"], input=records, capture_output=True)
+        is_right = (ran.stdout, ran.returncode) == (wanted, status)
         is_told = ran.stderr.startswith(b"put-lines: ") == (status == 1)
-        yield holds(f"put-lines: {len(records)} bytes: {ran.stdout[:80]}", (ran.stdout, ran.returncode) == (wanted, status) and is_told)
+        yield holds(f"put-lines: {len(records)} bytes: {ran.stdout[:80]}", is_right and is_told)
     start = time.monotonic()
     many = b"".join(record_of(it, 16384) for it in range(1, 301))
     output, status = output_of("put-lines", many)
-    yield holds("put-lines: many records", status == 0 and output.count(b"\n") == 300 and output.startswith(put_of(record_of(1, 16384))))
+    is_right = output.count(b"\n") == 300 and output.startswith(put_of(record_of(1, 16384)))
+    yield holds("put-lines: many records", status == 0 and is_right)
     yield holds(f"put-lines: it took {time.monotonic() - start} seconds", time.monotonic() - start < 20)
 
 
