@@ -23,7 +23,7 @@ use Rattle.ras_script.specs.declared.line.Line.TheVariants as asks
 use Rattle.ras_events.specs.Reports.{NumberedLine}
 use Rattle.ras_events.specs.Stores.{found_after, put_by, with_put_by}
 use Rattle.ras_events.proofs.HistoryLemmas.{account_by_history}
-use Rattle.text_laws.specs.DoneLines.{done_count}
+use Rattle.ras_events.specs.DoneLines.{done_count}
 use Rattle.ras_daemon.specs.Headline.{account_with, laid_with, lines_with, reported}
 use Rattle.ras_daemon.specs.RunOutput.{output_upto}
 use Rattle.ras_daemon.specs.Runs.{BeginsWith, history_after, logged}

@@ -16,7 +16,7 @@ use Rattle.ras_panic.specs.Reading.{stored_name}
 use Rattle.ras_script.specs.declared.line.Line.{Line}
 use Rattle.ras_events.specs.Stores.{found_after, put_by, read_stored}
 use Rattle.ras_run.specs.Places.{Start}
-use Rattle.text_laws.specs.DoneLines.{done_count}
+use Rattle.ras_events.specs.DoneLines.{done_count}
 use Rattle.ras_daemon.specs.Headline.{Headline, account_with, lines_with, reported}
 use Rattle.ras_daemon.specs.RunOf.{run_of}
 use Rattle.ras_daemon.specs.RunOutput.{output_upto}

@@ -14,7 +14,7 @@ use Rattle.ras_script.specs.Line.{line_of}
 use Rattle.ras_script.specs.Splitting.{lines_of}
 use Rattle.ras_script.specs.SplittingLaws.{script_of}
 use Rattle.ras_texts.specs.Orders.{standing_lines}
-use Rattle.text_laws.specs.DoneLines.{done_count}
+use Rattle.ras_events.specs.DoneLines.{done_count}
 use Rattle.ras_exit.specs.declared.exit.Exit.{Exit}
 use Rattle.ras_exit.specs.declared.exit.Exit.TheVariants.{SourceFault}
 use Rattle.ras_run.specs.Places.{Start}

@@ -17,7 +17,7 @@ use Rattle.ras_recover.specs.OpeningActs.{AreOpeningActs}
 use Rattle.ras_script.specs.declared.line.Line.{Line}
 use Rattle.ras_texts.specs.Orders.{standing_lines}
 use Rattle.ras_events.specs.Reports.{NumberedLine}
-use Rattle.text_laws.specs.DoneLines.{done_count}
+use Rattle.ras_events.specs.DoneLines.{done_count}
 use Rattle.ras_exit.specs.declared.exit.Exit.{Exit}
 use Rattle.ras_exit.specs.Endings.{CallEnding, EndsBy, IfAnswered, OnAnswer, OnlyFault, OnWhole, UnlessFaulted, answered, ending_of, faulted, source_failed, starved}
 use Rattle.ras_exit.specs.Telling.{PrintsPart}
@@ -48,7 +48,7 @@ use Rattle.ras_daemon.proofs.CourseLemmas.{end-store}
 use Rattle.ras_daemon.proofs.StoreLemmas.{store-first}
 use Rattle.ras_daemon.proofs.MachineLemmas.{account-same, end-same}
 use Rattle.ras_exit.specs.declared.exit.Exit.TheVariants.{DiskFault, ErstBusy, NoMemory, SourceFault}
-use Rattle.text_laws.proofs.DoneLemmas.{none_done}
+use Rattle.ras_events.proofs.DoneLemmas.{none_done}
 
 -- the store is kept, unless the device was busy for too long
 kept-at-end : (exit : Exit) (next : Option Line) (store : List Stored) → (exit ≡ ErstBusy → ⊥) → store_on_end exit next store ≡ store

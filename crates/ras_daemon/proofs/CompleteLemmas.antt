@@ -15,8 +15,8 @@ use Rattle.ras_exit.specs.Endings.{CallEnding, IfAnswered, OnAnswer, answered, e
 use Rattle.ras_exit.proofs.EndingLemmas.{memory_ran_out}
 use Rattle.ras_run.specs.Places.{Start, account_at}
 use Rattle.ras_texts.specs.Orders.{standing_lines}
-use Rattle.text_laws.specs.DoneLines.{done_count}
-use Rattle.text_laws.proofs.DoneLemmas.{none_done}
+use Rattle.ras_events.specs.DoneLines.{done_count}
+use Rattle.ras_events.proofs.DoneLemmas.{none_done}
 use Rattle.ras_daemon.specs.Commands.{MayEnd}
 use Rattle.ras_daemon.specs.declared.word.Task.{Task}
 use Rattle.ras_daemon.specs.declared.word.Task.TheVariants.{Run, Report, Load, Pcie, Klog}

@@ -10,7 +10,7 @@ use Rattle.ras_facts.specs.declared.entry.Entry.{Entry}
 use Rattle.ras_texts.specs.Orders.{standing_lines}
 use Rattle.ras_texts.specs.Text.{done_line}
 use Rattle.ras_events.specs.Reports.{NumberedLine, Place, entries_at}
-use Rattle.text_laws.specs.DoneLines.{done_count}
+use Rattle.ras_events.specs.DoneLines.{done_count}
 use Rattle.ras_run.specs.Output.{output_at}
 use Rattle.ras_run.specs.Places.{Start, account_at}
 use Rattle.ras_run.specs.Status.{places_before_refusal}
@@ -21,8 +21,8 @@ use Rattle.ras_daemon.specs.Script.{events_of, is_event}
 use Rattle.ras_daemon.proofs.EventLemmas.{Tells, tells-first}
 use Rattle.ras_daemon.proofs.ListLemmas.{all-weaker, flat_map-passing, take-passing}
 use Rattle.ras_daemon.proofs.FirstLinesLemmas.{first-before}
-use Rattle.text_laws.proofs.DoneLemmas.{done_counts, quiet_count}
-use Rattle.text_laws.proofs.LineLemmas.{standing_quiet}
+use Rattle.ras_events.proofs.DoneLemmas.{done_counts, quiet_count}
+use Rattle.ras_events.proofs.WholeLineLemmas.{standing_quiet}
 
 -- how many lines of places are events
 abbrev pub events_among : List Place → ℕ

@@ -45,7 +45,7 @@ use Rattle.ras_events.specs.declared.made.Piece.{Piece}
 use Rattle.ras_events.specs.Reports.{NumberedLine, Place, entries_at, event_at, made_in, settings_told}
 use Rattle.ras_events.specs.Sizes.{IsFit}
 use Rattle.ras_events.specs.Stores.{laid}
-use Rattle.text_laws.specs.QuietLines.{AreQuietLines}
+use Rattle.ras_events.specs.QuietLines.{AreQuietLines}
 use Rattle.ras_exit.specs.declared.exit.Exit.{Exit}
 use Rattle.ras_exit.specs.declared.exit.Exit.TheVariants.{BadLine, ErstBusy, Full}
 use Rattle.ras_run.specs.Output.{event_done, event_text_at, output_at, text_at}
@@ -55,9 +55,9 @@ use Rattle.ras_run.specs.Taking.{IsAccepted}
 use Rattle.ras_daemon.specs.Steps.Running.{AreFirst}
 use Rattle.ras_daemon.specs.Runs.{IsNoPoll}
 use Rattle.ras_daemon.specs.Script.{is_event}
-use Rattle.text_laws.proofs.DoneLemmas.{no_lines_quiet}
-use Rattle.text_laws.proofs.EventLemmas.{event_quiet_in}
-use Rattle.text_laws.proofs.LineLemmas.{standing_quiet}
+use Rattle.ras_events.proofs.DoneLemmas.{no_lines_quiet}
+use Rattle.ras_events.proofs.EventLemmas.{event_quiet_in}
+use Rattle.ras_events.proofs.WholeLineLemmas.{standing_quiet}
 use Rattle.ras_run.proofs.PlaceLemmas.{account-snoc}
 
 -- ---- the account along accepted lines

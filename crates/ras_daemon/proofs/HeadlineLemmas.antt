@@ -16,8 +16,8 @@ use Rattle.ras_account.specs.Continued.{account_after_all}
 use Rattle.ras_journal.specs.Recovered.{Recovers}
 use Rattle.ras_texts.specs.Orders.{standing_lines}
 use Rattle.ras_events.specs.Reports.{NumberedLine, Place, entries_at}
-use Rattle.text_laws.specs.DoneLines.{done_count}
-use Rattle.text_laws.specs.QuietLines.{AreQuietLines}
+use Rattle.ras_events.specs.DoneLines.{done_count}
+use Rattle.ras_events.specs.QuietLines.{AreQuietLines}
 use Rattle.ras_exit.specs.declared.exit.Exit.{Exit}
 use Rattle.ras_exit.specs.declared.exit.Exit.TheVariants.{Done, Usage}
 use Rattle.ras_run.specs.Output.{output_at}
@@ -42,8 +42,8 @@ use Rattle.ras_daemon.proofs.CourseLemmas.{InLine, begun-now, end-now, left-next
 use Rattle.ras_daemon.proofs.KeptLemmas.{StoreNow, cleared-during, first-kept, kept-during, kept-weaker, known-next, none-kept, store-during}
 use Rattle.ras_daemon.proofs.MachineLemmas.{to-machine}
 use Rattle.ras_daemon.proofs.StoreLemmas.{store-first}
-use Rattle.text_laws.proofs.DoneLemmas.{event_begun, none_done}
-use Rattle.text_laws.proofs.LineLemmas.{end_quiet, standing_quiet}
+use Rattle.ras_events.proofs.DoneLemmas.{event_begun, none_done}
+use Rattle.ras_events.proofs.WholeLineLemmas.{end_quiet, standing_quiet}
 use Rattle.ras_daemon.proofs.StopLemmas.{stop_quiet}
 
 -- ---- beginnings of what a run prints

@@ -9,7 +9,7 @@ use Rattle.ras_base.specs.Places.{places}
 use Rattle.ras_script.specs.Line.{line_of}
 use Rattle.ras_script.specs.Lines.{without_last}
 use Rattle.ras_script.proofs.LineAndWordLemmas.{lines_unbroken, some_part, split_between, split_lacking}
-use Rattle.text_laws.specs.DoneLines.{ended_lines}
+use Rattle.ras_events.specs.DoneLines.{ended_lines}
 use Rattle.ras_daemon.specs.Ahead.{events_in, is_event_line}
 use Rattle.ras_script.specs.Reader.{IsLine, Moves, MovesLine, Reader, given_count}
 use Rattle.ras_script.specs.declared.reader.TheConstants.{LONGEST_LINE}

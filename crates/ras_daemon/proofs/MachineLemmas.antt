@@ -19,7 +19,7 @@ use Rattle.ras_run.specs.Status.{places_before_refusal}
 use Rattle.ras_script.specs.declared.line.Line.{Line}
 use Rattle.ras_script.specs.declared.line.Line.TheVariants.{Put, Panic, Poll}
 use Rattle.ras_texts.specs.Orders.{standing_lines}
-use Rattle.text_laws.specs.DoneLines.{done_count}
+use Rattle.ras_events.specs.DoneLines.{done_count}
 use Rattle.ras_daemon.specs.Headline.{Headline, account_with, laid_with, lines_with}
 use Rattle.ras_daemon.specs.Machine.{Run, RunEvent, StoreChange, account_upto, change_next, clears, keeps, last_changed, last_upto, store_changed, store_upto, text_of, text_upto}
 use Rattle.ras_daemon.specs.RunOf.{change_by, change_of, run_of, run_event_at}

@@ -4,10 +4,10 @@ use Rattle.std.specs.Option.{option_map_or}
 use Rattle.std.specs.Prelude.{decimal}
 use Rattle.ras_exit.specs.declared.reason.Reason.{Reason}
 use Rattle.ras_exit.specs.declared.reason.Reason.TheVariants as reason
-use Rattle.text_laws.specs.QuietLines.{AreQuietLines}
-use Rattle.text_laws.proofs.ByteLemmas.{decimal_unbroken, is_unbroken, lacks_from, unbroken_both}
-use Rattle.text_laws.proofs.LineLemmas.{refused_quiet}
-use Rattle.text_laws.proofs.QuietLemmas.{quiet_line, quiet_none}
+use Rattle.ras_events.specs.QuietLines.{AreQuietLines}
+use Rattle.ras_events.proofs.ByteLemmas.{decimal_unbroken, is_unbroken, lacks_from, unbroken_both}
+use Rattle.ras_events.proofs.WholeLineLemmas.{refused_quiet}
+use Rattle.ras_events.proofs.QuietLemmas.{quiet_line, quiet_none}
 use Rattle.ras_exit.specs.declared.exit.Exit.{Exit}
 use Rattle.ras_exit.specs.declared.exit.Exit.TheVariants.{BadLine, Damaged, ErstBusy, ErstRefused, ErstStatus, Full, TooLong, Usage}
 use Rattle.ras_exit.specs.Reasons.{reason_number, reason_text, reason_word}

@@ -6,7 +6,7 @@ use Rattle.ras_script.specs.declared.reader.TheConstants.{LONGEST_LINE}
 use Rattle.line_filters.specs.Filters.{TakesOf}
 use Rattle.ras_script.specs.Line.{line_of}
 use Rattle.ras_script.specs.Splitting.{lines_of}
-use Rattle.text_laws.specs.DoneLines.{done_count, ended_lines}
+use Rattle.ras_events.specs.DoneLines.{done_count, ended_lines}
 use Rattle.ras_exit.specs.declared.exit.Exit.{Exit}
 use Rattle.ras_exit.specs.declared.exit.Exit.TheVariants.{SourceFault}
 use Rattle.ras_daemon.specs.Script.{is_event}

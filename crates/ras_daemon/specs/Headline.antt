@@ -15,7 +15,7 @@ use Rattle.ras_journal.specs.Recovered.{HasFewLinks, Recovers}
 use Rattle.ras_recover.specs.OpeningActs.{AreOpeningActs}
 use Rattle.ras_events.specs.Reports.{NumberedLine, Place, entries_at}
 use Rattle.ras_events.specs.Stores.{laid}
-use Rattle.text_laws.specs.DoneLines.{done_count}
+use Rattle.ras_events.specs.DoneLines.{done_count}
 use Rattle.ras_exit.specs.declared.exit.Exit.{Exit}
 use Rattle.ras_exit.specs.declared.exit.Exit.TheVariants.{DiskFault, NoMemory}
 use Rattle.ras_panic.specs.Reading.{stored_name}

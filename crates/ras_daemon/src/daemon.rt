@@ -8,7 +8,7 @@ ghost use Rattle.ras_exit.specs.Endings.{OnAnswer};
 ghost use Rattle.ras_journal.specs.Recovered.{HasFewLinks};
 ghost use Rattle.ras_recover.specs.DiskCalls.{IsBeginning, Makes};
 ghost use Rattle.ras_run.specs.Places.{Start};
-ghost use Rattle.text_laws.specs.DoneLines.{done_count};
+ghost use Rattle.ras_events.specs.DoneLines.{done_count};
 ghost use Rattle.ras_daemon.specs.Ahead.{TakesBy};
 ghost use Rattle.ras_daemon.specs.Commands.{ByTask, MayEnd};
 ghost use Rattle.ras_daemon.specs.Headline.{OverRun, laid_with};

@@ -10,3 +10,10 @@ pub mod RepeatLemmas
 pub mod PollLemmas
 pub mod StoreLemmas
 pub mod SavingLemmas
+pub mod ByteLemmas
+pub mod PieceLemmas
+pub mod DoneLemmas
+pub mod QuietLemmas
+pub mod WholeLineLemmas
+pub mod EventLemmas
+pub mod CountLemmas

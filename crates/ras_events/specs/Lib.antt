@@ -6,4 +6,7 @@ pub mod Texts
 pub mod Reports
 pub mod Preparing
 pub mod Repeats
+pub mod DoneLines
+pub mod QuietLines
+pub mod PrintedEvents
 pub mod Steps

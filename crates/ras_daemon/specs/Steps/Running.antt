@@ -24,7 +24,7 @@ use Rattle.ras_run.specs.Status.{places_before_refusal, refusal_at}
 use Rattle.ras_run.specs.Taking.{IsAccepted}
 use Rattle.ras_daemon.specs.Headline.{AtOpening}
 use Rattle.ras_daemon.specs.RunOutput.{closing_line}
-use Rattle.text_laws.specs.DoneLines.{ended_lines}
+use Rattle.ras_events.specs.DoneLines.{ended_lines}
 use Rattle.ras_daemon.specs.Ahead.{events_in}
 use Rattle.ras_daemon.specs.RunStatus.{run_exit}
 use Rattle.ras_daemon.specs.Script.{reads_in, reads_of}

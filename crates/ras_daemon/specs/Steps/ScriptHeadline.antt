@@ -14,7 +14,7 @@ use Rattle.ras_panic.specs.Reading.{stored_name}
 use Rattle.ras_run.specs.Places.{Start}
 use Rattle.ras_script.specs.declared.line.Line.{Line}
 use Rattle.ras_script.specs.declared.line.Line.TheVariants.{Put, Panic, Poll}
-use Rattle.text_laws.specs.DoneLines.{done_count}
+use Rattle.ras_events.specs.DoneLines.{done_count}
 use Rattle.ras_daemon.specs.Headline.{account_with, laid_with, lines_with}
 use Rattle.ras_daemon.specs.RunOutput.{output_upto, run_output}
 use Rattle.ras_daemon.specs.Script.{line_after}

@@ -1,8 +1,8 @@
 -- What is printed of events that are done one after the other.
 use Rattle.std.specs.Prelude.{◌≡◌, ℕ, ◌≤◌, List, ◌++◌, flat_map, length, take}
 use Rattle.ras_texts.specs.Text.{done_line}
-use Rattle.text_laws.specs.DoneLines.{done_count}
-use Rattle.text_laws.specs.QuietLines.{AreQuietLines}
+use Rattle.ras_events.specs.DoneLines.{done_count}
+use Rattle.ras_events.specs.QuietLines.{AreQuietLines}
 
 -- an event as it is printed: its lines, and then the one that says that it is done
 pub record PrintedEvent : Type 0 where

@@ -1,6 +1,6 @@
-use Rattle.text_laws.proofs.EventLemmas.{event_quiet}
-use Rattle.text_laws.proofs.LineLemmas.{standing_quiet, end_quiet}
-use Rattle.text_laws.proofs.printed.printed_lines_are_quiet.Goals as goal
+use Rattle.ras_events.proofs.EventLemmas.{event_quiet}
+use Rattle.ras_events.proofs.WholeLineLemmas.{standing_quiet, end_quiet}
+use Rattle.ras_events.proofs.printed.printed_lines_are_quiet.Goals as goal
 
 pub returns-clause-event : goal.returns-clause-event
 returns-clause-event c = event_quiet

@@ -5,10 +5,10 @@ use Rattle.std.proofs.lemmas.List.Concat.{flat_map-append}
 use Rattle.std.proofs.lemmas.List.Elements.{All-head, All-tail}
 use Rattle.ras_script.specs.SplittingLaws.{Lacks}
 use Rattle.ras_texts.specs.Text.{line_with, done_line}
-use Rattle.text_laws.specs.DoneLines.{is_done_line}
-use Rattle.text_laws.specs.QuietLines.{AreLines, AreQuietLines, IsQuietLine}
-use Rattle.text_laws.proofs.ByteLemmas.{is_unbroken, lacks_from}
-use Rattle.text_laws.proofs.DoneLemmas.{done_text, done_lacks}
+use Rattle.ras_events.specs.DoneLines.{is_done_line}
+use Rattle.ras_events.specs.QuietLines.{AreLines, AreQuietLines, IsQuietLine}
+use Rattle.ras_events.proofs.ByteLemmas.{is_unbroken, lacks_from}
+use Rattle.ras_events.proofs.DoneLemmas.{done_text, done_lacks}
 
 all_both : {X : Type 0} (P : X → Type 0) (xs ys : List X) → AllByRecursion P xs → AllByRecursion P ys → AllByRecursion P (xs ++ ys)
 all_both P [] ys one other = other

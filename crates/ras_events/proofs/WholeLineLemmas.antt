@@ -20,10 +20,10 @@ use Rattle.ras_account.specs.Modules.{Module}
 use Rattle.ras_texts.specs.Orders.{state_line, module_line, module_label, order_line, order_lines, page_line, replaced_line, standing_lines}
 use Rattle.ras_texts.specs.Text.{item_head, item_line, limit_line, limit_text, module_limit_line, retire_line, repeat_line, end_line, line_with, name_text, label_text, page_text, address_text}
 use Rattle.ras_script.specs.SplittingLaws.{Lacks}
-use Rattle.text_laws.specs.QuietLines.{AreQuietLines}
-use Rattle.text_laws.proofs.ByteLemmas.{is_unbroken, unbroken_from, unbroken-append, decimal_unbroken}
-use Rattle.text_laws.proofs.PieceLemmas.{name_unbroken, class_unbroken, address_unbroken, page_unbroken, label_text_unbroken}
-use Rattle.text_laws.proofs.QuietLemmas.{quiet_none, quiet_both, quiet_line, quiet_all, quiet_each}
+use Rattle.ras_events.specs.QuietLines.{AreQuietLines}
+use Rattle.ras_events.proofs.ByteLemmas.{is_unbroken, unbroken_from, unbroken-append, decimal_unbroken}
+use Rattle.ras_events.proofs.PieceLemmas.{name_unbroken, class_unbroken, address_unbroken, page_unbroken, label_text_unbroken}
+use Rattle.ras_events.proofs.QuietLemmas.{quiet_none, quiet_both, quiet_line, quiet_all, quiet_each}
 
 -- ---- entries
 

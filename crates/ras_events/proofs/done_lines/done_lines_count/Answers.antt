@@ -1,5 +1,5 @@
-use Rattle.text_laws.proofs.DoneLemmas.{quiet_count, none_done, done_counts, done_begun, event_begun, joined_count, front_count}
-use Rattle.text_laws.proofs.done_lines.done_lines_count.Goals as goal
+use Rattle.ras_events.proofs.DoneLemmas.{quiet_count, none_done, done_counts, done_begun, event_begun, joined_count, front_count}
+use Rattle.ras_events.proofs.done_lines.done_lines_count.Goals as goal
 
 pub returns-clause-quiet : goal.returns-clause-quiet
 returns-clause-quiet c = quiet_count

@@ -3,7 +3,7 @@ use Rattle.std.specs.Prelude.{◌≡◌, ℕ, List, IsFalse, flat_map}
 use Rattle.std.specs.List.{AllByRecursion}
 use Rattle.ras_script.specs.SplittingLaws.{Lacks}
 use Rattle.ras_texts.specs.Text.{line_with}
-use Rattle.text_laws.specs.DoneLines.{is_done_line}
+use Rattle.ras_events.specs.DoneLines.{is_done_line}
 
 -- a text is lines, each with one line feed, at its end
 pub record AreLines (text : List ℕ) : Type 0 where

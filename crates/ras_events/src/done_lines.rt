@@ -2,9 +2,9 @@
 
 ghost use Rattle.std.specs.Prelude.{◌≡◌, ◌≤◌, ◌+◌, ◌++◌, ℕ, List, length, All};
 ghost use Rattle.ras_texts.specs.Text.{done_line};
-ghost use Rattle.text_laws.specs.DoneLines.{done_count};
-ghost use Rattle.text_laws.specs.QuietLines.{AreLines, AreQuietLines};
-ghost use Rattle.text_laws.specs.PrintedEvents.{PrintedEvent, IsPrintedEvent, HoldsFirst, printed_events};
+ghost use Rattle.ras_events.specs.DoneLines.{done_count};
+ghost use Rattle.ras_events.specs.QuietLines.{AreLines, AreQuietLines};
+ghost use Rattle.ras_events.specs.PrintedEvents.{PrintedEvent, IsPrintedEvent, HoldsFirst, printed_events};
 
 /// The laws of counting the lines that say that an event is done. The function does nothing: its
 /// clauses are what it is for.

@@ -2,10 +2,10 @@
 use Rattle.std.proofs.Common.{◌≡◌, ℕ, suc, ◌+◌, ◌≤◌, ◌⊎◌, inl, inr, List, [], ◌∷◌, ◌++◌, length, take, drop, get_or, All, refl, sym, ap, ◌∙◌, arith, append_assoc, one-add}
 use Rattle.std.proofs.lemmas.List.Elements.{All-head, All-tail}
 use Rattle.ras_texts.specs.Text.{done_line}
-use Rattle.text_laws.specs.DoneLines.{done_count}
-use Rattle.text_laws.specs.QuietLines.{AreQuietLines}
-use Rattle.text_laws.specs.PrintedEvents.{PrintedEvent, IsPrintedEvent, HoldsFirst, printed_event, printed_events}
-use Rattle.text_laws.proofs.DoneLemmas.{quiet_count, done_counts, none_done, event_begun}
+use Rattle.ras_events.specs.DoneLines.{done_count}
+use Rattle.ras_events.specs.QuietLines.{AreQuietLines}
+use Rattle.ras_events.specs.PrintedEvents.{PrintedEvent, IsPrintedEvent, HoldsFirst, printed_event, printed_events}
+use Rattle.ras_events.proofs.DoneLemmas.{quiet_count, done_counts, none_done, event_begun}
 
 event_counts : (event : PrintedEvent) (more : List ℕ) → IsPrintedEvent event → done_count (printed_event event ++ more) ≡ 1 + done_count more
 event_counts event more quiet =

@@ -25,7 +25,7 @@ use Rattle.ras_facts.specs.declared.name.Name.TheVariants as names
 use Rattle.ras_texts.specs.Text.{name_text, class_text, address_text, page_text, label_text}
 use Rattle.ras_texts.specs.Detail.{threshold_text, mark_text, bit_text, code_detail, error_detail, flags_detail, bank_detail}
 use Rattle.ras_texts.specs.Sections.{memory_types, type_text, digits_text, told_text, memory_text, processor_text, x64_text, other_text}
-use Rattle.text_laws.proofs.ByteLemmas.{is_unbroken, first_of, second_of, unbroken_both, unbroken-append, decimal_unbroken, hexadecimal_unbroken, guid_unbroken, drop_unbroken, table_unbroken, label_unbroken}
+use Rattle.ras_events.proofs.ByteLemmas.{is_unbroken, first_of, second_of, unbroken_both, unbroken-append, decimal_unbroken, hexadecimal_unbroken, guid_unbroken, drop_unbroken, table_unbroken, label_unbroken}
 
 -- ---- names, classes, pages and labels
 

@@ -5,11 +5,11 @@ use Rattle.std.proofs.lemmas.List.Elements.{filter-append}
 use Rattle.ras_script.specs.Lines.{without_last}
 use Rattle.ras_script.specs.SplittingLaws.{Lacks}
 use Rattle.ras_texts.specs.Text.{line_with, done_line}
-use Rattle.text_laws.specs.DoneLines.{ended_lines, is_done_line, done_lines, done_count}
-use Rattle.text_laws.specs.QuietLines.{AreLines, AreQuietLines, IsQuietLine}
+use Rattle.ras_events.specs.DoneLines.{ended_lines, is_done_line, done_lines, done_count}
+use Rattle.ras_events.specs.QuietLines.{AreLines, AreQuietLines, IsQuietLine}
 use Rattle.ras_script.proofs.LineAndWordLemmas.{some_part, split_between, split_lacking}
 use Rattle.ras_script.proofs.ReaderLemmas.{lacks_both}
-use Rattle.text_laws.proofs.ByteLemmas.{lacks_from, decimal_lacks}
+use Rattle.ras_events.proofs.ByteLemmas.{lacks_from, decimal_lacks}
 
 -- the parts of a text round line feeds
 abbrev parts : List ℕ → List (List ℕ)

@@ -35,11 +35,11 @@ use Rattle.ras_events.specs.Sizes.{IsFit}
 use Rattle.ras_events.specs.Preparing.{event_text_in, orders_along_entries, text_along}
 use Rattle.ras_events.specs.Texts.{event_text}
 use Rattle.ras_events.proofs.HistoryLemmas.{event_by_history}
-use Rattle.text_laws.specs.QuietLines.{AreQuietLines}
-use Rattle.text_laws.proofs.ByteLemmas.{is_unbroken, unbroken-append, decimal_unbroken, hexadecimal_unbroken}
-use Rattle.text_laws.proofs.PieceLemmas.{name_unbroken, bank_unbroken, section_unbroken, processor_unbroken, x64_unbroken, other_unbroken}
-use Rattle.text_laws.proofs.QuietLemmas.{quiet_none, quiet_both, quiet_line}
-use Rattle.text_laws.proofs.LineLemmas.{HasLabel, item_quiet, limit_quiet, module_limit_quiet, retire_quiet, repeat_quiet, orders_quiet}
+use Rattle.ras_events.specs.QuietLines.{AreQuietLines}
+use Rattle.ras_events.proofs.ByteLemmas.{is_unbroken, unbroken-append, decimal_unbroken, hexadecimal_unbroken}
+use Rattle.ras_events.proofs.PieceLemmas.{name_unbroken, bank_unbroken, section_unbroken, processor_unbroken, x64_unbroken, other_unbroken}
+use Rattle.ras_events.proofs.QuietLemmas.{quiet_none, quiet_both, quiet_line}
+use Rattle.ras_events.proofs.WholeLineLemmas.{HasLabel, item_quiet, limit_quiet, module_limit_quiet, retire_quiet, repeat_quiet, orders_quiet}
 
 quiet_if : (t : Bool) (one other : List ℕ) → AreQuietLines one → AreQuietLines other → AreQuietLines (if t then one else other)
 quiet_if true one other first second = first

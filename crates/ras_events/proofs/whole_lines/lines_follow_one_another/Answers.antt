@@ -1,8 +1,8 @@
 use Rattle.ras_script.proofs.ReaderLemmas.{lacks_both}
-use Rattle.text_laws.proofs.ByteLemmas.{decimal_lacks}
-use Rattle.text_laws.proofs.QuietLemmas.{quiet_alone, quiet_none, quiet_both, lines_quiet, done_alone, lines_both}
-use Rattle.text_laws.proofs.LineLemmas.{refused_quiet}
-use Rattle.text_laws.proofs.whole_lines.lines_follow_one_another.Goals as goal
+use Rattle.ras_events.proofs.ByteLemmas.{decimal_lacks}
+use Rattle.ras_events.proofs.QuietLemmas.{quiet_alone, quiet_none, quiet_both, lines_quiet, done_alone, lines_both}
+use Rattle.ras_events.proofs.WholeLineLemmas.{refused_quiet}
+use Rattle.ras_events.proofs.whole_lines.lines_follow_one_another.Goals as goal
 
 pub returns-clause-text : goal.returns-clause-text
 returns-clause-text c = quiet_alone

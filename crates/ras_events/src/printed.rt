@@ -9,7 +9,7 @@ ghost use Rattle.std.specs.Prelude.{List};
 ghost use Rattle.ras_events.specs.declared.made.Piece.{Piece};
 ghost use Rattle.ras_events.specs.Sizes.{IsFit};
 ghost use Rattle.ras_events.specs.Texts.{event_text};
-ghost use Rattle.text_laws.specs.QuietLines.{AreQuietLines};
+ghost use Rattle.ras_events.specs.QuietLines.{AreQuietLines};
 
 /// The laws of printed texts. The function does nothing: its clauses are what it is for.
 pub fn printed_lines_are_quiet()

@@ -3,8 +3,8 @@
 ghost use Rattle.std.specs.Prelude.{◌++◌, ℕ, List, [], codes, decimal, IsFalse};
 ghost use Rattle.ras_script.specs.SplittingLaws.{Lacks};
 ghost use Rattle.ras_texts.specs.Text.{done_line, line_with};
-ghost use Rattle.text_laws.specs.DoneLines.{is_done_line};
-ghost use Rattle.text_laws.specs.QuietLines.{AreLines, AreQuietLines};
+ghost use Rattle.ras_events.specs.DoneLines.{is_done_line};
+ghost use Rattle.ras_events.specs.QuietLines.{AreLines, AreQuietLines};
 
 /// The laws of whole lines. The function does nothing: its clauses are what it is for.
 pub fn lines_follow_one_another()

@@ -1,3 +1,0 @@
-pub mod DoneLines
-pub mod QuietLines
-pub mod PrintedEvents
