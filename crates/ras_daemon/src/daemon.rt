@@ -68,7 +68,7 @@ pub fn rasd<S: Source, B: Board>(
     ensures reads { ReadsBy (task_of words.now)
         (TakesBy result (S.left source.old) (S.left source.new)) (source.new ≡ source.old) }
 
-    // A fault is the exit if and only if a call failed.
+    // A fault is the exit if and only if a call failed, and then no other did.
     ensures causes { Caused result (S.faults source.old) (S.faults source.new)
         (B.faults board.old) (B.faults board.new) }
 
