@@ -237,6 +237,9 @@ def puts():
     gives("put 400 01\n", f"done 1\n{end}", held=stored(*full), left=stored(*full[:-1], (1024, b"\1")))
 
 
+# The records of a file that is as long as one may be: as many of them, and each of as many bytes, as a store takes.
+LONGEST = [(number, bytes(16_384)) for number in range(1, 1_025)]
+
 # Store files that are none, each with what it shows.
 SIX = stored((6, b"\0"))
 MALFORMED = {
@@ -251,6 +254,7 @@ MALFORMED = {
     "16,385 bytes": with_bytes(SIX, {20: "01 40 00 00"}) + bytes(16_384),
     "an identifier twice": with_bytes(SIX, {8: "02"}) + SIX[12:],
     "1,025 records": stored(*((number, b"") for number in range(1, 1_026))),
+    "a byte behind the longest file": stored(*LONGEST) + b"\0",
 }
 
 
