@@ -106,8 +106,8 @@ impl Files {
         }
     }
 
-    /// Makes the file durable. A sync that failed isn't tried again: the system may then say that
-    /// all is well though the bytes are not on the disk.
+    /// Makes the file durable. A sync that failed isn't tried again, unless a signal interrupted
+    /// it: the system may then say that all is well though the bytes are not on the disk.
     pub fn sync(&mut self, file: FileNo) -> io::Result<()>
         ensures { OnOk result (OpensFile file self.old self.new) }
     {

@@ -2,8 +2,9 @@
 //! and the standard streams.
 //!
 //! The board and the source are proved for their counts of faults, and the board for what a call
-//! does to the error record device that it keeps. What the system is asked for is in `system`
-//! alone, and in no clause.
+//! does to the error record device that it keeps. What the system is asked for is in no clause:
+//! `system` opens, locks, reads and replaces files and syncs folders, `files` writes, syncs and
+//! measures the journal's, and `file_board` prints.
 #![tactic(auto)]
 
 mod faults;

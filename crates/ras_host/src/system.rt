@@ -1,4 +1,5 @@
-//! What is asked of the system, and in which order: all that no clause says.
+//! What is asked of the system, and in which order, as no clause says it; but for the calls on an
+//! open journal file, and the print.
 //!
 //! The library's calls on a whole file, `read_exact_at` and `write_all_at` go on after a short read
 //! or write, and make a call again that a signal interrupted.

@@ -67,7 +67,7 @@ fn file_follows_the_store(rt: HostRuntime) -> Result<(), Fail> {
     assert!(rt; ask(&mut board, GET_RECORD_COUNT) == Some(0) && clear(&mut board, 6) == Some(4));
     assert!(rt; is_missing(&rt, STORE) && put(&mut board, 6) == Ok(()));
     assert!(rt; holds(&rt, STORE, ONE) && count_anew(rt) == Some(1));
-    let _ = chown(&rt, STORE, Some(7), Some(7));
+    let _ = chown(&rt, STORE, Some(7), Some(8));
     fs::set_permissions(&rt, STORE, Permissions::from_mode(0o640))?;
     let old = fs::metadata(&rt, STORE)?;
     let refused = Err(BoardPut::Refused(PutRefused::ReservedId));
