@@ -1,5 +1,5 @@
 -- A run from its start: the journal is opened, or it is refused.
-use Rattle.std.proofs.Common.{◌≡◌, ℕ, false, List, [], ◌∷◌, ◌++◌, Option, None, Some, IfSome, IsSomeAnd, Result, Ok, Err, refl, ap, sym, ◌∙◌, subst, append-nil, arith, inl, inr, unwrap_or}
+use Rattle.std.proofs.Common.{◌≡◌, ℕ, false, List, [], ◌∷◌, ◌++◌, Option, None, Some, IfSome, IsSomeAnd, Result, Ok, Err, refl, ap, sym, ◌∙◌, subst, append-nil, inl, inr, unwrap_or}
 use Rattle.std.specs.Prelude.{◌⊎◌, ⊤}
 use Rattle.std.proofs.lemmas.List.Elements.{All-nil}
 use Rattle.board_core.specs.declared.board.DiskCall.{DiskCall}
@@ -11,7 +11,7 @@ use Rattle.board_core.specs.Clock.{Clock, Adds, LeftNow}
 use Rattle.board_core.specs.Steps.ClockLemmas.{adds_both, adds_none, adds_weaker}
 use Rattle.board_core.specs.Device.{LeavesDevice}
 use Rattle.board_core.specs.Doing.{Seen}
-use Rattle.board_core.specs.Stop.{Left}
+use Rattle.board_core.specs.Stop.{Begins, InOut, Left}
 use Rattle.board_core.specs.Told.{Relates, Told}
 use Rattle.ras_base.specs.Prefix.{IsPrefixOf}
 use Rattle.ras_account.specs.Account.{State, account_of}
@@ -24,7 +24,7 @@ use Rattle.ras_recover.specs.DiskCalls.{IsBeginning, IsReading, Makes}
 use Rattle.ras_recover.specs.Opening.{Opening, standing_opened}
 use Rattle.ras_recover.specs.OpeningActs.{LeavesUnopened}
 use Rattle.ras_recover.specs.OpeningCalls.{AfterOpening, AfterRecovery, IsRecovery, MakesOpening}
-use Rattle.ras_recover.specs.Recovering.{file_number}
+use Rattle.ras_recover.specs.Recovering.{RestsHere, file_number}
 use Rattle.ras_recover.proofs.OpeningCallsLemmas.{refused_keeps, refused_recovers, told_opened}
 use Rattle.ras_exit.specs.declared.exit.Exit.{Exit}
 use Rattle.ras_exit.specs.declared.exit.Exit.TheVariants.{Damaged, DiskFault, NoMemory, SourceFault, TooLong}
@@ -37,7 +37,7 @@ use Rattle.ras_exit.specs.StopLine.{stop_line}
 use Rattle.ras_exit.specs.Telling.{PrintMoment, Tells}
 use Rattle.ras_run.specs.Files.{KeepsFiles, files_refusal, refusal_exit}
 use Rattle.ras_run.specs.Taking.{IsReady, OpensLedger, Prints}
-use Rattle.ras_run.proofs.OpenLemmas.{CountsEarlier}
+use Rattle.ras_listing.specs.Reporting.{ReportMoment}
 use Rattle.ras_daemon.specs.Steps.Doing.{Comes, ComesScript, DoesRun, Ends, Opens as OpensRun, TakesScript}
 use Rattle.ras_daemon.specs.Promises.{EndsRefused, OverRefused, Refuses}
 use Rattle.ras_daemon.specs.Headline.{AtOpening, OverRun}
@@ -47,6 +47,7 @@ use Rattle.ras_daemon.specs.Steps.Running.{EndsAhead, EndsIn, IsStart, OpenMomen
 use Rattle.ras_daemon.specs.declared.word.Task.{Task}
 use Rattle.ras_daemon.specs.declared.word.Task.TheVariants.{Run}
 use Rattle.ras_daemon.proofs.SaidLemmas.{Printed, before_at, says_printed}
+use Rattle.ras_daemon.proofs.TakenLemmas.{answers}
 use Rattle.ras_daemon.proofs.ScriptLemmas.{early_none, takes_runs, takes_stops}
 
 -- ---- where source and board tell, and the files hold a history
@@ -152,7 +153,7 @@ refuses_cut why result before now ends calls cut text keeps = (
 
 -- with both, and with what stops leave
 refuses_whole : (result : Exit) (Same : Type 0) (a b : Clock) (before : Told) (new : Option Told) (refusal : Option Exit) → Same → LeavesDevice (Some before) new a b
-    → IfSome refusal (λ why. Adds (PrintMoment a (stop_line why)) a b) → IfSome refusal (λ why. IsSomeAnd new (RefusesSo why result before)) → IfSome refusal (λ why. IsSomeAnd new (Refuses result Same a b why before))
+    → IfSome refusal (λ why. Adds (ReportMoment a (stop_line why) before.here) a b) → IfSome refusal (λ why. IsSomeAnd new (RefusesSo why result before)) → IfSome refusal (λ why. IsSomeAnd new (Refuses result Same a b why before))
 refuses_whole result Same a b before new None same device stops so = tt
 refuses_whole result Same a b before None (Some why) same device stops so = absurd so
 refuses_whole result Same a b before (Some now) (Some why) same device stops so = record { ends = so.0; tells = so.1; files = so.2; stops = stops; calls = so.3; device = device; unread = same }
@@ -284,60 +285,52 @@ refused_none P (Some t) new account is = rw (opened_not (recovered t.here.file0 
 
 -- ---- what stops leave of files that are refused
 
--- a beginning of a text may be nothing
-none_begun : (clock : Clock) (text : List ℕ) (left : Left) → LeftNow clock left → PrintMoment clock text left
-none_begun clock text left now = record {
-  from = left;
-  was = now;
-  by = record { text = left.out; step = record { part = []; missing = text; splits = refl; is = sym (append-nil left.out) }; rest = refl };
-}
+module _ (a b : Clock) (before : Told) (mid : Option Told) (why : Exit) (refused : files_refusal before.here ≡ Some why) (opening : Adds (Opening a before.here) a b) where
+  -- what a stop leaves while the last line is printed
+  abbrev AtLast : Left → Type 0
+  AtLast = ReportMoment a (stop_line why) before.here
 
-module _ (a b : Clock) (before : Told) (why : Exit) (refused : files_refusal before.here ≡ Some why) (opening : Adds (Opening a before.here) a b) (earlier : CountsEarlier b) where
-  never_formats : (left : Left) → Opening a before.here left → LeftNow a left
-  never_formats left (inl now) = now
+  never_formats : (left : Left) → Opening a before.here left → AtLast left
+  never_formats left (inl now) = inl now
   never_formats left (inr formats) =
       let err = refusal_err (recovered before.here.file0 before.here.file1) why refused in
       let both : ◌≡◌ {A = Result State Refusal} (Ok (account_of empty)) (Err err.0) = sym formats.none.recovers ∙ err.1 in
       absurd cc
 
-  unopened : Adds (LeftNow a) a b
-  unopened = adds_weaker (Opening a before.here) (LeftNow a) a b opening never_formats
+  unprinted : Adds AtLast a b
+  unprinted = adds_weaker (Opening a before.here) AtLast a b opening never_formats
 
-  -- a stop then leaves what one before the opening may have left
-  left_before : (left : Left) → LeftNow b left → LeftNow a left
-  left_before left now = elim (unopened.each a.now left (omega arith) (earlier a.now b.now left unopened.later now)) [ inl was ↦ was | inr was ↦ was ]
-
-  unprinted : Adds (PrintMoment a (stop_line why)) a b
-  unprinted = adds_weaker (LeftNow a) (PrintMoment a (stop_line why)) a b unopened (none_begun a (stop_line why))
-
-  last_printed : (c : Clock) → Adds (PrintMoment b (stop_line why)) b c → Adds (PrintMoment a (stop_line why)) a c
-  last_printed c prints =
-      adds_both (PrintMoment a (stop_line why)) a b c unprinted
-      (adds_weaker (PrintMoment b (stop_line why)) (PrintMoment a (stop_line why)) b c prints (λ left by. record { from = by.from; was = left_before by.from by.was; by = by.by }))
+  last_printed : (c : Clock) → RestsHere before.here mid b → Adds (PrintMoment b (stop_line why)) b c → Adds AtLast a c
+  last_printed c rests prints =
+      adds_both AtLast a b c unprinted
+      (adds_weaker (PrintMoment b (stop_line why)) AtLast b c prints
+      (λ left by. inr (subst (λ (from : Left). InOut (Begins (stop_line why)) from left) (rests.rests.only by.from by.was ∙ rests.same) by.by)))
 
 refused_stops : {X : Type 0} (see : X → Seen) (exit result : Exit) (state : State) (before : Told) (old mid new : X) (refusal : Option Exit) → files_refusal before.here ≡ refusal → OpensLedger (Err exit) (recovered before.here.file0 before.here.file1)
-    → Adds (Opening (see old).clock before.here) (see old).clock (see mid).clock → CountsEarlier (see mid).clock → Ends see exit result (closing_line state exit) mid new
-    → Adds (PrintMoment (see mid).clock (closing_line state exit)) (see mid).clock (see new).clock → IfSome refusal (λ why. Adds (PrintMoment (see old).clock (stop_line why)) (see old).clock (see new).clock)
-refused_stops see exit result state before old mid new None is opens opening earlier ends prints = tt
-refused_stops see exit result state before old mid new (Some why) is opens opening earlier ends prints = by ends (refused_as (recovered before.here.file0 before.here.file1) why exit is opens)
+    → Adds (Opening (see old).clock before.here) (see old).clock (see mid).clock → OnAnswer exit (RestsHere before.here (see mid).told (see mid).clock) → Ends see exit result (closing_line state exit) mid new
+    → Adds (PrintMoment (see mid).clock (closing_line state exit)) (see mid).clock (see new).clock → IfSome refusal (λ why. Adds (ReportMoment (see old).clock (stop_line why) before.here) (see old).clock (see new).clock)
+refused_stops see exit result state before old mid new None is opens opening rests ends prints = tt
+refused_stops see exit result state before old mid new (Some why) is opens opening rests ends prints = by ends (refused_as (recovered before.here.file0 before.here.file1) why exit is opens)
   where
-    by : Ends see exit result (closing_line state exit) mid new → (exit ≡ why) ⊎ IsCut exit → Adds (PrintMoment (see old).clock (stop_line why)) (see old).clock (see new).clock
+    by : Ends see exit result (closing_line state exit) mid new → (exit ≡ why) ⊎ IsCut exit → Adds (ReportMoment (see old).clock (stop_line why) before.here) (see old).clock (see new).clock
     by (inr cut) found =
-        subst (λ x. Adds (PrintMoment (see old).clock (stop_line why)) (see old).clock (see x).clock) (sym cut.2) (unprinted (see old).clock (see mid).clock before why is opening earlier)
+        subst (λ x. Adds (ReportMoment (see old).clock (stop_line why) before.here) (see old).clock (see x).clock) (sym cut.2) (unprinted (see old).clock (see mid).clock before (see mid).told why is opening)
     by (inl said) (inr cut) = absurd (not_both exit cut said.0)
     by (inl said) (inl same) =
-        last_printed (see old).clock (see mid).clock before why is opening earlier (see new).clock
+        last_printed (see old).clock (see mid).clock before (see mid).told why is opening (see new).clock
+        (subst (λ (e : CallEnding). IfAnswered e (RestsHere before.here (see mid).told (see mid).clock)) (answers exit said.0) rests)
         (subst (λ line. Adds (PrintMoment (see mid).clock line) (see mid).clock (see new).clock) (ap (closing_line state) same ∙ refusal_line (recovered before.here.file0 before.here.file1) why state is) prints)
 
 pub files_refused : {X : Type 0} (see : X → Seen) (Same : Type 0) (exit result : Exit) (state : State) (old mid new : X) → Same → LeavesDevice (see old).told (see new).told (see old).clock (see new).clock
     → Relates AfterOpening (see old).told (see mid).told → IfSome (see old).told (λ t. OpensLedger (Err exit) (recovered t.here.file0 t.here.file1)) → Ends see exit result (closing_line state exit) mid new
-    → ((t : Told) → (see old).told ≡ Some t → Adds (Opening (see old).clock t.here) (see old).clock (see mid).clock) → CountsEarlier (see mid).clock
+    → ((t : Told) → (see old).told ≡ Some t → Adds (Opening (see old).clock t.here) (see old).clock (see mid).clock) → OnAnswer exit ((t : Told) → (see old).told ≡ Some t → RestsHere t.here (see mid).told (see mid).clock)
     → Adds (PrintMoment (see mid).clock (closing_line state exit)) (see mid).clock (see new).clock → OverRefused (Refuses result Same (see old).clock (see new).clock) (Some Run) (see old).told (see new).told
-files_refused see Same exit result state old mid new same device after opens ends opening earlier prints =
+files_refused see Same exit result state old mid new same device after opens ends opening rests prints =
     over_refused (Refuses result Same (see old).clock (see new).clock) (see old).told (see new).told (λ before one.
     refuses_whole result Same (see old).clock (see new).clock before (see new).told (files_refusal before.here) same
     (subst (λ o. LeavesDevice o (see new).told (see old).clock (see new).clock) one device)
-    (refused_stops see exit result state before old mid new (files_refusal before.here) refl (if_told (λ t. OpensLedger (Err exit) (recovered t.here.file0 t.here.file1)) (see old).told before one opens) (opening before one) earlier ends prints)
+    (refused_stops see exit result state before old mid new (files_refusal before.here) refl (if_told (λ t. OpensLedger (Err exit) (recovered t.here.file0 t.here.file1)) (see old).told before one opens) (opening before one)
+    (answer_weaker exit ((t : Told) → (see old).told ≡ Some t → RestsHere t.here (see mid).told (see mid).clock) (RestsHere before.here (see mid).told (see mid).clock) rests (λ holds. holds before one)) ends prints)
     (refused_so see exit result state before old mid new one after opens ends))
 
 -- ---- a run, from what its parts did
@@ -365,9 +358,9 @@ pub starved_refused : (Same : Type 0) (told : Option Told) (clock : Clock) → S
 starved_refused Same None clock same = tt
 starved_refused Same (Some t) clock same = refuses_whole NoMemory Same clock clock t (Some t) (files_refusal t.here) same (device_stays (Some t) clock) (still (files_refusal t.here)) (by (files_refusal t.here))
   where
-    still : (refusal : Option Exit) → IfSome refusal (λ why. Adds (PrintMoment clock (stop_line why)) clock clock)
+    still : (refusal : Option Exit) → IfSome refusal (λ why. Adds (ReportMoment clock (stop_line why) t.here) clock clock)
     still None = tt
-    still (Some why) = adds_none (PrintMoment clock (stop_line why)) clock
+    still (Some why) = adds_none (ReportMoment clock (stop_line why) t.here) clock
 
     by : (refusal : Option Exit) → IfSome refusal (λ why. IsSomeAnd (Some t) (RefusesSo why NoMemory t))
     by None = tt

@@ -11,9 +11,10 @@ use Rattle.ras_recover.specs.OpeningCalls.{IsOpening, IsRecovery}
 use Rattle.ras_exit.specs.Causes.{BoardCause, SourceCause}
 use Rattle.ras_exit.specs.Endings.{OnAnswer, OnWhole, ending_of}
 use Rattle.ras_exit.specs.StopLine.{stop_line}
-use Rattle.ras_exit.specs.Telling.{PrintMoment, PrintsPart, Tells}
+use Rattle.ras_exit.specs.Telling.{PrintsPart, Tells}
 use Rattle.ras_exit.specs.declared.exit.Exit.{Exit}
 use Rattle.ras_exit.specs.declared.exit.Exit.TheVariants.{DiskFault, NoMemory, PrintFault}
+use Rattle.ras_listing.specs.Reporting.{ReportMoment}
 use Rattle.ras_run.specs.Files.{KeepsFiles, files_refusal}
 use Rattle.ras_run.specs.Places.{Start}
 use Rattle.ras_texts.specs.Orders.{standing_lines}
@@ -94,8 +95,9 @@ pub record Refuses (exit : Exit) (Same : Type 0) (old new : Clock) (why : Exit) 
   pub ends : EndsRefused why exit
   pub tells : Tells why (stop_line why) exit before now
   pub files : KeepsFiles before now
-  -- A stop at any moment leaves what one at the start may have left, with a beginning of that line.
-  pub stops : Adds (PrintMoment old (stop_line why)) old new
+  -- A stop at any moment leaves what one at the start may have left, or all as it was told then, with a
+  -- beginning of that line.
+  pub stops : Adds (ReportMoment old (stop_line why) before.here) old new
   -- The disk calls are those of a recovery, or a beginning of them.
   pub calls : Makes (IsBeginning IsRecovery) before now
   pub device : LeavesDevice (Some before) (Some now) old new

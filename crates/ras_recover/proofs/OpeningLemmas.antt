@@ -19,7 +19,7 @@ use Rattle.entry_format.specs.Spelling.{limit_bytes}
 use Rattle.ras_journal.specs.declared.limits.TheConstants.{LONGEST_FILE}
 use Rattle.ras_journal.specs.declared.standing.Standing.{Standing}
 use Rattle.ras_journal.specs.File.{FileFront, has_open_gate, first_front, whole_front, front_of}
-use Rattle.ras_journal.specs.Recovered.{HasFewLinks, Refusal, JournalFile, greater, generation_in, journal_of, account_of_journal, recovered, standing_of, standing_in, position_of, is_shut, Recovers, IsAt}
+use Rattle.ras_journal.specs.Recovered.{HasFewLinks, Refusal, damaged, too_long, JournalFile, greater, generation_in, journal_of, account_of_journal, recovered, standing_of, standing_in, position_of, is_shut, Recovers, IsAt}
 use Rattle.ras_journal.specs.Laws.{CanBegin, begun_front}
 use Rattle.ras_journal.proofs.PartLemmas.{bind_ok, same_ok}
 use Rattle.ras_journal.proofs.FewLemmas.{few_absent}
@@ -28,8 +28,10 @@ use Rattle.ras_journal.proofs.JournalLemmas.{both_whole, both_parts, recovers_of
 use Rattle.ras_journal.proofs.PairLemmas.{none_stands}
 use Rattle.ras_recover.specs.Formatting.{behind_gate, formatting_acts}
 use Rattle.ras_recover.specs.Steps.Looking.{standing_begun}
-use Rattle.ras_recover.specs.Opening.{FormatsFirst, Opening, HoldsNone, IsOpened, acts_behind, first_standing, opening_acts, standing_opened}
-use Rattle.ras_recover.specs.Recovering.{KeepsTold, RestsHere}
+use Rattle.ras_recover.specs.Opening.{FormatsFirst, Opening, HoldsNone, IsOpened, OnRefusal, acts_behind, first_standing, opening_acts, standing_opened}
+use Rattle.ras_recover.specs.Recovering.{KeepsTold, RefusesHeld, RestsHere, UnlessDisk}
+use Rattle.ras_recover.specs.declared.refused.OpenRefused.{OpenRefused}
+use Rattle.ras_recover.specs.declared.refused.OpenRefused.TheVariants as opening
 use Rattle.ras_recover.proofs.FewLemmas.{formatting_few}
 use Rattle.ras_recover.proofs.KeepingLemmas.{still}
 use Rattle.ras_recover.proofs.FormattingLemmas.{formatted, formatted_reads, formatted_short, formatted_told, formatting_reads, formatting_short, moment_formats}
@@ -243,6 +245,24 @@ module _ {X : Type 0} (see : X → Seen) (account : State) (one two : Bool) (old
 
   pub opening_opens : IsCheckpoint Two account (checkpoint_bytes Two account) → GoesWell (first_acts one account) (see a) (see b) → IsOpened (standing_begun account two) account (see b).told (see b).clock
   opening_opens is does = first_opened account one two r.there (see b).told (see b).clock there_none is there_shut.0 there_shut.1 (does.rests r.there r.rests)
+
+-- ---- files that are refused
+
+pub on_refusal : (why : OpenRefused) (P : Type 0) → UnlessDisk {T = Unit {0}} (Err why) P → OnRefusal why P
+on_refusal opening.Disk P holds = tt
+on_refusal opening.TooLong P holds = holds
+on_refusal (opening.Damaged file place) P holds = holds
+on_refusal opening.NoMemory P holds = tt
+
+-- where no file stands none is refused
+pub not_refused : (why : OpenRefused) (P : Type 0) → ((held : Result State Refusal) → RefusesHeld why held) → OnRefusal why P
+not_refused opening.Disk P refuses = tt
+not_refused opening.TooLong P refuses = let is : ◌≡◌ {A = Result State Refusal} (Ok (account_of empty)) (Err too_long) = refuses (Ok (account_of empty)) in absurd cc
+not_refused (opening.Damaged file place) P refuses =
+    let at = refuses (Ok (account_of empty)) in
+    let is : ◌≡◌ {A = Result State Refusal} (Ok (account_of empty)) (Err (damaged at.file place)) = at.is in
+    absurd cc
+not_refused opening.NoMemory P refuses = tt
 
 -- ---- where the journal stands then
 

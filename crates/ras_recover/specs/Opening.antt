@@ -1,5 +1,5 @@
 -- What opening a journal leaves.
-use Rattle.std.specs.Prelude.{◌≡◌, ℕ, ◌+◌, ◌⊎◌, List, [], length, None, Option, Some, Result, Ok, Err, unwrap_or}
+use Rattle.std.specs.Prelude.{◌≡◌, ℕ, ◌+◌, ◌⊎◌, List, [], length, None, Option, Some, Result, Ok, Err, unwrap_or, ⊤}
 use Rattle.board_core.specs.declared.board.FileNo.TheVariants.{Zero}
 use Rattle.board_core.specs.Clock.{Clock, LeftNow}
 use Rattle.board_core.specs.Doing.{Act}
@@ -13,6 +13,8 @@ use Rattle.ras_journal.specs.declared.standing.Standing.{Standing}
 use Rattle.ras_journal.specs.Recovered.{HasFewLinks, JournalFile, Refusal, journal_of, recovered, position_of, is_shut, Recovers}
 use Rattle.ras_journal.specs.Appending.{Before}
 use Rattle.ras_recover.specs.Formatting.{behind_gate, formatting_acts}
+use Rattle.ras_recover.specs.declared.refused.OpenRefused.{OpenRefused}
+use Rattle.ras_recover.specs.declared.refused.OpenRefused.TheVariants.{Damaged, TooLong}
 
 -- no file stands: this account is recovered, and there is no position
 pub record HoldsNone (account : State) (here : Left) : Type 0 where
@@ -26,6 +28,12 @@ pub record FormatsFirst (here left : Left) : Type 0 where
   pub recovers : Recovers (account_of empty) left
   pub few : HasFewLinks left
   pub rest : left ≡ with_file_in Zero left.file0 here
+
+-- what holds if an opening is refused for what the files hold
+abbrev pub OnRefusal : OpenRefused → Type 0 → Type 0
+OnRefusal TooLong P = P
+OnRefusal (Damaged file place) P = P
+OnRefusal why P = ⊤
 
 -- While a journal is opened, a stop leaves what a stop before may have left, or file 0 is being
 -- formatted.

@@ -11,9 +11,9 @@ ghost use Rattle.ras_account.specs.Account.{State};
 ghost use Rattle.ras_account.specs.View.{nothing};
 ghost use Rattle.ras_journal.specs.Recovered.{Refusal, recovered, is_shut};
 ghost use Rattle.ras_recover.specs.Formatting.{behind_gate, formatting_acts};
-ghost use Rattle.ras_recover.specs.Recovering.{RefusesHeld, TellsHeld, open_end, open_failure};
+ghost use Rattle.ras_recover.specs.Recovering.{RefusesHeld, RestsHere, TellsHeld, open_end, open_failure};
 ghost use Rattle.ras_recover.specs.Steps.Looking.{standing_begun};
-ghost use Rattle.ras_recover.specs.Opening.{Opening, IsOpened, standing_opened};
+ghost use Rattle.ras_recover.specs.Opening.{Opening, IsOpened, OnRefusal, standing_opened};
 ghost use Rattle.ras_recover.specs.OpeningActs.{DoesOpening};
 
 use crate::formatting::{format_file, next_bytes};
@@ -86,6 +86,10 @@ pub fn open_journal<B: Board>(
         → Adds (Opening (B.clock board.old) t.here) (B.clock board.old) (B.clock board.new) }
     ensures opened { IfOk result (λ r. (t : Told) → B.told board.old ≡ Some t
         → IsOpened r.1.standing r.0.state (B.told board.new) (B.clock board.new)) }
+    // If the files are refused, a stop then leaves just what the board told of them, the store and
+    // the text.
+    ensures refused { IfErr result (λ why. OnRefusal why ((t : Told) → B.told board.old ≡ Some t
+        → RestsHere t.here (B.told board.new) (B.clock board.new))) }
 
     // What it does, as acts and as disk calls, whatever it answers.
     ensures does { DoesOpening (λ refused. refused ≡ OpenRefused.Disk) result

@@ -1,5 +1,5 @@
 -- What an opening tells of a journal that stands.
-use Rattle.std.proofs.Common.{◌≡◌, ℕ, ◌≤◌, List, Option, None, Some, ap, ◌∙◌, inl, inr}
+use Rattle.std.proofs.Common.{◌≡◌, ℕ, ◌≤◌, List, Option, None, Some, ap, sym, subst, ◌∙◌, inl, inr}
 use Rattle.erst_store.specs.Store.{Stored}
 use Rattle.board_core.specs.Clock.{Clock}
 use Rattle.board_core.specs.Stop.{Left}
@@ -8,8 +8,13 @@ use Rattle.ras_account.specs.Account.{State}
 use Rattle.ras_journal.specs.declared.standing.Standing.{Standing}
 use Rattle.ras_journal.specs.Appending.{Before}
 use Rattle.ras_journal.specs.Recovered.{position_of}
-use Rattle.ras_recover.specs.Opening.{Opening}
+use Rattle.ras_recover.specs.Opening.{OnRefusal, Opening}
 use Rattle.ras_recover.specs.OpeningCalls.{AfterOpening}
+use Rattle.ras_recover.specs.declared.refused.OpenRefused.{OpenRefused}
+use Rattle.ras_recover.specs.declared.refused.OpenRefused.TheVariants as opening
+use Rattle.ras_exit.specs.Endings.{OnAnswer}
+use Rattle.ras_exit.specs.declared.exit.Exit.{Exit}
+use Rattle.ras_run.specs.Taking.{unopened_exit}
 
 -- what is left from a moment on is left from earlier ones on
 abbrev pub CountsEarlier : Clock → Type 0
@@ -30,3 +35,13 @@ here_kept s a t u told old before opened =
     ∙ (ap (λ bytes. record u.here { file0 = t.here.file0; file1 = bytes }) opened.file1
     ∙ (ap (λ (records : List Stored). record u.here { file0 = t.here.file0; file1 = t.here.file1; store = records }) opened.store
     ∙ ap (λ text. record t.here { out = text }) opened.text))
+
+-- files that are refused
+pub refused_so : (why : OpenRefused) (exit : Exit) (P : Type 0) → exit ≡ unopened_exit why → OnRefusal why P → OnAnswer exit P
+refused_so why exit P is holds = subst (λ (e : Exit). OnAnswer e P) (sym is) (by why holds)
+  where
+    by : (why : OpenRefused) → OnRefusal why P → OnAnswer (unopened_exit why) P
+    by opening.Disk holds = tt
+    by opening.TooLong holds = holds
+    by (opening.Damaged file place) holds = holds
+    by opening.NoMemory holds = tt

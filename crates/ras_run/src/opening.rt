@@ -6,8 +6,10 @@ ghost use Rattle.board_core.specs.Doing.{Does, looks};
 ghost use Rattle.board_core.specs.Told.{Told};
 ghost use Rattle.ras_recover.specs.Opening.{Opening};
 ghost use Rattle.ras_recover.specs.OpeningActs.{DoesOpening};
+ghost use Rattle.ras_recover.specs.Recovering.{RestsHere};
 ghost use Rattle.ras_texts.specs.Orders.{standing_lines};
 ghost use Rattle.ras_exit.specs.Acts.{part_end, print_acts};
+ghost use Rattle.ras_exit.specs.Endings.{OnAnswer};
 ghost use Rattle.ras_run.specs.Taking.{EndsOpening, IsPrintExit, Opened, unopened_exit};
 
 use board_core::Board;
@@ -30,6 +32,10 @@ pub fn open<B: Board>(alloc: Global, board: &mut B) -> Result<Ledger, Exit>
         (B.told board.old) (B.told board.new) }
     ensures stops { (t : Told) → B.told board.old ≡ Some t
         → Adds (Opening (B.clock board.old) t.here) (B.clock board.old) (B.clock board.new) }
+    // If the files are refused, a stop then leaves just what the board told of them, the store and
+    // the text.
+    ensures refused { IfErr result (λ exit. OnAnswer exit ((t : Told) → B.told board.old ≡ Some t
+        → RestsHere t.here (B.told board.new) (B.clock board.new))) }
     ensures ends { EndsOpening result (B.faults board.old) (B.faults board.new) }
 {
     match open_journal(alloc, board) {

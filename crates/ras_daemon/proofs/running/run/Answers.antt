@@ -68,7 +68,7 @@ returns-clause-refused g c =
     (device_goes_on _ _ _ _ _ _
     (opening_device _ _ _ _ (λ t left told now. g.met.B.Board.store_is_left c.args.board.now t left told now) c.in-Err-open.ensures.does.told c.in-Err-open.ensures.stops)
     c.end_run-in-Err-open.ensures.device)
-    c.in-Err-open.ensures.does.told c.in-Err-open.ensures.opens.held c.end_run-in-Err-open.ensures.ends c.in-Err-open.ensures.stops (λ s t left within may. g.met.B.Board.counts_earlier c.open.new.board s t left within may)
+    c.in-Err-open.ensures.does.told c.in-Err-open.ensures.opens.held c.end_run-in-Err-open.ensures.ends c.in-Err-open.ensures.stops c.in-Err-open.ensures.refused
     c.end_run-in-Err-open.ensures.stops
 
 pub returns-clause-causes : goal.returns-clause-causes

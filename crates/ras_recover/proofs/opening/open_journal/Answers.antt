@@ -5,7 +5,7 @@ use Rattle.ras_journal.specs.declared.journal.Journal.{Journal}
 use Rattle.ras_journal.specs.View.{JournalView}
 use Rattle.ras_recover.specs.Recovering.{open_end}
 use Rattle.ras_recover.proofs.KeepingLemmas.{no_faults, same_faults}
-use Rattle.ras_recover.proofs.OpeningLemmas.{first_acts, is_opened, opening_opens, opening_stops, shut_still, stands_first, zero_is_shut}
+use Rattle.ras_recover.proofs.OpeningLemmas.{first_acts, is_opened, not_refused, on_refusal, opening_opens, opening_stops, shut_still, stands_first, zero_is_shut}
 use Rattle.ras_recover.proofs.OpeningActsLemmas.{unopened_formatting, unopened_read}
 use Rattle.ras_recover.proofs.OpeningCallsLemmas.{opens_formatted, opens_standing, recovered_none, refusal_cause, told_formatted, told_opened}
 use Rattle.ras_recover.proofs.opening.open_journal.Goals as goal
@@ -16,6 +16,12 @@ returns-in-Err-clause-does g c = record {
   whole = tt;
   unopened = unopened_read _ _ _ c.recover_files.ensures.does.told;
 }
+
+pub returns-in-Err-clause-refused : goal.returns-in-Err-clause-refused
+returns-in-Err-clause-refused g c = on_refusal c.in-Err.refused _ c.in-Err.ensures.rests
+
+pub returns-in-Err-format_first-clause-refused : goal.returns-in-Err-format_first-clause-refused
+returns-in-Err-format_first-clause-refused g c = not_refused c.in-Err-format_first.refused _ c.in-Err-format_first.ensures.refuses
 
 -- a file stands
 
