@@ -3,7 +3,7 @@
 //! down by hand.
 //!
 //! They stand in a crate of their own, so that none of those crates is proved once more with its
-//! tests. What the built program shows is a row of tests/rows.txt or a case of tests/cases.
+//! tests. What the built program shows is a row of tests/program/rows.txt or a case of tests/program/cases.
 #![tactic(auto)]
 
 #[cfg(test)]

@@ -1,4 +1,4 @@
-"""Runs that are ended early on purpose, by tests/refused and tests/faults: what each may do, and what comes after it."""
+"""Runs that are ended early on purpose, by tests/program/refused and tests/program/faults: what each may do, and what comes after it."""
 import functools
 import pathlib
 import subprocess

@@ -1,4 +1,4 @@
-"""What a report tells, for the model of tests/model.py: registers, sections, records, tables and blocks.
+"""What a report tells, for the model of tests/model/model.py: registers, sections, records, tables and blocks.
 
 It follows docs/FORMATS.md and the tables of the SDM, of ACPI and of UEFI that it names.
 """

@@ -1,4 +1,4 @@
-"""A program with tests/between.c between it and the C library."""
+"""A program with tests/program/between.c between it and the C library."""
 import os
 import pathlib
 import shutil

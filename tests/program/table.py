@@ -1,4 +1,4 @@
-r"""The worked runs of tests/rows.txt, which tests/rows tries.
+r"""The worked runs of tests/program/rows.txt, which tests/program/rows tries.
 
 The file has, line by line, a comment from `#`, nothing, or one of
 

@@ -1,6 +1,6 @@
-"""Checks of what the scripts in demo/ make of the program's lines; tests/examples runs them.
+"""Checks of what the scripts in demo/ make of the program's lines; tests/program/examples runs them.
 
-demo/json is tried on every line that tests/rows.txt and the cases say is printed, demo/metrics by a
+demo/json is tried on every line that tests/program/rows.txt and the cases say is printed, demo/metrics by a
 parser that refuses what the rules of Prometheus' text format (version 0.0.4) don't allow,
 demo/bank-lines, demo/trace-lines and demo/ghes-lines on the forms in which a kernel's log and its
 traces are printed, and demo/put-lines on records that are whole or cut.
@@ -15,7 +15,7 @@ import time
 from rattle import TOP
 from table import rows
 
-DEMO, TESTS = TOP / "demo", TOP / "tests"
+DEMO, TESTS = TOP / "demo", TOP / "tests" / "program"
 
 # The kinds of lines that rasd prints, each by its beginning.
 KINDS = (
@@ -421,7 +421,7 @@ REPORT = (
 
 
 def checks_of_ghes_lines(program):
-    """A block that is made of the log's words is the block that the firmware gave, as tests/rows.txt has it."""
+    """A block that is made of the log's words is the block that the firmware gave, as tests/program/rows.txt has it."""
     block = re.search(r"(?m)^let BLOCK (\w+)$", (TESTS / "rows.txt").read_text())[1]
     table = re.search(r"(?m)^let SOURCES (\w+)$", (TESTS / "rows.txt").read_text())[1]
     lines = f"hest {table}\nghes 7 160 1 100000001 {block}\n"

@@ -8,7 +8,7 @@ import pathlib
 import re
 import typing
 
-TOP = pathlib.Path(__file__).resolve().parent.parent
+TOP = pathlib.Path(__file__).resolve().parents[2]
 CRATES = TOP / "crates"
 
 NO_TEXT = re.compile(r"^ *(--|//|#!?\[|infix).*$", re.M)
