@@ -36,6 +36,7 @@ use Rattle.ras_exit.specs.declared.exit.Exit.{Exit}
 use Rattle.ras_run.specs.Places.{Start, account_at, store_at}
 use Rattle.ras_run.specs.Status.{places_before_refusal, refusal_at}
 use Rattle.ras_daemon.specs.Headline.{account_with, reported}
+use Rattle.ras_daemon.specs.Machine.{account_upto}
 use Rattle.ras_daemon.specs.Runs.{IsTakenWhole, event_count, logged}
 use Rattle.ras_daemon.specs.Script.{events_of, is_event, reads_of}
 use Rattle.ras_daemon.specs.StoreDuring.{KnownBy}
@@ -44,8 +45,10 @@ use Rattle.ras_daemon.proofs.KeptLemmas.{KeepsAt, lines-kept, panic-taken, poll-
 use Rattle.ras_daemon.proofs.ListLemmas.{all-front, all-weaker, take-whole}
 use Rattle.ras_daemon.proofs.RunLawLemmas.{all-filter, by-events, prefix-flat_map, prefix-take, reports-none, taken-events}
 use Rattle.ras_daemon.proofs.StoreLemmas.{put-taken}
-use Rattle.era_laws.specs.Eras.{AreEras, Counts, Era, IsReadableIn, left_after, start_in}
-use Rattle.era_laws.proofs.EraLemmas.{KnowsAllOf, all-found, knows-along, store-along}
+use Rattle.era_laws.specs.Eras.{AreEras, Counts, Era, IsReadableIn, TakesScript, left_after, logs_upto}
+use Rattle.era_laws.proofs.EraLemmas.{KnowsAllOf, knows-along, store-along}
+use Rattle.era_laws.proofs.FoundLemmas.{all-found}
+use Rattle.era_laws.proofs.TakesLemmas.{takes-account, takes-count, takes-logs, takes-start, takes-store}
 
 -- ---- lists
 
@@ -457,22 +460,27 @@ known-more start script m n less name known =
     (subst (λ (a : State). KnownBy a name) (sym (fold-append account_after start.account (reported start script m) rest))
     (knows-after_all (account_with start script m) rest name known))
 
-module _ (here : Left) (era next : Era) (between : List Era) (n : ℕ) (follow : AreEras here (era ∷ (between ++ next ∷ []))) (same : next.script ≡ era.script) (counted : Counts era n) where
-  abbrev LogsReadable : List Stored → List ℕ → ℕ → Type 0
-  LogsReadable store script m = All (IsReadableIn store) (names_of (logged (start_in next) script m))
+module _ (here : Left) (era next : Era) (between : List Era) (script : List ℕ) (n : ℕ) (follow : AreEras here (era ∷ (between ++ next ∷ []))) (takes : TakesScript script era) (again : TakesScript script next) (counted : Counts era n) where
+  abbrev LogsReadable : List Stored → List Entry → Type 0
+  LogsReadable store entries = All (IsReadableIn store) (names_of entries)
 
-  known-later : (m : ℕ) → m ≤ n → KnowsAllOf (account_with (start_in era) era.script m) next.account
+  known-later : (m : ℕ) → m ≤ n → KnowsAllOf (account_with takes.start script m) again.start.account
   known-later m less name known =
-      knows-along between next (account_with (start_in era) era.script n) era.left counted.recovers follow.2 name
-      (known-more (start_in era) era.script m n less name known)
+      subst (λ (a : State). KnownBy a name) (takes-start script next again)
+      (knows-along between next (account_upto era.run n) era.left counted.recovers follow.2 name
+      (subst (λ (a : State). KnownBy a name) (sym (takes-account script era takes n)) (known-more takes.start script m n less name known)))
 
-  over-left : (m : ℕ) → LogsReadable next.told.here.store era.script m → LogsReadable (left_after era.left between).store next.script m
+  over-left : (m : ℕ) → LogsReadable again.start.store (logged again.start script m) → LogsReadable (left_after era.left between).store (logs_upto next.run m)
   over-left m logs =
-      subst (λ (store : List Stored). LogsReadable store next.script m) (store-along between next era.left follow.2)
-      (subst (λ (script : List ℕ). LogsReadable next.told.here.store script m) (sym same) logs)
+      subst (λ (store : List Stored). LogsReadable store (logs_upto next.run m)) (sym (takes-store script next again) ∙ store-along between next era.left follow.2)
+      (subst (LogsReadable again.start.store) (sym (takes-logs script next again m)) logs)
 
-  pub era-polled : (m : ℕ) → m ≤ n → m ≤ event_count (start_in era) era.script → LogsReadable (left_after era.left between).store next.script m
-  era-polled m less few = over-left m (polled-again (start_in era) (start_in next) era.script m few (known-later m less))
+  count-is : length era.run.does ≡ event_count takes.start script
+  count-is = takes-count script era takes
 
-  pub era-polled-whole : (m : ℕ) → IsTakenWhole (start_in era) era.script → event_count (start_in era) era.script ≤ n → LogsReadable (left_after era.left between).store next.script m
-  era-polled-whole m whole all = over-left m (polled-whole (start_in era) (start_in next) era.script m whole (known-later (event_count (start_in era) era.script) all))
+  pub era-polled : (m : ℕ) → m ≤ n → m ≤ length era.run.does → LogsReadable (left_after era.left between).store (logs_upto next.run m)
+  era-polled m less few = over-left m (polled-again takes.start again.start script m (subst (λ (count : ℕ). m ≤ count) count-is few) (known-later m less))
+
+  pub era-polled-whole : (m : ℕ) → IsTakenWhole takes.start script → length era.run.does ≤ n → LogsReadable (left_after era.left between).store (logs_upto next.run m)
+  era-polled-whole m whole all =
+      over-left m (polled-whole takes.start again.start script m whole (known-later (event_count takes.start script) (subst (λ (count : ℕ). count ≤ n) count-is all)))

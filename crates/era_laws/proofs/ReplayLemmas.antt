@@ -1,5 +1,5 @@
 -- One script that is taken from its first line again after each stop.
-use Rattle.std.proofs.Common.{◌≡◌, ℕ, ◌+◌, ◌≤◌, List, [], ◌∷◌, ◌++◌, take, refl, sym, ap, ◌∙◌, subst, inl, inr, append-nil, arith}
+use Rattle.std.proofs.Common.{◌≡◌, ℕ, ◌+◌, ◌≤◌, List, [], ◌∷◌, ◌++◌, length, take, refl, sym, ap, ◌∙◌, subst, inl, inr, append-nil, arith}
 use Rattle.std.specs.Prelude.{◌⊎◌, filter}
 use Rattle.std.specs.List.{AllByRecursion, flat_map}
 use Rattle.std.proofs.lemmas.List.{append_cancel_left}
@@ -15,15 +15,18 @@ use Rattle.ras_journal.specs.Recovered.{Recovers}
 use Rattle.ras_events.specs.Reports.{Place, entries_at}
 use Rattle.ras_events.specs.Sizes.{IsFact}
 use Rattle.ras_run.specs.Places.{Start}
-use Rattle.ras_daemon.specs.Headline.{account_with, reported}
-use Rattle.ras_daemon.specs.Runs.{CountTheSame, IsTakenWhole, PollsNothing, ReportsFacts, event_count, facts_of, history_after, logged}
+use Rattle.ras_daemon.specs.Headline.{reported}
+use Rattle.ras_daemon.specs.Machine.{Run, account_upto}
+use Rattle.ras_daemon.specs.RunOf.{run_of}
+use Rattle.ras_daemon.specs.Runs.{CountTheSame, IsTakenWhole, PollsNothing, ReportsFacts, event_count, facts_of, logged}
 use Rattle.ras_daemon.specs.Script.{events_of, is_event, reads_of}
 use Rattle.ras_daemon.proofs.AgainLemmas.{counts-again, facts-again, facts_of-append}
 use Rattle.ras_daemon.proofs.HistoryLemmas.{again-counted, with_entries-append}
 use Rattle.ras_daemon.proofs.ListLemmas.{all-front, take-whole}
 use Rattle.ras_daemon.proofs.RunLawLemmas.{accounts-follow, events-front, logs-follow, prefix-flat_map, reported-any, taken-events}
-use Rattle.era_laws.specs.Eras.{AreEras, Counts, CountsEach, Era, IsReplayed, done_in, logged_in, reported_in, start_in}
+use Rattle.era_laws.specs.Eras.{AreEras, Counts, CountsEach, Era, IsReplayed, TakesScript, done_in, logged_in, logs_upto, reported_in, reports_upto}
 use Rattle.era_laws.proofs.EraLemmas.{counts-of, leaves-history, logs-along, one-account}
+use Rattle.era_laws.proofs.TakesLemmas.{takes-count, takes-reports, whole-account, whole-logs}
 
 -- ---- what each run reports
 
@@ -53,57 +56,57 @@ module _ (script : List ℕ) (polls : PollsNothing script) (one : Start) (whole 
 
   -- ---- one run after another, and one that isn't stopped
 
-  module _ (last : Era) (taken : IsTakenWhole (start_in last) script) (done : event_count (start_in last) script ≤ done_in last) where
-    most : (n : ℕ) → Counts last n → event_count (start_in last) script ≤ n
-    most n one = by one.whole
+  module _ (last : Era) (takes : TakesScript script last) (taken : IsTakenWhole takes.start script) (done : length last.run.does ≤ done_in last) where
+    most : (n : ℕ) → Counts last n → event_count takes.start script ≤ n
+    most n one = subst (λ (count : ℕ). count ≤ n) (takes-count script last takes) (by one.whole)
       where
-        by : (n ≡ done_in last) ⊎ (n ≡ done_in last + 1) → event_count (start_in last) script ≤ n
+        by : (n ≡ done_in last) ⊎ (n ≡ done_in last + 1) → length last.run.does ≤ n
         by (inl is) = omega arith
         by (inr is) = omega arith
 
     -- what the last run reports
-    ends : (n : ℕ) → Counts last n → last.script ≡ script → reported (start_in last) last.script n ≡ all
-    ends n counted is = ap (λ (bytes : List ℕ). reported (start_in last) bytes n) is ∙ last-reports (start_in last) n taken (most n counted)
+    ends : (n : ℕ) → Counts last n → reports_upto last.run n ≡ all
+    ends n counted = takes-reports script last takes n ∙ last-reports takes.start n taken (most n counted)
 
     -- and another one
-    other-front : (era : Era) (n : ℕ) → era.script ≡ script → IsPrefixOf (reported (start_in era) era.script n) all
-    other-front era n is = subst (λ (bytes : List ℕ). IsPrefixOf (reported (start_in era) bytes n) all) (sym is) (reports-front (start_in era) n)
+    other-front : (era : Era) (n : ℕ) → TakesScript script era → IsPrefixOf (reports_upto era.run n) all
+    other-front era n other = subst (λ (es : List Entry). IsPrefixOf es all) (sym (takes-reports script era other n)) (reports-front other.start n)
 
     abbrev TakeIt : List Era → Type 0
-    TakeIt eras = AllByRecursion (λ era. era.script ≡ script) (eras ++ last ∷ [])
+    TakeIt eras = AllByRecursion (TakesScript script) eras
 
     -- The account at the end is the one of all that is reported, as far as these are the same.
     module _ (Same : State → State → Type 0) (self : (a : State) → Same a a) (chain : (a b c : State) → Same a b → Same b c → Same a c)
         (again : (h : History) (xs ys : List Entry) → xs ++ ys ≡ all → Same (account_of (with_entries (with_entries h xs) all)) (account_of (with_entries h all))) where
       replayed : (eras : List Era) (history : History) (here : Left) (now : State) → Recovers (account_of history) here → AreEras here (eras ++ last ∷ []) → TakeIt eras → Recovers now last.left
           → Same now (account_of (with_entries history all))
-      replayed [] history here now opens (begins, is, follow) takes of =
+      replayed [] history here now opens (begins, is, follow) others of =
           let (n, counted) = counts-of last is in
           let same : now ≡ account_of (with_entries history all) =
-          one-account now (account_of (history_after history (start_in last) last.script n)) last.left of (leaves-history history here last begins is opens n counted)
-          ∙ ap (λ (es : List Entry). account_of (with_entries history es)) (ends n counted takes.0) in
+          one-account now (account_of (with_entries history (reports_upto last.run n))) last.left of (leaves-history history here last begins is opens n counted)
+          ∙ ap (λ (es : List Entry). account_of (with_entries history es)) (ends n counted) in
           subst (λ (a : State). Same a (account_of (with_entries history all))) (sym same) (self (account_of (with_entries history all)))
-      replayed (era ∷ eras) history here now opens (begins, is, follow) takes of =
+      replayed (era ∷ eras) history here now opens (begins, is, follow) others of =
           let (n, counted) = counts-of era is in
-          let (rest, front) = other-front era n takes.0 in
-          let xs : List Entry = reported (start_in era) era.script n in
+          let (rest, front) = other-front era n others.0 in
+          let xs : List Entry = reports_upto era.run n in
           chain now (account_of (with_entries (with_entries history xs) all)) (account_of (with_entries history all))
-          (replayed eras (with_entries history xs) era.left now (leaves-history history here era begins is opens n counted) follow takes.1 of)
+          (replayed eras (with_entries history xs) era.left now (leaves-history history here era begins is opens n counted) follow others.1 of)
           (again history xs rest front)
 
     -- the facts that are news along all of them
     facts-along : (eras : List Era) (counts : List ℕ) (history : History) → CountsEach (eras ++ last ∷ []) counts → TakeIt eras
         → facts_of (fresh_entries (with_entries history (reported_in (eras ++ last ∷ []) counts))) ≡ facts_of (fresh_entries (with_entries history all))
-    facts-along [] [] history counted takes = absurd counted
-    facts-along [] (n ∷ []) history counted takes =
-        ap (λ (es : List Entry). facts_of (fresh_entries (with_entries history es))) (append-nil (reported (start_in last) last.script n) ∙ ends n counted.0 takes.0)
-    facts-along [] (n ∷ m ∷ counts) history counted takes = absurd counted.1
-    facts-along (era ∷ eras) [] history counted takes = absurd counted
-    facts-along (era ∷ eras) (n ∷ counts) history counted takes =
-        let (rest, front) = other-front era n takes.0 in
-        let xs : List Entry = reported (start_in era) era.script n in
+    facts-along [] [] history counted others = absurd counted
+    facts-along [] (n ∷ []) history counted others =
+        ap (λ (es : List Entry). facts_of (fresh_entries (with_entries history es))) (append-nil (reports_upto last.run n) ∙ ends n counted.0)
+    facts-along [] (n ∷ m ∷ counts) history counted others = absurd counted.1
+    facts-along (era ∷ eras) [] history counted others = absurd counted
+    facts-along (era ∷ eras) (n ∷ counts) history counted others =
+        let (rest, front) = other-front era n others.0 in
+        let xs : List Entry = reports_upto era.run n in
         ap (λ (h : History). facts_of (fresh_entries h)) (with_entries-append history xs (reported_in (eras ++ last ∷ []) counts))
-        ∙ facts-along eras counts (with_entries history xs) counted.1 takes.1
+        ∙ facts-along eras counts (with_entries history xs) counted.1 others.1
         ∙ ap (λ (es : List Entry). facts_of (fresh_entries (with_entries (with_entries history xs) es))) (sym front)
         ∙ facts-again history xs rest
         ∙ ap (λ (es : List Entry). facts_of (fresh_entries (with_entries history es))) front
@@ -111,41 +114,45 @@ module _ (script : List ℕ) (polls : PollsNothing script) (one : Start) (whole 
 -- ---- the laws
 
 module _ (history : History) (one : Start) (script : List ℕ) (here : Left) (eras : List Era) (last : Era) (is : IsReplayed history one script here eras last) where
-  abbrev whole-run : List Entry
-  whole-run = reported one script (event_count one script)
+  abbrev one-run : Run
+  one-run = run_of one script
+
+  abbrev reports-all : List Entry
+  reports-all = reported one script (event_count one script)
 
   abbrev undisturbed : State
-  undisturbed = account_with one script (event_count one script)
+  undisturbed = account_upto one-run (length one-run.does)
 
-  undisturbed-is : account_of (with_entries history whole-run) ≡ undisturbed
-  undisturbed-is = sym (accounts-follow history one is.begins script (event_count one script))
+  undisturbed-is : account_of (with_entries history reports-all) ≡ undisturbed
+  undisturbed-is = sym (whole-account one script ∙ accounts-follow history one is.begins script (event_count one script))
 
-  takes : AllByRecursion (λ (era : Era). era.script ≡ script) (eras ++ last ∷ [])
-  takes = recursion_from_All (λ (era : Era). era.script ≡ script) (eras ++ last ∷ []) is.takes
+  others : AllByRecursion (TakesScript script) eras
+  others = recursion_from_All (TakesScript script) eras is.takes
 
   pub replayed-counts : (now : State) → Recovers now last.left → CountTheSame now undisturbed
   replayed-counts now of =
       subst (CountTheSame now) undisturbed-is
-      (replayed script is.polls one is.whole last is.taken is.done CountTheSame (λ a. refl) (λ a b c ab bc. ab ∙ bc)
+      (replayed script is.polls one is.whole last is.ends is.taken is.done CountTheSame (λ a. refl) (λ a b c ab bc. ab ∙ bc)
       (λ h xs ys front. subst (λ (es : List Entry). CountTheSame (account_of (with_entries (with_entries h xs) es)) (account_of (with_entries h es))) front (counts-again h xs ys))
-      eras history here now is.opens is.follow takes of)
+      eras history here now is.opens is.follow others of)
 
   pub replayed-same : (now : State) → ReportsFacts one script → Recovers now last.left → now ≡ undisturbed
   replayed-same now facts of =
-      replayed script is.polls one is.whole last is.taken is.done (λ a b. a ≡ b) (λ a. refl) (λ a b c ab bc. ab ∙ bc)
+      replayed script is.polls one is.whole last is.ends is.taken is.done (λ a b. a ≡ b) (λ a. refl) (λ a b c ab bc. ab ∙ bc)
       (λ h xs ys front. subst (λ (es : List Entry). account_of (with_entries (with_entries h xs) es) ≡ account_of (with_entries h es)) front
-      (again-counted h xs ys (all-front IsFact xs ys (subst (AllByRecursion IsFact) (sym front) (recursion_from_All IsFact whole-run facts)))))
-      eras history here now is.opens is.follow takes of
+      (again-counted h xs ys (all-front IsFact xs ys (subst (AllByRecursion IsFact) (sym front) (recursion_from_All IsFact reports-all facts)))))
+      eras history here now is.opens is.follow others of
       ∙ undisturbed-is
 
   pub replayed-together : (counts : List ℕ) → CountsEach (eras ++ last ∷ []) counts
-      → facts_of (logged_in (eras ++ last ∷ []) counts) ≡ facts_of (logged one script (event_count one script))
+      → facts_of (logged_in (eras ++ last ∷ []) counts) ≡ facts_of (logs_upto one-run (length one-run.does))
   replayed-together counts counted =
       let every : List Entry = logged_in (eras ++ last ∷ []) counts in
       let once : List Entry = logged one script (event_count one script) in
       append_cancel_left (facts_of (fresh_entries history)) (facts_of every) (facts_of once)
       (sym (facts_of-append (fresh_entries history) every)
       ∙ ap facts_of (sym (logs-along (eras ++ last ∷ []) counts history here is.opens is.follow counted))
-      ∙ facts-along script is.polls one is.whole last is.taken is.done eras counts history counted takes
+      ∙ facts-along script is.polls one is.whole last is.ends is.taken is.done eras counts history counted others
       ∙ ap facts_of (logs-follow history one is.begins script (event_count one script))
       ∙ facts_of-append (fresh_entries history) once)
+      ∙ ap facts_of (sym (whole-logs one script))

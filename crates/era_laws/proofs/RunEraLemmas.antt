@@ -1,5 +1,5 @@
 -- Eras, from what `rasd` promises of a run.
-use Rattle.std.proofs.Common.{◌≡◌, ℕ, ◌≤◌, Option, arith, inl, inr, sym, subst}
+use Rattle.std.proofs.Common.{◌≡◌, ℕ, ◌≤◌, List, Option, arith, inl, inr, refl, sym, subst}
 use Rattle.std.specs.Prelude.{◌⊎◌}
 use Rattle.board_core.specs.Clock.{Clock, LeftNow}
 use Rattle.board_core.specs.Stop.{Left}
@@ -12,41 +12,51 @@ use Rattle.ras_daemon.specs.Promises.{RunStops}
 use Rattle.ras_daemon.specs.RunOf.{run_of}
 use Rattle.ras_daemon.specs.RunStatus.{start_of}
 use Rattle.ras_daemon.proofs.HeadlineLemmas.{headline-nothing}
-use Rattle.era_laws.specs.Eras.{Era, IsEra, start_in}
+use Rattle.ras_run.specs.Places.{Start}
+use Rattle.era_laws.specs.Eras.{IsEra, era_of}
 
 pub stops-recover : (clock : Clock) (account : State) (t : Told) → Recovers account t.here → ((left : Left) → LeftNow clock left → left ≡ t.here) → StopsRecover (start_of account t) clock
 stops-recover clock account t recovers only left now = subst (Recovers account) (sym (only left now)) recovers
 
-module _ {X : Type 0} (told : X → Option Told) (clock : X → Clock) (exit : Exit) (Same : Type 0) (old new : X) (era : Era) (opens : Recovers era.account era.told.here) where
-  is-era : Headline (run_of (start_in era) era.script) era.told.here era.left → IsEra era
-  is-era leaves = record { opens = opens; leaves = leaves }
+module _ {X : Type 0} (told : X → Option Told) (clock : X → Clock) (old new : X) (account : State) (t : Told) (script : List ℕ) (opens : Recovers account t.here) where
+  abbrev start : Start
+  start = start_of account t
 
-  module _ (stops : RunStops told clock exit Same (start_in era) era.script era.told old new) where
+  abbrev Leaves : Left → Type 0
+  Leaves left = IsEra (era_of account t script left)
+
+  is-era : (left : Left) → Headline (run_of start script) t.here left → Leaves left
+  is-era left leaves = record { opens = opens; store = refl; leaves = leaves }
+
+  -- from the moment at which the opening is answered
+  pub era-settled : (left : Left) (settles : Settles told clock start script t old new) → (clock new).may_leave_since (clock settles.opened).now left → Leaves left
+  era-settled left settles may = is-era left (settles.from left may)
+
+  module _ (exit : Exit) (Same : Type 0) (stops : RunStops told clock exit Same start script t old new) where
     -- a stop at any moment of the run
-    pub era-stopped : StopsRecover (start_in era) (clock old) → (clock new).may_leave_since (clock old).now era.left → IsEra era
-    era-stopped recover may = is-era (stops.once recover era.left may)
+    pub era-stopped : StopsRecover start (clock old) → (left : Left) → (clock new).may_leave_since (clock old).now left → Leaves left
+    era-stopped recover left may = is-era left (stops.once recover left may)
 
     -- what is told at its end, if a stop at the end may leave that
-    pub era-ended : StopsRecover (start_in era) (clock old)
+    pub era-ended : StopsRecover start (clock old)
         → ((s t : ℕ) (left : Left) → s ≤ t → (clock new).may_leave_since t left → (clock new).may_leave_since s left)
-        → (left : Left) → LeftNow (clock new) left → era.left ≡ left → IsEra era
-    era-ended recover earlier left now is =
-        is-era (subst (Headline (run_of (start_in era) era.script) era.told.here) (sym is) (stops.once recover left (earlier (clock old).now (clock new).now left stops.later now)))
+        → (left : Left) → LeftNow (clock new) left → Leaves left
+    era-ended recover earlier left now = era-stopped recover left (earlier (clock old).now (clock new).now left stops.later now)
 
     -- a run that began while the machine went on
-    pub era-went-on : (clock new).may_leave_since (clock old).now era.left → LeftNow (clock old) era.left ⊎ IsEra era
-    era-went-on may = by stops.settled
+    pub era-went-on : (left : Left) → (clock new).may_leave_since (clock old).now left → LeftNow (clock old) left ⊎ Leaves left
+    era-went-on left may = by stops.settled
       where
-        began : AtOpening (start_in era) era.told.here.out era.left → IsEra era
-        began opening = is-era (headline-nothing (start_in era) era.script era.told.here era.left opening.text opening.recovers opening.store)
+        began : AtOpening start t.here.out left → Leaves left
+        began opening = is-era left (headline-nothing start script t.here left opening.text opening.recovers opening.store)
 
-        here : LeftNow (clock old) era.left ⊎ AtOpening (start_in era) era.told.here.out era.left → LeftNow (clock old) era.left ⊎ IsEra era
+        here : LeftNow (clock old) left ⊎ AtOpening start t.here.out left → LeftNow (clock old) left ⊎ Leaves left
         here (inl now) = inl now
         here (inr opening) = inr (began opening)
 
-        by : Settles told clock (start_in era) era.script era.told old new ⊎ NeverOpens exit Same (start_in era) era.told.here (clock old) (clock new) → LeftNow (clock old) era.left ⊎ IsEra era
-        by (inl settles) = elim (settles.behind.each (clock old).now era.left settles.before.later may) [
-          | inl was ↦ elim (settles.before.each (clock old).now era.left (omega arith) was) [ inl now ↦ inl now | inr opening ↦ here opening ]
-          | inr leaves ↦ inr (is-era leaves)
+        by : Settles told clock start script t old new ⊎ NeverOpens exit Same start t.here (clock old) (clock new) → LeftNow (clock old) left ⊎ Leaves left
+        by (inl settles) = elim (settles.behind.each (clock old).now left settles.before.later may) [
+          | inl was ↦ elim (settles.before.each (clock old).now left (omega arith) was) [ inl now ↦ inl now | inr opening ↦ here opening ]
+          | inr leaves ↦ inr (is-era left leaves)
         ]
-        by (inr never) = here (never.always era.left may)
+        by (inr never) = here (never.always left may)

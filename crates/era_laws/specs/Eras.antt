@@ -1,50 +1,46 @@
 -- Runs on one journal and record store, one after another: each begins with what a stop left of the
 -- one before it.
-use Rattle.std.specs.Prelude.{◌≡◌, ℕ, ◌+◌, ◌<◌, ◌≤◌, ◌⊎◌, nat_eq, Bool, false, if◌then◌else◌, List, [], ◌∷◌, ◌++◌, length, drop, All, Contains, Option, None, Some, Ok, ⊤}
-use Rattle.std.specs.List.{fold}
-use Rattle.std.specs.Option.{option_map_or}
+use Rattle.std.specs.Prelude.{◌≡◌, ℕ, ◌+◌, ◌<◌, ◌≤◌, ◌⊎◌, nat_eq, Bool, false, if◌then◌else◌, List, [], ◌∷◌, ◌++◌, length, drop, take, All, Contains, Option, Ok, ⊤}
+use Rattle.std.specs.List.{flat_map, fold}
 use Rattle.board_core.specs.Stop.{Left}
 use Rattle.board_core.specs.Told.{Told}
 use Rattle.erst_store.specs.Store.{Stored, bytes_under}
 use Rattle.page_policy.specs.declared.rows.Order.{Order}
 use Rattle.ras_account.specs.Account.{State, account_of}
 use Rattle.ras_account.specs.History.{History}
+use Rattle.ras_account.specs.Numbers.{fresh_entries_in}
 use Rattle.ras_facts.specs.declared.entry.Entry.{Entry}
 use Rattle.ras_facts.specs.declared.name.Name.{Name}
 use Rattle.ras_journal.specs.Recovered.{Recovers}
 use Rattle.ras_panic.specs.Reading.{stored_name}
-use Rattle.ras_script.specs.declared.line.Line.{Line}
-use Rattle.ras_events.specs.Stores.{found_after, put_by, read_stored}
+use Rattle.ras_events.specs.Preparing.{orders_along_entries}
+use Rattle.ras_events.specs.Stores.{read_stored}
 use Rattle.ras_run.specs.Places.{Start}
 use Rattle.ras_events.specs.DoneLines.{done_count}
-use Rattle.ras_daemon.specs.Headline.{Headline, account_with, lines_with, reported}
+use Rattle.ras_daemon.specs.Headline.{Headline}
+use Rattle.ras_daemon.specs.Machine.{Run, RunEvent, StoreChange, account_upto, change_next, changes_upto, last_changed, puts, text_upto}
 use Rattle.ras_daemon.specs.RunOf.{run_of}
-use Rattle.ras_daemon.specs.RunOutput.{output_upto}
 use Rattle.ras_daemon.specs.RunStatus.{start_of}
-use Rattle.ras_daemon.specs.Runs.{BeginsWith, IsTakenWhole, PollsNothing, event_count, logged, ordered}
-use Rattle.ras_daemon.specs.Script.{line_after}
+use Rattle.ras_daemon.specs.Runs.{BeginsWith, IsTakenWhole, PollsNothing}
 
--- A run up to a stop at some moment of it, or to its end: the account that the files give at its
--- start, what the board tells there, the script, and what was left.
+-- A run up to a stop at some moment of it, or to its end: what stood at its start, and what was left.
 pub record Era : Type 0 where
-  pub account : State
-  pub told : Told
-  pub script : List ℕ
+  pub run : Run
+  pub here : Left
   pub left : Left
 
-abbrev pub start_in : Era → Start
-start_in era = start_of era.account era.told
-
--- What was left is what a stop at a moment of the run may leave.
+-- It begins with the account that the files give there, and with the record store. What was left is
+-- what a stop at a moment of the run may leave.
 pub record IsEra (era : Era) : Type 0 where
-  pub opens : Recovers era.account era.told.here
-  pub leaves : Headline (run_of (start_in era) era.script) era.told.here era.left
+  pub opens : Recovers era.run.account era.here
+  pub store : era.run.store ≡ era.here.store
+  pub leaves : Headline era.run era.here era.left
 
 -- A run begins with these files and this record store. What it prints is printed anew.
 pub record BeginsOver (here : Left) (era : Era) : Type 0 where
-  pub zero : era.told.here.file0 ≡ here.file0
-  pub one : era.told.here.file1 ≡ here.file1
-  pub store : era.told.here.store ≡ here.store
+  pub zero : era.here.file0 ≡ here.file0
+  pub one : era.here.file1 ≡ here.file1
+  pub store : era.here.store ≡ here.store
 
 -- Eras follow one another, the first over what is here and each other one over what was left of the
 -- one before it.
@@ -61,7 +57,7 @@ left_after here (era ∷ eras) = left_after era.left eras
 
 -- what an era printed, and how many of its events are done by that
 abbrev pub printed_in : Era → List ℕ
-printed_in era = drop (length era.told.here.out) era.left.out
+printed_in era = drop (length era.here.out) era.left.out
 
 abbrev pub done_in : Era → ℕ
 done_in era = done_count (printed_in era)
@@ -69,11 +65,9 @@ done_in era = done_count (printed_in era)
 -- The files that an era left count so many of its events: those that are done by what it printed, or
 -- one more. It is one more once a byte of the next event's output is printed.
 pub record Counts (era : Era) (n : ℕ) : Type 0 where
-  pub recovers : Recovers (account_with (start_in era) era.script n) era.left
+  pub recovers : Recovers (account_upto era.run n) era.left
   pub whole : (n ≡ done_in era) ⊎ (n ≡ done_in era + 1)
-  pub acknowledged :
-      length (output_upto (start_in era) era.script (done_in era)) < length (printed_in era)
-      → n ≡ done_in era + 1
+  pub acknowledged : length (text_upto era.run (done_in era)) < length (printed_in era) → n ≡ done_in era + 1
 
 -- a number for each of them
 abbrev pub CountsEach : List Era → List ℕ → Type 0
@@ -81,41 +75,61 @@ CountsEach [] [] = ⊤
 CountsEach (era ∷ eras) (n ∷ counts) = Counts era n × CountsEach eras counts
 CountsEach eras counts = ⊥
 
+-- what the first n events of a run report
+abbrev pub reports_upto : Run → ℕ → List Entry
+reports_upto run n = flat_map (λ (event : RunEvent). event.reports) (take n run.does)
+
+-- what they log, of that what is news at its place, and the orders that it gives there
+abbrev pub logs_upto : Run → ℕ → List Entry
+logs_upto run n = fresh_entries_in run.account (reports_upto run n)
+
+abbrev pub orders_upto : Run → ℕ → List Order
+orders_upto run n = orders_along_entries run.account (reports_upto run n)
+
 -- what the events that are counted report, era for era
 abbrev pub reported_in : List Era → List ℕ → List Entry
-reported_in (era ∷ eras) (n ∷ counts) = reported (start_in era) era.script n ++ reported_in eras counts
+reported_in (era ∷ eras) (n ∷ counts) = reports_upto era.run n ++ reported_in eras counts
 reported_in eras counts = []
 
 -- what they log
 abbrev pub logged_in : List Era → List ℕ → List Entry
-logged_in (era ∷ eras) (n ∷ counts) = logged (start_in era) era.script n ++ logged_in eras counts
+logged_in (era ∷ eras) (n ∷ counts) = logs_upto era.run n ++ logged_in eras counts
 logged_in eras counts = []
 
 -- and what they order
 abbrev pub ordered_in : List Era → List ℕ → List Order
-ordered_in (era ∷ eras) (n ∷ counts) = ordered (start_in era) era.script n ++ ordered_in eras counts
+ordered_in (era ∷ eras) (n ∷ counts) = orders_upto era.run n ++ ordered_in eras counts
 ordered_in eras counts = []
 
 -- ---- the records
 
--- the event of a line puts a record under this identifier
-abbrev pub is_put_by : Option Line → ℕ → Bool
-is_put_by None id = false
-is_put_by (Some line) id = option_map_or (λ (r : Stored). nat_eq r.id id) (put_by line) false
+-- a change puts a record under this identifier
+abbrev pub is_put_by : StoreChange → ℕ → Bool
+is_put_by (puts r) id = nat_eq r.id id
+is_put_by change id = false
 
 -- The bytes that are last laid under an identifier when an era is over, if these were before it: by
 -- its events that are done. If the event after them puts a record there too, a stop may have come
 -- before or after it, and what was left there counts.
 abbrev pub laid_in : ℕ → Option (List ℕ) → Era → Option (List ℕ)
 laid_in id before era =
-    if is_put_by (line_after (start_in era) era.script (done_in era)) id then bytes_under id era.left.store
-    else fold (found_after id) before (lines_with (start_in era) era.script (done_in era))
+    if is_put_by (change_next era.run (done_in era)) id then bytes_under id era.left.store
+    else fold (last_changed id) before (changes_upto era.run (done_in era))
 
 -- by all of them, one after another, over the records that are here
 abbrev pub last_laid_in : Left → List Era → ℕ → Option (List ℕ)
 last_laid_in here eras id = fold (laid_in id) (bytes_under id here.store) eras
 
--- ---- one script again and again
+-- ---- the eras of scripts
+
+-- the era of a script, over an account and what the board tells
+abbrev pub era_of : State → Told → List ℕ → Left → Era
+era_of account t script left = record { run = run_of (start_of account t) script; here = t.here; left = left }
+
+-- the run of an era is that of a script, from where it started
+pub record TakesScript (script : List ℕ) (era : Era) : Type 0 where
+  pub start : Start
+  pub is : era.run ≡ run_of start script
 
 -- A script that polls nothing is taken from its first line again after each stop, until a last run
 -- has all of its events done.
@@ -125,13 +139,14 @@ pub record IsReplayed (history : History) (undisturbed : Start) (script : List �
   pub begins : BeginsWith history undisturbed
   -- All eras take the script.
   pub follow : AreEras here (eras ++ last ∷ [])
-  pub takes : All (λ era. era.script ≡ script) (eras ++ last ∷ [])
+  pub takes : All (TakesScript script) eras
+  pub ends : TakesScript script last
   pub polls : PollsNothing script
   -- Neither the run that isn't stopped nor the last one refuses a line, and the last one printed all
   -- done lines.
   pub whole : IsTakenWhole undisturbed script
-  pub taken : IsTakenWhole (start_in last) script
-  pub done : event_count (start_in last) script ≤ done_in last
+  pub taken : IsTakenWhole ends.start script
+  pub done : length last.run.does ≤ done_in last
 
 -- a record of a store that can be read has this name
 pub record IsReadableIn (store : List Stored) (name : Name) : Type 0 where

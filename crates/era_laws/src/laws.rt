@@ -1,12 +1,13 @@
 //! What holds over all runs on one journal and record store, whenever they were stopped.
 
-ghost use Rattle.std.specs.Prelude.{◌≡◌, ◌≤◌, ◌⊎◌, ◌++◌, ℕ, List, [], ◌∷◌, Some, All, IsTrue};
+ghost use Rattle.std.specs.Prelude.{◌≡◌, ◌≤◌, ◌⊎◌, ◌++◌, ℕ, List, [], ◌∷◌, length, Some, All};
 ghost use Rattle.std.specs.Prelude.{if◌then◌else◌};
 ghost use Rattle.std.specs.List.{IsDistinct};
 ghost use Rattle.std.specs.Map.{lookup};
 ghost use Rattle.board_core.specs.Clock.{LeftNow, Rests};
 ghost use Rattle.board_core.specs.Stop.{Becomes, Left};
 ghost use Rattle.board_core.specs.Told.{Told};
+ghost use Rattle.erst_store.specs.Store.{Stored};
 ghost use Rattle.dimm_topology.specs.Labels.{Bytes, same_label};
 ghost use Rattle.page_policy.specs.Histories.{AreOnceInOrder, state_in, state_under};
 ghost use Rattle.ras_facts.specs.Names.{same_name};
@@ -20,28 +21,29 @@ ghost use Rattle.ras_account.specs.Modules.{Module, has_tripped};
 ghost use Rattle.ras_account.specs.Orders.{orders, orders_since_mark};
 ghost use Rattle.ras_journal.specs.Recovered.{Recovers};
 ghost use Rattle.ras_exit.specs.declared.exit.Exit.{Exit};
-ghost use Rattle.ras_script.specs.declared.line.Line.{Line};
-ghost use Rattle.ras_events.specs.Stores.{with_put_by};
 ghost use Rattle.ras_run.specs.Places.{Start};
-ghost use Rattle.ras_daemon.specs.Headline.{Settles, StopsRecover, account_with, laid_with};
+ghost use Rattle.ras_daemon.specs.Headline.{Settles, StopsRecover, reported};
+ghost use Rattle.ras_daemon.specs.Machine.{account_upto, change_next, puts, store_changed};
+ghost use Rattle.ras_daemon.specs.Machine.{store_upto};
 ghost use Rattle.ras_daemon.specs.Promises.{RunStops};
+ghost use Rattle.ras_daemon.specs.RunOf.{run_of};
 ghost use Rattle.ras_daemon.specs.RunStatus.{start_of};
-ghost use Rattle.ras_daemon.specs.Runs.{CountTheSame, IsTakenWhole, ReportsFacts, event_count};
-ghost use Rattle.ras_daemon.specs.Runs.{facts_of, logged};
-ghost use Rattle.ras_daemon.specs.Script.{line_after};
+ghost use Rattle.ras_daemon.specs.Runs.{BeginsWith, CountTheSame, IsTakenWhole, ReportsFacts};
+ghost use Rattle.ras_daemon.specs.Runs.{facts_of, logged, ordered};
 ghost use Rattle.ras_daemon.specs.StoreDuring.{KeepsRecords, KnownBy};
 ghost use Rattle.era_laws.specs.Eras.{AreEras, Counts, CountsEach, Era, IsEra, IsReadableIn};
-ghost use Rattle.era_laws.specs.Eras.{IsReplayed, done_in, is_put_by, last_laid_in, left_after};
-ghost use Rattle.era_laws.specs.Eras.{logged_in, ordered_in, reported_in, start_in};
+ghost use Rattle.era_laws.specs.Eras.{IsReplayed, TakesScript, done_in, era_of, last_laid_in};
+ghost use Rattle.era_laws.specs.Eras.{left_after, logged_in, logs_upto, ordered_in, orders_upto};
+ghost use Rattle.era_laws.specs.Eras.{reported_in, reports_upto};
 
 use board_core::{Board, Source};
 
-/// The laws of a machine's whole life. An era is a run of `rasd` up to a stop of the machine at any
-/// moment of it, or up to its end. Eras follow one another on one journal and record store: each
-/// begins with what was left of the one before it.
+/// The laws of a machine's whole life. An era is a run up to a stop of the machine at any moment of
+/// it, or up to its end. Eras follow one another on one journal and record store: each begins with
+/// what was left of the one before it. The laws look at runs from outside: whatever their scripts
+/// say, they are events that report, change the record store, and print. What `rasd` promises of a
+/// script makes eras, as `run_eras` says.
 ///
-/// - `begins`, `stopped`, `ended`, `settled` and `went_on` make eras of what `rasd` promises: of
-///   any stop of a run, of its end, and of a run that was begun while the machine went on.
 /// - `counts`, `accounts` and `histories` say what the files give after all eras: the first account
 ///   with what was done by what each era printed, and with at most one event more of each.
 /// - `logged` and `once` say that over all eras no name is logged twice.
@@ -53,36 +55,7 @@ use board_core::{Board, Source};
 ///   to what it comes to in one run, and `polled` and `polled_whole` what holds of one that polls.
 ///
 /// The function does nothing: its clauses are what it is for.
-pub fn era_laws<S: Source, B: Board>()
-    // The board tells all that a stop at a run's start may leave, if it rests there, as after a
-    // start of the machine.
-    ensures begins { (board : B) (account : State) (t : Told) → Recovers account t.here
-        → Rests t (B.told board) (B.clock board)
-        → StopsRecover (start_of account t) (B.clock board) }
-
-    // Then what a stop at any moment of the run leaves is an era, by `rasd/stops`; and so is what
-    // the board tells where the run ends.
-    ensures stopped { (exit : Exit) (first last : S) (old new : B) (era : Era)
-        → Recovers era.account era.told.here → StopsRecover (start_in era) (B.clock old)
-        → RunStops B.told B.clock exit (last ≡ first) (start_in era) era.script era.told old new
-        → (B.clock new).may_leave_since (B.clock old).now era.left → IsEra era }
-    ensures ended { (exit : Exit) (first last : S) (old new : B) (now : Told) (era : Era)
-        → Recovers era.account era.told.here → StopsRecover (start_in era) (B.clock old)
-        → RunStops B.told B.clock exit (last ≡ first) (start_in era) era.script era.told old new
-        → B.told new ≡ Some now → era.left ≡ now.here → IsEra era }
-
-    // A process may die and the machine go on, with writes under way. What a stop of the next run
-    // leaves is an era from the moment on at which its journal is open. A stop before that leaves
-    // an era too, or what one at the very start of this run might have left.
-    ensures settled { (old new : B) (era : Era) → Recovers era.account era.told.here
-        → (settles : Settles B.told B.clock (start_in era) era.script era.told old new)
-        → (B.clock new).may_leave_since (B.clock settles.opened).now era.left → IsEra era }
-    ensures went_on { (exit : Exit) (first last : S) (old new : B) (era : Era)
-        → Recovers era.account era.told.here
-        → RunStops B.told B.clock exit (last ≡ first) (start_in era) era.script era.told old new
-        → (B.clock new).may_leave_since (B.clock old).now era.left
-        → LeftNow (B.clock old) era.left ⊎ IsEra era }
-
+pub fn era_laws()
     // The files count of each era the events that are done by what it printed, or one more, and
     // give the first account with what these report, in order.
     ensures counts { (here : Left) (eras : List Era) → AreEras here eras
@@ -150,11 +123,10 @@ pub fn era_laws<S: Source, B: Board>()
         → KeepsRecords (last_laid_in here eras) (KnownBy now) (left_after here eras).store }
 
     // What a stop left of a put that it cut is what the put was to lay, or what was laid before it.
-    ensures cut { (era : Era) (line : Line) (id : ℕ) → IsEra era
-        → line_after (start_in era) era.script (done_in era) ≡ Some line
-        → IsTrue (is_put_by (Some line) id)
-        → let laid = laid_with (start_in era) era.script (done_in era) in
-        Becomes (with_put_by line laid) laid era.left.store }
+    ensures cut { (era : Era) (r : Stored) → IsEra era
+        → change_next era.run (done_in era) ≡ puts r
+        → let laid = store_upto era.run (done_in era) in
+        Becomes (store_changed laid (puts r)) laid era.left.store }
 
     // A script that is taken from its first line again after each stop leaves at last the account
     // of one run that isn't stopped, but for the number of entries, since limits are set again.
@@ -162,33 +134,92 @@ pub fn era_laws<S: Source, B: Board>()
     ensures replayed { (history : History) (undisturbed : Start) (script : List ℕ) (here : Left)
         (eras : List Era) (last : Era) (now : State)
         → IsReplayed history undisturbed script here eras last → Recovers now last.left
-        → CountTheSame now (account_with undisturbed script (event_count undisturbed script)) }
+        → let whole = run_of undisturbed script in
+        CountTheSame now (account_upto whole (length whole.does)) }
     ensures same { (history : History) (undisturbed : Start) (script : List ℕ) (here : Left)
         (eras : List Era) (last : Era) (now : State)
         → IsReplayed history undisturbed script here eras last
         → ReportsFacts undisturbed script → Recovers now last.left
-        → now ≡ account_with undisturbed script (event_count undisturbed script) }
+        → let whole = run_of undisturbed script in
+        now ≡ account_upto whole (length whole.does) }
 
     // Together these eras log each report of the run that isn't stopped once, in the same order.
     ensures together { (history : History) (undisturbed : Start) (script : List ℕ) (here : Left)
         (eras : List Era) (last : Era) (counts : List ℕ)
         → IsReplayed history undisturbed script here eras last
         → CountsEach (eras ++ last ∷ []) counts
-        → facts_of (logged_in (eras ++ last ∷ []) counts)
-        ≡ facts_of (logged undisturbed script (event_count undisturbed script)) }
+        → let whole = run_of undisturbed script in
+        facts_of (logged_in (eras ++ last ∷ []) counts)
+        ≡ facts_of (logs_upto whole (length whole.does)) }
 
     // That can't be said of a script that polls, since a poll reports what the store holds then.
     // But if a later era takes the same script, those first events that the files counted before
     // log there only reports of records that can be read in the store that was left. So do all of
     // its events, if the script was taken whole and all of it counted.
-    ensures polled { (here : Left) (era next : Era) (between : List Era) (n m : ℕ)
-        → AreEras here (era ∷ (between ++ next ∷ [])) → next.script ≡ era.script → Counts era n
-        → m ≤ n → m ≤ event_count (start_in era) era.script
+    ensures polled { (script : List ℕ) (here : Left) (era next : Era) (between : List Era)
+        (n m : ℕ)
+        → AreEras here (era ∷ (between ++ next ∷ []))
+        → TakesScript script era → TakesScript script next
+        → Counts era n → m ≤ n → m ≤ length era.run.does
         → All (IsReadableIn (left_after era.left between).store)
-        (names_of (logged (start_in next) next.script m)) }
-    ensures polled_whole { (here : Left) (era next : Era) (between : List Era) (n m : ℕ)
-        → AreEras here (era ∷ (between ++ next ∷ [])) → next.script ≡ era.script → Counts era n
-        → IsTakenWhole (start_in era) era.script → event_count (start_in era) era.script ≤ n
+        (names_of (logs_upto next.run m)) }
+    ensures polled_whole { (script : List ℕ) (here : Left) (era next : Era) (between : List Era)
+        (n m : ℕ)
+        → AreEras here (era ∷ (between ++ next ∷ []))
+        → (takes : TakesScript script era) → TakesScript script next
+        → Counts era n → IsTakenWhole takes.start script → length era.run.does ≤ n
         → All (IsReadableIn (left_after era.left between).store)
-        (names_of (logged (start_in next) next.script m)) }
+        (names_of (logs_upto next.run m)) }
+{}
+
+/// What `rasd` promises of a script makes an era of its run: up to any stop, up to the run's end, and
+/// of a run that was begun while the machine went on. The function does nothing: its clauses are
+/// what it is for.
+pub fn run_eras<S: Source, B: Board>()
+    // The board tells all that a stop at a run's start may leave, if it rests there, as after a
+    // start of the machine.
+    ensures begins { (board : B) (account : State) (t : Told) → Recovers account t.here
+        → Rests t (B.told board) (B.clock board)
+        → StopsRecover (start_of account t) (B.clock board) }
+
+    // Then what a stop at any moment of the run leaves makes an era of it, by `rasd/stops`; and so
+    // does what the board tells where the run ends.
+    ensures stopped { (exit : Exit) (first last : S) (old new : B)
+        (account : State) (t : Told) (script : List ℕ) (left : Left)
+        → Recovers account t.here → StopsRecover (start_of account t) (B.clock old)
+        → RunStops B.told B.clock exit (last ≡ first) (start_of account t) script t old new
+        → (B.clock new).may_leave_since (B.clock old).now left
+        → IsEra (era_of account t script left) }
+    ensures ended { (exit : Exit) (first last : S) (old new : B)
+        (account : State) (t now : Told) (script : List ℕ)
+        → Recovers account t.here → StopsRecover (start_of account t) (B.clock old)
+        → RunStops B.told B.clock exit (last ≡ first) (start_of account t) script t old new
+        → B.told new ≡ Some now → IsEra (era_of account t script now.here) }
+
+    // A process may die and the machine go on, with writes under way. What a stop of the next run
+    // leaves makes an era of it from the moment on at which its journal is open. A stop before that
+    // does so too, or leaves what one at the very start of this run might have left.
+    ensures settled { (old new : B) (account : State) (t : Told) (script : List ℕ) (left : Left)
+        → Recovers account t.here
+        → (settles : Settles B.told B.clock (start_of account t) script t old new)
+        → (B.clock new).may_leave_since (B.clock settles.opened).now left
+        → IsEra (era_of account t script left) }
+    ensures went_on { (exit : Exit) (first last : S) (old new : B)
+        (account : State) (t : Told) (script : List ℕ) (left : Left)
+        → Recovers account t.here
+        → RunStops B.told B.clock exit (last ≡ first) (start_of account t) script t old new
+        → (B.clock new).may_leave_since (B.clock old).now left
+        → LeftNow (B.clock old) left ⊎ IsEra (era_of account t script left) }
+{}
+
+/// What the run of a script reports, logs and orders, as it looks from outside, is what `run_laws`
+/// says of the lines of the script. The function does nothing: its clauses are what it is for.
+pub fn script_eras()
+    ensures reports { (start : Start) (script : List ℕ) (n : ℕ)
+        → reports_upto (run_of start script) n ≡ reported start script n }
+    ensures logs { (start : Start) (script : List ℕ) (n : ℕ)
+        → logs_upto (run_of start script) n ≡ logged start script n }
+    ensures orders { (history : History) (start : Start) (script : List ℕ) (n : ℕ)
+        → BeginsWith history start
+        → orders_upto (run_of start script) n ≡ ordered start script n }
 {}

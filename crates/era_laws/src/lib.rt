@@ -4,4 +4,4 @@
 
 mod laws;
 
-pub use laws::era_laws;
+pub use laws::{era_laws, run_eras, script_eras};
