@@ -3,7 +3,7 @@ use Rattle.std.proofs.Common.{take}
 use Rattle.erst_driver.specs.Steps.Operating.{Done}
 use Rattle.erst_driver.specs.Steps.Operating.{Called}
 use Rattle.board_core.specs.Doing.{looks}
-use Rattle.erst_driver.proofs.driver.Driver.run_steps.Given as goal
+use Rattle.erst_driver.proofs.driver.Driver.operate.Given as goal
 
 abbrev pub invariant-loop-step : goal.invariant-loop-step
 invariant-loop-step g l = record {

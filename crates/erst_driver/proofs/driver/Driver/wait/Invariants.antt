@@ -2,7 +2,7 @@
 use Rattle.erst_driver.proofs.WaitLemmas.{Waiting}
 use Rattle.erst_driver.specs.Steps.Operating.{Called}
 use Rattle.board_core.specs.Doing.{looks}
-use Rattle.erst_driver.proofs.driver.Driver.check.Given as goal
+use Rattle.erst_driver.proofs.driver.Driver.wait.Given as goal
 
 abbrev pub invariant-loop : goal.invariant-loop
 invariant-loop g l = record {
