@@ -78,7 +78,7 @@ def main():
         go = ending(4, lambda: Run(FolderDisk(), write).take_all(iter(read, b"")))
         return go()
     words = [os.fsencode(word) for word in sys.argv[1:]]
-    is_read = words[:1] in ([b"pcie"], [b"klog"])
+    is_read = words[:1] in ([b"pcie"], [b"klog"], [b"lines"])
     outcome = command(words, b"".join(iter(read, b"")) if is_read else b"", files_here())
     write(outcome.printed)
     return outcome.status

@@ -1,12 +1,15 @@
 """Checks of what the scripts in demo/ make of the program's lines; tests/program/examples runs them.
 
-demo/json is tried on every line that tests/program/rows.txt and the cases say is printed, demo/metrics by a
-parser that refuses what the rules of Prometheus' text format (version 0.0.4) don't allow,
-demo/bank-lines, demo/trace-lines and demo/ghes-lines on the forms in which a kernel's log and its
-traces are printed, and demo/put-lines on records that are whole or cut.
+demo/json is tried on every line that tests/program/rows.txt and the cases say is printed, what
+monitor/write-metrics writes of `report metrics` by a parser that refuses what the rules of Prometheus' text
+format (version 0.0.4) don't allow,
+demo/ghes-lines on the forms in which a kernel's log is printed, and demo/put-lines on records that are
+whole or cut.
 """
 import datetime
 import json
+import os
+import pathlib
 import re
 import subprocess
 import tempfile
@@ -15,7 +18,7 @@ import time
 from rattle import TOP
 from table import rows
 
-DEMO, TESTS = TOP / "demo", TOP / "tests" / "program"
+DEMO, MONITOR, TESTS = TOP / "demo", TOP / "monitor", TOP / "tests" / "program"
 
 # The kinds of lines that rasd prints, each by its beginning.
 KINDS = (
@@ -64,10 +67,17 @@ PARTS = {"bank": "boot cpu bank tsc", "record": "record", "block": "boot source 
 STRINGS = ("label", "page", "record", "mask", "apic", "tsc", "number", "id")
 
 
+# What these words print isn't for demo/json.
+OTHERS = (b"lines", b"--help", b"--version", b"metrics")
+
+
 def printed_lines():
     """Each line that the rows and the cases say is printed, and some more."""
-    texts = [row.printed for row in rows()]
-    texts += [file.read_bytes() for file in (TESTS / "cases").glob("**/stdout")]
+    texts = [row.printed for row in rows() if not set(OTHERS) & set(row.words)]
+    for file in (TESTS / "cases").glob("**/stdout"):
+        words = file.parent / "words"
+        if not words.exists() or not set(OTHERS) & set(words.read_bytes().split(b"\n")):
+            texts.append(file.read_bytes())
     return sorted({line for text in texts for line in text.decode().splitlines()} | set(MORE))
 
 
@@ -139,7 +149,7 @@ def flat(members):
     return [it for part in parts for it in part]
 
 
-# ---- demo/metrics
+# ---- the metrics
 
 METRIC = r"[a-zA-Z_:][a-zA-Z0-9_:]*"
 LABEL = r'([a-zA-Z_][a-zA-Z0-9_]*)="((?:[^"\\\n]|\\[\\"n])*)"'
@@ -190,15 +200,14 @@ def samples_of(text):
         if families[-1:] != [name]:
             demand(name not in families, f"the lines of a metric don't stand together: {line}")
             families.append(name)
-    demand(set(types) == set(helps) == {name for name, _ in samples}, "a metric without its type, its help or a sample")
+    demand(set(types) == set(helps) >= {name for name, _ in samples}, "a metric without its type or its help")
     demand(all((kind == "counter") == name.endswith("_total") for name, kind in types.items()), "the name of a counter")
     return samples
 
 
-END = "end entries=6 names=4\n"
 BROKEN = (
     "a 1", "a{b=1} 1\n", 'a{b="1} 1\n', 'a{b="\\x"} 1\n', "a one\n", "1a 1\n", "a 1\na 1\n", "# TYPE a number\na 1\n",
-    "# HELP a b\n# TYPE a gauge\na 1\n# TYPE a gauge\n", "# HELP a b\n# TYPE a gauge\n", "a  1\n", 'a{b="1",b="2"} 1\n',
+    "# HELP a b\n# TYPE a gauge\na 1\n# TYPE a gauge\n", "# TYPE a gauge\n", "a  1\n", 'a{b="1",b="2"} 1\n',
 )  # fmt: skip
 
 
@@ -211,135 +220,90 @@ def is_refused(text):
     return False
 
 
-def counts_line(label, sums):
-    """A line of a report with ten sums."""
-    names = "CE UCNA SRAO SRAR UC ODD corrected recoverable fatal informational".split()
-    return f"counts label={label} {' '.join(f'{name}={it}' for name, it in zip(names, sums))}\n"
+# A run of three modules, one of which has a label that would go on as labels of its own, and of errors of no module.
+ODD = 'B"\\",class="CE'
+MODULES = f"""cpu 0 0
+module A 0 7 0
+module {ODD} 0 7 1
+module C 0 7 2
+bank 1 100 0 7 1 1000c14 0 8c00004000010090 12345040 86
+bank 1 100 0 7 2 1000c14 0 8c00008000010091 22345040 86
+bank 1 100 0 7 3 1000c14 5 bd00000000000092 32345040 86
+bank 1 100 0 8 4 1000c14 0 8c0000c000010090 0 0
+"""
+METRICS = (
+    "rasd_errors_total rasd_pages rasd_module_replace rasd_module_bucket_errors rasd_module_bucket_limit rasd_names"
+    " rasd_names_limit rasd_entries_total rasd_boot_floor rasd_build_info"
+).split()
+
+
+def key_of(name, **labels):
+    """A sample's name and labels; `class` is a word of Python's, so that it is written with an underscore."""
+    return name, tuple(sorted((key.rstrip("_"), text) for key, text in labels.items()))
 
 
 def checks_of_metrics(program):
-    """Reports by hand and by the program give the samples that they should."""
+    """The program's metrics give the samples that they should, and by the machine's rows those of its modules."""
     for text in BROKEN:
         yield holds(f"metrics: the parser takes {text!r}", is_refused(text))
-    label = 'A"\\=,{}#n'
-    counts = counts_line(label, range(2**62 - 9, 2**62 + 1)) + counts_line("-", [0] * 10) + END
-    pages = "page=0000000000001000 state=hard count=0 stamp=1\n" + END
-    modules = f"module label={label} state=replace count=0 stamp=1\nmodule label=B state=kept count=1 stamp=1\n" + END
-    output, status = output_of("metrics", (counts + pages + modules).encode())
-    samples = samples_of(output.decode())
-    wanted = {
-        ("rasd_errors_total", (("class", "CE"), ("label", label))): str(2**62 - 9),
-        ("rasd_errors_total", (("class", "informational"), ("label", label))): str(2**62),
-        ("rasd_errors_total", (("class", "UC"), ("label", "-"))): "0",
-        ("rasd_pages", (("state", "hard"),)): "1",
-        ("rasd_pages", (("state", "kept"),)): "0",
-        ("rasd_module_replace", (("label", label),)): "1",
-        ("rasd_module_replace", (("label", "B"),)): "0",
-        ("rasd_names", ()): "4",
-        ("rasd_entries_total", ()): "6",
-    }
-    is_right = status == 0 and wanted.items() <= samples.items() and len(samples) == 20 + 3 + 2 + 2
-    yield holds(f"metrics: {output.decode()}", is_right)
-    later = "end entries=7 names=5\n"
-    stopped, others = counts + "stop 7 file=0 place=1\n" + modules, (counts + pages + later, later + pages + modules)
-    for cut in ("", counts + pages, stopped, *others):
-        ran = subprocess.run([DEMO / "metrics"], input=cut.encode(), capture_output=True)
-        is_silent = (ran.stdout, ran.returncode) == (b"", 1) and ran.stderr.startswith(b"metrics: ")
-        yield holds(f"metrics: something is told of {cut!r}", is_silent)
-    yield from checks_of_labels(counts + pages + modules, samples)
     with tempfile.TemporaryDirectory() as folder:
         def rasd(*words, data=b""):
-            return subprocess.run([program, *words], input=data, capture_output=True, cwd=folder).stdout
+            return subprocess.run([program, *words], input=data, capture_output=True, cwd=folder)
 
-        rasd("run", data=(DEMO / "day.script").read_bytes())
-        reports = b"".join(rasd("report", it) for it in ("counts", "pages", "modules"))
-    samples = samples_of(output_of("metrics", reports)[0].decode())
-    told = [samples.get(("rasd_pages", (("state", it),))) for it in ("kept", "soft", "hard")]
-    yield holds("metrics: the program's reports", told == ["2", "1", "0"] and len(samples) == 10 + 3 + 1 + 2)
+        empty = samples_of(rasd("report", "metrics").stdout.decode())
+        yield holds(f"metrics: of an empty account: {empty}", len(empty) == 3 + 6)
+        rasd("run", data=MODULES.encode())
+        text = rasd("report", "metrics").stdout.decode()
+        yield holds("metrics: in their order", re.findall(r"(?m)^# TYPE (\S+)", text) == METRICS)
+        samples = samples_of(text)
+        wanted = {
+            key_of("rasd_errors_total", label="A", class_="CE"): "1",
+            key_of("rasd_errors_total", label=ODD, class_="CE"): "2",
+            key_of("rasd_errors_total", label="C", class_="SRAO"): "1",
+            key_of("rasd_errors_total", label="-", class_="CE"): "3",
+            key_of("rasd_errors_total", label="-", class_="UC"): "0",
+            key_of("rasd_pages", state="hard"): "1",
+            key_of("rasd_pages", state="kept"): "2",
+            key_of("rasd_module_replace", label=ODD): "0",
+            key_of("rasd_module_bucket_errors", label=ODD): "2",
+            key_of("rasd_names"): "4",
+            key_of("rasd_entries_total"): "4",
+        }
+        yield holds(f"metrics: {text}", wanted.items() <= samples.items() and len(samples) == 40 + 3 + 2 + 2 + 6)
+        yield from checks_of_labels(program, folder, samples)
+        for journal in ("rasd.0", "rasd.1"):
+            (pathlib.Path(folder) / journal).write_bytes(b"\xa5damaged")
+        ran = rasd("report", "metrics")
+        is_comment = re.fullmatch(rb"# stop 7 file=\d place=\d+\n", ran.stdout)
+        yield holds(f"metrics: a damaged journal: {ran.stdout}", is_comment and ran.returncode == 7)
 
 
-def checks_of_labels(reports, samples):
-    """With the machine's lines nothing is told of labels that they don't have; a file that is missing is an error."""
-    with tempfile.NamedTemporaryFile("w", suffix=".script") as script:
-        script.write("cpu 0 0\nmodule B 0 7 0\nplace C 0 0 0")
-        script.flush()
-        output, status = output_of("metrics", reports.encode(), script.name)
-    wanted = {key: it for key, it in samples.items() if dict(key[1]).get("label", "B") in ("B", "-")}
-    yield holds(f"metrics: by labels: {output.decode()}", status == 0 and samples_of(output.decode()) == wanted != samples)
-    ran = subprocess.run([DEMO / "metrics", "/nowhere/script"], input=reports.encode(), capture_output=True)
-    yield holds("metrics: a missing script", (ran.stdout, ran.returncode) == (b"", 1) and ran.stderr)
+def checks_of_labels(program, folder, samples):
+    """By the machine's rows nothing is written of labels that they don't have; without them all is."""
+    rows_file, file = pathlib.Path(folder) / "rows", pathlib.Path(folder) / "rasd.prom"
+    for lines, kept in (
+        (f"cpu 0 0\nmodule {ODD} 0 7 0\nplace C 0 0 0", {ODD, "-"}),
+        ("module A 0 7 1\nmodule C 0 7 2\n", {"A", "C", "-"}),
+        ("", {"-"}),
+        (None, {ODD, "A", "C", "-"}),
+    ):
+        rows_file.unlink(missing_ok=True)
+        if lines is not None:
+            rows_file.write_text(lines)
+        settings = {**os.environ, "RASD": str(program), "RASD_ROWS": str(rows_file)}
+        ran = subprocess.run([MONITOR / "write-metrics", file], cwd=folder, env=settings, capture_output=True)
+        wanted = {key: it for key, it in samples.items() if dict(key[1]).get("label", "-") in kept}
+        is_right = ran.returncode == 0 and samples_of(file.read_text()) == wanted
+        yield holds(f"metrics: by the rows {lines}: {ran.stderr}", is_right)
 
 
-# ---- demo/bank-lines
+# ---- demo/ghes-lines
 
 
 def said_by(name, text, *words):
     """What a script of demo/ prints of a text, and what it says."""
     ran = subprocess.run([DEMO / name, *words], input=text.encode(), capture_output=True)
     return ran.stdout.decode(), ran.stderr.decode()
-
-
-def checks_of_bank_lines():
-    """Polled errors have counters of their own, in each form of a log."""
-    plain = (DEMO / "polled.log").read_text()
-    bare = re.sub(r"(?m)^\[.*?\] ", "", plain)
-    forms = {
-        "with a host": plain.replace("] mce", "] node7 kernel: mce"),
-        "with a time of day": re.sub(r"(?m)^", "Nov 29 00:00:00 node7 kernel: ", plain),
-        "with a level": re.sub(r"(?m)^", "<6>", plain),
-        "with a caller": re.sub(r"(?m)^(\[.*?\]) ", r"\1[    T7] ", plain),
-        "with a facility": re.sub(r"(?m)^", "kern  :emerg : ", plain),
-        "with a date": re.sub(r"(?m)^", "2026-11-29T00:00:00.123456+00:00 node7 kernel: ", plain),
-        "with Windows line ends": plain.replace("\n", "\r\n"),
-        "without mce": plain.replace("mce: ", ""),
-        "of an exception": plain.replace("Machine Check: 0", "Machine Check Exception:                0"),
-    }
-    forms["with the host's time"] = re.sub(r"(?m)^\[.*?\] ", "[Sun Nov 29 00:00:00 2026] ", plain)
-    times, seconds = [100000002, 100000005, 400000001], [1400000100000001, 1400000100000002, 1400000400000001]
-    tried = [("as it is", plain, times), ("bare", bare, seconds)]
-    tried += [(it, text, seconds if it == "with the host's time" else times) for it, text in forms.items()]
-    tried.append(("of a boot of months", re.sub(r"(?m)^\[  ", "[12345", plain), [it + 12345 * 10**9 for it in times]))
-    for form, text, wanted in tried:
-        output, _ = output_of("bank-lines", text.encode(), "3", "1000c14")
-        counters = [int(line.split()[5]) for line in output.decode().splitlines()]
-        yield holds(f"bank-lines: a log {form}: {output.decode()}", counters == wanted)
-    output, _ = output_of("bank-lines", plain.replace("TSC 0 ", "TSC ffffffffffffffff ").encode(), "3", "1000c14")
-    yield holds("bank-lines: another counter than 0 doesn't stay", output.count(b" 7 18446744073709551615 1000c14 ") == 3)
-    yield from checks_of_other_lines(plain)
-    wrong = (("", "1000c14"), ("x", "1"), ("3", ""), ("3", "0x1"), ("3",))
-    yield from checks_of_words("bank-lines", ("3", "1000c14"), *wrong)
-    yield from checks_of_waiting("bank-lines", plain, "3", "1000c14")
-
-
-# A device's three strings, one of them with what another hasn't.
-STRINGS_OF_A_DEVICE = (
-    "[   10.000001] usb 1-1: Product: [Hardware Error]: CPU 0: Machine Check: 0 Bank 7: bd000000000000c0\n"
-    "[   10.000002] usb 1-1: Manufacturer: mce: [Hardware Error]: TSC 3e8 ADDR 7f000000 MISC 86\n"
-    "[   10.000003] usb 1-1: SerialNumber: mce: [Hardware Error]: PROCESSOR 0:306e4 TIME 1400000000 SOCKET 0 APIC 0\n"
-)
-
-
-def checks_of_other_lines(plain):
-    """What isn't whole, of Intel, of the kernel or a number is left out and told, and what stands round it is taken."""
-    lines = plain.splitlines(keepends=True)
-    whole = said_by("bank-lines", plain, "3", "1000c14")[0]
-    first, rest = whole.split("\n", 1)
-    within = "".join([*lines[:2], STRINGS_OF_A_DEVICE, *lines[2:]])
-    tried = [
-        ("a device's lines", STRINGS_OF_A_DEVICE + plain, whole, "not begun by the kernel"),
-        ("a device's lines within", within, whole, "not begun by the kernel"),
-        ("AMD", plain.replace("PROCESSOR 0:306e4", "PROCESSOR 2:a00f11", 1), rest, "not of Intel"),
-        ("a cut report", "".join(lines[:2] + lines[4:]), rest, "not whole, left out: CPU 0 bank 7"),
-        ("a cut log", "".join(lines[:3]), "", "not whole, left out: CPU 0 bank 7"),
-    ]
-    for old, new in (
-        ("CPU 0", "CPU 65536"), ("Bank 7", "Bank 256"), ("7: 8c", "7: 018c"), ("TSC 0", "TSC 1" + "0" * 16),
-        ("ADDR 1", "ADDR 1" + "0" * 16), ("TIME 1", "TIME 99999999991"), ("Check: 0", "Check: x"),
-        ("[  100.000002", "[" + "9" * 14 + ".000002"),
-    ):  # fmt: skip
-        tried.append((new, plain.replace(old, new, 1), rest, "no such numbers"))
-    for what, text, wanted, why in tried:
-        yield makes("bank-lines", what, text, wanted, f"bank-lines: {why}", "3", "1000c14")
 
 
 def makes(name, what, text, wanted, why, *words):
@@ -368,44 +332,6 @@ def checks_of_waiting(name, text, *words):
         process.stdin.close()
 
 
-# ---- demo/trace-lines
-
-TRACE = (
-    "           <...>-123     [002] ..... {stamp}: mce_record: CPU: {cpu}, MCGc/s: 1000c14/5, MC7: 8c00004000010090, "
-    "IPID: {zero}, ADDR/MISC/SYND: 0000000012345040/0000000000000086/{zero}, RIP: 10:<ffffffff81000000>, TSC: {tsc}, "
-    "PROCESSOR: {vendor}:306e4, TIME: 1400000000, SOCKET: 0, APIC: 0\n"
-)
-
-
-def traced(stamp="12345.678901", cpu=3, tsc="3e8", vendor=0):
-    """A line of a trace."""
-    return TRACE.format(stamp=stamp, cpu=cpu, tsc=tsc, vendor=vendor, zero="0" * 16)
-
-
-def checks_of_trace_lines():
-    """Each machine check of Intel that the kernel traces gives a line; others are told."""
-    line = "bank 9 1400000000 3 7 {} 1000c14 5 8c00004000010090 12345040 86\n"
-    two = traced(tsc="0") + traced("12345.678902", tsc="0")
-    others = "# tracer: nop\n#\n" + traced() + "x-1 [000] ..... 1.000000: other: mce_record: CPU: 0\n"
-    for what, text, wanted, why in (
-        ("an error", traced(), line.format(1000), ""),
-        ("the greatest counter", traced(tsc="f" * 16), line.format(2**64 - 1), ""),
-        ("a polled error", traced(tsc="0"), line.format(12345678901), ""),
-        ("two of them", two, line.format(12345678901) + line.format(12345678902), ""),
-        ("other lines", others, line.format(1000), ""),
-        ("a process with spaces", traced().replace("<...>", "a b: [1] c"), line.format(1000), ""),
-        ("AMD", traced(vendor=2) + traced(), line.format(1000), "trace-lines: not of Intel, left out: CPU 3 bank 7"),
-        ("a wrong CPU", traced(cpu=65536) + traced(), line.format(1000), "trace-lines: not understood, left out: "),
-        ("another form", traced().replace("ADDR/MISC/SYND", "ADDR"), "", "trace-lines: not understood, left out: "),
-        ("a cut line", traced()[:150] + "\n" + traced(), line.format(1000), "trace-lines: not understood, left out: "),
-    ):
-        yield makes("trace-lines", what, text, wanted, why, "9")
-    yield from checks_of_words("trace-lines", ("9",), (), ("",), ("9", "1"))
-    yield from checks_of_waiting("trace-lines", traced(), "9")
-
-
-# ---- demo/ghes-lines
-
 REPORT = (
     "[  100.000001] {1}[Hardware Error]: Hardware error from APEI Generic Hardware Error Source: 1\n"
     "[  100.000002] {1}[Hardware Error]: It has been corrected by h/w and requires no further action\n"
@@ -432,6 +358,12 @@ def checks_of_ghes_lines(program):
     for what, text, wanted, why in (
         ("a report", REPORT, lines, ""),
         ("with a host", REPORT.replace("] {", "] node7 kernel: {"), lines, ""),
+        ("with a time of day", re.sub(r"(?m)^", "Nov 29 00:00:00 node7 kernel: ", REPORT), lines, ""),
+        ("with a level", re.sub(r"(?m)^", "<6>", REPORT), lines, ""),
+        ("with a caller", re.sub(r"(?m)^(\[.*?\]) ", r"\1[    T7] ", REPORT), lines, ""),
+        ("with a facility", re.sub(r"(?m)^", "kern  :emerg : ", REPORT), lines, ""),
+        ("with a date", re.sub(r"(?m)^", "2026-11-29T00:00:00.123456+00:00 node7 kernel: ", REPORT), lines, ""),
+        ("with Windows line ends", REPORT.replace("\n", "\r\n"), lines, ""),
         ("two reports", two, lines + second, ""),
         ("another line within", REPORT.replace("[  100.000006]", "[  100.000005] eth0: up\n[  100.000006]"), lines, ""),
         ("a device's lines within", lines_within, lines, "ghes-lines: not begun by"),
@@ -499,7 +431,5 @@ def checks(program):
     """Whether each check of the demos passed."""
     yield all([*checks_of_json()])
     yield all([*checks_of_metrics(program)])
-    yield all([*checks_of_bank_lines()])
-    yield all([*checks_of_trace_lines()])
     yield all([*checks_of_ghes_lines(program)])
     yield all([*checks_of_put_lines()])

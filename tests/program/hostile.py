@@ -5,7 +5,8 @@ import struct
 import uuid
 
 import lines
-from lines import KINDS, PCIE, PCIE_KINDS, STATUSES, log, record_of, script
+import model
+from lines import KINDS, PCIE, PCIE_KINDS, STATUSES, log, record_of, script, trace
 from reference import reports, store, store_rows
 
 NUMBERS = (
@@ -255,7 +256,8 @@ def any_damage(chance):
 
 def any_words(chance):
     """Words that are a command, or none."""
-    words = chance.choice((["report"], ["load", "20"], ["klog", "1", "c14"], ["pcie"], ["run"], ["report", "names"]))
+    forms = "report", "report names", "load 20", "klog 1 c14", "lines klog 1 c14", "lines trace 1", "pcie", "run", "--help"
+    words = chance.choice(forms).split()
     place = chance.randrange(len(words))
     words[place : place + chance.randrange(2)] = [chance.choice((*NUMBERS, "names", "report", ""))]
     return [word.encode("latin-1") for word in words]
@@ -270,7 +272,23 @@ def any_run(chance):
 
 def any_report(chance):
     """A report."""
-    return Step([b"report", chance.choice((b"counts", b"pages", b"names", b"modules"))])
+    return Step([b"report", chance.choice((b"counts", b"pages", b"names", b"modules", b"metrics"))])
+
+
+CAPS = (b"1000c14", b"c14", b"0")
+
+
+def of_kernel(chance, change):
+    """What is made of a log or a trace of a boot: its log lines; or lines of a script, and a run over these."""
+    boot, cap = b"%d" % chance.randint(0, 4), chance.choice(CAPS)
+    kind = chance.randrange(3)
+    if kind == 0:
+        yield Step([b"klog", boot, cap], change(chance, log(chance)))
+        return
+    words = [b"lines", b"klog", boot, cap] if kind == 1 else [b"lines", b"trace", boot]
+    text = change(chance, (log if kind == 1 else trace)(chance))
+    yield Step(words, text)
+    yield Step([b"run"], model.command(words, text).printed)
 
 
 def steps(chance):
@@ -284,10 +302,9 @@ def steps(chance):
         if other == 0:
             text = script(chance, PCIE_KINDS) if chance.random() < 0.5 else any_script(chance)
             yield Step([b"pcie"], changed(chance, text))
-        if other == 1:
-            cap = chance.choice((b"1000c14", b"c14", b"0"))
-            yield Step([b"klog", b"%d" % chance.randint(0, 4), cap], changed(chance, log(chance)))
-        if other == 2:
+        if other in (1, 2):
+            yield from of_kernel(chance, changed)
+        if other == 3:
             yield Step(any_words(chance), changed(chance, any_script(chance)))
     for _ in range(2):
         yield any_damage(chance)

@@ -160,11 +160,57 @@ def log_time(chance):
     return f"PROCESSOR {chance.choice(('0', '2', 'x'))}:306e4 TIME {seconds}{chance.choice(('', ' SOCKET 0 APIC 0', ' '))}"
 
 
+HEADS = (
+    "mce: ", "[   12.500001] mce: ", "[   12.500002] node7 kernel: mce: ", "<0>[    0.000000] mce: ",
+    "Nov 29 13:35:57 node7 kernel: mce: ",
+)  # fmt: skip
+ODD_HEADS = (
+    "", "[ 1.5] mce: ", "usb 1-1: Product: mce: ", "[   12.500001] node7 kernel: usb 1-1: Product: mce: ", "kernel: x: mce: ",
+    "[18446744073709.551616] mce: ", "[18446744073709.551615] mce: ", "mce:", "node7 mce: ", "[   12.500001][    T7] mce: ",
+)  # fmt: skip
+
+
 def log(chance):
     """A kernel log, mostly of lines that are of errors, in the order of a report's lines more often than not."""
     lines, makers = [], (log_start, log_stamp, log_time)
+    usual = chance.choice(HEADS)
     for number in range(chance.randint(0, 40)):
         make = makers[number % 3] if chance.random() < 0.8 else chance.choice((*makers, lambda it: "RIP", lambda it: ""))
-        front = chance.choice(("[Hardware Error]: ", "[ 1.5] mce: [Hardware Error]: ") * 8 + ("", "[Hardware Error]:"))
-        lines.append(front + make(chance))
+        front = chance.choice((usual,) * 12 + (chance.choice(HEADS), chance.choice(ODD_HEADS)))
+        lines.append(front + chance.choice(("[Hardware Error]: ",) * 20 + ("", "[Hardware Error]:")) + make(chance))
+        if chance.random() < 0.15:
+            status, tsc = chance.choice(STATUSES), chance.choice(("0", "0", "0", "3e8"))
+            start = f"CPU {chance.randrange(2)}: Machine Check: 5 Bank 7: {status}"
+            parts = (start, f"TSC {tsc} ADDR 12345040 MISC 86 ", f"PROCESSOR {chance.choice('0002')}:306e4 TIME 1400000000")
+            lines += [f"{usual}[Hardware Error]: {part}" for part in parts]
+    return "\n".join(lines).encode() + chance.choice((b"\n", b""))
+
+
+def event(chance):
+    """A line of a trace, in one of its forms, or nearly."""
+    zero, tsc = 16 * "0", chance.choice(("0", "0", "3e8", "ffffffffffffffff", "10000000000000000", "x"))
+    status, cpu = chance.choice(STATUSES), chance.choice((0, 1, 65_535, 65_535, 65_536))
+    addr, misc = (f"{chance.choice((0, 0x12345040, 0x2000, 2**64 - 1)):016x}", f"{chance.choice((0x86, 0x8D, 0)):016x}")
+    vendor = chance.choice((0, 0, 0, 0, 2))
+    parts = [f"CPU: {cpu}", "MCGc/s: 1000c14/5", f"MC{chance.choice((7, 7, 8, 255, 256))}: {status}", f"IPID: {zero}"]
+    if chance.random() < 0.5:
+        parts += [f"ADDR/MISC/SYND: {addr}/{misc}/{zero}", f"RIP: 10:<{zero}>", f"TSC: {tsc}"]
+        parts += [f"PROCESSOR: {vendor}:306e4", "TIME: 1400000000", "SOCKET: 0", "APIC: 0"]
+    else:
+        parts += [f"ADDR: {addr}", f"MISC: {misc}", f"SYND: {zero}", f"RIP: 10:<{zero}>", f"TSC: {tsc}", "PPIN: 0"]
+        parts += [f"vendor: {vendor}", "CPUID: 306e4", f"time: {chance.choice((0, 1400000000, 2**64))}", "socket: 0", "APIC: 0"]
+        parts += [it for it in ("microcode: 42e", "vendor data: {0x0,0x0}") if chance.random() < 0.7]
+    if chance.random() < 0.2:
+        place = chance.randrange(len(parts))
+        parts[place : place + chance.randrange(2)] = chance.choice(([], [chance.choice(parts)], ["MISC: 0"], ["x", "a: b"]))
+    stamp = chance.choice(("12.500001:", "12.500001:", "12.500002:", "18446744073709.551615:", "12.5:", "12500001:", ""))
+    front = chance.choice(("kworker/0:1-7 [000] ..... ", "a b-1 [000] d..1. ", "mce_record: ", "9.000001: x-1 "))
+    mark = chance.choice(("mce_record: ",) * 12 + ("mce:mce_record: ", "mce_record:          ", "mce_record:", "mce_record "))
+    return f"{front}{stamp} {mark}{', '.join(parts)}"
+
+
+def trace(chance):
+    """A trace of the kernel, mostly of events of machine checks."""
+    others = ("# tracer: nop", "", "CPU:0 [LOST 5 EVENTS]", "x-1 [000] ..... 1.000000: sched_wakeup: comm=y", "mce_record: ")
+    lines = [event(chance) if chance.random() < 0.9 else chance.choice(others) for _ in range(chance.randint(0, 20))]
     return "\n".join(lines).encode() + chance.choice((b"\n", b""))

@@ -1,6 +1,6 @@
-r"""The worked runs of tests/program/rows.txt, which tests/program/rows tries.
+r"""The worked runs of tests/program/rows.txt and tests/program/kernel.txt, which tests/program/rows tries.
 
-The file has, line by line, a comment from `#`, nothing, or one of
+Such a file has, line by line, a comment from `#`, nothing, or one of
 
   let NAME TEXT            {NAME} stands for the text, from here on
   each FIRST LAST          the next row is a run for each number from the first to the last, and in it {NAME#} stands
@@ -13,21 +13,22 @@ The file has, line by line, a comment from `#`, nothing, or one of
   then WORD .. | PRINTED   a run with these words and an empty input, after the row before it and over what that left
   leaves BYTES             the file of the record store that the next row has to leave, in hexadecimal
 
-In each text \n is a line feed, \r a carriage return, \t a tab and \xNN the byte of that number.
+{VERSION} is what the file VERSION says. In each text \n is a line feed, \r a carriage return, \t a tab and \xNN the byte of that number.
 Spaces round a text don't count.
 """
 import dataclasses
 import pathlib
 import re
 
-TABLE = pathlib.Path(__file__).resolve().parent / "rows.txt"
+TABLES = [pathlib.Path(__file__).resolve().parent / name for name in ("rows.txt", "kernel.txt")]
+VERSION = (TABLES[0].parents[2] / "VERSION").read_text().strip()
 ESCAPES = {"n": b"\n", "r": b"\r", "t": b"\t", "\\": b"\\"}
 REFUSED = 2
 
 
 @dataclasses.dataclass
 class Row:
-    """A run: its words, its input, what it prints, its status, the number of its line, and the run that comes before.
+    """A run: its words, its input, what it prints, its status, its file and line, and the run that comes before.
 
     Where the record store's file has to be something, that is its bytes.
     """
@@ -36,7 +37,7 @@ class Row:
     data: bytes
     printed: bytes
     status: int
-    number: int
+    place: str
     before: "Row" = None
     store: bytes = None
 
@@ -60,9 +61,16 @@ def words_of(text, names):
 
 
 def rows():
-    """Each run of the table."""
-    names, front, counts, words, last, store = {}, "", [0], [b"run"], None, None
-    for number, line in enumerate(TABLE.read_text().splitlines(), 1):
+    """Each run of the tables."""
+    for table in TABLES:
+        yield from rows_of(table)
+
+
+def rows_of(table):
+    """Each run of a table."""
+    names, front, counts, words, last, store = {"VERSION": VERSION}, "", [0], [b"run"], None, None
+    for number, line in enumerate(table.read_text().splitlines(), 1):
+        place = f"{table.name}:{number}"
         word, _, rest = line.partition(" ")
         if not word or word.startswith("#"):
             continue
@@ -80,7 +88,7 @@ def rows():
             front = rest
         elif word == "then":
             text, _, printed = rest.partition("|")
-            last = Row(words_of(text, names), b"", bytes_of(printed, names), 0, number, last)
+            last = Row(words_of(text, names), b"", bytes_of(printed, names), 0, place, last)
             yield last
         else:
             status, rest = rest.split(" ", 1) if word == "fail" else ({"row": 0, "stop": REFUSED}[word], rest)
@@ -88,6 +96,6 @@ def rows():
             start = bytes_of(front, names) if word == "stop" else b""
             for count in counts:
                 cut = names | {f"{name}#": value[:2 * count] for name, value in names.items()}
-                last = Row(words, bytes_of(text, cut), start + bytes_of(printed, cut), int(status), number, None, store)
+                last = Row(words, bytes_of(text, cut), start + bytes_of(printed, cut), int(status), place, None, store)
                 yield last
             counts, store = [0], None

@@ -1,7 +1,7 @@
 -- One action by the run of its list.
-use Rattle.std.proofs.Common.{◌≡◌, ◌∙◌, ℕ, ◌<◌, ◌^◌, Bool, true, false, nat_eq, List, [], ◌∷◌, Option, Some, None, sym, ap, subst, inl, inr, arith, if◌then◌else◌}
-use Rattle.std.specs.Prelude.{Ok, Err, IfSome}
-use Rattle.erst_store.specs.Actions.{set_record_offset}
+use Rattle.std.proofs.Common.{◌≡◌, ◌∙◌, ℕ, zero, suc, ◌<◌, ◌^◌, Bool, true, false, nat_eq, List, [], ◌∷◌, length, get_or, Option, Some, None, sym, ap, subst, inl, inr, arith, if◌then◌else◌}
+use Rattle.std.specs.Prelude.{Result, Ok, Err, IfSome}
+use Rattle.erst_store.specs.Actions.{check_busy_status, end_operation, get_command_status, get_record_identifier, set_record_offset}
 use Rattle.erst_store.specs.Store.{Stored}
 use Rattle.erst_store.specs.Device.{Device}
 use Rattle.erst_store.specs.DeviceLaws.{IsDevice}
@@ -13,26 +13,26 @@ use Rattle.erst_interp.specs.declared.entries.InstructionEntry.{InstructionEntry
 use Rattle.erst_interp.specs.declared.refusals.RunRefused.{RunRefused}
 use Rattle.erst_interp.specs.declared.refusals.RunRefused.TheVariants.{Register, Fuel, BadInstruction, BadRegister, BadRange}
 use Rattle.erst_interp.specs.Admission.{takes_input, IsAdmitted, IsAdmittedTable}
-use Rattle.erst_interp.specs.Faithful.{input_limit, with_input, device_after, answer_after, ActsOn, DoesRun, IsRegisterAlone}
+use Rattle.erst_interp.specs.Faithful.{input_limit, with_input, device_after, answer_after, ActsOn, DoesRun, IsRegisterAlone, RunsAction}
 use Rattle.erst_interp.specs.Machine.{machine_end}
-use Rattle.erst_interp.specs.Run.{IsRun, KeepsButDevice, RunCause}
+use Rattle.erst_interp.specs.Run.{IsRun, KeepsButDevice, RunCause, RunsList}
 use Rattle.board_core.specs.Doing.{Seen}
 use Rattle.erst_interp.specs.Steps.Running.{GoesWell}
 use Rattle.erst_interp.specs.Table.{list_of}
 use Rattle.erst_interp.proofs.BreakLemmas.{off_more}
 use Rattle.erst_interp.proofs.TouchLemmas.{well_more, fails_more}
 use Rattle.erst_driver.specs.declared.step.Step.{Step}
-use Rattle.erst_driver.specs.Operations.{Inside, after_step, after_steps, device_calls, end_by, told_by_step}
-use Rattle.erst_driver.specs.Steps.Operating.{Over, Plan, ComesThrough, StoreIn, Tells, CutIn, FailsIn, Acted}
+use Rattle.erst_driver.specs.Operations.{AreInside, Inside, without_input, after_step, after_steps, device_calls, end_by, told_by_step}
+use Rattle.erst_driver.specs.Steps.Operating.{HasDevice, Over, Plan, ComesThrough, StoreIn, Tells, CutIn, FailsIn, Acted}
 use Rattle.erst_driver.proofs.PlanLemmas.{told_step}
 
 some_is : (x y : Told) → Some x ≡ Some y → x ≡ y
 some_is x y e = cc
 
-pub acted_as : (table lists : List (List InstructionEntry)) (s : Step) (value : ℕ) (a b : Seen) → table ≡ lists → Acted table s value a b → Acted lists s value a b
+acted_as : (table lists : List (List InstructionEntry)) (s : Step) (value : ℕ) (a b : Seen) → table ≡ lists → Acted table s value a b → Acted lists s value a b
 acted_as table lists s value a b is acted = subst (λ (l : List (List InstructionEntry)). Acted l s value a b) is acted
 
-pub failed_as : (table lists : List (List InstructionEntry)) (plan : Plan) (a b : Seen) → table ≡ lists → FailsIn table plan a b → FailsIn lists plan a b
+failed_as : (table lists : List (List InstructionEntry)) (plan : Plan) (a b : Seen) → table ≡ lists → FailsIn table plan a b → FailsIn lists plan a b
 failed_as table lists plan a b is fails = subst (λ (l : List (List InstructionEntry)). FailsIn l plan a b) is fails
 
 -- the device after an action is one
@@ -66,7 +66,7 @@ module _ (lists : List (List InstructionEntry)) (s : Step) (a b : Seen) (kept : 
       (record { kept = kept; stops = stops; faults = faults })
 
   -- a refusal: an admitted list comes to Register alone
-  pub failed : (why : RunRefused) → IsRegisterAlone (Err why) → RunCause (Err why) a.faults b.faults
+  failed : (why : RunRefused) → IsRegisterAlone (Err why) → RunCause (Err why) a.faults b.faults
       → IfSome a.told (λ t. IsRun (Err why) (machine_end (list_of s.action lists) s.input (device_of t)) t b.told) → FailsIn lists (λ d. s ∷ []) a b
   unfolding device_calls
   failed Register alone raises runs = record {
@@ -92,19 +92,14 @@ module _ (lists : List (List InstructionEntry)) (s : Step) (a b : Seen) (kept : 
     is = is_device_after s (device_of t) inside device;
   }
 
-  pub acted : (value : ℕ) → Inside s → IsAdmittedTable lists → b.faults ≡ a.faults
+  acted : (value : ℕ) → Inside s → b.faults ≡ a.faults
       → IfSome a.told (λ t. IsRun (Ok value) (machine_end (list_of s.action lists) s.input (device_of t)) t b.told)
-      → (IsAdmitted s.action (list_of s.action lists) → s.input < input_limit s.action
-      → IfSome a.told (λ t. DoesRun s.action s.input (Ok value) t b.told))
-      → Acted lists s value a b
-  acted value inside admitted faults runs does = record {
+      → IfSome a.told (λ t. DoesRun s.action s.input (Ok value) t b.told) → Acted lists s value a b
+  acted value inside faults runs acts = record {
     done = record { well = well faults; tells = by a.told runs acts };
     gives = gives a.told acts;
   }
     where
-      acts : IfSome a.told (λ t. ActsOn s.action s.input value t b.told)
-      acts = does (admitted s.action inside.action) inside.input
-
       by : (o : Option Told) → IfSome o (λ t. IsRun (Ok value) (machine_end (list_of s.action lists) s.input (device_of t)) t b.told)
           → IfSome o (λ t. ActsOn s.action s.input value t b.told) → Over (λ t. Tells lists (s ∷ []) t b.told) o
       by None runs acts = tt
@@ -114,3 +109,38 @@ module _ (lists : List (List InstructionEntry)) (s : Step) (a b : Seen) (kept : 
           → Over (λ t. value ≡ answer_after s.action s.input (device_of t)) o
       gives None acts = tt
       gives (Some t) acts = λ device. acts.answer
+
+-- ---- the run of an action's list by a driver, whose table it views
+
+module _ (table lists : List (List InstructionEntry)) (view : table ≡ lists) (admitted : IsAdmittedTable table) (s : Step) (inside : Inside s) (a b : Seen) where
+  pub ran : (value : ℕ) → RunsList (list_of s.action table) s.input (Ok value) a b → (IsAdmitted s.action (list_of s.action table) → RunsAction s.action s.input (Ok value) a b) → Acted lists s value a b
+  ran value runs acts =
+      let does = acts (admitted s.action inside.action) in
+      acted_as table lists s value a b view (acted table s a b runs.kept (does.stores inside.input) value inside runs.cause runs.runs (does.does inside.input))
+
+  pub ran_badly : (why : RunRefused) → RunsList (list_of s.action table) s.input (Err why) a b → (IsAdmitted s.action (list_of s.action table) → RunsAction s.action s.input (Err why) a b)
+      → FailsIn lists (λ d. s ∷ []) a b
+  ran_badly why runs acts =
+      let does = acts (admitted s.action inside.action) in
+      failed_as table lists (λ d. s ∷ []) a b view (failed table s a b runs.kept (does.stores inside.input) why does.only_register runs.cause runs.runs)
+
+  pub ran_device : (result : Result ℕ RunRefused) → (IsAdmitted s.action (list_of s.action table) → RunsAction s.action s.input result a b) → HasDevice lists a.told
+  ran_device result acts = record { admitted = subst IsAdmittedTable view admitted; device = (acts (admitted s.action inside.action)).device }
+
+-- the actions of which an operation is made, besides its steps
+pub check_inside : Inside (without_input check_busy_status)
+check_inside = record { action = omega arith; input = omega arith }
+
+pub status_inside : Inside (without_input get_command_status)
+status_inside = record { action = omega arith; input = omega arith }
+
+pub end_inside : Inside (without_input end_operation)
+end_inside = record { action = omega arith; input = omega arith }
+
+pub list_inside : Inside (without_input get_record_identifier)
+list_inside = record { action = omega arith; input = omega arith }
+
+pub step_inside : (steps : List Step) (i : ℕ) (z : Step) → AreInside steps → i < length steps → Inside (get_or steps i z)
+step_inside [] i z are within = absurd (omega (arith, within))
+step_inside (s ∷ steps) zero z are within = are.0
+step_inside (s ∷ steps) (suc i) z are within = step_inside steps i z are.1 (omega (arith, within))

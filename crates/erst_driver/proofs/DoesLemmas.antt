@@ -17,7 +17,7 @@ use Rattle.erst_interp.specs.Machine.{End, start}
 use Rattle.erst_interp.specs.Run.{IsCutShort, acts_of}
 use Rattle.erst_interp.specs.Table.{list_of}
 use Rattle.erst_interp.proofs.FaithfulLemmas.{Done, done}
-use Rattle.erst_interp.proofs.MomentLemmas.{here_after}
+use Rattle.erst_interp.proofs.BreakLemmas.{here_after}
 use Rattle.erst_driver.specs.declared.refusals.DriverRefused.{DriverRefused}
 use Rattle.erst_driver.specs.declared.refusals.DriverRefused.TheVariants.{Register, Busy, NoMemory, Status as EndedWith}
 use Rattle.erst_driver.specs.declared.step.Step.{Step}

@@ -11,3 +11,4 @@ pub mod WriteLemmas
 pub mod DoesLemmas
 pub mod ToldLemmas
 pub mod MomentLemmas
+pub mod ClauseLemmas

@@ -16,9 +16,9 @@ use Rattle.erst_interp.specs.Admission.{IsAdmittedTable}
 use Rattle.erst_interp.specs.Run.{acts_of}
 use Rattle.erst_interp.specs.Table.{list_of}
 use Rattle.erst_interp.proofs.AdmittedRunLemmas.{faithful}
-use Rattle.erst_interp.proofs.BreakLemmas.{acts_both}
+use Rattle.erst_interp.proofs.BreakLemmas.{acts_both, here_after}
 use Rattle.erst_interp.proofs.BreakLemmas.{after_both as after_runs}
-use Rattle.erst_interp.proofs.MomentLemmas.{action_moment, here_after, leaves_same}
+use Rattle.erst_interp.proofs.MomentLemmas.{action_moment, leaves_same}
 use Rattle.erst_interp.proofs.RunLemmas.{end_device}
 use Rattle.erst_driver.specs.declared.refusals.DriverRefused.{DriverRefused}
 use Rattle.erst_driver.specs.declared.step.Step.{Step}

@@ -1,5 +1,5 @@
 -- Actions one after another.
-use Rattle.std.proofs.Common.{◌≡◌, ◌∙◌, ℕ, zero, suc, ◌+◌, ◌<◌, List, [], ◌∷◌, ◌++◌, length, take, drop, get_or, Option, Some, None, refl, sym, ap, subst, inl, inr, arith, append_assoc, append-nil}
+use Rattle.std.proofs.Common.{◌≡◌, ◌∙◌, ℕ, zero, suc, ◌+◌, ◌<◌, ◌≤◌, List, [], ◌∷◌, ◌++◌, length, take, drop, get_or, Option, Some, None, refl, sym, ap, subst, inl, inr, arith, append_assoc, append-nil}
 use Rattle.std.proofs.lemmas.List.{take-append-drop}
 use Rattle.std.specs.Prelude.{◌⊎◌, Result, Err}
 use Rattle.erst_store.specs.Store.{Stored}
@@ -352,3 +352,13 @@ module _ (lists : List (List InstructionEntry)) (steps : List Step) (i : ℕ) (z
   pub one_refused : (e : DriverRefused) → Acts lists (get_or steps i z) (Err e) b c → Runs lists (λ d. steps) (Err e) a c
   one_refused e acts = refused_in_run lists (λ d. take i steps) (λ d. steps) (get_or steps i z) a b c one
       (everywhere _ a.told (λ t. part_begins i z steps inside)) e acts
+
+-- the steps so far are all of them
+take_past : (steps : List Step) (i : ℕ) → length steps ≤ i → take i steps ≡ steps
+take_past [] zero past = refl
+take_past [] (suc i) past = refl
+take_past (s ∷ steps) zero past = absurd (omega (arith, past))
+take_past (s ∷ steps) (suc i) past = ap (λ (rest : List Step). s ∷ rest) (take_past steps i (omega (arith, past)))
+
+pub all_steps : (lists : List (List InstructionEntry)) (steps : List Step) (i : ℕ) (a b : Seen) → length steps ≤ i → Done lists (λ d. take i steps) a b → Done lists (λ d. steps) a b
+all_steps lists steps i a b past done = subst (λ (some : List Step). Done lists (λ d. some) a b) (take_past steps i past) done

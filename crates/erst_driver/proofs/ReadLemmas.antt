@@ -1,8 +1,9 @@
 -- What the actions of a read come to.
-use Rattle.std.proofs.Common.{◌≡◌, ◌∙◌, ℕ, ◌+◌, ◌-◌, ◌≤◌, Bool, true, false, ◌||◌, nat_eq, nat_lt, List, [], ◌∷◌, ◌++◌, length, Option, Some, None, refl, sym, ap, subst, inl, inr, arith, if◌then◌else◌, append-nil}
+use Rattle.std.proofs.Common.{◌≡◌, ◌∙◌, ℕ, zero, suc, ◌+◌, ◌-◌, ◌≤◌, Bool, true, false, ◌||◌, nat_eq, nat_lt, List, [], ◌∷◌, ◌++◌, length, take, drop, Option, Some, None, refl, sym, ap, subst, inl, inr, arith, if◌then◌else◌, append-nil}
 use Rattle.std.proofs.lemmas.Bool.Decides.{nat_tests}
 use Rattle.std.specs.Prelude.{◌⊎◌, replicate, is_some, Ok, Err, OnOk, IfSome}
 use Rattle.std.specs.List.{AllByRecursion}
+use Rattle.std.specs.Option.{option_map}
 use Rattle.erst_store.specs.declared.device.Command.TheVariants.{Read}
 use Rattle.erst_store.specs.declared.device.CommandStatus.{CommandStatus}
 use Rattle.erst_store.specs.declared.device.CommandStatus.TheVariants.{Success, NotEnoughSpace, StoreEmpty, NotFound}
@@ -12,15 +13,16 @@ use Rattle.erst_store.specs.Device.{Device, act, busy_device, range_with_record,
 use Rattle.erst_store.specs.DeviceLaws.{IsDevice}
 use Rattle.board_core.specs.Clock.{Passes, LeftNow}
 use Rattle.board_core.specs.Stop.{Left, InStore}
-use Rattle.board_core.specs.Told.{Told, device_of, Relates}
+use Rattle.board_core.specs.declared.board.Access.TheVariants.{RangeRead}
+use Rattle.board_core.specs.Told.{Told, device_of, Relates, Steps, with_access}
 use Rattle.erst_interp.specs.declared.entries.InstructionEntry.{InstructionEntry}
 use Rattle.erst_interp.specs.Run.{KeepsButDevice, IsCutShort, acts_of}
 use Rattle.board_core.specs.Doing.{DeviceCall, Seen, after_acts, range_read}
-use Rattle.erst_interp.specs.Steps.Running.{Fails}
+use Rattle.erst_interp.specs.Steps.Running.{Fails, GoesWell}
 use Rattle.erst_interp.specs.Steps.Running.{Stays as Unchanged}
 use Rattle.erst_interp.proofs.BreakLemmas.{off_more, off_after}
 use Rattle.erst_interp.proofs.BreakLemmas.{after_both as after_runs}
-use Rattle.erst_interp.proofs.TouchLemmas.{well_fails}
+use Rattle.erst_interp.proofs.TouchLemmas.{well_both, well_fails}
 use Rattle.erst_driver.specs.declared.step.Step.{Step}
 use Rattle.erst_driver.specs.declared.refusals.DriverRefused.{DriverRefused}
 use Rattle.erst_driver.specs.declared.refusals.DriverRefused.TheVariants.{Register, Busy, NoMemory, Status as EndedWith}
@@ -195,6 +197,27 @@ fetch_failed lists steps a b c one breaks fails = record {
       let calls = device_calls lists (actions_of steps (device_of t)) (device_of t) in
       let off : IsCutShort (range_read 0 range_length ∷ []) u c.told = subst (λ (o : Option Told). IfSome o (λ x. IsCutShort (range_read 0 range_length ∷ []) x c.told)) tells.told breaks in
       subst (λ (x : Answer). IsCutShort (calls ++ fetch_calls x) t c.told) is (off_after calls (range_read 0 range_length ∷ []) t u c.told refl off)));
+}
+
+take_whole : (xs : List ℕ) (n : ℕ) → length xs ≡ n → take n (drop 0 xs) ≡ xs
+take_whole [] zero is = refl
+take_whole [] (suc n) is = refl
+take_whole (x ∷ xs) zero is = absurd (omega (arith, is))
+take_whole (x ∷ xs) (suc n) is = ap (λ (ys : List ℕ). x ∷ ys) (take_whole xs n (omega (arith, is)))
+
+pub fetched : (lists : List (List InstructionEntry)) (steps : List Step) (buffer : List ℕ) (a b c : Seen) → Answered lists (actions_of steps) (answer_of steps) (Ok tt) a b
+    → IfSome b.told (λ t. buffer ≡ take range_length (drop 0 (device_of t).range)) → Steps (with_access (RangeRead 0 range_length)) b.told c.told → GoesWell Unchanged b c → Fetched lists steps buffer a c
+fetched lists steps buffer a b c one bytes told well = record {
+  well = well_both (StoreIn (actions_of steps) a.told) (StoreIn (actions_of steps) a.told) (λ x y is. is) Unchanged
+      (λ x y z through same. subst (λ (u : List Stored). StoreIn (actions_of steps) a.told x u) (sym same) through) a b c one.done.well well;
+  told = over_more _ _ a.told one.done.tells (λ t tells. told ∙ ap (λ (o : Option Told). option_map (with_access (RangeRead 0 range_length)) o) tells.told);
+  here = over_more _ _ a.told one.done.tells (λ t tells. tells.device);
+  answers = one.answers;
+  bytes = over_more _ _ a.told one.done.tells (λ t tells.
+      (let u = told_by lists (actions_of steps (device_of t)) t in
+      let read : buffer ≡ take range_length (drop 0 (device_of u).range) = subst (λ (o : Option Told). IfSome o (λ v. buffer ≡ take range_length (drop 0 (device_of v).range))) tells.told bytes in
+      let whole = tells.is.length in
+      read ∙ ap (λ (d : Device). take range_length (drop 0 d.range)) tells.device ∙ take_whole (after_steps (actions_of steps (device_of t)) (device_of t)).range range_length whole));
 }
 
 module _ (lists : List (List InstructionEntry)) (id : ℕ) (buffer : List ℕ) (a b : Seen) where

@@ -1,17 +1,19 @@
 -- What an operation answers, and what it leaves.
-use Rattle.std.specs.Prelude.{◌≡◌, ◌≢◌, ℕ, ◌-◌, Bool, ◌||◌, nat_eq, List, ◌++◌, length, replicate, Option, None, Some, Result, Ok, Err, if◌then◌else◌}
+use Rattle.std.specs.Prelude.{◌≡◌, ◌≢◌, ℕ, ◌-◌, Bool, ◌||◌, nat_eq, List, ◌++◌, length, replicate, Option, None, Some, Result, Ok, Err, IfSome, if◌then◌else◌}
 use Rattle.ras_base.specs.LittleEndian.{number_at}
 use Rattle.erst_store.specs.declared.device.CommandStatus.{CommandStatus}
 use Rattle.erst_store.specs.declared.device.CommandStatus.TheVariants.{Success, NotEnoughSpace, StoreEmpty, NotFound}
 use Rattle.erst_store.specs.Actions.{range_length}
 use Rattle.erst_store.specs.Store.{Stored, holds, bytes_under, with_record, without, is_reserved, is_full_for}
 use Rattle.erst_store.specs.Device.{Device, status_number, id_place}
+use Rattle.erst_store.specs.DeviceLaws.{IsDevice}
 use Rattle.board_core.specs.Cause.{Faults, device_call}
-use Rattle.board_core.specs.Stop.{Becomes}
-use Rattle.board_core.specs.Told.{Told}
+use Rattle.board_core.specs.Clock.{Passes}
+use Rattle.board_core.specs.Stop.{Becomes, InStore}
+use Rattle.board_core.specs.Told.{Relates, Told, device_of}
 use Rattle.board_core.specs.Doing.{DeviceCall, Does, Ended, Raises, Seen, broke, ended_by, went_well}
 use Rattle.erst_interp.specs.declared.entries.InstructionEntry.{InstructionEntry}
-use Rattle.erst_interp.specs.Run.{acts_of}
+use Rattle.erst_interp.specs.Run.{KeepsButDevice, acts_of}
 use Rattle.erst_driver.specs.declared.refusals.DriverRefused.{DriverRefused}
 use Rattle.erst_driver.specs.declared.refusals.DriverRefused.TheVariants.{Register, Busy, NoMemory, Status as EndedWith}
 use Rattle.erst_driver.specs.declared.step.Step.{Step}
@@ -145,3 +147,30 @@ pub record HoldsRecord (id : ℕ) (store : List Stored) (buffer : List ℕ) : Ty
 pub record EndsOperation {T : Type 0} (result : Result T DriverRefused) (before now : Faults) : Type 0 where
   pub cause : HasCauseIn result before now
   pub refused : IsAnswered result
+
+-- ---- what an operation does to a board
+
+-- One that makes these calls over a device, comes to this answer, and may change the record store
+-- so.
+pub record RunsOperation {X : Type 0} (see : X → Seen) (calls : Device → List DeviceCall) (answer : Device → Answer) (Store : Option Told → List Stored → List Stored → Type 0) (result : Answer) (old new : X) : Type 0 where
+  -- Its calls are its acts, up to one that failed.
+  pub does : IfSome (see old).told (λ t. Does see (acts_of (calls (device_of t))) (ended_by driver_end result) old new)
+  -- It answers so, unless a call failed.
+  pub answers : IfSome (see old).told (λ t. AnswersAs result (answer (device_of t)))
+  -- Of what is told the device alone changes.
+  pub kept : Relates KeepsButDevice (see old).told (see new).told
+  -- A stop during it leaves of the record store what one before it might have left, or this change.
+  pub stops : Passes (InStore (Store (see old).told)) (see old).clock (see new).clock
+  pub ends : EndsOperation result (see old).faults (see new).faults
+  -- What the board told was a device.
+  pub device : IfSome (see old).told (λ t. IsDevice (device_of t))
+
+-- A listing, which may run out of memory after some of its calls, and leaves the record store.
+pub record ListsRecords {X T : Type 0} (see : X → Seen) (calls : Device → List DeviceCall) (result : Result T DriverRefused) (old new : X) : Type 0 where
+  pub does : IfSome (see old).told (λ t. DoesListing see (calls (device_of t)) result old new)
+  pub refused : IsMemoryOnly result
+  pub kept : Relates KeepsButDevice (see old).told (see new).told
+  pub stops : Passes (InStore (Stays (see old).told)) (see old).clock (see new).clock
+  pub cause : HasCauseIn result (see old).faults (see new).faults
+  -- What the board told was a device.
+  pub device : IfSome (see old).told (λ t. IsDevice (device_of t))

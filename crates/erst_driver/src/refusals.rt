@@ -1,5 +1,10 @@
 //! Why an operation ends without its answer.
 
+ghost use Rattle.std.specs.Prelude.{◌≡◌};
+
+use board_core::Failed;
+use erst_interp::RunRefused;
+use ras_base::NoMemory;
 use thiserror::Error;
 
 /// Why an operation ends without its answer.
@@ -17,4 +22,35 @@ pub enum DriverRefused {
     /// Memory ran out.
     #[error("memory ran out")]
     NoMemory,
+}
+
+impl From<Failed> for DriverRefused {
+    ghost use Rattle.erst_driver.specs.declared.refusals.DriverRefused.TheVariants.{Register};
+
+    ghost from_gives = { λ _ e. e ≡ Register };
+
+    fn from(_: Failed) -> Self {
+        DriverRefused::Register
+    }
+}
+
+impl From<NoMemory> for DriverRefused {
+    ghost use Rattle.erst_driver.specs.declared.refusals.DriverRefused.TheVariants as Why;
+
+    ghost from_gives = { λ _ e. e ≡ Why.NoMemory };
+
+    fn from(_: NoMemory) -> Self {
+        DriverRefused::NoMemory
+    }
+}
+
+// The list of an admitted table is refused only if a call of the board failed.
+impl From<RunRefused> for DriverRefused {
+    ghost use Rattle.erst_driver.specs.declared.refusals.DriverRefused.TheVariants.{Register};
+
+    ghost from_gives = { λ _ e. e ≡ Register };
+
+    fn from(_: RunRefused) -> Self {
+        DriverRefused::Register
+    }
 }

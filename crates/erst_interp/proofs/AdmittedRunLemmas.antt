@@ -1,21 +1,25 @@
 -- A run of an admitted list over a board.
-use Rattle.std.proofs.Common.{◌≡◌, ◌∙◌, ℕ, ◌^◌, ◌<◌, List, Option, Some, None, refl, sym, ap, subst, inl, inr}
+use Rattle.std.proofs.Common.{◌≡◌, ◌∙◌, ℕ, ◌^◌, ◌<◌, List, [], Option, Some, None, refl, sym, ap, subst, inl, inr}
 use Rattle.std.specs.Prelude.{Result, Ok, Err, IfSome}
+use Rattle.std.specs.Option.{option_map}
 use Rattle.erst_store.specs.Store.{Stored}
 use Rattle.erst_store.specs.DeviceLaws.{IsDevice}
 use Rattle.board_core.specs.Clock.{Clock, LeftNow, After, Passes}
 use Rattle.board_core.specs.Stop.{Left, InStore}
+use Rattle.board_core.specs.Doing.{Seen, after_acts}
 use Rattle.board_core.specs.Told.{Told, device_of, StoreBy}
 use Rattle.erst_interp.specs.declared.entries.InstructionEntry.{InstructionEntry}
 use Rattle.erst_interp.specs.declared.refusals.RunRefused.{RunRefused}
 use Rattle.erst_interp.specs.declared.refusals.RunRefused.TheVariants.{Register, Fuel, BadInstruction, BadRegister, BadRange}
-use Rattle.erst_interp.specs.Machine.{End, start}
-use Rattle.erst_interp.specs.Steps.Running.{start_over, end_over, StoreOver}
-use Rattle.erst_interp.specs.Run.{IsRun, StoreInRun, told_after}
+use Rattle.erst_interp.specs.Machine.{End, most_turns, new_variables, start}
+use Rattle.erst_interp.specs.Steps.Running.{Cut, Made, StoreIn, start_over, end_over}
+use Rattle.erst_interp.specs.Run.{IsCutShort, IsRun, RunsList, StoreInRun, acts_of, told_after}
 use Rattle.erst_interp.specs.Admission.{IsAdmitted}
-use Rattle.erst_interp.specs.Faithful.{input_limit, device_after, IsFaithful, DoesRun}
+use Rattle.erst_interp.specs.Faithful.{input_limit, device_after, DoesRun, IsFaithful, IsRegisterAlone, RunsAction}
 use Rattle.erst_interp.proofs.FaithfulLemmas.{Done, done, done-answer}
-use Rattle.erst_interp.proofs.RunLemmas.{end_device}
+use Rattle.erst_interp.proofs.MomentLemmas.{run_moment}
+use Rattle.erst_interp.proofs.RunLemmas.{Ran, Runs, end_device, run_calls}
+use Rattle.erst_interp.proofs.TouchLemmas.{passes_more}
 
 pub faithful : (action : ℕ) (list : List InstructionEntry) → action < 2 ^ 64 → IsAdmitted action list → IsFaithful action list
 faithful action list fits is input d kept inside =
@@ -24,11 +28,6 @@ faithful action list fits is input d kept inside =
       answer = ap (λ (e : End). e.answer) end.ends ∙ ap (λ (n : ℕ). Ok n) (done-answer action list (start input d) inside kept end);
       device = ap (λ (e : End). e.state.device) end.ends ∙ end.device;
     }
-
--- the stores of a run are those of the machine's
-pub store_alone : (list : List InstructionEntry) (input : ℕ) (told : Option Told) (x y : List Stored) → StoreOver list input told x y → StoreInRun list input told x y
-store_alone list input None x y is = tt
-store_alone list input (Some t) x y is = is
 
 -- ---- what the board tells
 
@@ -92,8 +91,71 @@ module _ (list : List InstructionEntry) (action input : ℕ) (fits : action < 2 
     }
 
   pub stores_run : (told : Option Told) (a b : Clock) → ((t : Told) (left : Left) → told ≡ Some t → LeftNow a left → left.store ≡ t.here.store)
-      → Passes (InStore (StoreOver list input told)) a b → Passes (InStore (StoreBy (device_after action input) told)) a b
+      → Passes (InStore (StoreInRun list input told)) a b → Passes (InStore (StoreBy (device_after action input) told)) a b
   stores_run None a b law passes = passes
   stores_run (Some t) a b law passes =
-      passes_at (StoreOver list input (Some t)) (StoreBy (device_after action input) (Some t)) t.here.store a b (λ left now. law t left refl now)
+      passes_at (StoreInRun list input (Some t)) (StoreBy (device_after action input) (Some t)) t.here.store a b (λ left now. law t left refl now)
       (λ y step. elim step [ inl same ↦ inl same | inr passed ↦ (done_over t).stores y passed ]) passes
+
+-- ---- the clauses of a run, from its calls
+
+module _ (list : List InstructionEntry) (input : ℕ) where
+  -- a stop leaves a store that the machine comes through
+  come_through : (told : Option Told) (x y : List Stored) → StoreIn (run_calls list input told) told x y → StoreInRun list input told x y
+  come_through None x y is = tt
+  come_through (Some t) x y is = elim is [
+    | inl same ↦ inl same
+    | inr torn ↦ elim (run_moment most_turns list (new_variables input) t t [] refl (record t.here { store = y }) torn) [ inl never ↦ absurd never | inr leaves ↦ inr leaves.passes ]
+  ]
+
+  module _ (a b : Seen) where
+    stops_in : Passes (InStore (StoreIn (run_calls list input a.told) a.told)) a.clock b.clock → Passes (InStore (StoreInRun list input a.told)) a.clock b.clock
+    stops_in passes = passes_more (StoreIn (run_calls list input a.told) a.told) (StoreInRun list input a.told) (come_through a.told) a.clock b.clock passes
+
+    told_so : (answer : Result ℕ RunRefused) → IfSome a.told (λ t. answer ≡ (end_over list input t).answer) → Made (run_calls list input a.told) a b
+        → IfSome a.told (λ t. (answer ≡ (end_over list input t).answer) × (b.told ≡ Some (told_after (end_over list input t).state t)))
+    told_so answer answers made = by a.told answers made.told
+      where
+        by : (told : Option Told) → IfSome told (λ t. answer ≡ (end_over list input t).answer) → b.told ≡ option_map (λ t. after_acts (acts_of (run_calls list input told)) t) told
+            → IfSome told (λ t. (answer ≡ (end_over list input t).answer) × (b.told ≡ Some (told_after (end_over list input t).state t)))
+        by None is made = tt
+        by (Some t) is made = (is, made)
+
+    cut_so : Cut (run_calls list input a.told) a b → IfSome a.told (λ t. IsCutShort (end_over list input t).state.calls t b.told)
+    cut_so cut = by a.told cut.told
+      where
+        by : (told : Option Told) → IfSome told (λ t. IsCutShort (run_calls list input told) t b.told) → IfSome told (λ t. IsCutShort (end_over list input t).state.calls t b.told)
+        by None is = tt
+        by (Some t) is = is
+
+    ran : (answer : Result ℕ RunRefused) → Ran list input answer a b → IfSome a.told (λ t. (answer ≡ (end_over list input t).answer) × (b.told ≡ Some (told_after (end_over list input t).state t)))
+    ran answer is = told_so answer is.answers is.made
+
+    pub runs_list : (result : Result ℕ RunRefused) → Runs list input result a b → RunsList list input result a b
+    runs_list (Ok x) is = record { runs = ran (Ok x) is; kept = is.made.well.kept; stops = stops_in is.made.well.stops; cause = is.made.well.faults }
+    runs_list (Err Register) is = record { runs = cut_so is; kept = is.fails.kept; stops = stops_in is.fails.stops; cause = is.fails.raises }
+    runs_list (Err Fuel) is = record { runs = ran (Err Fuel) is; kept = is.made.well.kept; stops = stops_in is.made.well.stops; cause = is.made.well.faults }
+    runs_list (Err BadInstruction) is = record { runs = ran (Err BadInstruction) is; kept = is.made.well.kept; stops = stops_in is.made.well.stops; cause = is.made.well.faults }
+    runs_list (Err BadRegister) is = record { runs = ran (Err BadRegister) is; kept = is.made.well.kept; stops = stops_in is.made.well.stops; cause = is.made.well.faults }
+    runs_list (Err BadRange) is = record { runs = ran (Err BadRange) is; kept = is.made.well.kept; stops = stops_in is.made.well.stops; cause = is.made.well.faults }
+
+-- and of one of an admitted list
+pub runs_action : (list : List InstructionEntry) (action input : ℕ) (result : Result ℕ RunRefused) (a b : Seen) → action < 2 ^ 64 → IsAdmitted action list → RunsList list input result a b → IsRegisterAlone result
+    → IfSome a.told (λ t. IsDevice (device_of t)) → ((t : Told) (left : Left) → a.told ≡ Some t → LeftNow a.clock left → left.store ≡ t.here.store) → RunsAction action input result a b
+runs_action list action input result a b fits is ran alone device law = record {
+  does = λ inside. does_run list action input fits inside is a.told b.told result ran.runs device;
+  only_register = alone;
+  device = device;
+  stores = λ inside. stores_run list action input fits inside is a.told a.clock b.clock law ran.stops;
+}
+
+-- of a list that was looked up
+module _ (list here : List InstructionEntry) (found : list ≡ here) (input : ℕ) (result : Result ℕ RunRefused) (a b : Seen) (runs : Runs list input result a b) where
+  pub runs_as : RunsList here input result a b
+  runs_as = subst (λ (l : List InstructionEntry). RunsList l input result a b) found (runs_list list input a b result runs)
+
+  pub acts_as : (action : ℕ) → action < 2 ^ 64 → ((t : Told) (left : Left) → a.told ≡ Some t → LeftNow a.clock left → left.store ≡ t.here.store)
+      → (IsAdmitted action list → IsRegisterAlone result) → (IsAdmitted action list → IfSome a.told (λ t. IsDevice (device_of t))) → IsAdmitted action here → RunsAction action input result a b
+  acts_as action fits law alone device is =
+      let admitted : IsAdmitted action list = subst (λ (l : List InstructionEntry). IsAdmitted action l) (sym found) is in
+      runs_action list action input result a b fits admitted (runs_list list input a b result runs) (alone admitted) (device admitted) law

@@ -2,7 +2,8 @@ pub mod ShiftLemmas
 pub mod ListLemmas
 pub mod SlowLemmas
 pub mod TouchLemmas
-pub mod FieldLemmas
+pub mod CallLemmas
+pub mod AccessLemmas
 pub mod TurnLemmas
 pub mod RunLemmas
 pub mod ReachLemmas

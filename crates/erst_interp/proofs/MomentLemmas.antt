@@ -1,11 +1,11 @@
 -- What a stop of the machine leaves during the calls of a run.
-use Rattle.std.proofs.Common.{◌≡◌, ◌∙◌, ℕ, zero, suc, ◌+◌, ◌-◌, ◌^◌, ◌<◌, Bool, true, false, ◌&&◌, if◌then◌else◌, List, [], ◌∷◌, ◌++◌, Option, Some, None, refl, sym, ap, subst, inl, inr, append-nil}
+use Rattle.std.proofs.Common.{◌≡◌, ◌∙◌, ℕ, zero, suc, ◌+◌, ◌-◌, ◌^◌, ◌<◌, Bool, true, false, ◌&&◌, if◌then◌else◌, List, [], ◌++◌, Option, Some, None, refl, sym, ap, subst, inl, inr, append-nil}
 use Rattle.std.specs.Prelude.{◌⊎◌, Err, slice_get}
 use Rattle.erst_store.specs.Actions.{range_address}
 use Rattle.erst_store.specs.Device.{Device}
 use Rattle.erst_store.specs.Store.{Stored}
 use Rattle.board_core.specs.declared.board.Reg.{Reg}
-use Rattle.board_core.specs.Doing.{Act, DeviceCall, Moment, after_acts, after_device, reg_read, reg_write, range_read, range_write, put}
+use Rattle.board_core.specs.Doing.{Act, DeviceCall, Moment, after_acts}
 use Rattle.board_core.specs.Stop.{Becomes, InStore, Left}
 use Rattle.board_core.specs.Told.{Told, device_of, register_in}
 use Rattle.board_core.proofs.DoingLemmas.{moment_parts}
@@ -23,26 +23,11 @@ use Rattle.erst_interp.specs.Machine.{MachineState, Outcome, goes, stops, turn, 
 use Rattle.erst_interp.specs.Steps.Parts.{changed, given, turn_by, used_by, work_of}
 use Rattle.erst_interp.specs.Run.{PassesStore, acts_of, told_after}
 use Rattle.erst_interp.specs.Steps.Running.{state_in, state_of}
-use Rattle.erst_interp.proofs.BreakLemmas.{acts_both}
+use Rattle.erst_interp.proofs.BreakLemmas.{acts_both, here_after}
 use Rattle.erst_interp.proofs.FaithfulLemmas.{done}
 use Rattle.erst_interp.proofs.RunLemmas.{ToldBy, comes_through, here, in_turn, state_at, turn_at, turn_device}
 use Rattle.erst_interp.proofs.ShiftedLemmas.{passes_shifted, shifted_outcome, told_on}
 use Rattle.erst_interp.proofs.TurnLemmas.{by_kind}
-
--- ---- the calls of the device change the record store alone of what a stop leaves
-
-one_here : (call : DeviceCall) (t : Told) → (after_device call t).here ≡ record t.here { store = (after_device call t).here.store }
-one_here (reg_read reg) t = refl
-one_here (reg_write reg value) t = refl
-one_here (range_read place count) t = refl
-one_here (range_write place bytes) t = refl
-one_here (put id bytes) t = refl
-
-pub here_after : (calls : List DeviceCall) (t : Told) → (after_acts (acts_of calls) t).here ≡ record t.here { store = (after_acts (acts_of calls) t).here.store }
-here_after [] t = refl
-here_after (call ∷ calls) t =
-    let u = after_device call t in
-    here_after calls u ∙ ap (λ (left : Left). record left { store = (after_acts (acts_of calls) u).here.store }) (one_here call t)
 
 -- ---- one turn
 
@@ -150,9 +135,9 @@ turn_moment e v t left m =
 -- ---- a run
 
 -- what is left is as told, but for the store, which is one that the run comes through
-record LeavesRun (turns : ℕ) (list : List InstructionEntry) (v : Variables) (now : Told) (left : Left) : Type 0 where
-  rest : left ≡ record now.here { store = left.store }
-  passes : PassesStore turns list (state_in v now) left.store
+pub record LeavesRun (turns : ℕ) (list : List InstructionEntry) (v : Variables) (now : Told) (left : Left) : Type 0 where
+  pub rest : left ≡ record now.here { store = left.store }
+  pub passes : PassesStore turns list (state_in v now) left.store
 
 module _ (turns : ℕ) (list : List InstructionEntry) (v : Variables) (now old : Told) (calls : List DeviceCall) (is : now ≡ after_acts (acts_of calls) old) (left : Left) (e : InstructionEntry) (next_is : slice_get list v.index ≡ Some e) where
   in_turn_left : (o : Outcome) → turn e (state_in v now) ≡ o → Moment (acts_of (state_of (shifted_outcome calls o)).calls) old left → Moment (acts_of calls) old left ⊎ LeavesRun (suc turns) list v now left
@@ -186,7 +171,7 @@ module _ (turns : ℕ) (list : List InstructionEntry) (v : Variables) (now old :
             (subst (λ (d : Device). PassesStore turns list (record { variables = t.variables; device = d; calls = [] }) left.store) device leaves.passes)));
       }
 
-run_moment : (turns : ℕ) (list : List InstructionEntry) (v : Variables) (now old : Told) (calls : List DeviceCall) → now ≡ after_acts (acts_of calls) old → (left : Left)
+pub run_moment : (turns : ℕ) (list : List InstructionEntry) (v : Variables) (now old : Told) (calls : List DeviceCall) → now ≡ after_acts (acts_of calls) old → (left : Left)
     → Moment (acts_of (end_from turns list (state_at v now calls)).state.calls) old left → Moment (acts_of calls) old left ⊎ LeavesRun turns list v now left
 unfolding end_from
 run_moment zero list v now old calls is left m = by (slice_get list v.index) m
@@ -210,7 +195,7 @@ run_moment (suc turns) list v now old calls is left m = by (slice_get list v.ind
         let u = told_after t now in
         let device : device_of u ≡ t.device = subst (λ (o : Outcome). ToldBy o now) o_is (turn_device e v now) in
         let n = subst (λ (d : Device). Moment (acts_of (end_from turns list (record { variables = t.variables; device = d; calls = calls ++ t.calls })).state.calls) old left) (sym device) m in
-        elim (later t.variables u (calls ++ t.calls) (told_on calls old now None is t) n) [
+        elim (later t.variables u (calls ++ t.calls) (told_on calls old now is t) n) [
           | inl before ↦ in_turn_left turns list v now old calls is left e next_is (goes t) o_is before
           | inr leaves ↦ inr (later_left turns list v now old calls is left e next_is t o_is leaves)
         ]

@@ -1,6 +1,6 @@
 -- That a run of entries of which one uses a register makes a call of the board.
 use Rattle.std.proofs.Common.{◌≡◌, ◌∙◌, ℕ, zero, suc, ◌≤◌, Bool, true, false, ◌&&◌, ◌||◌, List, [], ◌∷◌, ◌++◌, length, take, Option, Some, None, refl, sym, ap, subst, inl, inr, arith, true≢false, nat_eq, bit_and}
-use Rattle.std.specs.Prelude.{slice_get, IfSome, ◌⊎◌, is_some}
+use Rattle.std.specs.Prelude.{slice_get, Err, IfSome, Result, ◌⊎◌, is_some}
 use Rattle.std.specs.List.{list_any}
 use Rattle.board_core.specs.declared.board.Reg.{Reg}
 use Rattle.board_core.specs.Told.{Told, device_of}
@@ -8,7 +8,12 @@ use Rattle.erst_store.specs.DeviceLaws.{IsDevice}
 use Rattle.erst_interp.specs.declared.entries.Instruction.{Instruction}
 use Rattle.erst_interp.specs.declared.entries.InstructionEntry.{InstructionEntry}
 use Rattle.erst_interp.specs.Admission.{IsAdmitted, is_act, is_constant, is_action, is_whole}
+use Rattle.erst_interp.specs.declared.machine.Variables.{Variables}
+use Rattle.erst_interp.specs.declared.refusals.RunRefused.{RunRefused}
+use Rattle.erst_interp.specs.declared.refusals.RunRefused.TheVariants.{Register, Fuel, BadInstruction, BadRegister, BadRange}
+use Rattle.erst_interp.specs.Faithful.{IsRegisterAlone}
 use Rattle.erst_interp.specs.Steps.Parts.{uses_register, is_use, work_of}
+use Rattle.erst_interp.specs.Steps.Running.{IsUnused}
 use Rattle.erst_interp.proofs.LeadLemmas.{both_true}
 use Rattle.erst_interp.proofs.RoleLemmas.{constant_is}
 
@@ -42,15 +47,20 @@ unused_next (x ∷ xs) (suc i) e next before here = by (uses_register x) before 
     by true is ih = absurd (true≢false is)
     by false is ih = ih is
 
-pub reaches_next : (list : List InstructionEntry) (i : ℕ) (e : InstructionEntry) (old now new : Option Told) → slice_get list i ≡ Some e → Reaches list i old now
-    → (uses_register e ≡ true → Device now) → (new ≡ now) ⊎ Device now → Reaches list (suc i) old new
-reaches_next list i e old now new next (inr device) used kept = inr device
-reaches_next list i e old now new next (inl idle) used (inr device) = inr (subst Device idle.same device)
-reaches_next list i e old now new next (inl idle) used (inl same) = by (uses_register e) refl
-  where
-    by : (b : Bool) → uses_register e ≡ b → Reaches list (suc i) old new
-    by true is = inr (subst Device idle.same (used is))
-    by false is = inl (record { same = same ∙ idle.same; unused = unused_next list i e next idle.unused is })
+pub reaches_next : (list : List InstructionEntry) (i : ℕ) (e : InstructionEntry) (result : Result Variables RunRefused) (old now new : Option Told) → slice_get list i ≡ Some e → Reaches list i old now
+    → IsUnused e result now new ⊎ Device now → Reaches list (suc i) old new
+reaches_next list i e result old now new next (inr device) turned = inr device
+reaches_next list i e result old now new next (inl idle) (inr device) = inr (subst Device idle.same device)
+reaches_next list i e result old now new next (inl idle) (inl none) = inl (record { same = none.same ∙ idle.same; unused = unused_next list i e next idle.unused none.unused })
+
+-- a turn in which a call failed
+pub device_failed : (e : InstructionEntry) (why : RunRefused) (now new : Option Told) → IsRegisterAlone (Err why) → IsUnused e (Err why) now new ⊎ Device now → Device now
+device_failed e why now new alone (inr device) = device
+device_failed e Register now new alone (inl none) = absurd (none.called refl)
+device_failed e Fuel now new alone (inl none) = absurd alone
+device_failed e BadInstruction now new alone (inl none) = absurd alone
+device_failed e BadRegister now new alone (inl none) = absurd alone
+device_failed e BadRange now new alone (inl none) = absurd alone
 
 pub reaches_failed : (list : List InstructionEntry) (i : ℕ) (old now : Option Told) → Reaches list i old now → Device now → Device old
 reaches_failed list i old now (inl idle) device = subst Device idle.same device

@@ -1,10 +1,11 @@
--- A run on its way: what is told, what is still to come, and which stores it came through.
+-- A run on its way: the calls that it made, and what is still to come.
 use Rattle.std.proofs.Common.{◌≡◌, ◌∙◌, ℕ, zero, suc, ◌+◌, ◌-◌, Bool, true, false, ◌&&◌, if◌then◌else◌, List, [], ◌∷◌, ◌++◌, Option, Some, None, refl, sym, ap, subst, inl, inr, append-nil}
 use Rattle.std.specs.Prelude.{slice_get, Result, Ok, Err, IfSome}
+use Rattle.std.specs.Option.{option_map}
 use Rattle.erst_store.specs.Store.{Stored}
 use Rattle.board_core.specs.declared.board.Reg.{Reg}
 use Rattle.board_core.specs.Doing.{DeviceCall, after_acts, reg_read, reg_write}
-use Rattle.board_core.specs.Told.{Told, Relates, after_reg_write, device_of, register_in}
+use Rattle.board_core.specs.Told.{Told, after_reg_write, device_of, register_in}
 use Rattle.erst_interp.specs.declared.entries.InstructionEntry.{InstructionEntry}
 use Rattle.erst_interp.specs.declared.machine.Variables.{Variables}
 use Rattle.erst_interp.specs.declared.refusals.RunRefused.{RunRefused}
@@ -18,31 +19,17 @@ use Rattle.erst_interp.specs.declared.machine.Work.{Work}
 use Rattle.erst_interp.specs.declared.machine.Work as Work
 use Rattle.erst_store.specs.Actions.{range_address}
 use Rattle.erst_store.specs.Device.{Device}
-use Rattle.erst_interp.specs.Run.{KeepsButDevice, PassesStore, IsCutShort, AtNext, AfterTurn, IsRun, acts_of, told_after}
+use Rattle.erst_interp.specs.Run.{PassesStore, AtNext, AfterTurn, acts_of, told_after}
 use Rattle.board_core.specs.Doing.{Seen}
-use Rattle.erst_interp.specs.Steps.Running.{start_over, end_within, StoreWithin, GoesWell, Fails, TouchesAs, Turns, StoreInTurn, state_in, state_of}
-use Rattle.erst_interp.proofs.BreakLemmas.{after_both, off_as, off_more}
-use Rattle.erst_interp.proofs.ShiftedLemmas.{end_made, passes_shifted, refused_on, shifted, shifted_outcome, told_on, turn-shifted}
+use Rattle.erst_interp.specs.Steps.Running.{ComesTo, Cut, Made, Turned, Turns, calls_in, end_over, state_in, state_of}
+use Rattle.erst_interp.proofs.BreakLemmas.{after_both}
+use Rattle.erst_interp.proofs.CallLemmas.{both_cut, both_made, cut_for, made_for, nothing_made}
+use Rattle.erst_interp.proofs.ShiftedLemmas.{end_made, shifted, shifted_outcome, told_on, turn-shifted}
 use Rattle.erst_interp.proofs.TurnLemmas.{by_kind}
-use Rattle.erst_interp.proofs.TouchLemmas.{well_both, well_fails}
 
 -- a state of a run over a board that tells this now, after these calls
 abbrev pub state_at : Variables → Told → List DeviceCall → MachineState
 state_at v now calls = record { variables = v; device = device_of now; calls = calls }
-
--- So many turns are left, over a board that told this when the run began and now tells that.
-pub record OnWay (total : ℕ) (list : List InstructionEntry) (turns : ℕ) (first : MachineState) (v : Variables) (old now : Told) : Type 0 where
-  pub calls : List DeviceCall
-  pub told : now ≡ after_acts (acts_of calls) old
-  pub ends : end_from turns list (state_at v now calls) ≡ end_from total list first
-  pub stores : (store : List Stored) → PassesStore turns list (state_in v now) store → PassesStore total list first store
-
-abbrev pub Way : ℕ → List InstructionEntry → ℕ → ℕ → Variables → Option Told → Option Told → Type 0
-Way total list turns input v old now = Relates (λ t u. OnWay total list turns (start_over input t) v t u) old now
-
-pub way_begins : (total : ℕ) (list : List InstructionEntry) (input : ℕ) (told : Option Told) → Way total list total input (new_variables input) told told
-way_begins total list input None = refl
-way_begins total list input (Some t) = record { calls = []; told = refl; ends = refl; stores = λ store is. is }
 
 -- ---- one turn of the machine
 
@@ -177,9 +164,9 @@ ends_device (suc turns) list v now old calls is = by (slice_get list v.index) (�
         let u = told_after t now in
         let device : device_of u ≡ t.device = subst (λ (o : Outcome). ToldBy o now) here (turn_device e v now) in
         subst (λ (d : Device). Told_in (end_from turns list (record { variables = t.variables; device = d; calls = calls ++ t.calls }))) device
-        (later t.variables u (calls ++ t.calls) (told_on calls old now None is t))
+        (later t.variables u (calls ++ t.calls) (told_on calls old now is t))
     turned e (stops why t) here later =
-        ap (λ (u : Told). device_of u) (sym (told_on calls old now None is t)) ∙ subst (λ (o : Outcome). ToldBy o now) here (turn_device e v now)
+        ap (λ (u : Told). device_of u) (sym (told_on calls old now is t)) ∙ subst (λ (o : Outcome). ToldBy o now) here (turn_device e v now)
 
     by : (o : Option InstructionEntry) → Later → Told_in (at_entry (λ e. after_turn (λ t. end_from turns list t) (turn e (state_at v now calls))) (state_at v now calls) o)
     by None later = ap (λ (u : Told). device_of u) (sym is)
@@ -188,128 +175,154 @@ ends_device (suc turns) list v now old calls is = by (slice_get list v.index) (�
 pub end_device : (list : List InstructionEntry) (input : ℕ) (t : Told) → device_of (told_after (machine_end list input (device_of t)).state t) ≡ (machine_end list input (device_of t)).state.device
 end_device list input t = ends_device most_turns list (new_variables input) t t [] refl
 
-way_on-told : (total : ℕ) (list : List InstructionEntry) (turns input : ℕ) (e : InstructionEntry) (v w : Variables) (old now : Told) (new : Option Told) → slice_get list v.index ≡ Some e
-    → OnWay total list (suc turns) (start_over input old) v old now → Turns (Ok w) (turn e (state_in v now)) now new → Way total list turns input w (Some old) new
-way_on-told total list turns input e v w old now new next way turned = by (turn e (state_in v now)) refl turned
+-- ---- a run on its way
+
+-- So many turns are left, with these variables.
+pub record Way (list : List InstructionEntry) (turns input : ℕ) (v : Variables) (a b : Seen) : Type 0 where
+  pub calls : List DeviceCall
+  pub made : Made calls a b
+  pub ends : IfSome a.told (λ t. end_from turns list (state_at v (after_acts (acts_of calls) t) calls) ≡ end_over list input t)
+
+pub way_begins : (list : List InstructionEntry) (input : ℕ) (a : Seen) → Way list most_turns input (new_variables input) a a
+way_begins list input a = record { calls = []; made = nothing_made a; ends = by a.told }
   where
-    by : (o : Outcome) → turn e (state_in v now) ≡ o → Turns (Ok w) o now new → Way total list turns input w (Some old) new
-    by (stops why t) is turned = absurd turned
-    by (goes t) is (w_is, new_is) =
-        let u = told_after t now in
-        let device : device_of u ≡ t.device = subst (λ (o : Outcome). ToldBy o now) is (turn_device e v now) in
-        let goes_is : turn e (state_at v now way.calls) ≡ goes (shifted way.calls t) = turn_at e v now way.calls ∙ ap (shifted_outcome way.calls) is in
-        subst (λ (told : Option Told). Way total list turns input w (Some old) told) (sym new_is)
-        (subst (λ (x : Variables). OnWay total list turns (start_over input old) x old u) (sym w_is)
-        (record {
-          calls = way.calls ++ t.calls;
-          told = told_on way.calls old now new way.told t;
-          ends = ap (λ (d : Device). end_from turns list (record { variables = t.variables; device = d; calls = way.calls ++ t.calls })) device
-              ∙ sym (goes_on list turns (state_at v now way.calls) (shifted way.calls t) e next goes_is) ∙ way.ends;
-          stores = λ store is_in. way.stores store (comes_through list turns (state_in v now) t e next is store
-              (subst (λ (made : List DeviceCall). PassesStore turns list (record t { calls = made }) store) (append-nil t.calls)
-              (passes_shifted t.calls store turns list (record { variables = t.variables; device = t.device; calls = [] })
-              (subst (λ (d : Device). PassesStore turns list (record { variables = t.variables; device = d; calls = [] }) store) device is_in))));
-        }))
+    by : (told : Option Told) → IfSome told (λ t. end_from most_turns list (state_at (new_variables input) t []) ≡ end_over list input t)
+    by None = tt
+    by (Some t) = refl
 
-pub way_on : (total : ℕ) (list : List InstructionEntry) (turns input : ℕ) (e : InstructionEntry) (v w : Variables) (old now new : Option Told) → slice_get list v.index ≡ Some e
-    → Way total list (suc turns) input v old now → IfSome now (λ t. Turns (Ok w) (turn e (state_in v t)) t new) → Relates KeepsButDevice now new → Way total list turns input w old new
-way_on total list turns input e v w None now new next way turned kept = subst (λ (told : Option Told). Relates KeepsButDevice told new) way kept
-way_on total list turns input e v w (Some old) None new next way turned kept = absurd way
-way_on total list turns input e v w (Some old) (Some now) new next way turned kept = way_on-told total list turns input e v w old now new next way turned
+-- the calls of a run, and what it comes to
+abbrev pub run_calls : List InstructionEntry → ℕ → Option Told → List DeviceCall
+run_calls list input None = []
+run_calls list input (Some t) = (end_over list input t).state.calls
 
--- the stores of a turn are among those of the run
-in_run : (total : ℕ) (list : List InstructionEntry) (turns input : ℕ) (e : InstructionEntry) (v : Variables) (old now : Option Told) → slice_get list v.index ≡ Some e → Way total list (suc turns) input v old now
-    → (x y z : List Stored) → StoreWithin total list input old x y → StoreInTurn (λ s. turn e s) v now y z → StoreWithin total list input old x z
-in_run total list turns input e v None now next way x y z before is = tt
-in_run total list turns input e v (Some old) None next way x y z before is = absurd way
-in_run total list turns input e v (Some old) (Some now) next way x y z before is =
-    elim is [
-      | inl same ↦ subst (λ (u : List Stored). StoreWithin total list input (Some old) x u) (sym same) before
-      | inr new ↦ inr (way.stores z (in_turn list turns (state_in v now) e next z new))
-    ]
+pub record Ran (list : List InstructionEntry) (input : ℕ) (result : Result ℕ RunRefused) (a b : Seen) : Type 0 where
+  pub made : Made (run_calls list input a.told) a b
+  pub answers : IfSome a.told (λ t. result ≡ (end_over list input t).answer)
 
-module _ (total : ℕ) (list : List InstructionEntry) (turns input : ℕ) (e : InstructionEntry) (v : Variables) (a b c : Seen) (next : slice_get list v.index ≡ Some e) (way : Way total list (suc turns) input v a.told b.told) where
-  pub run_on : GoesWell (StoreWithin total list input a.told) a b → GoesWell (StoreInTurn (λ s. turn e s) v b.told) b c → GoesWell (StoreWithin total list input a.told) a c
-  run_on first second = well_both (StoreWithin total list input a.told) (StoreWithin total list input a.told) (λ x y is. is) (StoreInTurn (λ s. turn e s) v b.told)
-      (in_run total list turns input e v a.told b.told next way) a b c first second
+abbrev pub Runs : List InstructionEntry → ℕ → Result ℕ RunRefused → Seen → Seen → Type 0
+Runs list input (Err Register) a b = Cut (run_calls list input a.told) a b
+Runs list input result a b = Ran list input result a b
 
-  run_fails : GoesWell (StoreWithin total list input a.told) a b → Fails (StoreInTurn (λ s. turn e s) v b.told) b c → Fails (StoreWithin total list input a.told) a c
-  run_fails first second = well_fails (StoreWithin total list input a.told) (StoreWithin total list input a.told) (λ x y is. is) (StoreInTurn (λ s. turn e s) v b.told)
-      (in_run total list turns input e v a.told b.told next way) a b c first second
+-- what is told after calls, if this was told before
+made_told : (calls : List DeviceCall) (a b : Seen) → Made calls a b → (t : Told) → a.told ≡ Some t → b.told ≡ Some (after_acts (acts_of calls) t)
+made_told calls a b made t is = made.told ∙ ap (λ (o : Option Told). option_map (λ u. after_acts (acts_of calls) u) o) is
 
-  -- a refusal that isn't the board's changes nothing more than its turn
-  pub run_refused : (why : RunRefused) → GoesWell (StoreWithin total list input a.told) a b → TouchesAs {T = Variables} (StoreInTurn (λ s. turn e s) v b.told) (Err why) b c
-      → TouchesAs {T = ℕ} (StoreWithin total list input a.told) (Err why) a c
-  run_refused Register first second = run_fails first second
-  run_refused Fuel first second = run_on first second
-  run_refused BadInstruction first second = run_on first second
-  run_refused BadRegister first second = run_on first second
-  run_refused BadRange first second = run_on first second
+module _ (list : List InstructionEntry) (input : ℕ) (a b : Seen) where
+  -- the run came to this end
+  ended : (turns : ℕ) (v : Variables) (result : Result ℕ RunRefused) (way : Way list turns input v a b)
+      → ((s : MachineState) → s.variables ≡ v → end_from turns list s ≡ record { answer = result; state = s }) → Ran list input result a b
+  ended turns v result way is = record { made = made_for way.calls (run_calls list input) a b same way.made; answers = by a.told refl }
+    where
+      at : (t : Told) → a.told ≡ Some t → end_over list input t ≡ record { answer = result; state = state_at v (after_acts (acts_of way.calls) t) way.calls }
+      at t told = sym (subst (λ (o : Option Told). IfSome o (λ u. end_from turns list (state_at v (after_acts (acts_of way.calls) u) way.calls) ≡ end_over list input u)) told way.ends)
+          ∙ is (state_at v (after_acts (acts_of way.calls) t) way.calls) refl
 
--- ---- the ends of a run
+      same : (t : Told) → a.told ≡ Some t → way.calls ≡ run_calls list input (Some t)
+      same t told = sym (ap (λ (end : End). end.state.calls) (at t told))
 
-abbrev pub Ran : ℕ → List InstructionEntry → ℕ → Result ℕ RunRefused → Option Told → Option Told → Type 0
-Ran total list input answer old new = IfSome old (λ t. IsRun answer (end_within total list input t) t new)
+      by : (told : Option Told) → a.told ≡ told → IfSome told (λ t. result ≡ (end_over list input t).answer)
+      by None told = tt
+      by (Some t) told = sym (ap (λ (end : End). end.answer) (at t told))
 
--- no entry is next
-pub run_ended : (total : ℕ) (list : List InstructionEntry) (turns input : ℕ) (v : Variables) (old now : Option Told) → slice_get list v.index ≡ None → Way total list turns input v old now → Ran total list input (Ok v.value) old now
-run_ended total list turns input v None now none way = tt
-run_ended total list turns input v (Some old) None none way = absurd way
-run_ended total list turns input v (Some old) (Some now) none way =
-    let end : end_within total list input old ≡ record { answer = Ok v.value; state = state_at v now way.calls } = sym way.ends ∙ ends_at list turns (state_at v now way.calls) none in
-    (sym (ap (λ (e : End). e.answer) end), ap (λ (t : Told). Some t) (way.told ∙ sym (ap (λ (e : End). told_after e.state old) end)))
+  -- no entry is next, or no turn is left
+  pub run_ended : (turns : ℕ) (v : Variables) → slice_get list v.index ≡ None → Way list turns input v a b → Runs list input (Ok v.value) a b
+  run_ended turns v none way = ended turns v (Ok v.value) way
+      (λ s same. ends_at list turns s (ap (λ (w : Variables). slice_get list w.index) same ∙ none) ∙ ap (λ (w : Variables). record { answer = Ok w.value; state = s }) same)
 
--- no turn is left
-pub run_out : (total : ℕ) (list : List InstructionEntry) (input : ℕ) (e : InstructionEntry) (v : Variables) (old now : Option Told) → slice_get list v.index ≡ Some e → Way total list zero input v old now → Ran total list input (Err Fuel) old now
-run_out total list input e v None now next way = tt
-run_out total list input e v (Some old) None next way = absurd way
-run_out total list input e v (Some old) (Some now) next way =
-    let end : end_within total list input old ≡ record { answer = Err Fuel; state = state_at v now way.calls } = sym way.ends ∙ runs_out list (state_at v now way.calls) e next in
-    (sym (ap (λ (e : End). e.answer) end), ap (λ (t : Told). Some t) (way.told ∙ sym (ap (λ (e : End). told_after e.state old) end)))
+  pub run_out : (e : InstructionEntry) (v : Variables) → slice_get list v.index ≡ Some e → Way list zero input v a b → Runs list input (Err Fuel) a b
+  run_out e v next way = ended zero v (Err Fuel) way (λ s same. runs_out list s e (ap (λ (w : Variables). slice_get list w.index) same ∙ next))
 
--- the turn is refused
-module _ (total : ℕ) (list : List InstructionEntry) (turns input : ℕ) (e : InstructionEntry) (v : Variables) (old now : Told) (new : Option Told) (next : slice_get list v.index ≡ Some e)
-    (way : OnWay total list (suc turns) (start_over input old) v old now) where
-  stopped : (why cause : RunRefused) (s : MachineState) → turn e (state_at v now way.calls) ≡ stops cause s → (cause ≡ why) × (new ≡ Some (told_after s old))
-      → (Err why ≡ (end_within total list input old).answer) × (new ≡ Some (told_after (end_within total list input old).state old))
-  stopped why cause s stops_is (same, new_is) =
-      let end : end_within total list input old ≡ record { answer = Err cause; state = s } = sym way.ends ∙ stops_at list turns (state_at v now way.calls) s e cause next stops_is in (
-        sym (ap (λ (e : End). e.answer) end ∙ ap (λ (w : RunRefused). Err w) same),
-        new_is ∙ ap (λ (t : Told). Some t) (sym (ap (λ (e : End). told_after e.state old) end)),
-      )
+  -- a turn was made
+  module _ (turns : ℕ) (e : InstructionEntry) (v : Variables) (c : Seen) (next : slice_get list v.index ≡ Some e) (way : Way list (suc turns) input v a b) where
+    now : Told → Told
+    now t = after_acts (acts_of way.calls) t
 
-  -- the calls of the turn are the next ones of the run
-  more_made : (o : Outcome) → turn e (state_at v now way.calls) ≡ o → (more : List DeviceCall) × ((end_within total list input old).state.calls ≡ (state_of o).calls ++ more)
-  more_made (goes t) is =
-      let later = end_made turns list t in
-      (later.0, sym (ap (λ (x : End). x.state.calls) way.ends) ∙ ap (λ (x : End). x.state.calls) (goes_on list turns (state_at v now way.calls) t e next is) ∙ later.1)
-  more_made (stops why t) is = (
-    [],
-    sym (ap (λ (x : End). x.state.calls) way.ends) ∙ ap (λ (x : End). x.state.calls) (stops_at list turns (state_at v now way.calls) t e why next is) ∙ sym (append-nil t.calls),
-  )
+    turn_calls : List DeviceCall
+    turn_calls = calls_in (λ s. turn e s) v b.told
 
-  broken : (o : Outcome) → turn e (state_at v now way.calls) ≡ o → IsCutShort (state_of o).calls old new → IsCutShort (end_within total list input old).state.calls old new
-  broken o is breaks =
-      let later = more_made o is in
-      off_as ((state_of o).calls ++ later.0) (end_within total list input old).state.calls old new (sym later.1) (off_more (state_of o).calls later.0 old new breaks)
+    told_now : (t : Told) → a.told ≡ Some t → b.told ≡ Some (after_acts (acts_of way.calls) t)
+    told_now t told = made_told way.calls a b way.made t told
 
-  refused_by : (why : RunRefused) (o : Outcome) → turn e (state_at v now way.calls) ≡ o → Turns (Err why) o old new → IsRun (Err why) (end_within total list input old) old new
-  refused_by Register o is turned = broken o is turned
-  refused_by Fuel (goes s) is turned = absurd turned
-  refused_by BadInstruction (goes s) is turned = absurd turned
-  refused_by BadRegister (goes s) is turned = absurd turned
-  refused_by BadRange (goes s) is turned = absurd turned
-  refused_by Fuel (stops cause s) is turned = stopped Fuel cause s is turned
-  refused_by BadInstruction (stops cause s) is turned = stopped BadInstruction cause s is turned
-  refused_by BadRegister (stops cause s) is turned = stopped BadRegister cause s is turned
-  refused_by BadRange (stops cause s) is turned = stopped BadRange cause s is turned
+    turn_is : (t : Told) → a.told ≡ Some t → calls_in (λ s. turn e s) v b.told ≡ (state_of (turn e (state_in v (after_acts (acts_of way.calls) t)))).calls
+    turn_is t told = ap (λ (o : Option Told). calls_in (λ s. turn e s) v o) (told_now t told)
 
-  refused_now : (why : RunRefused) → Turns (Err why) (turn e (state_in v now)) now new → IsRun (Err why) (end_within total list input old) old new
-  refused_now why turned = refused_by why (shifted_outcome way.calls (turn e (state_in v now))) (turn_at e v now way.calls)
-      (refused_on way.calls old now new way.told why (turn e (state_in v now)) turned)
+    left : (t : Told) → a.told ≡ Some t → end_from (suc turns) list (state_at v (after_acts (acts_of way.calls) t) way.calls) ≡ end_over list input t
+    left t told = subst (λ (o : Option Told). IfSome o (λ u. end_from (suc turns) list (state_at v (after_acts (acts_of way.calls) u) way.calls) ≡ end_over list input u)) told way.ends
 
-pub turn_refused : (total : ℕ) (list : List InstructionEntry) (turns input : ℕ) (e : InstructionEntry) (v : Variables) (why : RunRefused) (old now new : Option Told) → slice_get list v.index ≡ Some e
-    → Way total list (suc turns) input v old now → IfSome now (λ t. Turns (Err why) (turn e (state_in v t)) t new) → Ran total list input (Err why) old new
-turn_refused total list turns input e v why None now new next way turned = tt
-turn_refused total list turns input e v why (Some old) None new next way turned = absurd way
-turn_refused total list turns input e v why (Some old) (Some now) new next way turned = refused_now total list turns input e v old now new next way why turned
+    -- it is the machine's, after the calls before it
+    at : (t : Told) (o : Outcome) → turn e (state_in v (after_acts (acts_of way.calls) t)) ≡ o → turn e (state_at v (after_acts (acts_of way.calls) t) way.calls) ≡ shifted_outcome way.calls o
+    at t o is = turn_at e v (after_acts (acts_of way.calls) t) way.calls ∙ ap (shifted_outcome way.calls) is
+
+    went_on : (t : Told) → a.told ≡ Some t → (w : Variables) (o : Outcome) → turn e (state_in v (after_acts (acts_of way.calls) t)) ≡ o → ComesTo o (Ok w)
+        → end_from turns list (state_at w (after_acts (acts_of (way.calls ++ (state_of o).calls)) t) (way.calls ++ (state_of o).calls)) ≡ end_over list input t
+    went_on t told w (stops why s) is comes = absurd comes
+    went_on t told w (goes s) is w_is =
+        let u = after_acts (acts_of way.calls) t in
+        let told_after_it : after_acts (acts_of (way.calls ++ s.calls)) t ≡ told_after s u = after_both way.calls s.calls t in
+        let device : device_of (told_after s u) ≡ s.device = subst (λ (o : Outcome). ToldBy o u) is (turn_device e v u) in
+        ap (λ (x : Told). end_from turns list (state_at w x (way.calls ++ s.calls))) told_after_it
+        ∙ ap (λ (x : Variables). end_from turns list (state_at x (told_after s u) (way.calls ++ s.calls))) w_is
+        ∙ ap (λ (d : Device). end_from turns list (record { variables = s.variables; device = d; calls = way.calls ++ s.calls })) device
+        ∙ sym (goes_on list turns (state_at v u way.calls) (shifted way.calls s) e next (at t (goes s) is))
+        ∙ left t told
+
+    pub way_on : (w : Variables) → Turns (λ s. turn e s) v (Ok w) b c → Way list turns input w a c
+    way_on w turned = record { calls = way.calls ++ calls_in (λ s. turn e s) v b.told; made = both_made way.calls (calls_in (λ s. turn e s) v b.told) a b c way.made turned.made; ends = by a.told refl }
+      where
+        by : (told : Option Told) → a.told ≡ told
+            → IfSome told (λ t. end_from turns list (state_at w (after_acts (acts_of (way.calls ++ calls_in (λ s. turn e s) v b.told)) t) (way.calls ++ calls_in (λ s. turn e s) v b.told)) ≡ end_over list input t)
+        by None told = tt
+        by (Some t) told =
+            let u = after_acts (acts_of way.calls) t in
+            subst (λ (made : List DeviceCall). end_from turns list (state_at w (after_acts (acts_of (way.calls ++ made)) t) (way.calls ++ made)) ≡ end_over list input t) (sym (turn_is t told))
+            (went_on t told w (turn e (state_in v u)) refl (subst (λ (o : Option Told). IfSome o (λ x. ComesTo (turn e (state_in v x)) (Ok w))) (told_now t told) turned.comes))
+
+    -- it was refused
+    stopped : (t : Told) → a.told ≡ Some t → (why : RunRefused) (o : Outcome) → turn e (state_in v (after_acts (acts_of way.calls) t)) ≡ o → ComesTo o (Err why)
+        → end_over list input t ≡ record { answer = Err why; state = shifted way.calls (state_of o) }
+    stopped t told why (goes s) is comes = absurd comes
+    stopped t told why (stops cause s) is cause_is =
+        sym (left t told) ∙ stops_at list turns (state_at v (after_acts (acts_of way.calls) t) way.calls) (shifted way.calls s) e cause next (at t (stops cause s) is)
+        ∙ ap (λ (w : RunRefused). record { answer = Err w; state = shifted way.calls s }) cause_is
+
+    turn_refused : (why : RunRefused) → Turned (λ s. turn e s) v (Err why) b c → Ran list input (Err why) a c
+    turn_refused why turned = record {
+      made = made_for (way.calls ++ calls_in (λ s. turn e s) v b.told) (run_calls list input) a c
+          (λ t told. ap (λ (made : List DeviceCall). way.calls ++ made) (turn_is t told) ∙ sym (ap (λ (end : End). end.state.calls) (end_is t told)))
+          (both_made way.calls (calls_in (λ s. turn e s) v b.told) a b c way.made turned.made);
+      answers = by a.told refl;
+    }
+      where
+        end_is : (t : Told) → a.told ≡ Some t → end_over list input t ≡ record { answer = Err why; state = shifted way.calls (state_of (turn e (state_in v (after_acts (acts_of way.calls) t)))) }
+        end_is t told = stopped t told why (turn e (state_in v (after_acts (acts_of way.calls) t))) refl
+            (subst (λ (o : Option Told). IfSome o (λ x. ComesTo (turn e (state_in v x)) (Err why))) (told_now t told) turned.comes)
+
+        by : (told : Option Told) → a.told ≡ told → IfSome told (λ t. Err why ≡ (end_over list input t).answer)
+        by None told = tt
+        by (Some t) told = sym (ap (λ (end : End). end.answer) (end_is t told))
+
+    -- the calls of the turn are the next ones of the run
+    more_made : (t : Told) → a.told ≡ Some t → (o : Outcome) → turn e (state_in v (after_acts (acts_of way.calls) t)) ≡ o
+        → (more : List DeviceCall) × ((end_over list input t).state.calls ≡ (way.calls ++ (state_of o).calls) ++ more)
+    more_made t told (goes s) is =
+        let later = end_made turns list (shifted way.calls s) in
+        (later.0, sym (ap (λ (x : End). x.state.calls) (left t told)) ∙ ap (λ (x : End). x.state.calls) (goes_on list turns (state_at v (after_acts (acts_of way.calls) t) way.calls) (shifted way.calls s) e next (at t (goes s) is)) ∙ later.1)
+    more_made t told (stops why s) is = (
+      [],
+      sym (ap (λ (x : End). x.state.calls) (left t told))
+          ∙ ap (λ (x : End). x.state.calls) (stops_at list turns (state_at v (after_acts (acts_of way.calls) t) way.calls) (shifted way.calls s) e why next (at t (stops why s) is))
+          ∙ sym (append-nil (way.calls ++ s.calls)),
+    )
+
+    turn_cut : Cut (calls_in (λ s. turn e s) v b.told) b c → Cut (run_calls list input a.told) a c
+    turn_cut cut = cut_for (way.calls ++ calls_in (λ s. turn e s) v b.told) (run_calls list input) a c
+        (λ t told. (let more = more_made t told (turn e (state_in v (after_acts (acts_of way.calls) t))) refl in
+        (more.0, more.1 ∙ ap (λ (made : List DeviceCall). (way.calls ++ made) ++ more.0) (sym (turn_is t told)))))
+        (both_cut way.calls (calls_in (λ s. turn e s) v b.told) a b c way.made cut)
+
+    pub run_refused : (why : RunRefused) → Turns (λ s. turn e s) v (Err why) b c → Runs list input (Err why) a c
+    run_refused Register is = turn_cut is
+    run_refused Fuel is = turn_refused Fuel is
+    run_refused BadInstruction is = turn_refused BadInstruction is
+    run_refused BadRegister is = turn_refused BadRegister is
+    run_refused BadRange is = turn_refused BadRange is

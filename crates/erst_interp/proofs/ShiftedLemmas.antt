@@ -1,12 +1,11 @@
 -- Calls that were made before a run stand before its own, and change nothing else.
 use Rattle.std.proofs.Common.{◌≡◌, ◌∙◌, ℕ, zero, suc, ◌+◌, ◌-◌, Bool, true, false, ◌&&◌, List, ◌∷◌, [], ◌++◌, take, drop, Option, Some, None, refl, sym, ap, subst, inl, inr, append_assoc, append-nil, if◌then◌else◌}
-use Rattle.std.specs.Prelude.{slice_get, Err, IfSome}
+use Rattle.std.specs.Prelude.{slice_get, Err}
 use Rattle.erst_store.specs.Store.{Stored}
 use Rattle.erst_store.specs.Actions.{range_address}
 use Rattle.board_core.specs.Doing.{DeviceCall, after_acts, reg_read, reg_write, range_read, range_write}
 use Rattle.board_core.specs.declared.board.Reg.{Reg}
-use Rattle.board_core.specs.declared.board.Access.TheVariants.{Read}
-use Rattle.board_core.specs.Told.{Told, device_of, register_in, with_access}
+use Rattle.board_core.specs.Told.{Told, register_in}
 use Rattle.erst_interp.specs.declared.entries.InstructionEntry.{InstructionEntry}
 use Rattle.erst_interp.specs.declared.entries.Instruction.{Instruction}
 use Rattle.erst_interp.specs.declared.machine.Use.{Use}
@@ -14,14 +13,12 @@ use Rattle.erst_interp.specs.declared.machine.Use.TheVariants.{Reads, Writes, Ch
 use Rattle.erst_interp.specs.declared.machine.Work.{Work}
 use Rattle.erst_interp.specs.declared.machine.Work as Work
 use Rattle.erst_interp.specs.declared.machine.Variables.{Variables}
-use Rattle.erst_interp.specs.declared.refusals.RunRefused.{RunRefused}
-use Rattle.erst_interp.specs.declared.refusals.RunRefused.TheVariants.{Register, Fuel, BadInstruction, BadRegister, BadRange}
+use Rattle.erst_interp.specs.declared.refusals.RunRefused.TheVariants.{Fuel, BadRange}
 use Rattle.erst_interp.specs.Machine.{MachineState, Outcome, goes, stops, turn, End, end_from, at_entry, after_turn, with_variables, with_register, next, after_register_read, after_register_write, after_field, after_move, after_range_read, after_range_write_at, field_in, with_field, alone, moved, is_inside}
 use Rattle.erst_interp.specs.Steps.Parts.{turn_by, used_by, taken, given, changed, work_of}
-use Rattle.erst_interp.specs.Run.{PassesStore, AtNext, AfterTurn, IsCutShort, acts_of, told_after}
-use Rattle.erst_interp.specs.Steps.Running.{IsFieldRead, Turns, state_in, state_of}
-use Rattle.erst_interp.specs.Steps.Running as Steps
-use Rattle.erst_interp.proofs.BreakLemmas.{after_both, off_after, off_as}
+use Rattle.erst_interp.specs.Run.{PassesStore, AtNext, AfterTurn, acts_of, told_after}
+use Rattle.erst_interp.specs.Steps.Running.{state_of}
+use Rattle.erst_interp.proofs.BreakLemmas.{after_both}
 use Rattle.erst_interp.proofs.TurnLemmas.{by_kind}
 
 -- a state with these calls before its own
@@ -63,7 +60,7 @@ module _ (before : List DeviceCall) where
       ∙ ap (λ (made : List DeviceCall). record (after_range_write_at to bytes (after_range_read from count s)) { calls = made })
       (append_assoc before (after_range_read from count s).calls (range_write to bytes ∷ []))
 
-  moved-shifted : (offset : ℕ) (s : MachineState) → moved offset (shifted before s) ≡ shifted_outcome before (moved offset s)
+  pub moved-shifted : (offset : ℕ) (s : MachineState) → moved offset (shifted before s) ≡ shifted_outcome before (moved offset s)
   moved-shifted offset s = by (is_inside (s.variables.src + offset) s.variables.var2 && is_inside (s.variables.dst + offset) s.variables.var2)
     where
       by : (b : Bool)
@@ -127,7 +124,7 @@ is_shifted : (s : MachineState) → s ≡ shifted s.calls (bare s)
 unfolding bare
 is_shifted s = ap (λ (made : List DeviceCall). record s { calls = made }) (sym (append-nil s.calls))
 
-outcome_made : (before : List DeviceCall) (o : Outcome) → (state_of (shifted_outcome before o)).calls ≡ before ++ (state_of o).calls
+pub outcome_made : (before : List DeviceCall) (o : Outcome) → (state_of (shifted_outcome before o)).calls ≡ before ++ (state_of o).calls
 outcome_made before (goes s) = refl
 outcome_made before (stops why s) = refl
 
@@ -160,44 +157,6 @@ passes_shifted before store (suc turns) list s passes =
 
 -- ---- what is told of calls that were made after others
 
-module _ (first : List DeviceCall) (t u : Told) (new : Option Told) (made : u ≡ after_acts (acts_of first) t) where
+module _ (first : List DeviceCall) (t u : Told) (made : u ≡ after_acts (acts_of first) t) where
   pub told_on : (s : MachineState) → told_after s u ≡ told_after (shifted first s) t
   told_on s = ap (λ (v : Told). after_acts (acts_of s.calls) v) made ∙ sym (after_both first s.calls t)
-
-  pub cut_on : (o : Outcome) → IsCutShort (state_of o).calls u new → IsCutShort (state_of (shifted_outcome first o)).calls t new
-  cut_on o cut = off_as (first ++ (state_of o).calls) (state_of (shifted_outcome first o)).calls t new (sym (outcome_made first o)) (off_after first (state_of o).calls t u new made cut)
-
-  pub refused_on : (why : RunRefused) (o : Outcome) → Turns (Err why) o u new → Turns (Err why) (shifted_outcome first o) t new
-  refused_on Register o is = cut_on o is
-  refused_on Fuel (goes s) is = absurd is
-  refused_on BadInstruction (goes s) is = absurd is
-  refused_on BadRegister (goes s) is = absurd is
-  refused_on BadRange (goes s) is = absurd is
-  refused_on Fuel (stops cause s) is = (is.0, is.1 ∙ ap (λ (v : Told). Some v) (told_on s))
-  refused_on BadInstruction (stops cause s) is = (is.0, is.1 ∙ ap (λ (v : Told). Some v) (told_on s))
-  refused_on BadRegister (stops cause s) is = (is.0, is.1 ∙ ap (λ (v : Told). Some v) (told_on s))
-  refused_on BadRange (stops cause s) is = (is.0, is.1 ∙ ap (λ (v : Told). Some v) (told_on s))
-
--- a refused move is a refused turn
-as_turn : (why : RunRefused) (o : Outcome) (t : Told) (new : Option Told) → Steps.Moves (Err why) o t new → Turns (Err why) o t new
-as_turn Register o t new is = is
-as_turn Fuel (goes s) t new is = absurd is
-as_turn BadInstruction (goes s) t new is = absurd is
-as_turn BadRegister (goes s) t new is = absurd is
-as_turn BadRange (goes s) t new is = absurd is
-as_turn Fuel (stops cause s) t new is = is
-as_turn BadInstruction (stops cause s) t new is = is
-as_turn BadRegister (stops cause s) t new is = is
-as_turn BadRange (stops cause s) t new is = is
-
--- a move that was refused, after its offset was read
-pub move_refused : (why : RunRefused) (e : InstructionEntry) (reg : Reg) (i : Instruction) (v : Variables) (n : ℕ) (old mid new : Option Told) → IsFieldRead e reg n old mid
-    → IfSome mid (λ u. Steps.Moves (Err why) (moved n (state_in v u)) u new) → IfSome old (λ t. Turns (Err why) (used_by Moves i e v reg (state_in v t)) t new)
-move_refused why e reg i v n None mid new read moves = tt
-move_refused why e reg i v n (Some t) mid new (n_is, mid_is) moves =
-    let u = with_access (Read reg (register_in reg (device_of t))) t in
-    let first = reg_read reg ∷ [] in
-    let k = field_in e reg (state_in v t) in
-    let at : Steps.Moves (Err why) (moved n (state_in v u)) u new = subst (λ (told : Option Told). IfSome told (λ x. Steps.Moves (Err why) (moved n (state_in v x)) x new)) mid_is moves in
-    let by : Turns (Err why) (moved k (state_in v u)) u new = as_turn why (moved k (state_in v u)) u new (subst (λ (m : ℕ). Steps.Moves (Err why) (moved m (state_in v u)) u new) n_is at) in
-    subst (λ (o : Outcome). Turns (Err why) o t new) (sym (moved-shifted first k (state_in v u))) (refused_on first t u new refl why (moved k (state_in v u)) by)

@@ -6,13 +6,16 @@ use Rattle.erst_store.specs.Steps.ActionLemmas.{effect_does}
 use Rattle.erst_store.specs.declared.device.Command.{Command}
 use Rattle.erst_store.specs.declared.device.Command.TheVariants.{Write, Read, Clear, Dummy}
 use Rattle.erst_store.specs.declared.device.CommandStatus.TheVariants.{NotEnoughSpace, NotFound, StoreEmpty, Success}
-use Rattle.erst_store.specs.Store.{ids, holds, without, bytes_under, with_record}
+use Rattle.erst_store.specs.declared.store.PutRefused.{PutRefused}
+use Rattle.erst_store.specs.Store.{ids, holds, refusal_of, without, bytes_under, with_record}
 use Rattle.erst_store.specs.Actions.{range_length}
-use Rattle.erst_store.specs.Device.{Device, effects, act, after_check, after_id, after_write_command, after_read, after_read_of, after_clear, after_command, is_write_refused, id_at, record_at, range_with_record}
+use Rattle.erst_store.specs.Device.{Device, effects, act, after_check, after_id, after_write_command, after_read, after_read_of, after_clear, after_command, is_write_refused, id_at, record_at, range_with_record, with_put}
 use Rattle.board_core.specs.declared.board.Reg.{Reg}
 use Rattle.board_core.specs.declared.board.Reg.TheVariants.{Action, Value}
-use Rattle.board_core.specs.declared.board.Access.TheVariants.{Write as Writes}
-use Rattle.board_core.specs.Told.{Told, Relates, Steps, device_of, on_device, with_access, after_reg_write, MayAct, MayListAccess, FailsAccess}
+use Rattle.board_core.specs.declared.board.Access.{Access}
+use Rattle.board_core.specs.declared.board.Access.TheVariants.{Read, RangeRead, RangeWrite, Write as Writes}
+use Rattle.board_core.specs.Doing.{DeviceCall, FailsDevice, after_device, put, reg_read, reg_write, range_read, range_write}
+use Rattle.board_core.specs.Told.{Told, Relates, Steps, device_of, after_put, after_range_write, after_reg_write, unless_refused, MayAct, MayListAccess}
 use Rattle.erst_interp.specs.Run.{KeepsButDevice}
 
 abbrev IsAsSlow : Device → Device → Type 0
@@ -62,31 +65,42 @@ pub register-slow : (reg : Reg) (value : ℕ) (d : Device) → (after_reg_write 
 register-slow Action value d = act-slow value d
 register-slow Value value d = refl
 
--- ---- a write to a register, whether or not it fails
+-- ---- a call of the device, whether or not it fails
 
-acts : (reg : Reg) (value : ℕ) (t : Told) → KeepsButDevice t (on_device (after_reg_write reg value) t)
-acts reg value t = record { here = refl; disk_calls = refl; slow = register-slow reg value (device_of t) }
+put-slow : (refusal : Option PutRefused) (id : ℕ) (bytes : List ℕ) (d : Device) → IsAsSlow d (unless_refused refusal (with_put id bytes d) d)
+unfolding with_put
+put-slow None id bytes d = refl
+put-slow (Some cause) id bytes d = refl
 
-may_act : (reg : Reg) (value : ℕ) (t u : Told) → MayAct (after_reg_write reg value) t u → KeepsButDevice t u
-may_act reg value t u (inl same) = subst (λ (v : Told). KeepsButDevice t v) (sym same) (record { here = refl; disk_calls = refl; slow = refl })
-may_act reg value t u (inr acted) = subst (λ (v : Told). KeepsButDevice t v) (sym acted) (acts reg value t)
+keeps : (call : DeviceCall) (t : Told) → KeepsButDevice t (after_device call t)
+keeps (reg_read reg) t = record { here = refl; disk_calls = refl; slow = refl }
+keeps (reg_write reg value) t = record { here = refl; disk_calls = refl; slow = register-slow reg value (device_of t) }
+keeps (range_read place count) t = record { here = refl; disk_calls = refl; slow = refl }
+keeps (range_write place bytes) t = record { here = refl; disk_calls = refl; slow = refl }
+keeps (put id bytes) t = record { here = refl; disk_calls = refl; slow = put-slow (refusal_of id bytes (device_of t).store) id bytes (device_of t) }
 
-fails : (reg : Reg) (value : ℕ) (t u : Told) → FailsAccess (Writes reg value) (after_reg_write reg value) t u → KeepsButDevice t u
-fails reg value t u is = listed_is is.listed (may_act reg value t is.told is.acted)
-  where
-    listed_is : MayListAccess (Writes reg value) is.told u → KeepsButDevice t is.told → KeepsButDevice t u
-    listed_is (inl same) kept = subst (λ (v : Told). KeepsButDevice t v) (sym same) kept
-    listed_is (inr more) kept = subst (λ (v : Told). KeepsButDevice t v) (sym more) (record { here = kept.here; disk_calls = kept.disk_calls; slow = kept.slow })
+-- it is listed or isn't
+may_list : (access : Access) (t u v : Told) → KeepsButDevice t u → MayListAccess access u v → KeepsButDevice t v
+may_list access t u v kept (inl same) = subst (λ (w : Told). KeepsButDevice t w) (sym same) kept
+may_list access t u v kept (inr more) = subst (λ (w : Told). KeepsButDevice t w) (sym more) (record { here = kept.here; disk_calls = kept.disk_calls; slow = kept.slow })
 
-pub write_keeps : (reg : Reg) (value : ℕ) (old new : Option Told)
-    → Steps (λ t. with_access (Writes reg value) (on_device (after_reg_write reg value) t)) old new → Relates KeepsButDevice old new
-write_keeps reg value None new is = is
-write_keeps reg value (Some t) new is =
-    let kept = acts reg value t in
-    subst (λ (o : Option Told). Relates KeepsButDevice (Some t) o) (sym is) (record { here = kept.here; disk_calls = kept.disk_calls; slow = kept.slow })
+-- it has acted or hasn't
+may_act : (step : Device → Device) (t u : Told) → IsAsSlow (device_of t) (step (device_of t)) → MayAct step t u → KeepsButDevice t u
+may_act step t u slow (inl same) = subst (λ (w : Told). KeepsButDevice t w) (sym same) (record { here = refl; disk_calls = refl; slow = refl })
+may_act step t u slow (inr did) = subst (λ (w : Told). KeepsButDevice t w) (sym did) (record { here = refl; disk_calls = refl; slow = slow })
 
-pub write_fails_keeps : (reg : Reg) (value : ℕ) (old new : Option Told)
-    → Relates (FailsAccess (Writes reg value) (after_reg_write reg value)) old new → Relates KeepsButDevice old new
-write_fails_keeps reg value None new is = is
-write_fails_keeps reg value (Some t) None is = absurd is
-write_fails_keeps reg value (Some t) (Some u) is = fails reg value t u is
+fails : (call : DeviceCall) (t u : Told) → FailsDevice call t u → KeepsButDevice t u
+fails (reg_read reg) t u is = may_list (Read reg 0) t t u (record { here = refl; disk_calls = refl; slow = refl }) is
+fails (reg_write reg value) t u is = may_list (Writes reg value) t is.told u (may_act (after_reg_write reg value) t is.told (register-slow reg value (device_of t)) is.acted) is.listed
+fails (range_read place count) t u is = may_list (RangeRead place count) t t u (record { here = refl; disk_calls = refl; slow = refl }) is
+fails (range_write place bytes) t u is = may_list (RangeWrite place (length bytes)) t is.told u (may_act (after_range_write place bytes) t is.told refl is.acted) is.listed
+fails (put id bytes) t u is = may_act (after_put id bytes) t u (put-slow (refusal_of id bytes (device_of t).store) id bytes (device_of t)) is
+
+pub call_keeps : (call : DeviceCall) (old new : Option Told) → Steps (λ t. after_device call t) old new → Relates KeepsButDevice old new
+call_keeps call None new is = is
+call_keeps call (Some t) new is = subst (λ (o : Option Told). Relates KeepsButDevice (Some t) o) (sym is) (keeps call t)
+
+pub call_fails_keeps : (call : DeviceCall) (old new : Option Told) → Relates (FailsDevice call) old new → Relates KeepsButDevice old new
+call_fails_keeps call None new is = is
+call_fails_keeps call (Some t) None is = absurd is
+call_fails_keeps call (Some t) (Some u) is = fails call t u is

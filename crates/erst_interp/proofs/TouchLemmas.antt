@@ -1,6 +1,5 @@
 -- Calls of a board one after another, of which at most one changes the record store.
-use Rattle.std.proofs.Common.{◌≡◌, ◌∙◌, ◌≤◌, List, Option, Some, None, refl, sym, ap, subst, inl, inr, arith}
-use Rattle.std.specs.Prelude.{Result, Ok, Err}
+use Rattle.std.proofs.Common.{◌≡◌, ◌∙◌, ◌≤◌, List, Option, Some, None, refl, ap, subst, inl, inr, arith}
 use Rattle.erst_store.specs.Store.{Stored}
 use Rattle.board_core.specs.Cause.{Faults, device_call}
 use Rattle.board_core.specs.Clock.{Clock, After, Passes}
@@ -8,7 +7,7 @@ use Rattle.board_core.specs.Stop.{Left, InStore}
 use Rattle.board_core.specs.Told.{Told, Relates}
 use Rattle.erst_interp.specs.Run.{KeepsButDevice}
 use Rattle.board_core.specs.Doing.{Raises, Seen}
-use Rattle.erst_interp.specs.Steps.Running.{GoesWell, Fails, Stays, Touches}
+use Rattle.erst_interp.specs.Steps.Running.{GoesWell, Fails}
 
 -- ---- what is told
 
@@ -97,17 +96,6 @@ module _ (S1 S : List Stored → List Stored → Type 0) (more : (x y : List Sto
       raises = subst (λ (faults : Faults). Raises device_call faults c.faults) first.faults second.raises;
     }
 
--- a call that leaves the store, before another
-pub well_then_well : (S : List Stored → List Stored → Type 0) → ((x : List Stored) → S x x) → (a b c : Seen) → GoesWell Stays a b → GoesWell S b c → GoesWell S a c
-well_then_well S same a b c first second =
-    well_both Stays S (λ x y is. subst (λ (z : List Stored). S x z) (sym is) (same x)) S
-    (λ x y z is step. subst (λ (u : List Stored). S u z) is step) a b c first second
-
-pub well_then_fails : (S : List Stored → List Stored → Type 0) → ((x : List Stored) → S x x) → (a b c : Seen) → GoesWell Stays a b → Fails S b c → Fails S a c
-well_then_fails S same a b c first second =
-    well_fails Stays S (λ x y is. subst (λ (z : List Stored). S x z) (sym is) (same x)) S
-    (λ x y z is step. subst (λ (u : List Stored). S u z) is step) a b c first second
-
 -- no call at all
 pub none_made : (S : List Stored → List Stored → Type 0) → ((x : List Stored) → S x x) → (a : Seen) → GoesWell S a a
 none_made S same a = record {
@@ -120,15 +108,3 @@ none_made S same a = record {
   };
   faults = refl;
 }
-
--- a read, before a call that changes the store in a way that comes to this one
-module _ (S2 S : List Stored → List Stored → Type 0) (same : (x : List Stored) → S x x) (more : (x y : List Stored) → S2 x y → S x y) (a b c : Seen) where
-  pub read_then_well : GoesWell Stays a b → GoesWell S2 b c → GoesWell S a c
-  read_then_well first second = well_then_well S same a b c first (well_more S2 S more b c second)
-
-  pub read_then_fails : GoesWell Stays a b → Fails S2 b c → Fails S a c
-  read_then_fails first second = well_then_fails S same a b c first (fails_more S2 S more b c second)
-
-  pub read_then : {T E : Type 0} (result : Result T E) → GoesWell Stays a b → Touches S2 result b c → Touches S result a c
-  read_then (Ok x) first second = read_then_well first second
-  read_then (Err e) first second = read_then_fails first second

@@ -1,9 +1,12 @@
 -- What a list of an action has to do: the action, whatever the device.
-use Rattle.std.specs.Prelude.{◌≡◌, ℕ, ◌^◌, ◌<◌, nat_eq, List, Option, Some, Result, Ok, Err, if◌then◌else◌}
+use Rattle.std.specs.Prelude.{◌≡◌, ℕ, ◌^◌, ◌<◌, nat_eq, List, Option, Some, Result, Ok, Err, IfSome, if◌then◌else◌}
 use Rattle.erst_store.specs.Actions.{set_record_offset}
 use Rattle.erst_store.specs.Device.{Device, act}
 use Rattle.erst_store.specs.DeviceLaws.{IsDevice}
-use Rattle.board_core.specs.Told.{Told, device_of}
+use Rattle.board_core.specs.Clock.{Passes}
+use Rattle.board_core.specs.Doing.{Seen}
+use Rattle.board_core.specs.Stop.{InStore}
+use Rattle.board_core.specs.Told.{StoreBy, Told, device_of}
 use Rattle.erst_interp.specs.declared.entries.InstructionEntry.{InstructionEntry}
 use Rattle.erst_interp.specs.declared.refusals.RunRefused.{RunRefused}
 use Rattle.erst_interp.specs.declared.refusals.RunRefused.TheVariants.{Register}
@@ -53,3 +56,14 @@ abbrev pub IsRegisterAlone : Result ℕ RunRefused → Type 0
 IsRegisterAlone (Ok answer) = Unit {0}
 IsRegisterAlone (Err Register) = Unit {0}
 IsRegisterAlone (Err why) = ⊥
+
+-- A run of an admitted list over a board does its action.
+pub record RunsAction (action input : ℕ) (result : Result ℕ RunRefused) (old new : Seen) : Type 0 where
+  -- It answers as the action does, and the device is as after it.
+  pub does : input < input_limit action → IfSome old.told (λ t. DoesRun action input result t new.told)
+  -- It is refused only if a call of the board failed.
+  pub only_register : IsRegisterAlone result
+  -- What the board told was a device.
+  pub device : IfSome old.told (λ t. IsDevice (device_of t))
+  -- A stop during it leaves the record store as before the action or as after it.
+  pub stores : input < input_limit action → Passes (InStore (StoreBy (device_after action input) old.told)) old.clock new.clock

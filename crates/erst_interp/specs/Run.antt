@@ -1,13 +1,15 @@
 -- What a run does to a board, whether or not a call of the board fails.
-use Rattle.std.specs.Prelude.{map, ◌≡◌, ℕ, zero, suc, ◌⊎◌, List, slice_get, Option, Some, None, Result, Err}
+use Rattle.std.specs.Prelude.{map, ◌≡◌, ℕ, zero, suc, ◌⊎◌, List, slice_get, Option, Some, None, Result, Err, IfSome}
 use Rattle.erst_store.specs.Store.{Stored}
 use Rattle.board_core.specs.Cause.{Faults, device_call}
-use Rattle.board_core.specs.Doing.{Act, DeviceCall, FailsActs, Raises, after_acts, device}
-use Rattle.board_core.specs.Told.{Told, device_of}
+use Rattle.board_core.specs.Clock.{Passes}
+use Rattle.board_core.specs.Doing.{Act, DeviceCall, FailsActs, Raises, Seen, after_acts, device}
+use Rattle.board_core.specs.Stop.{InStore}
+use Rattle.board_core.specs.Told.{Relates, Told, device_of}
 use Rattle.erst_interp.specs.declared.entries.InstructionEntry.{InstructionEntry}
 use Rattle.erst_interp.specs.declared.refusals.RunRefused.{RunRefused}
 use Rattle.erst_interp.specs.declared.refusals.RunRefused.TheVariants.{Register}
-use Rattle.erst_interp.specs.Machine.{MachineState, Outcome, goes, stops, turn, End, start, most_turns}
+use Rattle.erst_interp.specs.Machine.{MachineState, Outcome, goes, stops, turn, End, machine_end, start, most_turns}
 
 -- calls of the device one after another
 abbrev pub acts_of : List DeviceCall → List Act
@@ -63,3 +65,14 @@ PassesStore (suc turns) list s store =
 abbrev pub StoreInRun : List InstructionEntry → ℕ → Option Told → List Stored → List Stored → Type 0
 StoreInRun list input None old new = Unit {0}
 StoreInRun list input (Some t) old new = (new ≡ old) ⊎ PassesStore most_turns list (start input (device_of t)) new
+
+-- A run of a list over a board.
+pub record RunsList (list : List InstructionEntry) (input : ℕ) (result : Result ℕ RunRefused) (old new : Seen) : Type 0 where
+  -- It is the machine's, up to a call that failed.
+  pub runs : IfSome old.told (λ t. IsRun result (machine_end list input (device_of t)) t new.told)
+  -- Of what is told the device alone changes.
+  pub kept : Relates KeepsButDevice old.told new.told
+  -- A stop during it leaves a record store that the machine comes through, and all else as it was.
+  pub stops : Passes (InStore (StoreInRun list input old.told)) old.clock new.clock
+  -- Register says that a call failed, and nothing else does.
+  pub cause : RunCause result old.faults new.faults

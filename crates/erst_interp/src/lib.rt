@@ -7,8 +7,8 @@ mod admission;
 mod entries;
 mod laws;
 mod machine;
+mod moving;
 mod refusals;
-mod registers;
 mod run;
 mod table;
 

@@ -3,6 +3,7 @@
 ghost use Rattle.std.specs.Prelude.{◌≡◌};
 ghost use Rattle.erst_interp.specs.Refusals.{erst_number};
 
+use board_core::Failed;
 use ras_base::NoMemory;
 use thiserror::Error;
 
@@ -77,4 +78,14 @@ pub enum RunRefused {
     /// The next entry moves bytes that aren't all in the range.
     #[error("an entry moves bytes outside the range")]
     BadRange,
+}
+
+impl From<Failed> for RunRefused {
+    ghost use Rattle.erst_interp.specs.declared.refusals.RunRefused.TheVariants.{Register};
+
+    ghost from_gives = { λ _ e. e ≡ Register };
+
+    fn from(_: Failed) -> Self {
+        RunRefused::Register
+    }
 }

@@ -1,25 +1,28 @@
--- A line is taken and its text printed.
-use Rattle.std.proofs.Common.{◌≡◌, ℕ, suc, ◌+◌, ◌-◌, ◌≤◌, true, false, List, [], ◌∷◌, ◌++◌, length, take, Option, None, Some, IsSomeAnd, Ok, refl, ap, sym, ◌∙◌, subst, append_assoc, append-nil, length-append, arith, nat_lt}
+-- Lines are taken one after another, and their texts wait or are printed.
+use Rattle.std.proofs.Common.{◌≡◌, ℕ, suc, ◌+◌, ◌-◌, ◌≤◌, List, [], ◌∷◌, ◌++◌, length, map, take, Ok, refl, ap, sym, ◌∙◌, append_assoc, append-nil, length-append, arith, inl, inr}
+use Rattle.std.specs.Prelude.{◌⊎◌}
 use Rattle.std.specs.List.{flat_map}
-use Rattle.std.specs.Option.{option_map}
-use Rattle.std.proofs.lemmas.Bool.Decides.{nat_tests}
+use Rattle.std.proofs.lemmas.Grind.{flat_map-append}
+use Rattle.std.proofs.lemmas.List.{map-append}
 use Rattle.board_core.specs.Clock.{Clock, Leads, Passes}
 use Rattle.board_core.specs.Steps.ClockLemmas.{adds_none}
 use Rattle.board_core.specs.Stop.{Appends, Begins, InOut}
-use Rattle.board_core.specs.Told.{Steps, Told, after_print}
+use Rattle.board_core.specs.Told.{Told, after_print}
+use Rattle.ras_base.specs.Prefix.{IsPrefixOf}
+use Rattle.ras_script.specs.declared.reader.TheConstants.{LONGEST_LINE}
 use Rattle.ras_script.specs.Lines.{Lines, script_lines, with_line}
-use Rattle.ras_script.specs.Reader.{MovesLine, Reader, given_count, lines_to_come}
+use Rattle.ras_script.specs.Reader.{given_count, lines_to_come}
 use Rattle.ras_exit.specs.declared.exit.Exit.{Exit}
 use Rattle.ras_exit.specs.declared.exit.Exit.TheVariants.{Done}
 use Rattle.ras_exit.specs.ScriptEnd.{ending_exit}
 use Rattle.ras_exit.specs.StopLine.{stop_line}
 use Rattle.ras_exit.specs.Telling.{PrintMoment}
 use Rattle.line_filters.specs.Filter.{Filter, Took}
-use Rattle.line_filters.specs.Filters.{closing_text, end_unprinted, exit_among, exit_unless, filter_output, output_among, refusal_in, script_unprinted, texts_in}
-use Rattle.line_filters.specs.Steps.Reading.{HasTaken}
-use Rattle.line_filters.specs.Steps.Filtering.{Along}
+use Rattle.line_filters.specs.Filters.{PrintsOn, closing_text, exit_among, exit_unless, filter_output, line_feeds, output_among, refusal_in, texts_in}
+use Rattle.line_filters.specs.Numbered.{Numbered, no_lines}
+use Rattle.line_filters.specs.Steps.Reading.{HasGiven, HasTaken}
+use Rattle.line_filters.specs.Steps.Filtering.{Along, Said}
 use Rattle.line_filters.proofs.MomentLemmas.{leads_more, leads_none, stops_more}
-use Rattle.line_filters.proofs.ReadingLemmas.{Gave, given_line}
 
 -- ---- what is to come
 
@@ -46,83 +49,168 @@ module _ (line : List ℕ) (old new : Filter) (out text : List ℕ) (took : Took
       ∙ ap (λ closing. (took.text ++ flat_map (λ text. text) texts) ++ closing) (closing-step (take (length texts) lines.whole) exit)
       ∙ append_assoc took.text (flat_map (λ text. text) texts) (closing_text new (take (length texts) lines.whole) exit)
 
--- ---- the first line that isn't printed whole
-
-pub unprinted-step : (line : List ℕ) (lines : List (List ℕ)) (text : List ℕ) (texts : List (List ℕ)) (more : ℕ)
-    → end_unprinted (length text + more) (line ∷ lines) (text ∷ texts) ≡ option_map (λ end. length line + 1 + end) (end_unprinted more lines texts)
-unprinted-step line lines text texts more =
-    let enough : nat_lt (length text + more) (length text) ≡ false = grind (arith, nat_tests) in
-    let rest : length text + more - length text ≡ more = omega arith in
-    rw (enough, rest) refl
-
-map-both : (a b : ℕ) (o : Option ℕ) → option_map (λ end. a + end) (option_map (λ end. b + end) o) ≡ option_map (λ end. a + b + end) o
-map-both a b None = refl
-map-both a b (Some end) = ap Some (omega arith)
-
--- ---- the step
+-- ---- what is said
 
 print-both : (one two : List ℕ) (t : Told) → after_print two (after_print one t) ≡ after_print (one ++ two) t
 print-both one two t = ap (λ out. record t { here = record t.here { out = out } }) (append_assoc t.here.out one two)
 
-pub along_more : (whole : Filter) (script : List ℕ) (before : Told) (count : ℕ) (filter after : Filter) (reader new : Reader) (left rest : List ℕ) (now : Told) (text : List ℕ) (a b c : Clock)
-    → Along whole script before a count filter reader left now b → lines_to_come reader left ≡ with_line new.line (lines_to_come new rest) → Took new.line filter after [] text
-    → given_count new ≤ given_count reader + (length new.line + 1) → Passes (InOut (Begins text)) b c → Leads (InOut (Appends text)) b c → Along whole script before a (count + 1) after new rest (after_print text now) c
-along_more whole script before count filter after reader new left rest now text a b c along gives took grew passes leads =
-    let come : Lines = lines_to_come new rest in
-    let texts : List (List ℕ) = texts_in (after.answers come.whole) in
-    let later : List ℕ = output_among (count + 1) after come in
-    let output : filter_output whole script ≡ along.printed ++ (text ++ later) =
-    along.output
-    ∙ ap (λ lines. along.printed ++ output_among count filter lines) gives
-    ∙ ap (λ bytes. along.printed ++ bytes) (output-step new.line filter after [] text took count come)
-    ∙ ap (λ bytes. along.printed ++ (bytes ++ later)) (sym took.out) in
-    record {
-      printed = along.printed ++ text;
-      is = ap (after_print text) along.is ∙ print-both along.printed text before;
-      exit = along.exit ∙ ap (exit_among count filter) gives ∙ exit-step new.line filter after [] text took count come;
-      output = output ∙ sym (append_assoc along.printed text later);
-      given = along.given + (length new.line + 1);
-      known = (let known = along.known in omega arith);
-      ends = λ more. (
-          let size : length (along.printed ++ text) + more ≡ length along.printed + (length took.text + more) = (let both = length-append along.printed text in let same : length text ≡ length took.text = ap length took.out in omega arith) in
-          ap (script_unprinted whole script) size
-          ∙ along.ends (length took.text + more)
-          ∙ ap (λ (lines : Lines). option_map (λ end. along.given + end) (end_unprinted (length took.text + more) lines.whole (texts_in (filter.answers lines.whole)))) gives
-          ∙ ap (λ answers. option_map (λ end. along.given + end) (end_unprinted (length took.text + more) (new.line ∷ come.whole) (texts_in answers))) (took.answers come.whole)
-          ∙ ap (option_map (λ end. along.given + end)) (unprinted-step new.line come.whole took.text texts more)
-          ∙ map-both along.given (length new.line + 1) (end_unprinted more come.whole texts));
-      stops = stops_more (filter_output whole script) along.printed text later a b c (sym output) along.stops along.leads passes;
-      leads = leads_more along.printed text a b c along.leads leads;
-    }
-
--- if source and board tell
-abbrev pub AlongBoth : Filter → List ℕ → Told → Clock → ℕ → Filter → Reader → Option (List ℕ) → Option Told → Clock → Type 0
-AlongBoth whole script before old count filter reader left told new =
-    IsSomeAnd left (λ rest. IsSomeAnd told (λ now. Along whole script before old count filter reader rest now new))
-
-pub line_on : (whole : Filter) (script : List ℕ) (before : Told) (count : ℕ) (filter after : Filter) (reader new : Reader) (left later : Option (List ℕ)) (told now : Option Told) (line text : List ℕ) (a b c : Clock)
-    → AlongBoth whole script before a count filter reader left told b → Gave (Ok true) reader new left later → MovesLine (Ok true) reader new left later → IsSomeAnd later (HasTaken script new)
-    → line ≡ new.line → Took line filter after [] text → Steps (after_print text) told now → Passes (InOut (Begins text)) b c → Leads (InOut (Appends text)) b c → AlongBoth whole script before a (count + 1) after new later now c
-line_on whole script before count filter after reader new None later told now line text a b c along gave moves has same took steps passes leads = absurd along
-line_on whole script before count filter after reader new (Some left) None told now line text a b c along gave moves has same took steps passes leads = absurd has
-line_on whole script before count filter after reader new (Some left) (Some rest) None now line text a b c along gave moves has same took steps passes leads = absurd along
-line_on whole script before count filter after reader new (Some left) (Some rest) (Some t) now line text a b c along gave moves has same took steps passes leads =
-    rw steps (along_more whole script before count filter after reader new left rest t text a b c along gave (subst (λ l. Took l filter after [] text) same took) (given_line reader new (Some left) (Some rest) moves) passes leads)
-
-pub along_none : (whole : Filter) (script : List ℕ) (t : Told) (reader : Reader) (left : Option (List ℕ)) (told : Option Told) (clock : Clock) → reader ≡ record { line = []; held = []; taken = 0 }
-    → left ≡ Some script → told ≡ Some t → AlongBoth whole script t clock 0 whole reader left told clock
-along_none whole script t reader left told clock fresh one two = rw (one, two, fresh) (record {
-  printed = [];
+said_none : (text : List ℕ) (t : Told) (clock : Clock) → Said text t clock [] [] t clock
+said_none text t clock = record {
   is = ap (λ out. record t { here = record t.here { out = out } }) (sym (append-nil t.here.out));
+  begins = (text, refl);
+  stops = adds_none (PrintMoment clock text) clock;
+  leads = leads_none clock;
+}
+
+-- what waited was printed
+pub said_more : (text : List ℕ) (before : Told) (a : Clock) (printed waiting : List ℕ) (now : Told) (b c : Clock) → Said text before a printed waiting now b → Passes (InOut (Begins waiting)) b c → Leads (InOut (Appends waiting)) b c
+    → Said text before a (printed ++ waiting) [] (after_print waiting now) c
+said_more text before a printed waiting now b c said passes leads = record {
+  is = ap (after_print waiting) said.is ∙ print-both printed waiting before;
+  begins = (said.begins.0, ap (λ out. out ++ said.begins.0) (append-nil (printed ++ waiting)) ∙ said.begins.1);
+  stops = stops_more text printed waiting said.begins.0 a b c (sym (append_assoc printed waiting said.begins.0) ∙ said.begins.1) said.stops said.leads passes;
+  leads = leads_more printed waiting a b c said.leads leads;
+}
+
+-- something else waits
+said_as : (text : List ℕ) (before : Told) (a : Clock) (printed waiting other : List ℕ) (now : Told) (b : Clock) → Said text before a printed waiting now b → IsPrefixOf (printed ++ other) text → Said text before a printed other now b
+said_as text before a printed waiting other now b said begins = record { is = said.is; begins = begins; stops = said.stops; leads = said.leads }
+
+-- ---- how far ahead
+
+pub on_more : (Failed Later : Type 0) (filter : Filter) (script taken printed part : List ℕ) → (Later → Failed) → PrintsOn Failed filter script taken printed → PrintsOn Later filter script taken (printed ++ part)
+on_more Failed Later filter script taken printed part back on = record {
+  lines = on.lines;
+  first = on.first;
+  texts = on.texts;
+  made = on.made;
+  more = on.more ++ part;
+  text = ap (λ out. out ++ part) on.text ∙ append_assoc (flat_map (λ text. text) on.texts) on.more part;
+  ahead = on.ahead;
+  all = λ later. on.all (back later);
+}
+
+pub on_as : (Failed Later : Type 0) (filter : Filter) (script taken printed : List ℕ) → (Later → Failed) → PrintsOn Failed filter script taken printed → PrintsOn Later filter script taken printed
+on_as Failed Later filter script taken printed back on = record {
+  lines = on.lines;
+  first = on.first;
+  texts = on.texts;
+  made = on.made;
+  more = on.more;
+  text = on.text;
+  ahead = on.ahead;
+  all = λ later. on.all (back later);
+}
+
+on_taken : (filter : Filter) (script taken other printed : List ℕ) → length other ≤ length taken → PrintsOn ⊥ filter script taken printed → PrintsOn ⊥ filter script other printed
+on_taken filter script taken other printed few on = record {
+  lines = on.lines;
+  first = on.first;
+  texts = on.texts;
+  made = on.made;
+  more = on.more;
+  text = on.text;
+  ahead = (let ahead = on.ahead in omega arith);
+  all = λ never. absurd never;
+}
+
+-- ---- the steps
+
+module _ (whole : Filter) (script : List ℕ) (before : Told) (a : Clock) (lines : Numbered) (filter : Filter) (waiting left : List ℕ) (now : Told) (b : Clock) (along : Along whole script before a lines filter waiting left now b) where
+  -- Nothing waits, so the texts of all lines are printed.
+  pub printed_all : (Failed : Type 0) → filter.answers [] ≡ [] → waiting ≡ [] → (taken : List ℕ) → length taken ≤ given_count lines.reader + (LONGEST_LINE + 1) → (Failed → line_feeds taken ≤ length along.done)
+      → PrintsOn Failed whole script taken along.printed
+  printed_all Failed nothing none taken few all = record {
+    lines = along.done;
+    first = ((lines_to_come lines.reader left).whole, sym (ap (λ (l : Lines). l.whole) along.given.come));
+    texts = along.texts;
+    made = ap whole.answers (sym (append-nil along.done)) ∙ along.made [] ∙ ap (λ answers. map Ok along.texts ++ answers) nothing ∙ append-nil (map Ok along.texts);
+    more = [];
+    text = sym (append-nil (flat_map (λ text. text) along.texts) ∙ along.all ∙ ap (λ out. along.printed ++ out) none ∙ append-nil along.printed);
+    ahead = (let known = along.given.known in omega arith);
+    all = all;
+  }
+
+  -- what waits was printed
+  pub along_printed : (c : Clock) → Passes (InOut (Begins waiting)) b c → Leads (InOut (Appends waiting)) b c → Along whole script before a lines filter [] left (after_print waiting now) c
+  along_printed c passes leads = record {
+    done = along.done;
+    given = along.given;
+    printed = along.printed ++ waiting;
+    said = said_more (filter_output whole script) before a along.printed waiting now b c along.said passes leads;
+    exit = along.exit;
+    output = along.output ∙ ap (λ out. out ++ output_among lines.number filter (lines_to_come lines.reader left)) (sym (append-nil (along.printed ++ waiting)));
+    texts = along.texts;
+    made = along.made;
+    all = along.all ∙ sym (append-nil (along.printed ++ waiting));
+    ahead = on_more ⊥ ⊥ whole script along.given.took.taken along.printed waiting (λ never. never) along.ahead;
+  }
+
+  -- The reader was asked for a line, while nothing waited or it held one.
+  pub ahead_next : (Held : Type 0) (new : Numbered) (rest : List ℕ) (took : HasTaken script new.reader rest) → filter.answers [] ≡ [] → (waiting ≡ []) ⊎ Held → (Held → rest ≡ left) → length lines.reader.held + (new.reader.taken - lines.reader.taken) ≤ LONGEST_LINE + 1
+      → PrintsOn ⊥ whole script took.taken along.printed
+  ahead_next Held new rest took nothing (inl none) same few = printed_all ⊥ nothing none took.taken (let count = took.count in omega arith) (λ never. absurd never)
+  ahead_next Held new rest took nothing (inr held) same few =
+      let sizes : length took.taken + length rest ≡ length along.given.took.taken + length left =
+      sym (length-append took.taken rest) ∙ ap length took.splits ∙ sym (ap length along.given.took.splits) ∙ length-append along.given.took.taken left in
+      let kept : length rest ≡ length left = ap length (same held) in
+      on_taken whole script along.given.took.taken took.taken along.printed (omega arith) along.ahead
+
+  -- a line was taken, and its text waits
+  pub along_line : (new : Numbered) (rest : List ℕ) (after : Filter) (longer : List ℕ) (given : HasGiven script new rest (along.done ++ new.reader.line ∷ [])) → new.number ≡ lines.number + 1
+      → lines_to_come lines.reader left ≡ with_line new.reader.line (lines_to_come new.reader rest) → Took new.reader.line filter after waiting longer → PrintsOn ⊥ whole script given.took.taken along.printed
+      → Along whole script before a new after longer rest now b
+  along_line new rest after longer given number gives took ahead =
+      let come : Lines = lines_to_come new.reader rest in
+      let line : List ℕ = new.reader.line in
+      let later : List ℕ = output_among new.number after come in
+      let longer_is : along.printed ++ longer ≡ (along.printed ++ waiting) ++ took.text = ap (λ out. along.printed ++ out) took.out ∙ sym (append_assoc along.printed waiting took.text) in
+      let output : filter_output whole script ≡ (along.printed ++ longer) ++ later =
+      along.output
+      ∙ ap (λ lines_left. (along.printed ++ waiting) ++ output_among lines.number filter lines_left) gives
+      ∙ ap (λ bytes. (along.printed ++ waiting) ++ bytes) (output-step line filter after waiting longer took lines.number come)
+      ∙ ap (λ n. (along.printed ++ waiting) ++ (took.text ++ output_among n after come)) (sym number)
+      ∙ sym (append_assoc (along.printed ++ waiting) took.text later)
+      ∙ ap (λ out. out ++ later) (sym longer_is) in
+      record {
+        done = along.done ++ line ∷ [];
+        given = given;
+        printed = along.printed;
+        said = said_as (filter_output whole script) before a along.printed waiting longer now b along.said (later, sym output);
+        exit = along.exit ∙ ap (exit_among lines.number filter) gives ∙ exit-step line filter after waiting longer took lines.number come ∙ ap (λ n. exit_among n after come) (sym number);
+        output = output;
+        texts = along.texts ++ took.text ∷ [];
+        made = λ more. (
+            ap whole.answers (append_assoc along.done (line ∷ []) more)
+            ∙ along.made (line ∷ more)
+            ∙ ap (λ answers. map Ok along.texts ++ answers) (took.answers more)
+            ∙ sym (append_assoc (map Ok along.texts) (Ok took.text ∷ []) (after.answers more))
+            ∙ ap (λ oks. oks ++ after.answers more) (sym (map-append Ok along.texts (took.text ∷ []))));
+        all =
+            flat_map-append (λ text. text) along.texts (took.text ∷ [])
+            ∙ ap (λ text. flat_map (λ text. text) along.texts ++ text) (append-nil took.text)
+            ∙ ap (λ out. out ++ took.text) along.all
+            ∙ sym longer_is;
+        ahead = ahead;
+      }
+
+-- at the start
+pub along_none : (whole : Filter) (script : List ℕ) (t : Told) (lines : Numbered) (clock : Clock) → lines ≡ no_lines → whole.answers [] ≡ [] → Along whole script t clock lines whole [] script t clock
+along_none whole script t lines clock fresh nothing = rw fresh (record {
+  done = [];
+  given = record {
+    took = record { taken = []; splits = refl; count = refl };
+    number = refl;
+    come = refl;
+    known = omega arith;
+    feeds = (let empty : line_feeds [] ≡ 0 = refl in omega arith);
+  };
+  printed = [];
+  said = said_none (filter_output whole script) t clock;
   exit = refl;
   output = refl;
-  given = 0;
-  known = omega arith;
-  ends = λ more. ap (script_unprinted whole script) (let e : 0 + more ≡ more = omega arith in e) ∙ map-none (end_unprinted more (script_lines script).whole (texts_in (whole.answers (script_lines script).whole)));
-  stops = adds_none (PrintMoment clock (filter_output whole script)) clock;
-  leads = leads_none clock;
+  texts = [];
+  made = λ more. refl;
+  all = refl;
+  ahead = record { lines = []; first = ((script_lines script).whole, refl); texts = []; made = nothing; more = []; text = refl; ahead = omega arith; all = λ never. absurd never };
 })
-  where
-    map-none : (o : Option ℕ) → o ≡ option_map (λ end. 0 + end) o
-    map-none None = refl
-    map-none (Some end) = ap Some (omega arith)

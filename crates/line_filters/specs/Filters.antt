@@ -1,12 +1,13 @@
 -- What a filter prints of a script, how its call ends, and how far ahead it reads.
-use Rattle.std.specs.Prelude.{◌≡◌, ℕ, ◌+◌, ◌-◌, ◌≤◌, List, [], ◌∷◌, ◌++◌, length, nat_lt, take, Option, None, Some, IfSome, IsSomeAnd, Result, Ok, Err, if◌then◌else◌, ⊤}
+use Rattle.std.specs.Prelude.{◌≡◌, ℕ, ◌+◌, ◌≤◌, ◌==◌, List, [], ◌∷◌, ◌++◌, length, map, take, filter as keeping, Option, None, Some, IsSomeAnd, Result, Ok, Err, ⊤}
 use Rattle.std.specs.List.{flat_map}
-use Rattle.std.specs.Option.{option_map}
 use Rattle.board_core.specs.Clock.{Adds, Clock}
 use Rattle.board_core.specs.Told.{Told}
 use Rattle.ras_script.specs.declared.line.LineRefused.{LineRefused}
 use Rattle.ras_script.specs.declared.reader.TheConstants.{LONGEST_LINE, LONGEST_SCRIPT}
+use Rattle.ras_base.specs.Prefix.{IsPrefixOf}
 use Rattle.ras_script.specs.Lines.{Lines, script_lines}
+use Rattle.ras_script.specs.SplittingLaws.{script_of}
 use Rattle.ras_exit.specs.declared.exit.Exit.{Exit}
 use Rattle.ras_exit.specs.declared.exit.Exit.TheVariants.{Done, BadLine, SourceFault, PrintFault, NoMemory, TooLong}
 use Rattle.ras_exit.specs.Endings.{unread_exit}
@@ -63,26 +64,29 @@ filter_output filter script = output_among 0 filter (script_lines script)
 
 -- ---- how far ahead
 
--- Where the first of these lines ends whose text isn't printed whole if so many bytes are printed.
--- A line without a text is passed over; a line after the last text is refused, and counts.
-abbrev pub end_unprinted : ℕ → List (List ℕ) → List (List ℕ) → Option ℕ
-end_unprinted printed [] texts = None
-end_unprinted printed (line ∷ lines) [] = Some (length line + 1)
-end_unprinted printed (line ∷ lines) (text ∷ texts) =
-    if nat_lt printed (length text) then Some (length line + 1)
-    else option_map (λ end. length line + 1 + end) (end_unprinted (printed - length text) lines texts)
+-- how many line feeds a text has, and so how many lines that are ended by one
+abbrev pub line_feeds : List ℕ → ℕ
+line_feeds text = length (keeping (λ byte. byte == 10) text)
 
--- the same of a script's lines
-abbrev pub script_unprinted : Filter → List ℕ → ℕ → Option ℕ
-script_unprinted filter script printed =
-    let lines = (script_lines script).whole in
-    end_unprinted printed lines (texts_in (filter.answers lines))
+-- How far a script was taken when this was printed: no text of a line waits while its source is read.
+pub record PrintsOn (Failed : Type 0) (filter : Filter) (script taken printed : List ℕ) : Type 0 where
+  -- the first lines of the script, of which none is refused, and their texts
+  pub lines : List (List ℕ)
+  pub first : IsPrefixOf lines (script_lines script).whole
+  pub texts : List (List ℕ)
+  pub made : filter.answers lines ≡ map Ok texts
+  -- These texts are printed,
+  pub more : List ℕ
+  pub text : printed ≡ flat_map (λ text. text) texts ++ more
+  -- and at most 40,001 bytes were taken past the ends of these lines.
+  pub ahead : length taken ≤ length (script_of lines) + (LONGEST_LINE + 1)
+  -- If the source failed, they are all lines that were taken with their line feeds.
+  pub all : Failed → line_feeds taken ≤ length lines
 
 -- ---- a call
 
 -- What a call of a filter prints of a script, of which this is left, and how it ends. Of what is
--- told the printed text alone changed. The bytes taken reach at most 40,001 past the end of the
--- first line whose text isn't empty and wasn't printed whole, or that is refused.
+-- told the printed text alone changed.
 pub record Filters (filter : Filter) (result : Exit) (script left : List ℕ) (before now : Told) : Type 0 where
   pub tells : Tells (filter_exit filter script) (filter_output filter script) result before now
   pub only : OnlyText before now
@@ -90,9 +94,7 @@ pub record Filters (filter : Filter) (result : Exit) (script left : List ℕ) (b
   pub splits : taken ++ left ≡ script
   pub printed : List ℕ
   pub text : now.here.out ≡ before.here.out ++ printed
-  pub ahead :
-      IfSome (script_unprinted filter script (length printed))
-      (λ end. length taken ≤ end + (LONGEST_LINE + 1))
+  pub ahead : PrintsOn (result ≡ SourceFault) filter script taken printed
 
 -- if source and board tell, they go on telling, and this holds of both
 abbrev pub OfBoth : (List ℕ → List ℕ → Told → Told → Type 0)

@@ -1,3 +1,4 @@
 pub mod Filter
+pub mod Numbered
 pub mod Filters
 pub mod Steps

@@ -1,25 +1,25 @@
-//! The lines of a source, each filtered and its text printed before the next one is read.
+//! The lines of a source, each filtered, and their texts printed before the source is read again.
 
-ghost use Rattle.std.specs.Prelude.{◌≡◌, ◌+◌, ◌≤◌, ◌∷◌, ◌++◌, ℕ, List, [], length, Ok, Err, OnOk, Some, IfErr, IfSome, IsSomeAnd};
+ghost use Rattle.std.specs.Prelude.{◌≡◌, ◌+◌, ◌≤◌, ◌++◌, ℕ, List, [], length, Contains, OnOk, Some, IfErr, IfSome, IsSomeAnd};
 ghost use Rattle.board_core.specs.Doing.{looks};
 ghost use Rattle.board_core.specs.Told.{Told};
 ghost use Rattle.ras_script.specs.declared.reader.TheConstants.{LONGEST_LINE, LONGEST_SCRIPT};
 ghost use Rattle.ras_exit.specs.Causes.{BoardCause, Causes, SourceCause};
 ghost use Rattle.board_core.specs.Device.{LeavesDevice};
-ghost use Rattle.ras_exit.specs.Endings.{IsAnswer, IsCut, IsLineExit, IsStop};
+ghost use Rattle.ras_exit.specs.Endings.{IsAnswer, IsCut};
 ghost use Rattle.line_filters.specs.Filters.{Filters, IsFilterExit, OfBoth, StopsFiltering, TakesOf, closing_text};
-ghost use Rattle.line_filters.specs.Steps.Reading.{HasTaken};
-ghost use Rattle.line_filters.specs.Steps.Filtering.{Ends, LinesEnd, TakesLine, exit_of};
+ghost use Rattle.line_filters.specs.Numbered.{no_lines};
+ghost use Rattle.line_filters.specs.Steps.Filtering.{Ends, EndsBoth, GathersBoth, IsTakeExit, PrintsWaiting, TakesLine, exit_of, has_failed};
 
-use crate::LineFilter;
+use crate::{LineFilter, NumberedLines};
 use board_core::{Board, Source};
 use ras_base::NoMemory;
-use ras_exit::{Exit, Reason, print, stop_line};
-use ras_script::{LineReader, NextRefused};
+use ras_exit::{Exit, print, stop_line};
 use std::alloc::Global;
 
 /// Filters the lines of a source, up to the first one that is refused or to the source's end, and
-/// tells how that ended. The text of a line is printed before the next line is read.
+/// tells how that ended. The texts of lines are printed by one call before the source is read again,
+/// and none waits while it is.
 pub fn filter_lines<S: Source, B: Board, F: LineFilter>(
     alloc: Global,
     filter: &mut F,
@@ -40,13 +40,47 @@ pub fn filter_lines<S: Source, B: Board, F: LineFilter>(
     ensures device { LeavesDevice (B.told board.old) (B.told board.new)
         (B.clock board.old) (B.clock board.new) }
 {
-    let mut reader = match LineReader::new(alloc) {
-        Ok(reader) => reader,
+    let mut lines = match NumberedLines::new(alloc) {
+        Ok(lines) => lines,
         Err(NoMemory) => return Exit::NoMemory,
     };
     let mut text = Vec::new(alloc);
-    let ended = take_lines(alloc, &mut reader, filter, &mut text, source, board);
-    end_lines(alloc, exit_of(ended), filter, &mut text, board)
+    let exit = take_lines(alloc, &mut lines, filter, &mut text, source, board);
+    end_lines(alloc, exit, filter, &mut text, board)
+}
+
+// Takes the lines in order, and prints the text of each.
+fn take_lines<S: Source, B: Board, F: LineFilter>(
+    alloc: Global,
+    lines: &mut NumberedLines,
+    filter: &mut F,
+    text: &mut Vec<u8>,
+    source: &mut S,
+    board: &mut B,
+) -> Exit
+    requires begins { (lines.old ≡ no_lines) × (F.taken filter.old ≡ 0) }
+    ensures ends { (script : List ℕ) (t : Told) → S.left source.old ≡ Some script
+        → B.told board.old ≡ Some t → EndsBoth (F.makes filter.old) script t (B.clock board.old)
+        result (F.makes filter.new) lines.new.reader (S.left source.new)
+        (B.told board.new) (B.clock board.new) }
+    ensures takes { IfSome (S.left source.old)
+        (λ script. IsSomeAnd (S.left source.new) (TakesOf result script)) }
+    ensures few { (F.taken filter.new ≤ LONGEST_SCRIPT + 1) × IsFilterExit result }
+    ensures causes { SourceCause result (S.faults source.old) (S.faults source.new)
+        × BoardCause result (B.faults board.old) (B.faults board.new) }
+    ensures device { LeavesDevice (B.told board.old) (B.told board.new)
+        (B.clock board.old) (B.clock board.new) }
+{
+    let mut waiting = Vec::new(alloc);
+    let ended = gather(alloc, lines, filter, text, &mut waiting, source, board);
+    let exit = exit_of(ended);
+    if has_failed(exit) {
+        return exit;
+    }
+    match print(&waiting, board) {
+        Ok(()) => exit,
+        Err(fault) => fault,
+    }
 }
 
 // How a call ends whose lines ended so.
@@ -59,78 +93,91 @@ fn exit_of(ended: Result<(), Exit>) -> Exit
     }
 }
 
-// Takes the lines in order, and prints the text of each.
-fn take_lines<S: Source, B: Board, F: LineFilter>(
+// Whether a call of the source or the board failed: then no other follows.
+fn has_failed(exit: Exit) -> bool
+    ensures { result ≡ has_failed exit }
+{
+    matches!(exit, Exit::SourceFault | Exit::PrintFault)
+}
+
+// Takes the lines in order. Their texts wait for each other, and are printed before the source is
+// read. At the end some may wait.
+fn gather<S: Source, B: Board, F: LineFilter>(
     alloc: Global,
-    reader: &mut LineReader,
+    lines: &mut NumberedLines,
     filter: &mut F,
     text: &mut Vec<u8>,
+    waiting: &mut Vec<u8>,
     source: &mut S,
     board: &mut B,
 ) -> Result<(), Exit>
-    requires begins { (reader.old ≡ record { line = []; held = []; taken = 0 })
-        × (F.taken filter.old ≡ 0) }
+    requires begins { (lines.old ≡ no_lines) × (F.taken filter.old ≡ 0)
+        × (waiting.old.items ≡ []) }
     ensures ends { (script : List ℕ) (t : Told) → S.left source.old ≡ Some script
-        → B.told board.old ≡ Some t → IsSomeAnd (B.told board.new) (λ now. LinesEnd
-        (F.makes filter.old) script t (B.clock board.old) (exit_of result) (F.makes filter.new)
-        reader.new.taken now (B.clock board.new)) }
-    ensures takes { (script : List ℕ) → S.left source.old ≡ Some script
-        → IsSomeAnd (S.left source.new) (HasTaken script reader.new) }
-    ensures ended { result ≡ Ok tt
-        → IfSome (S.left source.old) (λ script. S.left source.new ≡ Some []) }
-    ensures few { (reader.new.taken ≤ LONGEST_SCRIPT + 1)
-        × (F.taken filter.new ≤ LONGEST_SCRIPT + 1) }
-    ensures exits { IsFilterExit (exit_of result) × IfErr result IsLineExit }
+        → B.told board.old ≡ Some t → GathersBoth (F.makes filter.old) script t
+        (B.clock board.old) (exit_of result) (F.makes filter.new) waiting.new.items
+        lines.new.reader (S.left source.new) (B.told board.new) (B.clock board.new) }
+    ensures takes { IfSome (S.left source.old)
+        (λ script. IsSomeAnd (S.left source.new) (TakesOf (exit_of result) script)) }
+    ensures few { (F.taken filter.new ≤ LONGEST_SCRIPT + 1) × IsFilterExit (exit_of result) }
     ensures causes { Causes SourceCause result (S.faults source.old) (S.faults source.new)
         × Causes BoardCause result (B.faults board.old) (B.faults board.new) }
     ensures device { LeavesDevice (B.told board.old) (B.told board.new)
         (B.clock board.old) (B.clock board.new) }
 {
-    let mut number = 0u64;
     loop {
-        match reader.advance(source) {
-            Ok(true) => {
-                number += 1;
-                take_line(alloc, number, reader.line(), filter, text, board)?;
-            }
-            Ok(false) => return Ok(()),
-            Err(NextRefused::Source) => return Err(Exit::SourceFault),
-            Err(NextRefused::TooLong) => return Err(Exit::TooLong),
-            Err(NextRefused::LineTooLong) => {
-                return Err(Exit::BadLine {
-                    line: number + 1,
-                    reason: Reason::LongLine,
-                });
-            }
+        print_waiting(lines, waiting, board)?;
+        if !lines.next(source)? {
+            return Ok(());
         }
+        take_line(alloc, lines, filter, text, waiting)?;
     }
 }
 
-// Takes one line, and prints its text.
-fn take_line<B: Board, F: LineFilter>(
-    alloc: Global,
-    number: u64,
-    line: &[u8],
-    filter: &mut F,
-    text: &mut Vec<u8>,
+// Prints the texts that wait, unless a line is held, which is taken before the source is read.
+fn print_waiting<B: Board>(
+    lines: &NumberedLines,
+    waiting: &mut Vec<u8>,
     board: &mut B,
 ) -> Result<(), Exit>
-    requires short { length line.now ≤ LONGEST_LINE }
-    requires few { F.taken filter.old ≤ LONGEST_SCRIPT }
-    ensures takes { TakesLine (looks B.told B.clock B.faults) result number line.now
-        (F.makes filter.old) (F.makes filter.new) text.new.items board.old board.new }
-    ensures taken { OnOk result (F.taken filter.new ≡ F.taken filter.old + 1)
-        × (F.taken filter.new ≤ F.taken filter.old + 1) }
-    ensures exits { IfErr result IsFilterExit }
-    ensures stop { IfErr result IsStop }
+    ensures prints { PrintsWaiting (looks B.told B.clock B.faults) result
+        (Contains lines.now.reader.held 10) waiting.old.items waiting.new.items
+        board.old board.new }
     ensures faults { Causes BoardCause result (B.faults board.old) (B.faults board.new) }
     ensures device { LeavesDevice (B.told board.old) (B.told board.new)
         (B.clock board.old) (B.clock board.new) }
 {
+    if waiting.is_empty() || lines.has_line() {
+        return Ok(());
+    }
+    print(waiting, board)?;
+    waiting.clear();
+    Ok(())
+}
+
+// Takes the line that was given, and puts its text after those that wait.
+fn take_line<F: LineFilter>(
+    alloc: Global,
+    lines: &NumberedLines,
+    filter: &mut F,
+    text: &mut Vec<u8>,
+    waiting: &mut Vec<u8>,
+) -> Result<(), Exit>
+    requires short { length lines.now.reader.line ≤ LONGEST_LINE }
+    requires few { F.taken filter.old ≤ LONGEST_SCRIPT }
+    ensures takes { TakesLine result lines.now.number lines.now.reader.line (F.makes filter.old)
+        (F.makes filter.new) waiting.old.items waiting.new.items }
+    ensures taken { OnOk result (F.taken filter.new ≡ F.taken filter.old + 1)
+        × (F.taken filter.new ≤ F.taken filter.old + 1) }
+    ensures exits { IfErr result IsTakeExit }
+{
     text.clear();
-    match filter.take(alloc, line, text) {
-        Ok(()) => print(text, board),
-        Err(refused) => Err(Exit::of_unread(number, refused)),
+    match filter.take(alloc, lines.line(), text) {
+        Ok(()) => match waiting.extend_from_slice(text) {
+            Ok(()) => Ok(()),
+            Err(_) => Err(Exit::NoMemory),
+        },
+        Err(refused) => Err(Exit::of_unread(lines.number(), refused)),
     }
 }
 

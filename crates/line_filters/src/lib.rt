@@ -1,8 +1,11 @@
-//! Filters of lines: what a filter makes of each line of a script is printed as the line is taken.
+//! Filters of lines: what a filter makes of the lines of a script is printed before the script is
+//! read on.
 #![tactic(auto)]
 
 mod filter;
 mod filtering;
+mod lines;
 
 pub use filter::LineFilter;
 pub use filtering::filter_lines;
+pub use lines::NumberedLines;

@@ -1,6 +1,5 @@
 -- How much of its source a run takes at most.
 use Rattle.std.proofs.Common.{◌≡◌, ℕ, ◌+◌, ◌≤◌, Bool, true, false, List, [], ◌∷◌, ◌++◌, length, Option, None, Some, IfSome, IsSomeAnd, Result, Ok, Err, refl, ap, sym, ◌∙◌, append_assoc, length-append, arith, inl, inr}
-use Rattle.ras_script.specs.declared.reader.NextRefused.{NextRefused}
 use Rattle.ras_script.specs.declared.reader.TheConstants.{LONGEST_SCRIPT}
 use Rattle.ras_script.specs.Reader.{AreTaken, Moves, MovesLine, Reader}
 use Rattle.ras_exit.specs.declared.exit.Exit.{Exit}
@@ -34,7 +33,7 @@ went : (given : List ℕ) (old new : Reader) (first now later : Option (List ℕ
 went given old new first now later takes moved = more_bytes moved.bytes old.taken new.taken first now later takes moved.taken moved.count
 
 -- what was taken once a line was asked for
-pub takes_more : (result : Result Bool NextRefused) (old new : Reader) (first now later : Option (List ℕ)) → TakesOf old.taken first now → MovesLine result old new now later → TakesOf new.taken first later
+pub takes_more : (result : Result Bool Exit) (old new : Reader) (first now later : Option (List ℕ)) → TakesOf old.taken first now → MovesLine result old new now later → TakesOf new.taken first later
 takes_more (Ok true) old new first now later takes (inl moved) = went (new.line ++ 10 ∷ []) old new first now later takes moved
 takes_more (Ok true) old new first now later takes (inr (moved, end)) = went new.line old new first now later takes moved
 takes_more (Ok false) old new first now later takes (moved, end) = went [] old new first now later takes moved

@@ -143,7 +143,7 @@ enumerate-append {X} n (x ∷ xs) ys =
     let more = enumerate-append (n + 1) xs ys in
     (more.0, ap (λ (zs : List (ℕ × X)). (n, x) ∷ zs) more.1)
 
-reads-append : (xs ys : List (List ℕ)) → (m : ℕ) × (reads_in (xs ++ ys) ≡ reads_in xs ++ enumerate_from m (map line_of ys))
+pub reads-append : (xs ys : List (List ℕ)) → (m : ℕ) × (reads_in (xs ++ ys) ≡ reads_in xs ++ enumerate_from m (map line_of ys))
 reads-append xs ys =
     let more = enumerate-append 1 (map line_of xs) (map line_of ys) in
     (more.0, ap (λ (reads : List ReadLine). enumerate_from 1 reads) (map-append line_of xs ys) ∙ more.1)

@@ -29,6 +29,7 @@ pub mod CompleteLemmas
 pub mod TellingLemmas
 pub mod FilterLemmas
 pub mod JoinedLemmas
+pub mod FeedingLemmas
 pub mod LoadLemmas
 pub mod LoadRoomLemmas
 pub mod LoadTakenLemmas

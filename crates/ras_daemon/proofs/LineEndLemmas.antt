@@ -1,5 +1,5 @@
 -- Where a run ends among its lines: how far its source was read.
-use Rattle.std.proofs.Common.{◌≡◌, ℕ, ◌+◌, true, List, [], ◌∷◌, ◌++◌, length, Option, Some, IsSomeAnd, Ok, refl, ap, sym, ◌∙◌, subst, append_assoc, append-nil, length-append, arith, inl, inr, ◌<◌, ◌≤◌, Bool, false, Result, Err, ◌==◌}
+use Rattle.std.proofs.Common.{◌≡◌, ℕ, ◌+◌, ◌-◌, true, List, [], ◌∷◌, ◌++◌, length, Option, Some, IsSomeAnd, Ok, refl, ap, sym, ◌∙◌, subst, append_assoc, append-nil, length-append, arith, inl, inr, ◌<◌, ◌≤◌, Bool, false, Result, Err, ◌==◌}
 use Rattle.std.specs.Prelude.{◌⊎◌}
 use Rattle.board_core.specs.Doing.{after_acts}
 use Rattle.board_core.specs.Told.{Told}
@@ -19,7 +19,8 @@ use Rattle.ras_exit.specs.declared.exit.Exit.{Exit}
 use Rattle.ras_exit.specs.declared.exit.Exit.TheVariants.{Done, SourceFault}
 use Rattle.ras_run.specs.declared.run.Run.{Run}
 use Rattle.ras_run.specs.Places.{Start}
-use Rattle.ras_exit.specs.Endings.{IsStop}
+use Rattle.ras_exit.specs.Endings.{IsLineExit, IsStop}
+use Rattle.line_filters.specs.Numbered.{IsNextExit}
 use Rattle.ras_daemon.specs.Steps.Running.{EndsAhead, ReadAhead, first_size, outputs}
 use Rattle.ras_daemon.specs.Script.{reads_in, reads_of}
 use Rattle.ras_daemon.proofs.AlongActLemmas.{acts_along, along_prints}
@@ -96,20 +97,32 @@ script_taken start script t number reader left run taking bytes rest is = by tak
     by (inr none) = (script, ap (λ more. script ++ more) (both_nil bytes rest (sym none.1 ∙ is)) ∙ append-nil script)
 
 line_taken : (start : Start) (script : List ℕ) (t : Told) (number : ℕ) (reader new : Reader) (left now : Option (List ℕ)) (run : Run)
-    (taking : Taking start script t number reader left run) (rest : List ℕ) → now ≡ Some rest → MovesLine (Ok true) reader new left now → (taken : List ℕ) × (taken ++ rest ≡ script)
-line_taken start script t number reader new left now run taking rest is moves = by (subst (λ n. MovesLine (Ok true) reader new (Some taking.now) n) is (subst (λ b. MovesLine (Ok true) reader new b now) taking.tells moves))
+    (taking : Taking start script t number reader left run) (rest : List ℕ) → now ≡ Some rest → MovesLine {E = Exit} (Ok true) reader new left now → (taken : List ℕ) × (taken ++ rest ≡ script)
+line_taken start script t number reader new left now run taking rest is moves = by (subst (λ n. MovesLine {E = Exit} (Ok true) reader new (Some taking.now) n) is (subst (λ b. MovesLine {E = Exit} (Ok true) reader new b now) taking.tells moves))
   where
-    by : MovesLine (Ok true) reader new (Some taking.now) (Some rest) → (taken : List ℕ) × (taken ++ rest ≡ script)
+    by : MovesLine {E = Exit} (Ok true) reader new (Some taking.now) (Some rest) → (taken : List ℕ) × (taken ++ rest ≡ script)
     by (inl moved) = script_taken start script t number reader left run taking moved.bytes rest moved.taken
     by (inr (moved, end)) = script_taken start script t number reader left run taking moved.bytes rest moved.taken
 
+-- what is held then is no more than a line and a byte
+moved_few : (given : List ℕ) (old new : Reader) (before now : Option (List ℕ)) → length old.held + (new.taken - old.taken) ≤ LONGEST_LINE + 1 → Moves given old new before now → length new.held ≤ LONGEST_LINE + 1
+moved_few given old new before now few moved =
+    let kept : length old.held + length moved.bytes ≡ length given + length new.held = sym (length-append old.held moved.bytes) ∙ ap length moved.kept ∙ length-append given new.held in
+    let count = moved.count in
+    omega arith
+
+held_few : (old new : Reader) (before now : Option (List ℕ)) → length old.held + (new.taken - old.taken) ≤ LONGEST_LINE + 1 → MovesLine {E = Exit} (Ok true) old new before now → length new.held ≤ LONGEST_LINE + 1
+held_few old new before now few (inl moved) = moved_few (new.line ++ 10 ∷ []) old new before now few moved
+held_few old new before now few (inr (moved, end)) = moved_few new.line old new before now few moved
+
 -- where a line is given, and the text goes on from there
 pub ahead_given : (Fault : Type 0) → (Fault → ⊥) → (start : Start) (script : List ℕ) (t : Told) (number : ℕ) (reader new : Reader) (left now : Option (List ℕ)) (run : Run) (later : Option Told) (line : List ℕ) → (same : line ≡ new.line)
-    → (taking : Taking start script t number reader left run) → IsLine new.line → given_count reader < given_count new → length new.held ≤ LONGEST_LINE + 1 → MovesLine (Ok true) reader new left now
+    → (taking : Taking start script t number reader left run) → IsLine new.line → given_count reader < given_count new → length reader.held + (new.taken - reader.taken) ≤ LONGEST_LINE + 1 → MovesLine {E = Exit} (Ok true) reader new left now
     → (rest : List NumberedLine) × (reads_in taking.done ++ (number + 1, line_of line) ∷ rest ≡ reads_of script)
     → IsSomeAnd later (Grows (after_acts taking.acts t)) → EndsAhead Fault start script t.here.out now later
 ahead_given Fault never start script t number reader new left now run later line same taking is_line grew few moves given goes =
     let here = given_here start script t number reader new left now run line same taking is_line grew moves in
+    let held : length new.held ≤ LONGEST_LINE + 1 = held_few reader new left now few moves in
     let first = taking.size in
     let then = here.3 in
     let long : length (new.held ++ here.0) ≡ length new.held + length here.0 = length-append new.held here.0 in
@@ -131,7 +144,7 @@ ahead_given Fault never start script t number reader new left now run later line
 
 -- where none is given
 pub ahead_none : (Fault : Type 0) (start : Start) (script : List ℕ) (t : Told) (number : ℕ) (reader new : Reader) (left now : Option (List ℕ)) (run : Run) (told : Option Told)
-    → (taking : Taking start script t number reader left run) → told ≡ Some (after_acts taking.acts t) → length new.held ≤ LONGEST_LINE + 1 → (Fault → Lacks 10 new.held) → Moves [] reader new left now
+    → (taking : Taking start script t number reader left run) → told ≡ Some (after_acts taking.acts t) → length reader.held + (new.taken - reader.taken) ≤ LONGEST_LINE + 1 → (Fault → Lacks 10 new.held) → Moves [] reader new left now
     → EndsAhead Fault start script t.here.out now told
 ahead_none Fault start script t number reader new left now run told taking is few lacks moves =
     let moved : Moves [] reader new (Some taking.now) now = subst (λ b. Moves [] reader new b now) taking.tells moves in
@@ -140,6 +153,7 @@ ahead_none Fault start script t number reader new left now run told taking is fe
     let first = taking.size in
     let one : length (reader.held ++ taking.now) ≡ length reader.held + length taking.now = length-append reader.held taking.now in
     let two : length taking.now ≡ length went.bytes + length tells.0 = ap length went.taken ∙ length-append went.bytes tells.0 in
+    let count = went.count in
     let three : length reader.held + length went.bytes ≡ length new.held = sym (length-append reader.held went.bytes) ∙ ap length went.kept in
     let some : ℕ = first_size (lines_of (reader.held ++ taking.now)) in
     let bound : length script ≤ length (script_of taking.done) + some + (LONGEST_LINE + 1) + length tells.0 = omega arith in
@@ -157,6 +171,10 @@ ahead_none Fault start script t number reader new left now run told taking is fe
     } in
     subst (λ o. EndsAhead Fault start script t.here.out o told) (sym tells.1)
     (subst (λ o. IsSomeAnd o (ReadAhead Fault start script t.here.out tells.0)) (sym is) ahead)
+
+-- the list of the lines doesn't end a call as done
+pub next_not_done : (exit : Exit) → IsNextExit exit → exit ≡ Done → ⊥
+next_not_done exit is done = subst IsNextExit done is
 
 -- a line isn't refused for a fault of the source
 pub not_fault : (exit : Exit) → IsStop exit → ◌≡◌ {A = Result (Unit {0}) Exit} (Err exit) (Err SourceFault) → ⊥

@@ -1,41 +1,39 @@
 -- Lines taken one after another.
 use Rattle.std.proofs.Common.{◌≡◌, ℕ, ◌+◌, Bool, true, false, List, [], ◌∷◌, ◌++◌, length, Option, None, Some, IfSome, IsSomeAnd, Result, Ok, Err, refl, ap, sym, ◌∙◌, subst, append_assoc, append-nil, length-append, arith, inl, inr, ◌<◌, ◌≤◌, suc}
 use Rattle.std.specs.Prelude.{⊤, ◌⊎◌}
-use Rattle.board_core.specs.Cause.{Kind}
+use Rattle.board_core.specs.Cause.{Faults, Kind}
 use Rattle.board_core.specs.Doing.{Act, Breaks, GoesWell, Seen, after_acts, broke, went_well}
 use Rattle.board_core.specs.Told.{Told}
 use Rattle.board_core.proofs.DoingLemmas.{does_nothing, does_then}
 use Rattle.ras_events.specs.Reports.{NumberedLine, event_at}
-use Rattle.ras_script.specs.declared.reader.NextRefused.{NextRefused}
 use Rattle.ras_script.specs.Line.{line_of}
 use Rattle.ras_script.specs.Lines.{Ending, Lines, no_line, script_ended, script_lines, with_line}
-use Rattle.ras_script.specs.Reader.{AreTaken, GivesNext, IsAtEnd, IsLine, Moves, MovesLine, Reader, given_count, lines_to_come}
+use Rattle.ras_script.specs.Reader.{AreTaken, IsAtEnd, IsLine, Moves, MovesLine, Reader, given_count, lines_to_come}
 use Rattle.ras_script.specs.Splitting.{lines_of}
 use Rattle.ras_script.specs.SplittingLaws.{script_of}
 use Rattle.ras_script.proofs.LinesLemmas.{line_alone, line_cut}
 use Rattle.std.proofs.lemmas.Grind.{flat_map-append}
 use Rattle.ras_base.specs.Places.{places}
+use Rattle.line_filters.specs.Numbered.{GivesNumbered, IsNextExit}
+use Rattle.line_filters.specs.Steps.Reading.{with_lines}
 use Rattle.ras_exit.specs.Acts.{DoesBy}
 use Rattle.ras_exit.specs.declared.exit.Exit.{Exit}
-use Rattle.ras_exit.specs.declared.exit.Exit.TheVariants.{Done, SourceFault}
-use Rattle.ras_exit.specs.Endings.{AnyFault, CallEnding, EndsBy, answered, ending_of, faulted, source_failed, starved}
+use Rattle.ras_exit.specs.declared.exit.Exit.TheVariants.{BadLine, Done, ErstStatus, SourceFault, TooLong, Usage}
+use Rattle.ras_exit.specs.Causes.{BoardCause, Causes, SourceCause}
+use Rattle.ras_exit.specs.Endings.{AnyFault, CallEnding, EndsBy, IsLineExit, IsStop, answered, ending_of, faulted, source_failed, starved}
 use Rattle.ras_exit.proofs.PrintLemmas.{none_still}
 use Rattle.ras_run.specs.declared.run.Run.{Run}
 use Rattle.ras_run.specs.LineActs.{AreBegun, CanAsk, HoldsAfter, asking_acts}
 use Rattle.ras_run.specs.Places.{IsBoardAfter, Start}
 use Rattle.ras_run.specs.Status.{refusal_at}
 use Rattle.ras_run.specs.Taking.{IsRunAfter, TakesLine}
-use Rattle.ras_daemon.specs.Steps.Doing.{AreAllAsked, AreLinesActs, AsksBy, DoesFirst, DoesLines, IsAsked, MayAsk}
+use Rattle.ras_daemon.specs.Steps.Doing.{AreAllAsked, AreLinesActs, AsksBy, DoesFirst, DoesLines, EndsLines, IsAsked, MayAsk}
 use Rattle.ras_daemon.specs.RunActs.{AreDoneAlong, asked_acts, script_asked}
 use Rattle.ras_daemon.specs.Steps.Running.{AreAccepted, AreAll, AreFirst}
 use Rattle.ras_exit.specs.ScriptEnd.{ending_exit}
 use Rattle.ras_daemon.specs.Script.{reads_in, reads_of}
 use Rattle.ras_daemon.proofs.AlongActLemmas.{IsDoneAt, acts_along, along_begun, along_done, asks_alone, done-snoc, line_begun}
 use Rattle.ras_daemon.proofs.PlaceLemmas.{accepted-snoc, all_read, first_more, line_refused, none-asked, reads-append, reads_behind, script-asked}
-
--- lines, and then others with their ending
-abbrev pub with_lines : List (List ℕ) → Lines → Lines
-with_lines done lines = record { whole = done ++ lines.whole; ending = lines.ending }
 
 -- So many lines of a script were taken and did their acts, and the others are to come.
 pub record Taking (start : Start) (script : List ℕ) (t : Told) (number : ℕ) (reader : Reader) (left : Option (List ℕ)) (run : Run) : Type 0 where
@@ -54,16 +52,16 @@ pub record Taking (start : Start) (script : List ℕ) (t : Told) (number : ℕ) 
   pub kept : (script ≡ script_of done ++ (reader.held ++ now)) ⊎ ((reader.held ≡ []) × (now ≡ []))
 
 -- what a call of the reader gives, where the source tells
-abbrev pub Gave : Result Bool NextRefused → Reader → Reader → Option (List ℕ) → Option (List ℕ) → Type 0
-Gave result old new before now = IfSome before (λ left. IfSome now (λ rest. GivesNext result (lines_to_come old left) new rest))
+abbrev pub Gave : Result Bool Exit → ℕ → Reader → Reader → Option (List ℕ) → Option (List ℕ) → Type 0
+Gave result number old new before now = IfSome before (λ left. IfSome now (λ rest. GivesNumbered result (lines_to_come old left) number new rest))
 
 -- ---- the reader
 
 -- what a call gave, by what was found of its answer
-pub gave_as : (result found : Result Bool NextRefused) (old new : Reader) (before now : Option (List ℕ)) → result ≡ found → Gave result old new before now → Gave found old new before now
-gave_as result found old new before now is gave = subst (λ r. Gave r old new before now) is gave
+pub gave_as : (result found : Result Bool Exit) (number : ℕ) (old new : Reader) (before now : Option (List ℕ)) → result ≡ found → Gave result number old new before now → Gave found number old new before now
+gave_as result found number old new before now is gave = subst (λ r. Gave r number old new before now) is gave
 
-pub moved_as : (result found : Result Bool NextRefused) (old new : Reader) (before now : Option (List ℕ)) → result ≡ found → MovesLine result old new before now → MovesLine found old new before now
+pub moved_as : (result found : Result Bool Exit) (old new : Reader) (before now : Option (List ℕ)) → result ≡ found → MovesLine result old new before now → MovesLine found old new before now
 moved_as result found old new before now is moves = subst (λ r. MovesLine r old new before now) is moves
 
 pub taken_tells : (bytes before : List ℕ) (now : Option (List ℕ)) → AreTaken bytes (Some before) now → (rest : List ℕ) × (now ≡ Some rest)
@@ -71,19 +69,19 @@ taken_tells bytes before None taken = absurd taken
 taken_tells bytes before (Some rest) taken = (rest, refl)
 
 -- a source that tells goes on to tell
-pub moved_tells : (result : Result Bool NextRefused) (old new : Reader) (left : List ℕ) (before now : Option (List ℕ)) → before ≡ Some left → MovesLine result old new before now → (rest : List ℕ) × (now ≡ Some rest)
+pub moved_tells : (result : Result Bool Exit) (old new : Reader) (left : List ℕ) (before now : Option (List ℕ)) → before ≡ Some left → MovesLine result old new before now → (rest : List ℕ) × (now ≡ Some rest)
 moved_tells result old new left before now is moves = by result (subst (λ b. MovesLine result old new b now) is moves)
   where
-    by : (result : Result Bool NextRefused) → MovesLine result old new (Some left) now → (rest : List ℕ) × (now ≡ Some rest)
+    by : (result : Result Bool Exit) → MovesLine result old new (Some left) now → (rest : List ℕ) × (now ≡ Some rest)
     by (Ok true) (inl moved) = taken_tells moved.bytes left now moved.taken
     by (Ok true) (inr moved) = taken_tells moved.0.bytes left now moved.0.taken
     by (Ok false) moved = taken_tells moved.0.bytes left now moved.0.taken
     by (Err why) moved = taken_tells moved.bytes left now moved.taken
 
-gave_now : (result : Result Bool NextRefused) (old new : Reader) (left rest : List ℕ) (before now : Option (List ℕ)) → before ≡ Some left → now ≡ Some rest → Gave result old new before now → GivesNext result (lines_to_come old left) new rest
-gave_now result old new left rest before now one two gave =
-    subst (λ n. IfSome n (λ rest. GivesNext result (lines_to_come old left) new rest)) two
-    (subst (λ b. IfSome b (λ left. IfSome now (λ rest. GivesNext result (lines_to_come old left) new rest))) one gave)
+gave_now : (result : Result Bool Exit) (number : ℕ) (old new : Reader) (left rest : List ℕ) (before now : Option (List ℕ)) → before ≡ Some left → now ≡ Some rest → Gave result number old new before now → GivesNumbered result (lines_to_come old left) number new rest
+gave_now result number old new left rest before now one two gave =
+    subst (λ n. IfSome n (λ rest. GivesNumbered result (lines_to_come old left) number new rest)) two
+    (subst (λ b. IfSome b (λ left. IfSome now (λ rest. GivesNumbered result (lines_to_come old left) number new rest))) one gave)
 
 -- the line that was given, among the bytes that were held or come
 ended_line : (old new : Reader) (before rest : List ℕ) → IsLine new.line → Moves (new.line ++ 10 ∷ []) old new (Some before) (Some rest)
@@ -112,7 +110,7 @@ some_line old new before rest grew moved end =
     let count = moved.count in
     omega arith
 
-pub given_text : (old new : Reader) (before rest : List ℕ) → IsLine new.line → given_count old < given_count new → MovesLine (Ok true) old new (Some before) (Some rest)
+pub given_text : (old new : Reader) (before rest : List ℕ) → IsLine new.line → given_count old < given_count new → MovesLine {E = Exit} (Ok true) old new (Some before) (Some rest)
     → (lines_of (old.held ++ before) ≡ new.line ∷ lines_of (new.held ++ rest)) × (length (old.held ++ before) ≤ length new.line + 1 + length (new.held ++ rest))
 given_text old new before rest line grew (inl moved) =
     let whole = ended_line old new before rest line moved in
@@ -133,7 +131,7 @@ script-snoc done line more =
 
 -- the lines so far and what is held and left are the script, or all was given
 kept_on : (script : List ℕ) (done : List (List ℕ)) (old new : Reader) (before rest : List ℕ) → IsLine new.line → (script ≡ script_of done ++ (old.held ++ before)) ⊎ ((old.held ≡ []) × (before ≡ []))
-    → MovesLine (Ok true) old new (Some before) (Some rest) → (script ≡ script_of (done ++ new.line ∷ []) ++ (new.held ++ rest)) ⊎ ((new.held ≡ []) × (rest ≡ []))
+    → MovesLine {E = Exit} (Ok true) old new (Some before) (Some rest) → (script ≡ script_of (done ++ new.line ∷ []) ++ (new.held ++ rest)) ⊎ ((new.held ≡ []) × (rest ≡ []))
 kept_on script done old new before rest line kept (inr (moved, end)) = inr (end.0, end.1)
 kept_on script done old new before rest line (inl is) (inl moved) = inl (is ∙ ap (λ bytes. script_of done ++ bytes) (ended_line old new before rest line moved) ∙ sym (script-snoc done new.line (new.held ++ rest)))
 kept_on script done old new before rest line (inr none) (inl moved) =
@@ -188,14 +186,14 @@ module _ (start : Start) (script : List ℕ) (t : Told) (number : ℕ) (reader n
   abbrev pub read_given : NumberedLine
   read_given = (number + 1, line_of line)
 
-  given_lines : Gave (Ok true) reader new left now → MovesLine (Ok true) reader new left now
+  given_lines : Gave (Ok true) number reader new left now → MovesLine {E = Exit} (Ok true) reader new left now
       → (rest : List ℕ) × (now ≡ Some rest) × (script_lines script ≡ with_lines (taking.done ++ line ∷ []) (lines_to_come new rest))
   given_lines gave moves =
       let tells = moved_tells (Ok true) reader new taking.now left now taking.tells moves in (
         tells.0,
         tells.1,
         lines-given taking.done new.line (lines_to_come new tells.0) (script_lines script) (lines_to_come reader taking.now) taking.lines
-            (gave_now (Ok true) reader new taking.now tells.0 left now taking.tells tells.1 gave)
+            (gave_now (Ok true) number reader new taking.now tells.0 left now taking.tells tells.1 gave)
             ∙ ap (λ l. with_lines (taking.done ++ l ∷ []) (lines_to_come new tells.0)) (sym same),
       )
 
@@ -203,7 +201,7 @@ module _ (start : Start) (script : List ℕ) (t : Told) (number : ℕ) (reader n
   reads-given = reads-append taking.done (line ∷ []) ∙ (let n : 1 + length taking.done ≡ number + 1 = (let c = taking.count in omega arith) in ap (λ k. reads_in taking.done ++ (k, line_of line) ∷ []) n)
 
   -- It stands behind the lines that were taken.
-  pub given : Gave (Ok true) reader new left now → MovesLine (Ok true) reader new left now
+  pub given : Gave (Ok true) number reader new left now → MovesLine {E = Exit} (Ok true) reader new left now
       → (rest : List NumberedLine) × (reads_in taking.done ++ read_given ∷ rest ≡ reads_of script)
   given gave moves =
       let lines = given_lines gave moves in
@@ -215,19 +213,19 @@ module _ (start : Start) (script : List ℕ) (t : Told) (number : ℕ) (reader n
       )
 
   -- and among the bytes of the script
-  pub given_here : IsLine new.line → given_count reader < given_count new → MovesLine (Ok true) reader new left now
+  pub given_here : IsLine new.line → given_count reader < given_count new → MovesLine {E = Exit} (Ok true) reader new left now
       → (rest : List ℕ) × (now ≡ Some rest) × (lines_of (reader.held ++ taking.now) ≡ line ∷ lines_of (new.held ++ rest)) × (length (reader.held ++ taking.now) ≤ length line + 1 + length (new.held ++ rest))
   given_here is_line grew moves =
       let tells = moved_tells (Ok true) reader new taking.now left now taking.tells moves in
-      let text = given_text reader new taking.now tells.0 is_line grew (subst (λ n. MovesLine (Ok true) reader new (Some taking.now) n) tells.1 (subst (λ b. MovesLine (Ok true) reader new b now) taking.tells moves)) in
+      let text = given_text reader new taking.now tells.0 is_line grew (subst (λ n. MovesLine {E = Exit} (Ok true) reader new (Some taking.now) n) tells.1 (subst (λ b. MovesLine {E = Exit} (Ok true) reader new b now) taking.tells moves)) in
       (tells.0, tells.1, rw same text.0, rw same text.1)
 
   -- It was taken, and did its acts.
-  pub took_line : {X : Type 0} (see : X → Seen) (more : Run) (acts : List Act) (old mid later : X) → GoesWell taking.acts (see old) (see mid) → GoesWell acts (see mid) (see later) → IsLine new.line → given_count reader < given_count new → Gave (Ok true) reader new left now → MovesLine (Ok true) reader new left now
+  pub took_line : {X : Type 0} (see : X → Seen) (more : Run) (acts : List Act) (old mid later : X) → GoesWell taking.acts (see old) (see mid) → GoesWell acts (see mid) (see later) → IsLine new.line → given_count reader < given_count new → Gave (Ok true) number reader new left now → MovesLine {E = Exit} (Ok true) reader new left now
       → TakesLine start (reads_in taking.done, read_given) (Ok tt) more → IsDoneAt start (reads_in taking.done, read_given) (after_acts taking.acts t) acts → Took see start script t (number + 1) new now more old later
   took_line see more acts old mid later well does is_line grew gave moves takes are =
       let lines = given_lines gave moves in
-      let text = given_text reader new taking.now lines.0 is_line grew (subst (λ n. MovesLine (Ok true) reader new (Some taking.now) n) lines.1 (subst (λ b. MovesLine (Ok true) reader new b now) taking.tells moves)) in (
+      let text = given_text reader new taking.now lines.0 is_line grew (subst (λ n. MovesLine {E = Exit} (Ok true) reader new (Some taking.now) n) lines.1 (subst (λ b. MovesLine {E = Exit} (Ok true) reader new b now) taking.tells moves)) in (
         record {
           done = taking.done ++ line ∷ [];
           now = lines.0;
@@ -249,7 +247,7 @@ module _ (start : Start) (script : List ℕ) (t : Told) (number : ℕ) (reader n
               let snoc = size-snoc taking.done line in
               let long : length line ≡ length new.line = ap length same in
               omega arith);
-          kept = subst (λ l. (script ≡ script_of (taking.done ++ l ∷ []) ++ (new.held ++ lines.0)) ⊎ ((new.held ≡ []) × (lines.0 ≡ []))) (sym same) (kept_on script taking.done reader new taking.now lines.0 is_line taking.kept (subst (λ n. MovesLine (Ok true) reader new (Some taking.now) n) lines.1 (subst (λ b. MovesLine (Ok true) reader new b now) taking.tells moves)));
+          kept = subst (λ l. (script ≡ script_of (taking.done ++ l ∷ []) ++ (new.held ++ lines.0)) ⊎ ((new.held ≡ []) × (lines.0 ≡ []))) (sym same) (kept_on script taking.done reader new taking.now lines.0 is_line taking.kept (subst (λ n. MovesLine {E = Exit} (Ok true) reader new (Some taking.now) n) lines.1 (subst (λ b. MovesLine {E = Exit} (Ok true) reader new b now) taking.tells moves)));
         },
         does_then see taking.acts acts went_well old mid later well tt does,
       )
@@ -422,8 +420,48 @@ module _ {X : Type 0} (see : X → Seen) (start : Start) (script : List ℕ) (t 
   }
 
   -- what the reader said of the lines to come
-  pub none_given : (result : Result Bool NextRefused) (other : Reader) (now : Option (List ℕ)) (ending : Ending) → MovesLine result reader other left now → Gave result reader other left now
-      → ((rest : List ℕ) → GivesNext result (lines_to_come reader taking.now) other rest → lines_to_come reader taking.now ≡ no_line ending) → lines_to_come reader taking.now ≡ no_line ending
-  none_given result other now ending moves gave says =
+  gave_here : (result : Result Bool Exit) (other : Reader) (now : Option (List ℕ)) → MovesLine result reader other left now → Gave result number reader other left now
+      → (rest : List ℕ) × GivesNumbered result (lines_to_come reader taking.now) number other rest
+  gave_here result other now moves gave =
       let tells = moved_tells result reader other taking.now left now taking.tells moves in
-      says tells.0 (gave_now result reader other taking.now tells.0 left now taking.tells tells.1 gave)
+      (tells.0, gave_now result number reader other taking.now tells.0 left now taking.tells tells.1 gave)
+
+  -- there was none
+  pub none_given : (other : Reader) (now : Option (List ℕ)) → MovesLine {E = Exit} (Ok false) reader other left now → Gave (Ok false) number reader other left now → DoesLines see start script t (Ok tt) run old new
+  none_given other now moves gave = all_taken (gave_here (Ok false) other now moves gave).1
+
+  -- or their list ended otherwise
+  pub next_failed : (exit : Exit) (other : Reader) (now : Option (List ℕ)) → IsNextExit exit → MovesLine {E = Exit} (Err exit) reader other left now → Gave (Err exit) number reader other left now → DoesLines see start script t (Err exit) run old new
+  next_failed SourceFault other now is moves gave = took_now
+  next_failed TooLong other now is moves gave = let here = (gave_here (Err TooLong) other now moves gave).1 in lines_end here.0 TooLong refl here.2 here.1
+  next_failed (BadLine line reason) other now is moves gave = let here = (gave_here (Err (BadLine line reason)) other now moves gave).1 in lines_end here.0 (BadLine line reason) refl here.2 here.1
+  next_failed exit other now is moves gave = absurd is
+
+-- the two results that a fault is told of
+pub failed_same : (exit : Exit) → ◌≡◌ {A = Result (Unit {0}) Exit} (Err exit) (Err SourceFault) → ◌≡◌ {A = Result Bool Exit} (Err exit) (Err SourceFault)
+failed_same exit fault = let same : exit ≡ SourceFault = cc in ap Err same
+
+-- how they end, and why
+pub next_ends : (exit : Exit) (count mid count' : ℕ) (before now : Faults) → IsNextExit exit → Causes {C = ℕ} {T = Bool} SourceCause (Err exit) mid count' → mid ≡ count → now ≡ before → EndsLines (Err exit) count count' before now
+next_ends SourceFault count mid count' before now is cause one two = record { stop = tt; source = subst (λ n. SourceCause SourceFault n count') one cause; board = two }
+next_ends TooLong count mid count' before now is cause one two = record { stop = tt; source = cause ∙ one; board = two }
+next_ends (BadLine line reason) count mid count' before now is cause one two = record { stop = tt; source = cause ∙ one; board = two }
+next_ends exit count mid count' before now is cause one two = absurd is
+
+pub line_ends : (exit : Exit) (count count' : ℕ) (before mid now : Faults) → IsStop exit → count' ≡ count → mid ≡ before → Causes {C = Faults} {T = Unit {0}} BoardCause (Err exit) mid now → EndsLines (Err exit) count count' before now
+line_ends exit count count' before mid now stop one two cause = record {
+  stop = line_stop exit stop;
+  source = still exit stop;
+  board = subst (λ f. BoardCause exit f now) two cause;
+}
+  where
+    line_stop : (e : Exit) → IsStop e → IsLineExit e
+    line_stop Done stop = absurd stop
+    line_stop Usage stop = absurd stop
+    line_stop SourceFault stop = absurd stop
+    line_stop (ErstStatus code) stop = stop
+    line_stop e stop = tt
+
+    still : (e : Exit) → IsStop e → SourceCause e count count'
+    still SourceFault stop = absurd stop
+    still e stop = one

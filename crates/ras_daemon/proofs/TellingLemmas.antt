@@ -5,13 +5,11 @@ use Rattle.board_core.specs.Clock.{Adds, Clock}
 use Rattle.board_core.specs.Device.{LeavesDevice}
 use Rattle.board_core.specs.Told.{Relates, Told}
 use Rattle.ras_exit.specs.declared.exit.Exit.{Exit}
-use Rattle.ras_exit.specs.declared.exit.Exit.TheVariants.{NoMemory, Usage}
-use Rattle.ras_exit.specs.StopLine.{stop_line}
+use Rattle.ras_exit.specs.declared.exit.Exit.TheVariants.{NoMemory}
 use Rattle.ras_exit.specs.Telling.{PrintMoment}
-use Rattle.ras_daemon.specs.Commands.{ByTask, OnlyTells}
+use Rattle.ras_daemon.specs.Commands.{Leaves, OnlyTells}
 use Rattle.ras_daemon.proofs.RunLemmas.{answer_weaker}
 use Rattle.ras_daemon.proofs.SaidLemmas.{Printed, none_printed}
-use Rattle.ras_daemon.specs.declared.word.Task.{Task}
 
 module _ (exit : Exit) (text : List ℕ) where
   told_so : (result : Exit) (old now : Told) → Printed exit result text old now → OnlyTells exit text result old now
@@ -35,6 +33,8 @@ module _ (exit : Exit) (text : List ℕ) where
   pub none_told : (told : Option Told) → Relates (OnlyTells exit text NoMemory) told told
   none_told told = only_told NoMemory told told (none_printed exit NoMemory text told told tt refl)
 
-pub usage_commands : (exit : Exit) (task : Option Task) (script left : Option (List ℕ)) (before now : Option Told) (old new : Clock) → task ≡ None
-    → Relates (Printed Usage exit (stop_line Usage)) before now → Adds (PrintMoment old (stop_line Usage)) old new → LeavesDevice before now old new → ByTask exit task script left before now old new
-usage_commands exit task script left before now old new none said stops device = rw none (record { tells = only_told Usage (stop_line Usage) exit before now said; stops = stops; device = device })
+-- what a command tells that only prints a text
+pub printed_commands : (exit result : Exit) (text : List ℕ) (before now : Option Told) (old new : Clock)
+    → Relates (Printed exit result text) before now → Adds (PrintMoment old text) old new → LeavesDevice before now old new
+    → Leaves (Relates (OnlyTells exit text result) before now) (Adds (PrintMoment old text) old new) before now old new
+printed_commands exit result text before now old new said stops device = record { tells = only_told exit text result before now said; stops = stops; device = device }

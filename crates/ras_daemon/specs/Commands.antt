@@ -7,13 +7,16 @@ use Rattle.ras_exit.specs.declared.exit.Exit.{Exit}
 use Rattle.ras_exit.specs.declared.exit.Exit.TheVariants.{Done, ErstStatus, NoMemory, PrintFault, Usage}
 use Rattle.ras_exit.specs.StopLine.{stop_line}
 use Rattle.ras_exit.specs.Telling.{OnlyText, PrintMoment, Tells}
+use Rattle.bank_lines.specs.LogFilter.{log_filter}
+use Rattle.bank_lines.specs.Filter.{trace_filter}
 use Rattle.cper_pcie.specs.Filter.{pcie_filter}
 use Rattle.line_filters.specs.Filters.{Filters, IsFilterExit, OfBoth, StopsFiltering}
 use Rattle.ras_klog.specs.Klog.{klog_filter}
 use Rattle.ras_listing.specs.Reporting.{IsReportExit, ReportMoment, Reports, report_output}
+use Rattle.ras_daemon.specs.Help.{help_text, version_line}
 use Rattle.ras_daemon.specs.Loading.{load_output}
 use Rattle.ras_daemon.specs.declared.word.Task.{Task}
-use Rattle.ras_daemon.specs.declared.word.Task.TheVariants.{Run, Report, Load, Pcie, Klog}
+use Rattle.ras_daemon.specs.declared.word.Task.TheVariants.{Run, Report, Load, Pcie, Klog, TraceLines, KlogLines, Help, Version}
 
 -- A call that only prints tells this exit and this text, and nothing else that is told changes.
 pub record OnlyTells (exit : Exit) (text : List ℕ) (result : Exit) (before now : Told) : Type 0 where
@@ -48,6 +51,18 @@ ByTask exit (Some Pcie) script left before now old new =
 ByTask exit (Some (Klog boot cap)) script left before now old new =
     Leaves (OfBoth (Filters (klog_filter boot cap) exit) script left before now)
     (StopsFiltering (klog_filter boot cap) script before old new) before now old new
+ByTask exit (Some (TraceLines boot)) script left before now old new =
+    Leaves (OfBoth (Filters (trace_filter boot) exit) script left before now)
+    (StopsFiltering (trace_filter boot) script before old new) before now old new
+ByTask exit (Some (KlogLines boot cap)) script left before now old new =
+    Leaves (OfBoth (Filters (log_filter boot cap) exit) script left before now)
+    (StopsFiltering (log_filter boot cap) script before old new) before now old new
+ByTask exit (Some Help) script left before now old new =
+    Leaves (Relates (OnlyTells Done help_text exit) before now)
+    (Adds (PrintMoment old help_text) old new) before now old new
+ByTask exit (Some Version) script left before now old new =
+    Leaves (Relates (OnlyTells Done version_line exit) before now)
+    (Adds (PrintMoment old version_line) old new) before now old new
 
 -- how a run over a script that is made up may end
 abbrev pub IsLoadExit : Exit → Type 0
@@ -67,3 +82,7 @@ MayEnd (Some (Report listing)) exit = IsReportExit exit
 MayEnd (Some (Load n)) exit = IsLoadExit exit
 MayEnd (Some Pcie) exit = IsFilterExit exit
 MayEnd (Some (Klog boot cap)) exit = IsFilterExit exit
+MayEnd (Some (TraceLines boot)) exit = IsFilterExit exit
+MayEnd (Some (KlogLines boot cap)) exit = IsFilterExit exit
+MayEnd (Some Help) exit = (exit ≡ Done) ⊎ (exit ≡ PrintFault)
+MayEnd (Some Version) exit = (exit ≡ Done) ⊎ (exit ≡ PrintFault)

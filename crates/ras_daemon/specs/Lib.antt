@@ -1,3 +1,4 @@
+pub mod Help
 pub mod Task
 pub mod Commands
 pub mod Script
@@ -11,5 +12,6 @@ pub mod Promises
 pub mod Ahead
 pub mod RunActs
 pub mod Runs
+pub mod Feeding
 pub mod Loading
 pub mod Steps

@@ -1,13 +1,13 @@
 -- What the words of a call ask for.
-use Rattle.std.specs.Prelude.{ℕ, ◌-◌, ◌^◌, ◌==◌, ◌≤◌, List, [], ◌∷◌, codes, Option, None, Some, if◌then◌else◌, ⊤}
+use Rattle.std.specs.Prelude.{ℕ, ◌-◌, ◌^◌, ◌==◌, ◌&&◌, ◌≤◌, List, [], ◌∷◌, codes, Option, None, Some, if◌then◌else◌, ⊤}
 use Rattle.std.specs.Option.{option_and_then, option_map}
 use Rattle.std.specs.Str.{bytes_eq}
 use Rattle.ras_load.specs.declared.script.TheConstants.{MOST_LINES}
 use Rattle.ras_script.specs.Number.{decimal_of, hexadecimal_of}
 use Rattle.ras_texts.specs.declared.listing.Listing.{Listing}
-use Rattle.ras_texts.specs.declared.listing.Listing.TheVariants.{Counts, Pages, Names, Modules}
+use Rattle.ras_texts.specs.declared.listing.Listing.TheVariants.{Counts, Pages, Names, Modules, Metrics}
 use Rattle.ras_daemon.specs.declared.word.Task.{Task}
-use Rattle.ras_daemon.specs.declared.word.Task.TheVariants.{Run, Report, Load, Pcie, Klog}
+use Rattle.ras_daemon.specs.declared.word.Task.TheVariants.{Run, Report, Load, Pcie, Klog, TraceLines, KlogLines, Help, Version}
 
 -- the listings by their words
 abbrev pub listing_of : List ℕ → Option Listing
@@ -16,6 +16,7 @@ listing_of word =
     else if bytes_eq word (codes "pages") then Some Pages
     else if bytes_eq word (codes "names") then Some Names
     else if bytes_eq word (codes "modules") then Some Modules
+    else if bytes_eq word (codes "metrics") then Some Metrics
     else None
 
 -- a boot's number in decimal digits and IA32_MCG_CAP in hexadecimal ones, as a script writes them
@@ -24,25 +25,43 @@ klog_of one other =
     option_and_then (λ boot. option_map (λ cap. Klog boot cap) (hexadecimal_of other))
     (decimal_of (2 ^ 64 - 1) one)
 
+-- the same for the lines that are made of a trace or of a log
+abbrev pub trace_lines_of : List ℕ → Option Task
+trace_lines_of boot = option_map (λ number. TraceLines number) (decimal_of (2 ^ 64 - 1) boot)
+
+abbrev pub klog_lines_of : List ℕ → List ℕ → Option Task
+klog_lines_of boot cap =
+    option_and_then (λ number. option_map (λ mask. KlogLines number mask) (hexadecimal_of cap))
+    (decimal_of (2 ^ 64 - 1) boot)
+
 -- a number from 1 to the most reports that a script may be made up of
 abbrev pub load_of : List ℕ → Option Task
 load_of word =
     option_and_then (λ n. if n == 0 then None else Some (Load n)) (decimal_of MOST_LINES word)
 
 -- The forms of a call: `run`; `pcie`; `report` with a listing; `load` with a number; `klog` with a
--- boot and IA32_MCG_CAP. Other words are no form.
+-- boot and IA32_MCG_CAP; `lines trace` with a boot, and `lines klog` with both; `--help`; `--version`.
+-- Other words are no form.
 abbrev pub task_of : List (List ℕ) → Option Task
 task_of [] = None
 task_of (word ∷ []) =
     if bytes_eq word (codes "run") then Some Run
     else if bytes_eq word (codes "pcie") then Some Pcie
+    else if bytes_eq word (codes "--help") then Some Help
+    else if bytes_eq word (codes "--version") then Some Version
     else None
 task_of (word ∷ what ∷ []) =
     if bytes_eq word (codes "report") then option_map Report (listing_of what)
     else if bytes_eq word (codes "load") then load_of what
     else None
-task_of (word ∷ one ∷ other ∷ []) = if bytes_eq word (codes "klog") then klog_of one other else None
-task_of (word ∷ one ∷ other ∷ more ∷ words) = None
+task_of (word ∷ one ∷ other ∷ []) =
+    if bytes_eq word (codes "klog") then klog_of one other
+    else if bytes_eq word (codes "lines") && bytes_eq one (codes "trace") then trace_lines_of other
+    else None
+task_of (word ∷ form ∷ boot ∷ cap ∷ []) =
+    if bytes_eq word (codes "lines") && bytes_eq form (codes "klog") then klog_lines_of boot cap
+    else None
+task_of (word ∷ form ∷ boot ∷ cap ∷ more ∷ words) = None
 
 -- the number of a script that is made up is in its range
 abbrev pub IsTask : Task → Type 0
@@ -55,4 +74,6 @@ abbrev pub ReadsBy : Option Task → Type 0 → Type 0 → Type 0
 ReadsBy (Some Run) Takes Same = Takes
 ReadsBy (Some Pcie) Takes Same = Takes
 ReadsBy (Some (Klog boot cap)) Takes Same = Takes
+ReadsBy (Some (TraceLines boot)) Takes Same = Takes
+ReadsBy (Some (KlogLines boot cap)) Takes Same = Takes
 ReadsBy task Takes Same = Same

@@ -22,9 +22,11 @@ ghost use Rattle.ras_daemon.specs.Script.{events_of};
 ghost use Rattle.ras_daemon.specs.Task.{ReadsBy, task_of};
 
 use crate::ending::last_line;
+use crate::help::{help_text, version_line};
 use crate::load::load;
 use crate::running::run;
 use crate::{RasWord, Task, task_of};
+use bank_lines::{LogFilter, TraceFilter};
 use board_core::{Board, Source};
 use cper_pcie::PcieFilter;
 use line_filters::filter_lines;
@@ -72,8 +74,8 @@ pub fn rasd<S: Source, B: Board>(
     ensures causes { Caused result (S.faults source.old) (S.faults source.new)
         (B.faults board.old) (B.faults board.new) }
 
-    // Each command has its own exits: only words of no form end with the usage line, and take no
-    // memory.
+    // Each command has its own exits. Words of no form end with the usage line; these, `--help` and
+    // `--version` take no memory.
     ensures exits { MayEnd (task_of words.now) result }
 {
     match task_of(words) {
@@ -88,6 +90,16 @@ pub fn rasd<S: Source, B: Board>(
             let mut filter = KlogFilter::new(boot, cap);
             filter_lines(alloc, &mut filter, source, board)
         }
+        Some(Task::TraceLines { boot }) => {
+            let mut filter = TraceFilter::new(boot);
+            filter_lines(alloc, &mut filter, source, board)
+        }
+        Some(Task::KlogLines { boot, cap }) => {
+            let mut filter = LogFilter::new(boot, cap);
+            filter_lines(alloc, &mut filter, source, board)
+        }
+        Some(Task::Help) => last_line(help_text(), Exit::Done, board),
+        Some(Task::Version) => last_line(version_line(), Exit::Done, board),
         None => last_line(usage_line(), Exit::Usage, board),
     }
 }

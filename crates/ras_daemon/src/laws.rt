@@ -1,6 +1,6 @@
 //! What runs log and order, one after the other on one journal.
 
-ghost use Rattle.std.specs.Prelude.{◌≡◌, ◌++◌, ℕ, List, [], ◌∷◌, Some, if◌then◌else◌};
+ghost use Rattle.std.specs.Prelude.{◌≡◌, ◌++◌, ℕ, List, [], ◌∷◌, Some, map, if◌then◌else◌};
 ghost use Rattle.std.specs.List.{IsDistinct};
 ghost use Rattle.std.specs.Map.{lookup};
 ghost use Rattle.dimm_topology.specs.Labels.{Bytes, same_label};
@@ -15,6 +15,11 @@ ghost use Rattle.ras_account.specs.Fresh.{fresh_entries};
 ghost use Rattle.ras_account.specs.Modules.{Module, has_tripped};
 ghost use Rattle.ras_account.specs.Orders.{orders, orders_since_mark};
 ghost use Rattle.ras_run.specs.Places.{Start};
+ghost use Rattle.bank_lines.specs.Texts.{asks_in};
+ghost use Rattle.ras_account.specs.Continued.{account_after_all};
+ghost use Rattle.ras_events.specs.Reports.{rows_told};
+ghost use Rattle.ras_facts.specs.declared.bank.BankReport.{BankReport};
+ghost use Rattle.ras_daemon.specs.Feeding.{IsFed, asked_by, asks_bank, bank_entries};
 ghost use Rattle.ras_daemon.specs.Headline.{account_with, laid_with};
 ghost use Rattle.ras_daemon.specs.Machine.{account_upto, store_upto, text_of, text_upto};
 ghost use Rattle.ras_daemon.specs.RunOf.{run_of};
@@ -24,7 +29,7 @@ ghost use Rattle.ras_daemon.specs.Runs.{AreJoined, BeginsWith, CountTheSame, Fol
 ghost use Rattle.ras_daemon.specs.Runs.{IsTakenWhole, PollsNothing};
 ghost use Rattle.ras_daemon.specs.Runs.{ReportsFacts, event_count, facts_of, history_after};
 ghost use Rattle.ras_daemon.specs.Runs.{logged, ordered};
-ghost use Rattle.ras_daemon.specs.Script.{reads_in};
+ghost use Rattle.ras_daemon.specs.Script.{events_of, reads_in};
 
 /// The laws of runs on one journal. The function does nothing: its clauses are what it is for.
 pub fn run_laws()
@@ -146,4 +151,20 @@ pub fn outside_laws()
     // And all that it prints is the output of its script.
     ensures output { (start : Start) (script : List ℕ)
         → text_of (run_of start script) ≡ run_output start script }
+{}
+
+/// What a run makes of the lines that `lines` prints, if it takes all of them. The function does
+/// nothing: its clauses are what it is for.
+pub fn feeding_laws()
+    // The events of such a script are those of the machine's rows, and then the reports of the
+    // banks, in order, and nothing else.
+    ensures events { (start : Start) (rows : List (List ℕ)) (banks : List BankReport)
+        (script : List ℕ) → IsFed start.store rows banks script → IsTakenWhole start script
+        → asked_by (events_of start script) ≡ asks_in rows ++ map asks_bank banks }
+
+    // So its account is the account at its start with these reports.
+    ensures account { (start : Start) (rows : List (List ℕ)) (banks : List BankReport)
+        (script : List ℕ) → IsFed start.store rows banks script → IsTakenWhole start script
+        → account_with start script (event_count start script) ≡ account_after_all start.account
+        (bank_entries (rows_told (reads_in rows)) banks) }
 {}

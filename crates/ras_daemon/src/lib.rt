@@ -4,6 +4,7 @@
 
 mod daemon;
 mod ending;
+mod help;
 mod laws;
 mod lines;
 mod load;
@@ -11,7 +12,7 @@ mod running;
 mod word;
 
 pub use daemon::{promise_laws, rasd};
-pub use laws::{outside_laws, run_laws};
+pub use laws::{feeding_laws, outside_laws, run_laws};
 pub use load::loading_laws;
 pub use ras_exit::{Exit, Reason};
 pub use ras_texts::Listing;

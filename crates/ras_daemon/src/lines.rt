@@ -3,6 +3,7 @@
 ghost use Rattle.std.specs.Prelude.{◌≡◌, ℕ, List, [], Some};
 ghost use Rattle.board_core.specs.Doing.{looks};
 ghost use Rattle.board_core.specs.Told.{Told};
+ghost use Rattle.line_filters.specs.Numbered.{no_lines};
 ghost use Rattle.line_filters.specs.Steps.Filtering.{exit_of};
 ghost use Rattle.ras_run.specs.LineActs.{HoldsAfter};
 ghost use Rattle.ras_run.specs.Places.{Start};
@@ -11,26 +12,25 @@ ghost use Rattle.ras_daemon.specs.Ahead.{TakesBy};
 ghost use Rattle.ras_daemon.specs.Steps.Doing.{ComesLines, EndsLines};
 
 use board_core::{Board, Source};
-use ras_exit::{Exit, Reason};
+use line_filters::NumberedLines;
+use ras_exit::Exit;
 use ras_run::{Run, take_line};
-use ras_script::{LineReader, NextRefused};
 use std::alloc::Global;
 
 /// Takes the lines of a source in order, up to the first refused one or to its end.
 ///
 /// # Errors
 ///
-/// Why the run ends among its lines: as `take_line` of ras_run; `BadLine` also if the line has more
-/// than 40,000 bytes, `TooLong` if the script has too many, and `SourceFault` only if the source
-/// failed.
+/// Why the run ends among its lines: as `NumberedLines::next` of line_filters, or as `take_line` of
+/// ras_run.
 pub fn take_lines<S: Source, B: Board>(
     alloc: Global,
-    reader: &mut LineReader,
+    lines: &mut NumberedLines,
     run: &mut Run,
     source: &mut S,
     board: &mut B,
 ) -> Result<(), Exit>
-    requires fresh { reader.old ≡ record { line = []; held = []; taken = 0 } }
+    requires fresh { lines.old ≡ no_lines }
     requires ready { IsReady run.old.ledger (B.told board.old) (B.clock board.old) }
 
     ensures comes { (start : Start) (script : List ℕ) (t : Told) → IsRunAfter start [] run.old
@@ -41,22 +41,10 @@ pub fn take_lines<S: Source, B: Board>(
     ensures ends { EndsLines result (S.faults source.old) (S.faults source.new)
         (B.faults board.old) (B.faults board.new) }
 {
-    let mut number = 0u64;
     loop {
-        match reader.advance(source) {
-            Ok(true) => {
-                number += 1;
-                take_line(alloc, number, reader.line(), run, board)?;
-            }
-            Ok(false) => return Ok(()),
-            Err(NextRefused::Source) => return Err(Exit::SourceFault),
-            Err(NextRefused::TooLong) => return Err(Exit::TooLong),
-            Err(NextRefused::LineTooLong) => {
-                return Err(Exit::BadLine {
-                    line: number + 1,
-                    reason: Reason::LongLine,
-                });
-            }
+        if !lines.next(source)? {
+            return Ok(());
         }
+        take_line(alloc, lines.number(), lines.line(), run, board)?;
     }
 }

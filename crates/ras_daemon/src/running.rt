@@ -4,6 +4,7 @@ ghost use Rattle.std.specs.Prelude.{◌≡◌, ℕ, List, [], Some};
 ghost use Rattle.board_core.specs.Doing.{looks};
 ghost use Rattle.board_core.specs.Told.{Told};
 ghost use Rattle.ras_account.specs.Accounts.{IsAccount};
+ghost use Rattle.line_filters.specs.Numbered.{no_lines};
 ghost use Rattle.ras_run.specs.Places.{Start};
 ghost use Rattle.ras_run.specs.Taking.{IsReady};
 ghost use Rattle.ras_daemon.specs.Ahead.{TakesBy};
@@ -17,13 +18,13 @@ use crate::Task;
 use crate::ending::end_run;
 use crate::lines::take_lines;
 use board_core::{Board, Source};
+use line_filters::NumberedLines;
 use ras_account::Account;
 use ras_base::NoMemory;
 use ras_events::Settings;
 use ras_exit::Exit;
 use ras_ledger::Ledger;
 use ras_run::{Run, open, print_standing};
-use ras_script::LineReader;
 use std::alloc::Global;
 
 /// Opens the journal, and takes a script over it.
@@ -39,12 +40,12 @@ pub fn run<S: Source, B: Board>(alloc: Global, source: &mut S, board: &mut B) ->
         (B.faults board.old) (B.faults board.new) }
     ensures exits { IsRunExit result }
 {
-    let mut reader = match LineReader::new(alloc) {
-        Ok(reader) => reader,
+    let mut lines = match NumberedLines::new(alloc) {
+        Ok(lines) => lines,
         Err(NoMemory) => return Exit::NoMemory,
     };
     match open(alloc, board) {
-        Ok(ledger) => take_script(alloc, &mut reader, ledger, source, board),
+        Ok(ledger) => take_script(alloc, &mut lines, ledger, source, board),
         // No account was made: the last line of a refusal tells nothing of it.
         Err(exit) => end_run(alloc, exit, &Account::new(alloc), board),
     }
@@ -54,12 +55,12 @@ pub fn run<S: Source, B: Board>(alloc: Global, source: &mut S, board: &mut B) ->
 // are taken, and then the run ends.
 fn take_script<S: Source, B: Board>(
     alloc: Global,
-    reader: &mut LineReader,
+    lines: &mut NumberedLines,
     ledger: Ledger,
     source: &mut S,
     board: &mut B,
 ) -> Exit
-    requires fresh { reader.old ≡ record { line = []; held = []; taken = 0 } }
+    requires fresh { lines.old ≡ no_lines }
     requires ledger { IsReady ledger (B.told board.old) (B.clock board.old)
         × IsAccount ledger.account.state }
 
@@ -80,7 +81,7 @@ fn take_script<S: Source, B: Board>(
         ledger,
         text: Vec::new(alloc),
     };
-    let exit = match take_lines(alloc, reader, &mut run, source, board) {
+    let exit = match take_lines(alloc, lines, &mut run, source, board) {
         Ok(()) => Exit::Done,
         Err(exit) => exit,
     };

@@ -1,7 +1,8 @@
 //! The words of a call.
 
 ghost use Rattle.std.specs.Prelude.{◌≡◌, IfOk, IfSome};
-ghost use Rattle.ras_daemon.specs.Task.{IsTask, klog_of, listing_of, load_of, task_of};
+ghost use Rattle.ras_daemon.specs.Task.{IsTask, klog_lines_of, klog_of, listing_of, load_of, task_of};
+ghost use Rattle.ras_daemon.specs.Task.{trace_lines_of};
 
 use ras_base::NoMemory;
 use ras_load::MOST_LINES;
@@ -60,16 +61,34 @@ pub enum Task {
         /// The processors' IA32_MCG_CAP.
         cap: u64,
     },
+    /// Make lines of script of the machine checks that the kernel's trace has.
+    TraceLines {
+        /// The number of the boot.
+        boot: u64,
+    },
+    /// Make lines of script of the machine checks that a kernel log has.
+    KlogLines {
+        /// The number of the boot.
+        boot: u64,
+        /// The processors' IA32_MCG_CAP.
+        cap: u64,
+    },
+    /// Print the forms of words.
+    Help,
+    /// Print the program's version.
+    Version,
 }
 
 /// What these words ask for, if they are a form of a call:
 ///
 /// - `run`
 /// - `pcie`
-/// - `report` with one of `counts`, `pages`, `names` and `modules`
+/// - `report` with one of `counts`, `pages`, `names`, `modules` and `metrics`
 /// - `load` with a number of reports from 1 to 50,000 in decimal digits
 /// - `klog` with the number of the boot in decimal digits and IA32_MCG_CAP in hexadecimal ones, as
 ///   a script writes them
+/// - `lines` with `trace` and the number of the boot, or with `klog` and both of these numbers
+/// - `--help`, and `--version`
 pub fn task_of(words: &[RasWord]) -> Option<Task>
     ensures task { result ≡ task_of words.now }
     ensures range { IfSome result IsTask }
@@ -77,12 +96,22 @@ pub fn task_of(words: &[RasWord]) -> Option<Task>
     match words {
         [word] if word.bytes() == b"run".as_slice() => Some(Task::Run),
         [word] if word.bytes() == b"pcie".as_slice() => Some(Task::Pcie),
+        [word] if word.bytes() == b"--help".as_slice() => Some(Task::Help),
+        [word] if word.bytes() == b"--version".as_slice() => Some(Task::Version),
         [word, what] if word.bytes() == b"report".as_slice() => {
             listing_of(what.bytes()).map(Task::Report)
         }
         [word, count] if word.bytes() == b"load".as_slice() => load_of(count.bytes()),
         [word, boot, cap] if word.bytes() == b"klog".as_slice() => {
             klog_of(boot.bytes(), cap.bytes())
+        }
+        [word, form, boot]
+            if word.bytes() == b"lines".as_slice() && form.bytes() == b"trace".as_slice() => {
+            trace_lines_of(boot.bytes())
+        }
+        [word, form, boot, cap]
+            if word.bytes() == b"lines".as_slice() && form.bytes() == b"klog".as_slice() => {
+            klog_lines_of(boot.bytes(), cap.bytes())
         }
         _ => None,
     }
@@ -109,6 +138,25 @@ fn klog_of(boot: &[u8], cap: &[u8]) -> Option<Task>
     })
 }
 
+// The lines of the trace of this boot.
+fn trace_lines_of(boot: &[u8]) -> Option<Task>
+    ensures { result ≡ trace_lines_of boot.now }
+{
+    Some(Task::TraceLines {
+        boot: decimal(boot, u64::MAX)?,
+    })
+}
+
+// The lines of the kernel log of this boot and this IA32_MCG_CAP.
+fn klog_lines_of(boot: &[u8], cap: &[u8]) -> Option<Task>
+    ensures { result ≡ klog_lines_of boot.now cap.now }
+{
+    Some(Task::KlogLines {
+        boot: decimal(boot, u64::MAX)?,
+        cap: hexadecimal(cap)?,
+    })
+}
+
 // The listing of this word.
 fn listing_of(word: &[u8]) -> Option<Listing>
     ensures { result ≡ listing_of word.now }
@@ -121,6 +169,8 @@ fn listing_of(word: &[u8]) -> Option<Listing>
         Some(Listing::Names)
     } else if word == b"modules".as_slice() {
         Some(Listing::Modules)
+    } else if word == b"metrics".as_slice() {
+        Some(Listing::Metrics)
     } else {
         None
     }

@@ -1,5 +1,5 @@
 -- The report in work, line by line.
-use Rattle.std.specs.Prelude.{ℕ, List, [], ◌∷◌, ◌++◌}
+use Rattle.std.specs.Prelude.{ℕ, Bool, true, false, List, [], ◌∷◌, ◌++◌}
 use Rattle.ras_klog.specs.Groups.{bank_of_group}
 use Rattle.ras_klog.specs.declared.line.KlogLine.{KlogLine}
 use Rattle.ras_klog.specs.declared.line.KlogLine.TheVariants.{Start, Tsc, Processor}
@@ -17,6 +17,14 @@ stage_after stage (Start cpu mcg bank status) = Begun (record { cpu = cpu; mcg =
 stage_after (Begun head) (Tsc tsc addr misc) = Timed head tsc addr misc
 stage_after (Timed head tsc addr misc) (Processor seconds) = Idle
 stage_after stage line = stage
+
+-- whether a line has a place in the report in work: a report may begin at any line, its counter comes
+-- next, and then its time
+abbrev pub has_place : Stage → KlogLine → Bool
+has_place stage (Start cpu mcg bank status) = true
+has_place (Begun head) (Tsc tsc addr misc) = true
+has_place (Timed head tsc addr misc) (Processor seconds) = true
+has_place stage line = false
 
 -- what is told of a report in work that gets no further
 abbrev pub out_at_end : Stage → KlogOut

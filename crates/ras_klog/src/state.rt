@@ -3,7 +3,7 @@
 ghost use Rattle.std.specs.Prelude.{◌≡◌, ℕ, List};
 ghost use Rattle.ras_klog.specs.declared.line.KlogLine.{KlogLine};
 ghost use Rattle.ras_klog.specs.Groups.{told_of_groups, without_open};
-ghost use Rattle.ras_klog.specs.Stages.{at_start, stage_after, out_at, out_at_end, outs_along, outs_to_end};
+ghost use Rattle.ras_klog.specs.Stages.{at_start, has_place, stage_after, out_at, out_at_end, outs_along, outs_to_end};
 
 use crate::line::KlogLine;
 use ras_facts::BankReport;
@@ -111,6 +111,19 @@ impl KlogState {
         };
         self.stage = next_stage(self.stage, line);
         out
+    }
+
+    /// Whether a line has a place in the report in work: any `Start`, a `Tsc` right after it, and a
+    /// `Processor` after that. Other lines are passed over.
+    pub fn has_place(&self, line: KlogLine) -> bool
+        ensures { result ≡ has_place self.now line }
+    {
+        matches!(
+            (self.stage, line),
+            (_, KlogLine::Start { .. })
+                | (Stage::Begun(_), KlogLine::Tsc { .. })
+                | (Stage::Timed { .. }, KlogLine::Processor { .. })
+        )
     }
 
     /// Ends the log. A report in work isn't whole.

@@ -7,34 +7,50 @@ use Rattle.board_core.specs.Stop.{Left, Begins, InOut}
 use Rattle.board_core.specs.Told.{FailsPrint, Relates, Steps, Told, after_print}
 use Rattle.board_core.proofs.DoingLemmas.{broke_faults, well_faults}
 use Rattle.ras_account.specs.Account.{State}
-use Rattle.ras_journal.specs.Recovered.{Refusal, recovered}
+use Rattle.ras_journal.specs.Recovered.{Refusal, damaged, recovered, too_long}
 use Rattle.ras_recover.specs.OpeningCalls.{AfterRecovery}
 use Rattle.ras_recover.specs.Recovering.{RefusesHeld, RestsHere, UnlessDisk, file_number, open_failure}
 use Rattle.ras_recover.specs.declared.refused.OpenRefused.{OpenRefused}
 use Rattle.ras_recover.specs.declared.refused.OpenRefused.TheVariants as opening
 use Rattle.ras_texts.specs.declared.listing.Listing.{Listing}
+use Rattle.ras_texts.specs.declared.listing.Listing.TheVariants.{Counts, Pages, Names, Modules, Metrics}
 use Rattle.ras_exit.specs.declared.exit.Exit.{Exit}
-use Rattle.ras_exit.specs.declared.exit.Exit.TheVariants.{Damaged, DiskFault, NoMemory, PrintFault, TooLong}
+use Rattle.ras_exit.specs.declared.exit.Exit.TheVariants.{Damaged, DiskFault, Done, NoMemory, PrintFault, TooLong}
 use Rattle.ras_exit.specs.Causes.{BoardCause}
 use Rattle.board_core.specs.Device.{KeepsDevice, LeavesDevice}
 use Rattle.ras_exit.specs.Endings.{IsCut}
 use Rattle.ras_exit.specs.StopLine.{stop_line}
 use Rattle.ras_exit.proofs.DeviceLemmas.{StoreIsLeft, device_by}
 use Rattle.ras_exit.proofs.EndingLemmas.{on_answer, on_cut}
-use Rattle.ras_listing.specs.Steps.Answering.{IsCutBy, IsReportAnswer, IsSaid, unrecovered}
-use Rattle.ras_listing.specs.Reporting.{ReportMoment, Reports, report_exit, report_output}
+use Rattle.ras_listing.specs.Steps.Answering.{IsCutBy, IsReportAnswer, IsSaid, stop_mark, unrecovered, whole_listing}
+use Rattle.ras_listing.specs.Reporting.{ReportMoment, Reports, exit_by, report_exit, report_output}
 
 -- ---- what is said
 
-pub said_refused : (listing : Listing) (why : OpenRefused) (held : Result State Refusal) (exit : Exit) → unrecovered why ≡ Ok exit → RefusesHeld why held → IsSaid listing held exit (stop_line exit)
+-- an account, and a stop line in the place of a listing
+pub said_done : (listing : Listing) (account : State) → IsSaid listing (Ok account) Done (whole_listing listing account)
+said_done Metrics account = record { exit_is = refl; text_is = refl }
+said_done Counts account = record { exit_is = refl; text_is = refl }
+said_done Pages account = record { exit_is = refl; text_is = refl }
+said_done Names account = record { exit_is = refl; text_is = refl }
+said_done Modules account = record { exit_is = refl; text_is = refl }
+
+said_stop : (listing : Listing) (why : Refusal) → IsSaid listing (Err why) (exit_by (Err why)) (stop_mark listing ++ stop_line (exit_by (Err why)))
+said_stop Metrics why = record { exit_is = refl; text_is = refl }
+said_stop Counts why = record { exit_is = refl; text_is = refl }
+said_stop Pages why = record { exit_is = refl; text_is = refl }
+said_stop Names why = record { exit_is = refl; text_is = refl }
+said_stop Modules why = record { exit_is = refl; text_is = refl }
+
+pub said_refused : (listing : Listing) (why : OpenRefused) (held : Result State Refusal) (exit : Exit) → unrecovered why ≡ Ok exit → RefusesHeld why held → IsSaid listing held exit (stop_mark listing ++ stop_line exit)
 said_refused listing opening.Disk held exit is refuses = absurd cc
 said_refused listing opening.TooLong held exit is refuses =
     let same : TooLong ≡ exit = cc in
-    subst (λ (e : Exit). IsSaid listing held e (stop_line e)) same (rw refuses (record { exit_is = refl; text_is = refl }))
+    subst (λ (e : Exit). IsSaid listing held e (stop_mark listing ++ stop_line e)) same (rw refuses (said_stop listing too_long))
 said_refused listing (opening.Damaged file place) held exit is refuses =
     let same : Damaged file place ≡ exit = cc in
-    let there : IsSaid listing held (Damaged (file_number refuses.file) place) (stop_line (Damaged (file_number refuses.file) place)) = rw refuses.is (record { exit_is = refl; text_is = refl }) in
-    subst (λ (e : Exit). IsSaid listing held e (stop_line e)) (ap (λ n. Damaged n place) (sym refuses.number_is) ∙ same) there
+    let there : IsSaid listing held (Damaged (file_number refuses.file) place) (stop_mark listing ++ stop_line (Damaged (file_number refuses.file) place)) = rw refuses.is (said_stop listing (damaged refuses.file place)) in
+    subst (λ (e : Exit). IsSaid listing held e (stop_mark listing ++ stop_line e)) (ap (λ n. Damaged n place) (sym refuses.number_is) ∙ same) there
 said_refused listing opening.NoMemory held exit is refuses = absurd cc
 
 pub answer_refused : (why : OpenRefused) (exit : Exit) → unrecovered why ≡ Ok exit → IsReportAnswer exit

@@ -1,5 +1,5 @@
 -- What a report of the account prints and how it ends, by what the files hold. It writes nothing.
-use Rattle.std.specs.Prelude.{◌≡◌, ℕ, ◌⊎◌, List, ◌++◌, Result, Ok, Err, ⊤}
+use Rattle.std.specs.Prelude.{◌≡◌, ℕ, ◌⊎◌, List, ◌++◌, codes, Result, Ok, Err, ⊤}
 use Rattle.board_core.specs.Clock.{Clock, LeftNow}
 use Rattle.board_core.specs.Stop.{Left, Begins, InOut}
 use Rattle.board_core.specs.Told.{Told}
@@ -9,6 +9,7 @@ use Rattle.ras_recover.specs.DiskCalls.{IsBeginning, Makes}
 use Rattle.ras_recover.specs.OpeningCalls.{IsRecovery}
 use Rattle.ras_recover.specs.Recovering.{file_number}
 use Rattle.ras_texts.specs.declared.listing.Listing.{Listing}
+use Rattle.ras_texts.specs.declared.listing.Listing.TheVariants.{Metrics}
 use Rattle.ras_texts.specs.Listing.{listing_lines}
 use Rattle.ras_texts.specs.Text.{end_line}
 use Rattle.ras_exit.specs.declared.exit.Exit.{Exit}
@@ -24,7 +25,11 @@ exit_by (Err too_long) = TooLong
 exit_by (Err (damaged file place)) = Damaged (file_number file) place
 
 -- what it prints: the lines of the listing and the end line, or the stop line of its exit
+-- Metrics have no end line, since its numbers are among them. And in their place a stop line is a comment, so that who
+-- collects them takes no sample, but a reader sees why.
 abbrev pub output_by : Listing → Result State Refusal → List ℕ
+output_by Metrics (Ok account) = listing_lines Metrics account
+output_by Metrics (Err why) = codes "# " ++ stop_line (exit_by (Err why))
 output_by listing (Ok account) = listing_lines listing account ++ end_line account
 output_by listing (Err why) = stop_line (exit_by (Err why))
 

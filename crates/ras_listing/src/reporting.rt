@@ -6,11 +6,10 @@ ghost use Rattle.board_core.specs.Told.{Relates, Told};
 ghost use Rattle.ras_account.specs.Account.{State};
 ghost use Rattle.ras_journal.specs.Recovered.{Refusal};
 ghost use Rattle.ras_recover.specs.Recovering.{TellsHeld, open_failure};
-ghost use Rattle.ras_texts.specs.Listing.{listing_lines};
-ghost use Rattle.ras_texts.specs.Text.{end_line};
 ghost use Rattle.ras_exit.specs.Causes.{BoardCause};
+ghost use Rattle.ras_exit.specs.StopLine.{stop_line};
 ghost use Rattle.board_core.specs.Device.{LeavesDevice};
-ghost use Rattle.ras_listing.specs.Steps.Answering.{IsCutBy, IsReportAnswer, IsSaid, unrecovered};
+ghost use Rattle.ras_listing.specs.Steps.Answering.{IsCutBy, IsReportAnswer, IsSaid, stop_mark, unrecovered, whole_listing};
 ghost use Rattle.ras_listing.specs.Reporting.{IsReportExit, ReportMoment, Reports, report_output};
 
 use board_core::Board;
@@ -21,9 +20,9 @@ use ras_recover::{OpenRefused, Recovered, recover};
 use ras_texts::{Listing, end_line, push_listing};
 use std::alloc::Global;
 
-/// Prints a listing of the account that the journal's files hold, and its end line, by one call. If
-/// a file is damaged or too long, it prints the stop line in place of them. It writes nothing, and
-/// reads no script.
+/// Prints a listing of the account that the journal's files hold, and its end line, if it has one,
+/// by one call. If a file is damaged or too long, it prints the stop line in place of them, as a
+/// comment for metrics. It writes nothing, and reads no script.
 pub fn report<B: Board>(alloc: Global, listing: Listing, board: &mut B) -> Exit
     // The exit and the text are those of the files. Files and device stay.
     ensures reports { Relates (Reports listing result) (B.told board.old) (B.told board.new) }
@@ -67,21 +66,44 @@ fn answer(
         }
         Err(refused) => {
             let exit = unrecovered(refused)?;
-            let text = stop_line(alloc, exit)?;
+            let text = stop_text(alloc, listing, exit)?;
             Ok((exit, text))
         }
     }
 }
 
-// The lines of a listing of an account, and its end line.
+// The lines of a listing of an account, and its end line, if it has one.
 fn account_text(alloc: Global, listing: Listing, account: &Account) -> Result<Vec<u8>, NoMemory>
-    ensures { IfOk result (λ text. text.items
-        ≡ listing_lines listing account.now.state ++ end_line account.now.state) }
+    ensures { IfOk result (λ text. text.items ≡ whole_listing listing account.now.state) }
 {
     let mut text = Vec::new(alloc);
     push_listing(&mut text, listing, account)?;
-    text.extend_from_slice(&end_line(alloc, account)?)?;
+    match listing {
+        Listing::Counts | Listing::Pages | Listing::Names | Listing::Modules => {
+            text.extend_from_slice(&end_line(alloc, account)?)?;
+        }
+        Listing::Metrics => {}
+    }
     Ok(text)
+}
+
+// The stop line of an exit in the place of a listing.
+fn stop_text(alloc: Global, listing: Listing, exit: Exit) -> Result<Vec<u8>, NoMemory>
+    ensures { IfOk result (λ text. text.items ≡ stop_mark listing ++ stop_line exit) }
+{
+    let mut text = Vec::from_slice(alloc, stop_word(listing))?;
+    text.extend_from_slice(&stop_line(alloc, exit)?)?;
+    Ok(text)
+}
+
+// What stands before a stop line in the place of a listing.
+fn stop_word(listing: Listing) -> &'static [u8]
+    ensures { result.now ≡ stop_mark listing }
+{
+    match listing {
+        Listing::Counts | Listing::Pages | Listing::Names | Listing::Modules => b"",
+        Listing::Metrics => b"# ",
+    }
 }
 
 // How a report ends over files that weren't recovered: by an answer, or cut short.

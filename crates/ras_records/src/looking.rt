@@ -129,10 +129,7 @@ fn read_all<B: Board>(
     let mut looked = Looked::new(alloc);
     for id in ids {
         driver.read(*id, buffer, board)?;
-        match looked.push(alloc, seconds, topology, *id, buffer) {
-            Ok(()) => {}
-            Err(NoMemory) => return Err(DriverRefused::NoMemory),
-        }
+        looked.push(alloc, seconds, topology, *id, buffer)?;
     }
     Ok(looked)
 }

@@ -1,12 +1,12 @@
 -- What a reader of lines gives and holds, from one step to the next.
-use Rattle.std.proofs.Common.{◌≡◌, ℕ, ◌+◌, ◌-◌, ◌<◌, ◌≤◌, List, [], ◌∷◌, ◌++◌, length, take, drop, Option, None, Some, IfSome, Result, Ok, Err, IfOk, IfErr, OnOk, OnErr, Bool, true, false, inl, Contains, get_or, zero, suc, IsTrue, ◌↔◌, refl, ap, sym, ◌∙◌, arith, length-append, append_assoc}
+use Rattle.std.proofs.Common.{◌≡◌, ℕ, subst, MatchOption, is_some, ◌+◌, ◌-◌, ◌<◌, ◌≤◌, List, [], ◌∷◌, ◌++◌, length, take, drop, Option, None, Some, IfSome, Result, Ok, Err, Bool, true, false, inl, Contains, get_or, zero, suc, IsTrue, ◌↔◌, refl, ap, sym, ◌∙◌, arith, length-append, append_assoc}
 use Rattle.std.proofs.lemmas.List.{append-nil, take-append-drop, drop-drop, length-drop, length-take-le}
-use Rattle.std.proofs.lemmas.List.Elements.{at_from_Contains}
+use Rattle.std.proofs.lemmas.List.Elements.{at_from_Contains, Contains-append_right, Contains-from_at}
 use Rattle.std.proofs.Math.Seq.{take-append_seam}
 use lib.Seq.{take-add}
 use Rattle.ras_script.specs.Lines.{Lines, lines_within, with_line, no_line, script_ended, line_too_long, script_too_long}
-use Rattle.ras_script.specs.Reader.{Reader, given_count, lines_to_come, AreTaken, Moves, MovesLine, GivesNext}
-use Rattle.ras_script.specs.Steps.ReaderSteps.{FeedAt, Finds, IsHeld}
+use Rattle.ras_script.specs.Reader.{Advances, Reader, given_count, lines_to_come, AreTaken, Moves, MovesLine, GivesNext}
+use Rattle.ras_script.specs.Steps.ReaderSteps.{FeedAt, Finds, GivesLine, IsHeld}
 use Rattle.ras_script.specs.SplittingLaws.{Lacks}
 use Rattle.ras_script.specs.declared.reader.NextRefused.{NextRefused}
 use Rattle.ras_script.specs.declared.reader.NextRefused.TheVariants.{Source, LineTooLong, TooLong}
@@ -141,34 +141,28 @@ gives_refused TooLong old mid before now moves is found =
 gives_refused Source old mid before now moves is found = come_same old mid before now moves
 
 pub gives_line : (result : Result Bool NextRefused) (size : ℕ) (old mid new : Reader) (before now : Option (List ℕ)) → Moves [] old mid before now → IsHeld mid → FeedAt size mid.held
-    → IfOk result (λ more. more ≡ true) → OnOk result (new.line ≡ take size mid.held) → OnOk result (new.held ≡ drop (size + 1) mid.held) → new.taken ≡ mid.taken
-    → OnOk result (given_count mid + size < LONGEST_SCRIPT) → OnErr result (LONGEST_SCRIPT ≤ given_count mid + size) → IfErr result (λ refused. refused ≡ TooLong)
-    → IfSome before (λ b. IfSome now (λ n. GivesNext result (lines_to_come old b) new n))
-gives_line (Ok true) size old mid new before now moves is at some line held taken within past refused =
-    of_first old mid before now (λ n. with_line new.line (lines_to_come new n)) moves (come_line size mid new at is.known is.buffer within line held taken)
-gives_line (Ok false) size old mid new before now moves is at some line held taken within past refused = absurd (false_not_true some)
-gives_line (Err TooLong) size old mid new before now moves is at some line held taken within past refused =
-    of_first old mid before now (λ _. no_line script_too_long) moves (come_feed_past size mid at is.known is.few is.buffer past)
-gives_line (Err LineTooLong) size old mid new before now moves is at some line held taken within past refused = absurd (line_not_script refused)
-gives_line (Err Source) size old mid new before now moves is at some line held taken within past refused = absurd (source_not_script refused)
+    → GivesLine result size mid new → IfSome before (λ b. IfSome now (λ n. GivesNext result (lines_to_come old b) new n))
+gives_line (Ok true) size old mid new before now moves is at gave =
+    of_first old mid before now (λ n. with_line new.line (lines_to_come new n)) moves (come_line size mid new at is.known is.buffer gave.within gave.line gave.held gave.taken)
+gives_line (Ok false) size old mid new before now moves is at gave = absurd gave
+gives_line (Err TooLong) size old mid new before now moves is at gave =
+    of_first old mid before now (λ _. no_line script_too_long) moves (come_feed_past size mid at is.known is.few is.buffer gave.1)
+gives_line (Err LineTooLong) size old mid new before now moves is at gave = absurd gave
+gives_line (Err Source) size old mid new before now moves is at gave = absurd gave
 
 -- what was given with its line feed
 pub moves_line : (result : Result Bool NextRefused) (size : ℕ) (old mid new : Reader) (before now : Option (List ℕ)) → Moves [] old mid before now → FeedAt size mid.held
-    → IfOk result (λ more. more ≡ true) → OnOk result (new.line ≡ take size mid.held) → OnOk result (new.held ≡ drop (size + 1) mid.held) → new.taken ≡ mid.taken → OnErr result (new.held ≡ mid.held)
-    → MovesLine result old new before now
-moves_line (Ok true) size old mid new before now moves at some line held taken kept = inl (record {
+    → GivesLine result size mid new → MovesLine result old new before now
+moves_line (Ok true) size old mid new before now moves at gave = inl (record {
   bytes = moves.bytes;
   taken = moves.taken;
-  kept = moves.kept ∙ at.parts ∙ rw (← line, ← held) (sym (append_assoc new.line (10 ∷ []) new.held));
-  count = taken ∙ moves.count;
+  kept = moves.kept ∙ at.parts ∙ rw (← gave.line, ← gave.held) (sym (append_assoc new.line (10 ∷ []) new.held));
+  count = gave.taken ∙ moves.count;
 })
-moves_line (Ok false) size old mid new before now moves at some line held taken kept = absurd (false_not_true some)
-moves_line (Err refused) size old mid new before now moves at some line held taken kept = record {
-  bytes = moves.bytes;
-  taken = moves.taken;
-  kept = moves.kept ∙ sym kept;
-  count = taken ∙ moves.count;
-}
+moves_line (Ok false) size old mid new before now moves at gave = absurd gave
+moves_line (Err TooLong) size old mid new before now moves at gave = rw gave.0 moves
+moves_line (Err LineTooLong) size old mid new before now moves at gave = absurd gave
+moves_line (Err Source) size old mid new before now moves at gave = absurd gave
 
 -- a front of bytes that hold no line feed holds none
 pub front_lacks : (xs ys : List ℕ) → Lacks 10 (xs ++ ys) → Lacks 10 xs
@@ -216,14 +210,68 @@ gives_rest false old mid new (Some b) (Some n) moves is found some line held =
 count_same : (old mid : Reader) (before now : Option (List ℕ)) → Moves [] old mid before now → given_count mid ≡ given_count old
 count_same old mid before now moves = omega (arith, moves.count, ap length moves.kept, length-append old.held moves.bytes)
 
-pub line_grows : (result : Result Bool NextRefused) (size : ℕ) (old mid new : Reader) (before now : Option (List ℕ)) → Moves [] old mid before now → IsHeld mid → FeedAt size mid.held
-    → OnOk result (new.held ≡ drop (size + 1) mid.held) → new.taken ≡ mid.taken → result ≡ Ok true → given_count old < given_count new
-line_grows (Ok more) size old mid new before now moves is at held taken gives =
-    omega (arith, count_same old mid before now moves, is.known, at.inside, ap length held, length-drop (size + 1) mid.held, taken)
-line_grows (Err refused) size old mid new before now moves is at held taken gives = absurd (err_not_ok refused true gives)
+-- no more is held than a line and a byte
+taken_ahead : (old mid : Reader) (before now : Option (List ℕ)) → Moves [] old mid before now → IsHeld mid → length old.held + (mid.taken - old.taken) ≤ LONGEST_LINE + 1
+taken_ahead old mid before now moves is = omega (arith, moves.count, ap length moves.kept, length-append old.held moves.bytes, is.buffer)
 
-pub rest_grows : (result : Bool) (old mid new : Reader) (before now : Option (List ℕ)) → Moves [] old mid before now → IsHeld mid
-    → (IsTrue result ↔ (0 < length mid.held)) → new.held ≡ [] → new.taken ≡ mid.taken → answer result ≡ answer true → given_count old < given_count new
-rest_grows true old mid new before now moves is some held taken gives =
-    omega (arith, count_same old mid before now moves, is.known, some.0 refl, ap length held, taken)
-rest_grows false old mid new before now moves is some held taken gives = absurd (ok_not_true gives)
+-- no line was given, since the search for its end failed
+pub advances_refused : (why : NextRefused) (old mid : Reader) (before now : Option (List ℕ)) → Moves [] old mid before now → IsHeld mid → Finds (Err why) mid now
+    → Advances (◌≡◌ {A = Result Bool NextRefused} (Err why) (Ok true)) (◌≡◌ {A = Result Bool NextRefused} (Err why) (Err Source)) old mid
+advances_refused why old mid before now moves is found = record {
+  line = λ given. absurd (err_not_ok why true given);
+  grows = λ given. absurd (err_not_ok why true given);
+  ahead = taken_ahead old mid before now moves is;
+  few = is.few;
+  none = λ failed. lacks why found failed;
+}
+  where
+    lacks : (why : NextRefused) → Finds (Err why) mid now → ◌≡◌ {A = Result Bool NextRefused} (Err why) (Err Source) → Lacks 10 mid.held
+    lacks LineTooLong found failed = found.0
+    lacks TooLong found failed = found.0
+    lacks Source found failed = found
+
+pub advances_line : (result : Result Bool NextRefused) (size : ℕ) (old mid new : Reader) (before now : Option (List ℕ)) → Moves [] old mid before now → IsHeld mid → FeedAt size mid.held
+    → GivesLine result size mid new → Advances (result ≡ Ok true) (result ≡ Err Source) old new
+advances_line (Ok true) size old mid new before now moves is at gave = record {
+  line = λ given. (rw gave.line at.before, omega (arith, ap length gave.line, length-take-le size mid.held (omega (arith, at.inside)), at.inside, is.buffer));
+  grows = λ given. omega (arith, count_same old mid before now moves, is.known, at.inside, ap length gave.held, length-drop (size + 1) mid.held, gave.taken);
+  ahead = omega (arith, taken_ahead old mid before now moves is, gave.taken);
+  few = omega (arith, is.few, gave.taken);
+  none = λ failed. absurd cc;
+}
+advances_line (Ok false) size old mid new before now moves is at gave = absurd gave
+advances_line (Err TooLong) size old mid new before now moves is at gave = rw gave.0 (record {
+  line = λ given. absurd cc;
+  grows = λ given. absurd cc;
+  ahead = taken_ahead old mid before now moves is;
+  few = is.few;
+  none = λ failed. absurd cc;
+})
+advances_line (Err LineTooLong) size old mid new before now moves is at gave = absurd gave
+advances_line (Err Source) size old mid new before now moves is at gave = absurd gave
+
+pub advances_rest : (result : Bool) (old mid new : Reader) (before now : Option (List ℕ)) → Moves [] old mid before now → IsHeld mid → Finds (Ok None) mid now
+    → (IsTrue result ↔ (0 < length mid.held)) → new.line ≡ mid.held → new.held ≡ [] → new.taken ≡ mid.taken → Advances (answer result ≡ Ok true) (answer result ≡ Err Source) old new
+advances_rest result old mid new before now moves is found some line held taken = record {
+  line = λ given. rw line (found.0, found.1);
+  grows = λ given. (let more : 0 < length mid.held = some.0 (given_true result given) in omega (arith, count_same old mid before now moves, is.known, ap length held, taken, more));
+  ahead = omega (arith, taken_ahead old mid before now moves is, taken);
+  few = omega (arith, is.few, taken);
+  none = λ failed. absurd cc;
+}
+  where
+    given_true : (result : Bool) → answer result ≡ Ok true → IsTrue result
+    given_true true given = refl
+    given_true false given = absurd (ok_not_true given)
+
+-- ---- a line feed is held, or none is
+
+contains_first : (text : List ℕ) → Contains (10 ∷ text) 10
+contains_first text = Contains-from_at (10 ∷ text) 10 (0, omega arith, λ d. refl)
+
+contains_feed : (size : ℕ) (text : List ℕ) → FeedAt size text → Contains text 10
+contains_feed size text at = subst (λ (t : List ℕ). Contains t 10) (sym at.parts) (Contains-append_right (take size text) (10 ∷ drop (size + 1) text) 10 (contains_first (drop (size + 1) text)))
+
+pub holds_feed : (found : Option ℕ) (text : List ℕ) → MatchOption found (Lacks 10 text) (λ place. FeedAt place text) → (is_some found ≡ true) ↔ Contains text 10
+holds_feed None text lacks = (λ is. absurd cc, λ holds. absurd (lacks_not_contains text lacks holds))
+holds_feed (Some place) text at = (λ is. contains_feed place text at, λ holds. refl)

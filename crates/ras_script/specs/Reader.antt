@@ -1,5 +1,5 @@
 -- What a reader of lines holds of its source's bytes, and what it gives.
-use Rattle.std.specs.Prelude.{◌≡◌, ℕ, ◌+◌, ◌-◌, ◌≤◌, ◌⊎◌, Bool, true, false, List, [], ◌∷◌, ◌++◌, length, Option, None, Some, Result, Ok, Err, IfSome, IsSomeAnd}
+use Rattle.std.specs.Prelude.{◌≡◌, ℕ, ◌+◌, ◌-◌, ◌<◌, ◌≤◌, ◌⊎◌, Bool, true, false, List, [], ◌∷◌, ◌++◌, length, Option, None, Some, Result, Ok, Err, IfSome, IsSomeAnd}
 use Rattle.board_core.specs.Cause.{Rose}
 use Rattle.ras_script.specs.declared.reader.TheConstants.{LONGEST_SCRIPT, LONGEST_LINE}
 use Rattle.ras_script.specs.declared.reader.NextRefused.{NextRefused}
@@ -51,12 +51,25 @@ IsAtEnd reader left = (reader.held ≡ []) × IfSome left (λ rest. rest ≡ [])
 
 -- What a call gave: a line with its line feed, or the last line, after which nothing is left; else
 -- nothing.
-abbrev pub MovesLine : Result Bool NextRefused → Reader → Reader → Option (List ℕ) → Option (List ℕ) → Type 0
+abbrev pub MovesLine : {E : Type 0} → Result Bool E → Reader → Reader → Option (List ℕ) → Option (List ℕ) → Type 0
 MovesLine (Ok true) old new before now =
     Moves (new.line ++ 10 ∷ []) old new before now
     ⊎ (Moves new.line old new before now × IsAtEnd new now)
 MovesLine (Ok false) old new before now = Moves [] old new before now × IsAtEnd new now
 MovesLine (Err refused) old new before now = Moves [] old new before now
+
+-- What else holds of a call, by whether a line was given and whether the source failed.
+pub record Advances (Given Failed : Type 0) (old new : Reader) : Type 0 where
+  -- a line that is given is one
+  pub line : Given → IsLine new.line
+  -- with a line the bytes given grow, so a loop over the lines ends
+  pub grows : Given → given_count old < given_count new
+  -- what was held and what was taken is no more than a line and a byte,
+  pub ahead : length old.held + (new.taken - old.taken) ≤ LONGEST_LINE + 1
+  -- nor is more taken than one byte past the longest script
+  pub few : new.taken ≤ LONGEST_SCRIPT + 1
+  -- if the source failed, no line feed is held
+  pub none : Failed → Lacks 10 new.held
 
 -- A reading fails only if the source's count of faults rose; else the count is what it was.
 abbrev pub HasSourceCause : {T : Type 0} → Result T NextRefused → ℕ → ℕ → Type 0

@@ -5,8 +5,8 @@ ghost use Rattle.board_core.specs.Cause.{HasCause};
 ghost use Rattle.ras_script.specs.Lines.{lines_within, with_line};
 ghost use Rattle.ras_script.specs.LinesLaws.{AreLinesOf};
 ghost use Rattle.ras_script.specs.Splitting.{lines_of};
-ghost use Rattle.ras_script.specs.Reader.{GivesNext, MovesLine, Moves, HasSourceCause, IsLine, lines_to_come, given_count};
-ghost use Rattle.ras_script.specs.Steps.ReaderSteps.{FeedAt, Finds, IsHeld};
+ghost use Rattle.ras_script.specs.Reader.{Advances, GivesNext, MovesLine, Moves, HasSourceCause, IsLine, lines_to_come, given_count};
+ghost use Rattle.ras_script.specs.Steps.ReaderSteps.{FeedAt, Finds, GivesLine, IsHeld};
 ghost use Rattle.ras_script.specs.SplittingLaws.{Lacks};
 ghost use Rattle.ras_script.specs.declared.reader.NextRefused.TheVariants as RefusedFor;
 
@@ -110,6 +110,13 @@ impl LineReader {
         self.window.line()
     }
 
+    /// Whether a line is held with its line feed, so that `advance` reads nothing.
+    pub fn has_line(&self) -> bool
+        ensures { IsTrue result ↔ Contains self.now.held 10 }
+    {
+        self.first_line_feed(0).is_some()
+    }
+
     /// Goes to the next line, which `line` then gives, and returns whether there was one. It reads
     /// only while it holds no line feed, and takes no memory. With each line the number of bytes
     /// given grows, so a loop over the lines ends, whatever its source gives.
@@ -124,13 +131,10 @@ impl LineReader {
         ensures lines { IfSome (S.left source.old) (λ before. IfSome (S.left source.new) (λ now.
             GivesNext result (lines_to_come self.old before) self.new now)) }
         ensures moves { MovesLine result self.old self.new (S.left source.old) (S.left source.new) }
-        ensures line { result ≡ Ok true → IsLine self.new.line }
-        ensures ahead { length self.new.held ≤ LONGEST_LINE + 1 }
-        ensures few { self.new.taken ≤ LONGEST_SCRIPT + 1 }
-        ensures given { result ≡ Ok true → given_count self.old < given_count self.new }
+        ensures advances { Advances (result ≡ Ok true) (result ≡ Err NextRefused.Source)
+            self.old self.new }
         ensures held_first { Contains self.old.held 10 → source.new ≡ source.old }
         ensures cause { HasSourceCause result (S.faults source.old) (S.faults source.new) }
-        ensures fault { result ≡ Err NextRefused.Source → Lacks 10 self.new.held }
     {
         match self.find_line(source)? {
             Some(size) => self.give_line(size),
@@ -226,14 +230,7 @@ impl LineReader {
     // Gives the bytes held before a line feed, unless the line feed is past the longest script.
     fn give_line(&mut self, size: usize) -> Result<bool, NextRefused>
         requires { FeedAt size self.old.held }
-        ensures some { IfOk result (λ more. more ≡ true) }
-        ensures line { OnOk result (self.new.line ≡ take size self.old.held) }
-        ensures held { OnOk result (self.new.held ≡ drop (size + 1) self.old.held) }
-        ensures taken { self.new.taken ≡ self.old.taken }
-        ensures within { OnOk result (given_count self.old + size < LONGEST_SCRIPT) }
-        ensures past { OnErr result (LONGEST_SCRIPT ≤ given_count self.old + size) }
-        ensures refused { IfErr result (λ refused. refused ≡ RefusedFor.TooLong) }
-        ensures kept { OnErr result (self.new.held ≡ self.old.held) }
+        ensures { GivesLine result size self.old self.new }
     {
         let given = self.taken - self.window.held_len();
         if given + size >= LONGEST_SCRIPT {

@@ -6,3 +6,5 @@ pub mod Orders
 pub mod OrderRoom
 pub mod Listing
 pub mod Unreadable
+pub mod Metrics
+pub mod MetricsReader

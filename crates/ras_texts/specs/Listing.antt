@@ -1,4 +1,4 @@
--- The lines of a listing: of what is counted of each module, of each page, or of the names.
+-- The lines of a listing: of what is counted of each module, of each page, of the names, or of the metrics.
 use Rattle.std.specs.Prelude.{ℕ, Bool, List, [], ◌++◌, codes, decimal, if◌then◌else◌}
 use Rattle.std.specs.List.{flat_map, zip}
 use Rattle.std.specs.Option.{option_map_or}
@@ -7,14 +7,13 @@ use Rattle.mca_status.specs.Classes.{classes}
 use Rattle.dimm_topology.specs.Labels.{Bytes}
 use Rattle.page_policy.specs.declared.buckets.Bucket.{Bucket}
 use Rattle.page_policy.specs.declared.rows.PageRow.{PageRow}
-use Rattle.page_policy.specs.declared.rows.PageState.{PageState}
-use Rattle.page_policy.specs.declared.rows.PageState.TheVariants.{Kept, Soft, Hard}
 use Rattle.ras_facts.specs.declared.name.Name.{Name}
 use Rattle.ras_account.specs.Account.{State}
 use Rattle.ras_account.specs.Modules.{Module}
 use Rattle.ras_texts.specs.declared.listing.Listing.{Listing}
-use Rattle.ras_texts.specs.declared.listing.Listing.TheVariants.{Counts, Pages, Names, Modules}
-use Rattle.ras_texts.specs.Text.{address_text, class_text, label_text, line_with, name_text}
+use Rattle.ras_texts.specs.declared.listing.Listing.TheVariants.{Counts, Pages, Names, Modules, Metrics}
+use Rattle.ras_texts.specs.Metrics.{metrics_text}
+use Rattle.ras_texts.specs.Text.{address_text, class_text, label_text, line_with, name_text, state_text}
 
 -- the weight of a class, and the weights of all classes in the order of their numbers
 abbrev pub class_count : ItemClass × ℕ → List ℕ
@@ -26,11 +25,6 @@ class_counts sums = flat_map class_count (zip classes sums)
 -- what a bucket holds, and its time
 abbrev pub bucket_text : Bucket → List ℕ
 bucket_text bucket = codes " count=" ++ decimal bucket.count ++ codes " stamp=" ++ decimal bucket.stamp
-
-abbrev pub state_text : PageState → List ℕ
-state_text Kept = codes "kept"
-state_text Soft = codes "soft"
-state_text Hard = codes "hard"
 
 abbrev pub replace_text : Bool → List ℕ
 replace_text replace = if replace then codes "replace" else codes "kept"
@@ -62,3 +56,4 @@ listing_lines Counts account = flat_map counts_line account.modules
 listing_lines Pages account = flat_map page_row_line account.pages
 listing_lines Names account = flat_map listed_name account.names
 listing_lines Modules account = flat_map module_row_line account.modules
+listing_lines Metrics account = metrics_text account

@@ -5,6 +5,8 @@ use Rattle.hex.specs.Hex.{encode_lower}
 use Rattle.mca_status.specs.declared.classes.ItemClass.{ItemClass}
 use Rattle.mca_status.specs.declared.classes.ItemClass.TheVariants.{Ce, Ucna, Srao, Srar, Uc, Odd, Corrected, Recoverable, Fatal, Informational}
 use Rattle.page_policy.specs.declared.buckets.Limit.{Limit}
+use Rattle.page_policy.specs.declared.rows.PageState.{PageState}
+use Rattle.page_policy.specs.declared.rows.PageState.TheVariants.{Kept, Soft, Hard}
 use Rattle.ras_facts.specs.declared.fact.Fact.{Fact}
 use Rattle.ras_facts.specs.declared.items.Item.{Item}
 use Rattle.ras_facts.specs.declared.name.Name.{Name}
@@ -47,6 +49,12 @@ address_text page = drop 3 (encode_lower (to_be_bytes w64 page)) ++ codes "000"
 abbrev pub page_text : Option ℕ → List ℕ
 page_text None = codes "-"
 page_text (Some page) = address_text page
+
+-- the word of a page's state
+abbrev pub state_text : PageState → List ℕ
+state_text Kept = codes "kept"
+state_text Soft = codes "soft"
+state_text Hard = codes "hard"
 
 -- a module's label, if one is known
 abbrev pub label_text : List ℕ → List ℕ

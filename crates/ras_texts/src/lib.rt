@@ -4,18 +4,23 @@
 
 mod detail;
 mod ends;
+mod laws;
 mod listing;
 mod log;
+mod metrics;
 mod order;
 mod pieces;
 mod report;
 mod section;
 mod unreadable;
+mod version;
 
 pub use ends::{done_line, end_line, push_done};
+pub use laws::metrics_laws;
 pub use listing::{Listing, push_listing};
 pub use log::{push_known, push_repeat};
 pub use order::{ORDER_LENGTH, push_orders, standing_lines};
 pub use pieces::{class_word, push_name, push_number};
 pub use report::{push_detail, push_entry, push_report};
 pub use unreadable::push_unreadable;
+pub use version::VERSION;

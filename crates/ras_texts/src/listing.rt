@@ -6,10 +6,13 @@ ghost use Rattle.page_policy.specs.Pages.{page_entry};
 ghost use Rattle.ras_account.specs.Rows.{row_of};
 ghost use Rattle.ras_texts.specs.Listing.{bucket_line, bucket_text, class_count};
 ghost use Rattle.ras_texts.specs.Listing.{counts_line, listed_name, listing_lines};
-ghost use Rattle.ras_texts.specs.Listing.{module_row_line, page_row_line, replace_text, state_text};
+ghost use Rattle.ras_texts.specs.Listing.{module_row_line, page_row_line, replace_text};
 
-use crate::pieces::{class_word, push_label, push_name, push_number, push_page};
-use mca_status::{CLASS_COUNT, ItemClass};
+use crate::metrics::push_metrics;
+use crate::pieces::{
+    CLASSES, class_word, push_label, push_name, push_number, push_page, state_word,
+};
+use mca_status::ItemClass;
 use page_policy::{Bucket, PageState};
 use ras_account::{Account, ModuleRow};
 use ras_base::NoMemory;
@@ -26,21 +29,9 @@ pub enum Listing {
     Names,
     /// Each module that has a bucket, with the bucket.
     Modules,
+    /// Sums of all of these, in the text format of Prometheus.
+    Metrics,
 }
-
-// The classes in the order of their numbers.
-const CLASSES: [ItemClass; CLASS_COUNT] = [
-    ItemClass::Ce,
-    ItemClass::Ucna,
-    ItemClass::Srao,
-    ItemClass::Srar,
-    ItemClass::Uc,
-    ItemClass::Odd,
-    ItemClass::Corrected,
-    ItemClass::Recoverable,
-    ItemClass::Fatal,
-    ItemClass::Informational,
-];
 
 /// Adds the lines of a listing of an account, in the order in which its rows were first seen.
 ///
@@ -56,6 +47,7 @@ pub fn push_listing(text: &mut Vec<u8>, listing: Listing, account: &Account) -> 
         Listing::Pages => push_pages(text, account),
         Listing::Names => push_names(text, account),
         Listing::Modules => push_modules(text, account),
+        Listing::Metrics => push_metrics(text, account),
     }
 }
 
@@ -201,17 +193,6 @@ fn push_bucket(text: &mut Vec<u8>, bucket: Bucket) -> Result<(), NoMemory>
     push_number(text, u64::from(bucket.count))?;
     text.extend_from_slice(b" stamp=")?;
     push_number(text, bucket.stamp)
-}
-
-// The word of a page's state.
-fn state_word(state: PageState) -> &'static [u8]
-    ensures { result.now ≡ state_text state }
-{
-    match state {
-        PageState::Kept => b"kept",
-        PageState::Soft => b"soft",
-        PageState::Hard => b"hard",
-    }
 }
 
 // The word of whether a module is to be replaced.

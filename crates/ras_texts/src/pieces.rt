@@ -3,13 +3,28 @@
 ghost use Rattle.std.specs.Prelude.{◌≡◌, ◌++◌, decimal, drop, OnOk};
 ghost use Rattle.std.specs.Int.{to_be_bytes, w64};
 ghost use Rattle.hex.specs.Hex.{encode_lower};
-ghost use Rattle.ras_texts.specs.Text.{class_text, label_text, name_text, page_text};
+ghost use Rattle.ras_texts.specs.Text.{class_text, label_text, name_text, page_text, state_text};
 
 use dimm_topology::Label;
 use itoa::Buffer;
-use mca_status::ItemClass;
+use mca_status::{CLASS_COUNT, ItemClass};
+use page_policy::PageState;
 use ras_base::NoMemory;
 use ras_facts::Name;
+
+/// The classes in the order of their numbers.
+pub(crate) const CLASSES: [ItemClass; CLASS_COUNT] = [
+    ItemClass::Ce,
+    ItemClass::Ucna,
+    ItemClass::Srao,
+    ItemClass::Srar,
+    ItemClass::Uc,
+    ItemClass::Odd,
+    ItemClass::Corrected,
+    ItemClass::Recoverable,
+    ItemClass::Fatal,
+    ItemClass::Informational,
+];
 
 /// Adds a number in decimal.
 ///
@@ -92,6 +107,17 @@ pub fn class_word(class: ItemClass) -> &'static [u8]
     }
 }
 
+/// The word of a page's state.
+pub(crate) fn state_word(state: PageState) -> &'static [u8]
+    ensures { result.now ≡ state_text state }
+{
+    match state {
+        PageState::Kept => b"kept",
+        PageState::Soft => b"soft",
+        PageState::Hard => b"hard",
+    }
+}
+
 /// The number of a page in 13 hexadecimal digits. With three zeros after it, it is the address of
 /// the page's first byte.
 pub fn page_digits(page: u64) -> [u8; 13]
@@ -129,11 +155,14 @@ pub fn push_page(text: &mut Vec<u8>, page: Option<u64>) -> Result<(), NoMemory>
 pub fn push_label(text: &mut Vec<u8>, label: &Label) -> Result<(), NoMemory>
     ensures { OnOk result (text.new.items ≡ text.old.items ++ label_text label.now) }
 {
-    let bytes = label.bytes();
-    if bytes.is_empty() {
-        text.extend_from_slice(b"-")?;
-    } else {
-        text.extend_from_slice(bytes)?;
-    }
+    text.extend_from_slice(label_word(label))?;
     Ok(())
+}
+
+/// The label of a module, or `-` for none.
+pub fn label_word(label: &Label) -> &[u8]
+    ensures { result.now ≡ label_text label.now }
+{
+    let bytes = label.bytes();
+    if bytes.is_empty() { b"-" } else { bytes }
 }

@@ -1,13 +1,17 @@
-"""The commands beside `run`: listings of the account, a run in memory, and two that read a text and keep nothing."""
+"""The commands beside `run`: listings of the account, a run in memory, those that read a text, and two that tell of rasd."""
+import pathlib
 import re
 import uuid
 
 from reference import load, reports
-from reference.account import CLASSES, STATES, text_of_name
+from reference.account import CLASSES, MOST_NAMES, STATES, text_of_name
 from reference.base import Refused, Stop
 from reference.journal import recover
+from reference.kernel import decimal_of, klog, lines_klog, lines_trace
 from reference.reports import bit, digits, number_at
 from reference.script import lines_of, read_line
+
+VERSION = (pathlib.Path(__file__).resolve().parents[3] / "VERSION").read_text().strip()
 
 
 def end_line(account):
@@ -51,7 +55,48 @@ def modules(account):
             yield f"module label={label.decode()} state={state} {bucket}\n"
 
 
-LISTINGS = {b"counts": counts, b"pages": pages, b"names": names, b"modules": modules}
+def sample(name, labels, number):
+    """A sample in the text format of Prometheus."""
+    escaped = ((key, text.replace("\\", "\\\\").replace('"', '\\"')) for key, text in labels.items())
+    told = ",".join(f'{key}="{text}"' for key, text in escaped)
+    return f"{name}{{{told}}} {number}\n" if told else f"{name} {number}\n"
+
+
+def families(account):
+    """Each metric: its name, how it changes, what it is, and its numbers by their labels."""
+    rows = [(label.decode() or "-", module) for label, module in account.modules.items()]
+    buckets = [({"label": label}, module) for label, module in rows if module.bucket]
+    states = [STATES[page.state] for page in account.pages.values()]
+    yield "rasd_errors_total", "counter", "Errors by their module and class, each by its weight.", [
+        ({"label": label, "class": name}, count) for label, module in rows for name, count in zip(CLASSES, module.sums)
+    ]
+    yield "rasd_pages", "gauge", "Pages with errors by their state: soft and hard are ordered out of use.", [
+        ({"state": state}, states.count(state)) for state in ("soft", "hard", "kept")
+    ]
+    yield "rasd_module_replace", "gauge", "1 if the module is to be replaced.", [
+        (labels, int(module.is_replaced)) for labels, module in buckets
+    ]
+    yield "rasd_module_bucket_errors", "gauge", "Corrected errors in the bucket of the module.", [
+        (labels, module.bucket.count) for labels, module in buckets
+    ]
+    limit_help = "Corrected errors in a bucket at which its module is to be replaced."
+    yield "rasd_module_bucket_limit", "gauge", limit_help, [({}, account.module_limit[0])]
+    yield "rasd_names", "gauge", "Names of errors that are known.", [({}, len(account.names))]
+    yield "rasd_names_limit", "gauge", "The most names that can be known.", [({}, MOST_NAMES)]
+    entries_help = "Entries of the account: new errors, limits and retired boots."
+    yield "rasd_entries_total", "counter", entries_help, [({}, account.entries)]
+    yield "rasd_boot_floor", "gauge", "The boot below which all boots are retired.", [({}, account.floor)]
+    yield "rasd_build_info", "gauge", "1, with the version of the program.", [({"version": VERSION}, 1)]
+
+
+def metrics(account):
+    """All metrics."""
+    for name, kind, text, samples in families(account):
+        yield f"# HELP {name} {text}\n# TYPE {name} {kind}\n"
+        yield from (sample(name, labels, number) for labels, number in samples)
+
+
+LISTINGS = {b"counts": counts, b"pages": pages, b"names": names, b"modules": modules, b"metrics": metrics}
 
 
 def report(listing, files):
@@ -59,8 +104,8 @@ def report(listing, files):
     try:
         account = recover([data or b"" for data in files])[1]
     except Stop as end:
-        return stop_line(end), end.status
-    return "".join(listing(account)) + end_line(account), 0
+        return ("# " if listing is metrics else "") + stop_line(end), end.status
+    return "".join(listing(account)) + ("" if listing is metrics else end_line(account)), 0
 
 
 # ---- pcie
@@ -159,80 +204,34 @@ def pcie(script):
     return "".join(lines) + f"end sections={len(read)} devices={len(devices)}\n", 0
 
 
-# ---- klog
-
-MARKER = b"[Hardware Error]: "
-HEX, DECIMAL = rb"([0-9a-fA-F]{1,16})", rb"([0-9]{1,20})"
-WORD_ENDS = rb"(?= |\Z)"
-START = re.compile(rb"CPU %s: Machine Check(?:| Exception): %s Bank %s: %s *" % (DECIMAL, HEX, DECIMAL, HEX))
-TSC = re.compile(rb"TSC %s(?: ADDR %s)?(?: MISC %s)?(?: .*)?" % (3 * (HEX + WORD_ENDS,)), re.S)
-PROCESSOR = re.compile(rb"PROCESSOR %s:%s TIME %s(?: .*)?" % (DECIMAL, HEX, DECIMAL), re.S)
-
-
-def decimal_of(digits, most=2**64 - 1):
-    """A decimal word, or None where it is above the most."""
-    return int(digits) if int(digits) <= most else None
-
-
-def klog_line(line):
-    """What a line of a kernel log tells: its kind and its numbers; None where it tells nothing."""
-    _, marker, text = line.partition(MARKER)
-    if not marker:
-        return None
-    if found := START.fullmatch(text):
-        cpu, mcg, bank, status = found.groups()
-        numbers = (decimal_of(cpu, 65_535), int(mcg, 16), decimal_of(bank, 255), int(status, 16))
-        return None if None in numbers else ("start", *numbers)
-    if found := TSC.fullmatch(text):
-        return ("tsc", *(int(it or b"0", 16) for it in found.groups()))
-    if found := PROCESSOR.fullmatch(text):
-        numbers = (decimal_of(found[1]), decimal_of(found[3]))
-        return None if None in numbers else ("processor", numbers[1])
-    return None
-
-
-def group_text(group, boot, cap):
-    """What is printed of a group of lines, of which the first one starts a report."""
-    (_, cpu, mcg, bank, status), *rest = group
-    kinds = [it[0] for it in rest]
-    stamp = kinds.index("tsc") if "tsc" in kinds else len(kinds)
-    if "processor" not in kinds[stamp:]:
-        return f"partial cpu={cpu} bank={bank}\n"
-    if not bit(status, reports.VAL):
-        return ""
-    _, tsc, addr, misc = rest[stamp]
-    _, seconds = rest[kinds.index("processor", stamp)]
-    address = reports.address_of(cap, status, addr, misc)
-    page = "-" if address is None else digits(address // 4096 * 4096)
-    what = f"class={reports.class_of(cap, status)} weight={reports.weight_of(cap, status)} label=- page={page}"
-    return f"log bank={boot}/{cpu}/{bank}/{tsc} t={seconds} {what} {reports.bank_detail(cap, mcg, status)}\n"
-
-
-def klog(boot, cap, log):
-    """What is printed of the machine checks of a kernel log, and the status."""
-    groups, end = [], None
-    try:
-        for _, line in lines_of([log]):
-            told = klog_line(line)
-            if told and told[0] == "start":
-                groups.append([told])
-            elif told and groups:
-                groups[-1].append(told)
-    except Stop as refusal:
-        end = refusal
-    texts = [group_text(it, boot, cap) for it in groups]
-    counts = [sum(it.startswith(word) for it in texts) for word in ("log", "partial")]
-    last = stop_line(end) if end else "end reports={} partial={}\n".format(*counts)
-    return "".join(texts) + last, end.status if end else 0
-
-
 # ---- the words
 
 NUMBER, CAP = re.compile(rb"[0-9]{1,20}"), re.compile(rb"[0-9a-fA-F]{1,16}")
+HERE = pathlib.Path(__file__).resolve().parent
+
+
+def told_of_rasd(words):
+    """What rasd says of itself; None where that isn't asked for."""
+    if words == [b"--help"]:
+        return (HERE / "help.txt").read_text()
+    if words == [b"--version"]:
+        return f"rasd {(HERE.parents[2] / 'VERSION').read_text()}"
+    return None
+
+
+def boot_and_cap(words, is_capped=True):
+    """The numbers that a boot's words say; None where they say none."""
+    forms = (NUMBER, CAP)[: 1 + is_capped]
+    if len(words) != len(forms) or not all(form.fullmatch(word) for form, word in zip(forms, words)):
+        return None
+    boot = decimal_of(words[0])
+    return None if boot is None else (boot, *(int(word, 16) for word in words[1:]))
 
 
 def answer(words, data, files):
     """What a command prints over an input and two files, and its status; None where the words are none of these."""
+    if (told := told_of_rasd(words)) is not None:
+        return told, 0
     if len(words) == 2 and words[0] == b"report" and words[1] in LISTINGS:
         return report(LISTINGS[words[1]], files)
     if len(words) == 2 and words[0] == b"load" and NUMBER.fullmatch(words[1]):
@@ -240,7 +239,10 @@ def answer(words, data, files):
         return (load.summary(count), 0) if count else None
     if words == [b"pcie"]:
         return pcie(data)
-    if len(words) == 3 and words[0] == b"klog" and NUMBER.fullmatch(words[1]) and CAP.fullmatch(words[2]):
-        boot = decimal_of(words[1])
-        return None if boot is None else klog(boot, int(words[2], 16), data)
+    if words[:1] == [b"klog"] and (numbers := boot_and_cap(words[1:])):
+        return klog(*numbers, data)
+    if words[:2] == [b"lines", b"klog"] and (numbers := boot_and_cap(words[2:])):
+        return lines_klog(*numbers, data)
+    if words[:2] == [b"lines", b"trace"] and (numbers := boot_and_cap(words[2:], is_capped=False)):
+        return lines_trace(*numbers, data)
     return None

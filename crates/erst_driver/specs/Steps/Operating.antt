@@ -30,11 +30,6 @@ pub record HasDevice (lists : List (List InstructionEntry)) (told : Option Told)
 abbrev pub Called : List (List InstructionEntry) → ℕ → Option Told → Option Told → Type 0
 Called lists count old new = ((count ≡ 0) × (new ≡ old)) ⊎ HasDevice lists old
 
--- Several actions, maybe none, or up to one that failed.
-abbrev pub CalledAs : {T E : Type 0} → List (List InstructionEntry) → Result T E → Option Told → Option Told → Type 0
-CalledAs lists (Ok x) old new = (new ≡ old) ⊎ HasDevice lists old
-CalledAs lists (Err e) old new = HasDevice lists old
-
 -- ---- what is told of calls
 
 -- a call at least

@@ -1,20 +1,21 @@
 -- The steps of a filter's call.
-use Rattle.std.specs.Prelude.{◌≡◌, ℕ, ◌+◌, ◌≤◌, ◌⊎◌, List, [], ◌∷◌, ◌++◌, length, IfSome, Result, Ok, Err}
-use Rattle.std.specs.Option.{option_map}
+use Rattle.std.specs.Prelude.{◌≡◌, ℕ, ◌⊎◌, Bool, true, false, List, [], ◌∷◌, ◌++◌, map, IsSomeAnd, Option, Result, Ok, Err, ⊤}
+use Rattle.std.specs.List.{flat_map}
 use Rattle.board_core.specs.Clock.{Adds, Clock, Leads, Passes}
 use Rattle.board_core.specs.Doing.{Seen}
 use Rattle.board_core.specs.Stop.{Appends, Begins, InOut}
 use Rattle.board_core.specs.Told.{FailsPrint, Relates, Steps, Told, after_print}
 use Rattle.ras_base.specs.Prefix.{IsPrefixOf}
 use Rattle.ras_script.specs.declared.line.LineRefused.{LineRefused}
-use Rattle.ras_script.specs.declared.reader.TheConstants.{LONGEST_LINE}
-use Rattle.ras_script.specs.Reader.{Reader, given_count, lines_to_come}
+use Rattle.ras_script.specs.Reader.{Reader, lines_to_come}
 use Rattle.ras_exit.specs.declared.exit.Exit.{Exit}
-use Rattle.ras_exit.specs.declared.exit.Exit.TheVariants.{Done, PrintFault, NoMemory}
+use Rattle.ras_exit.specs.declared.exit.Exit.TheVariants.{BadLine, Done, PrintFault, NoMemory, SourceFault}
 use Rattle.ras_exit.specs.Endings.{IsAnswer, IsCut, OnAnswer, unread_exit}
 use Rattle.ras_exit.specs.Telling.{PrintMoment}
 use Rattle.line_filters.specs.Filter.{Filter, Took}
-use Rattle.line_filters.specs.Filters.{closing_text, end_unprinted, exit_among, filter_exit, filter_output, output_among, script_unprinted, texts_in}
+use Rattle.line_filters.specs.Filters.{PrintsOn, closing_text, exit_among, filter_exit, filter_output, output_among}
+use Rattle.line_filters.specs.Numbered.{Numbered}
+use Rattle.line_filters.specs.Steps.Reading.{HasGiven, HasTaken}
 
 -- ---- a text
 
@@ -31,17 +32,29 @@ pub record Unprinted {X : Type 0} (see : X → Seen) (text : List ℕ) (old new 
 
 -- ---- a line
 
--- A line ends a call: it is refused, or its text can't be printed, or memory runs out.
-abbrev pub StopsAt : {X : Type 0} → (X → Seen) → Exit → ℕ → List ℕ → Filter → Filter → List ℕ → X → X → Type 0
-StopsAt see exit number line before after text old new =
-    ((why : LineRefused) × (exit ≡ unread_exit number why) × ((lines : List (List ℕ)) → before.answers (line ∷ lines) ≡ Err why ∷ []) × (after ≡ before) × (new ≡ old))
-    ⊎ (((exit ≡ PrintFault) × Took line before after [] text × Unprinted see text old new)
-    ⊎ ((exit ≡ NoMemory) × (new ≡ old)))
+-- a line ends a call: it is refused, or memory runs out
+abbrev pub StopsAt : Exit → ℕ → List ℕ → Filter → Filter → Type 0
+StopsAt exit number line before after =
+    ((why : LineRefused) × (exit ≡ unread_exit number why) × ((lines : List (List ℕ)) → before.answers (line ∷ lines) ≡ Err why ∷ []) × (after ≡ before))
+    ⊎ (exit ≡ NoMemory)
 
--- A line was taken and its text printed, or the call ends at it.
-abbrev pub TakesLine : {X : Type 0} → (X → Seen) → Result (Unit {0}) Exit → ℕ → List ℕ → Filter → Filter → List ℕ → X → X → Type 0
-TakesLine see (Ok done) number line before after text old new = Took line before after [] text × Printed see text old new
-TakesLine see (Err exit) number line before after text old new = StopsAt see exit number line before after text old new
+-- A line was taken and its text waits behind others, or the call ends at it and no other text waits.
+abbrev pub TakesLine : Result (Unit {0}) Exit → ℕ → List ℕ → Filter → Filter → List ℕ → List ℕ → Type 0
+TakesLine (Ok done) number line before after old new = Took line before after old new
+TakesLine (Err exit) number line before after old new = StopsAt exit number line before after × (new ≡ old)
+
+-- how a call ends at a line that was given
+abbrev pub IsTakeExit : Exit → Type 0
+IsTakeExit (BadLine line reason) = ⊤
+IsTakeExit NoMemory = ⊤
+IsTakeExit exit = ⊥
+
+-- The texts that waited were printed; or none waited, or the source isn't read yet. Or printing them
+-- failed.
+abbrev pub PrintsWaiting : {X : Type 0} → (X → Seen) → Result (Unit {0}) Exit → Type 0 → List ℕ → List ℕ → X → X → Type 0
+PrintsWaiting see (Ok done) Held text rest old new =
+    ((rest ≡ []) × Printed see text old new) ⊎ ((rest ≡ text) × (new ≡ old) × ((text ≡ []) ⊎ Held))
+PrintsWaiting see (Err exit) Held text rest old new = (exit ≡ PrintFault) × Unprinted see text old new
 
 -- ---- the last text
 
@@ -57,30 +70,68 @@ Ends see exit result text old new =
 
 -- ---- how far the lines were taken
 
--- Lines were taken and what they make was printed: what the call prints and how it ends is that
--- and what is to come. A stop now leaves what one before the call may have left, with all that was printed.
-pub record Along (whole : Filter) (script : List ℕ) (before : Told) (old : Clock) (count : ℕ) (filter : Filter) (reader : Reader) (left : List ℕ) (now : Told) (new : Clock) : Type 0 where
-  pub printed : List ℕ
+-- Of a text so much was printed, and so much behind it waits. A stop now leaves what one before the
+-- call may have left, with all that was printed.
+pub record Said (text : List ℕ) (before : Told) (old : Clock) (printed waiting : List ℕ) (now : Told) (new : Clock) : Type 0 where
   pub is : now ≡ after_print printed before
-  pub exit : filter_exit whole script ≡ exit_among count filter (lines_to_come reader left)
-  pub output : filter_output whole script ≡ printed ++ output_among count filter (lines_to_come reader left)
-  pub given : ℕ
-  pub known : given_count reader ≤ given
-  pub ends : (more : ℕ) → script_unprinted whole script (length printed + more)
-      ≡ option_map (λ end. given + end) (end_unprinted more (lines_to_come reader left).whole (texts_in (filter.answers (lines_to_come reader left).whole)))
-  pub stops : Adds (PrintMoment old (filter_output whole script)) old new
+  pub begins : IsPrefixOf (printed ++ waiting) text
+  pub stops : Adds (PrintMoment old text) old new
   pub leads : Leads (InOut (Appends printed)) old new
 
--- The lines came to an end in this way, with this filter and so many bytes taken.
-pub record LinesEnd (whole : Filter) (script : List ℕ) (before : Told) (old : Clock) (exit : Exit) (filter : Filter) (taken : ℕ) (now : Told) (new : Clock) : Type 0 where
+-- Lines were taken: what the call prints and how it ends is what they make, some of which waits, and
+-- what is to come.
+pub record Along (whole : Filter) (script : List ℕ) (before : Told) (old : Clock) (lines : Numbered) (filter : Filter) (waiting left : List ℕ) (now : Told) (new : Clock) : Type 0 where
+  pub done : List (List ℕ)
+  pub given : HasGiven script lines left done
+  pub printed : List ℕ
+  pub said : Said (filter_output whole script) before old printed waiting now new
+  pub exit : filter_exit whole script ≡ exit_among lines.number filter (lines_to_come lines.reader left)
+  pub output : filter_output whole script ≡ (printed ++ waiting) ++ output_among lines.number filter (lines_to_come lines.reader left)
+  pub texts : List (List ℕ)
+  pub made : (more : List (List ℕ)) → whole.answers (done ++ more) ≡ map Ok texts ++ filter.answers more
+  pub all : flat_map (λ text. text) texts ≡ printed ++ waiting
+  pub ahead : PrintsOn ⊥ whole script given.took.taken printed
+
+-- The lines came to an end in this way, with this filter, and texts wait.
+pub record Waits (whole : Filter) (script : List ℕ) (before : Told) (old : Clock) (exit : Exit) (filter : Filter) (waiting : List ℕ) (reader : Reader) (left : List ℕ) (now : Told) (new : Clock) : Type 0 where
+  pub printed : List ℕ
+  pub said : Said (filter_output whole script) before old printed waiting now new
+  pub took : HasTaken script reader left
+  pub ahead : PrintsOn (exit ≡ SourceFault) whole script took.taken printed
+  pub answers : OnAnswer exit ((exit ≡ filter_exit whole script) × (filter_output whole script ≡ (printed ++ waiting) ++ closing_text filter [] exit))
+
+-- The lines came to an end, and no text waits.
+pub record LinesEnd (whole : Filter) (script : List ℕ) (before : Told) (old : Clock) (exit : Exit) (filter : Filter) (reader : Reader) (left : List ℕ) (now : Told) (new : Clock) : Type 0 where
   pub printed : List ℕ
   pub is : now ≡ after_print printed before
   pub begins : IsPrefixOf printed (filter_output whole script)
-  pub ahead : (more : ℕ) → IfSome (script_unprinted whole script (length printed + more)) (λ end. taken ≤ end + (LONGEST_LINE + 1))
+  pub took : HasTaken script reader left
+  pub ahead : PrintsOn (exit ≡ SourceFault) whole script took.taken printed
   pub stops : Adds (PrintMoment old (filter_output whole script)) old new
   pub answers : OnAnswer exit ((exit ≡ filter_exit whole script) × (filter_output whole script ≡ printed ++ closing_text filter [] exit) × Leads (InOut (Appends printed)) old new)
+
+-- one or the other
+abbrev pub Gathers : Filter → List ℕ → Told → Clock → Exit → Filter → List ℕ → Reader → List ℕ → Told → Clock → Type 0
+Gathers whole script before old exit filter waiting reader left now new =
+    Waits whole script before old exit filter waiting reader left now new
+    ⊎ ((exit ≡ PrintFault) × LinesEnd whole script before old exit filter reader left now new)
+
+-- the same if source and board tell at the end
+abbrev pub GathersBoth : Filter → List ℕ → Told → Clock → Exit → Filter → List ℕ → Reader → Option (List ℕ) → Option Told → Clock → Type 0
+GathersBoth whole script before old exit filter waiting reader left told new =
+    IsSomeAnd left (λ rest. IsSomeAnd told (λ now. Gathers whole script before old exit filter waiting reader rest now new))
+
+abbrev pub EndsBoth : Filter → List ℕ → Told → Clock → Exit → Filter → Reader → Option (List ℕ) → Option Told → Clock → Type 0
+EndsBoth whole script before old exit filter reader left told new =
+    IsSomeAnd left (λ rest. IsSomeAnd told (λ now. LinesEnd whole script before old exit filter reader rest now new))
 
 -- the exit of lines that were all taken is Done
 abbrev pub exit_of : Result (Unit {0}) Exit → Exit
 exit_of (Ok done) = Done
 exit_of (Err exit) = exit
+
+-- whether a call of the source or the board failed, which is then the last one
+abbrev pub has_failed : Exit → Bool
+has_failed SourceFault = true
+has_failed PrintFault = true
+has_failed exit = false

@@ -1,9 +1,9 @@
 -- The steps of a reader of lines.
-use Rattle.std.specs.Prelude.{◌≡◌, ℕ, ◌+◌, ◌<◌, ◌≤◌, List, [], ◌∷◌, ◌++◌, length, take, drop, Option, None, Some, IfSome, Result, Ok, Err}
+use Rattle.std.specs.Prelude.{◌≡◌, ℕ, ◌+◌, ◌<◌, ◌≤◌, Bool, true, List, [], ◌∷◌, ◌++◌, length, take, drop, Option, None, Some, IfSome, Result, Ok, Err}
 use Rattle.ras_script.specs.declared.reader.TheConstants.{LONGEST_SCRIPT, LONGEST_LINE}
 use Rattle.ras_script.specs.declared.reader.NextRefused.{NextRefused}
 use Rattle.ras_script.specs.declared.reader.NextRefused.TheVariants.{Source, LineTooLong, TooLong}
-use Rattle.ras_script.specs.Reader.{Reader, AreTaken}
+use Rattle.ras_script.specs.Reader.{Reader, AreTaken, given_count}
 use Rattle.ras_script.specs.SplittingLaws.{Lacks}
 
 -- the first line feed of a text stands at this place
@@ -37,3 +37,16 @@ Finds (Err LineTooLong) reader left = Lacks 10 reader.held × (LONGEST_LINE < le
 Finds (Err TooLong) reader left =
     Lacks 10 reader.held × (length reader.held ≤ LONGEST_LINE) × (reader.taken ≡ LONGEST_SCRIPT + 1)
 Finds (Err Source) reader left = Lacks 10 reader.held
+
+-- The bytes held before a line feed at this place were given as a line, with the line feed.
+pub record Gave (place : ℕ) (old new : Reader) : Type 0 where
+  pub line : new.line ≡ take place old.held
+  pub held : new.held ≡ drop (place + 1) old.held
+  pub taken : new.taken ≡ old.taken
+  pub within : given_count old + place < LONGEST_SCRIPT
+
+-- they were, or the line feed is past the longest script
+abbrev pub GivesLine : Result Bool NextRefused → ℕ → Reader → Reader → Type 0
+GivesLine (Ok true) place old new = Gave place old new
+GivesLine (Err TooLong) place old new = (new ≡ old) × (LONGEST_SCRIPT ≤ given_count old + place)
+GivesLine result place old new = ⊥

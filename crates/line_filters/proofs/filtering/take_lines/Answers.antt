@@ -1,103 +1,73 @@
-use Rattle.std.proofs.Common.{◌+◌, Ok, Err, true, false, ap, refl, ◌∙◌, arith}
-use Rattle.std.proofs.lemmas.Result.{err_from_is_err_and}
+use Rattle.std.proofs.Common.{◌≡◌, sym, ap, ◌∙◌}
 use Rattle.board_core.specs.Doing.{looks}
-use Rattle.ras_script.specs.declared.reader.NextRefused.TheVariants as refused
-use Rattle.ras_script.specs.Lines.{line_too_long, script_ended, script_too_long}
-use Rattle.ras_exit.proofs.DeviceLemmas.{device_goes_on, device_stays}
-use Rattle.line_filters.proofs.ReadingLemmas.{gave_as, if_known, moved_as, takes_more, takes_none, took_all}
-use Rattle.line_filters.proofs.StepLemmas.{along_none, line_on}
-use Rattle.line_filters.proofs.EndLemmas.{failed_on, none_on, stops_on}
+use Rattle.ras_exit.specs.declared.exit.Exit.TheVariants.{PrintFault}
+use Rattle.ras_exit.proofs.DeviceLemmas.{device_goes_on}
+use Rattle.line_filters.specs.Steps.Filtering.{has_failed}
+use Rattle.line_filters.proofs.BothLemmas.{failed_both, printed_both, unprinted_both}
+use Rattle.line_filters.proofs.CallLemmas.{causes_of, causes_printed, causes_unprinted, takes_fault}
+use Rattle.line_filters.proofs.PrintedLemmas.{not_all_printed, text_printed}
 use Rattle.line_filters.proofs.filtering.take_lines.Goals as goal
 
-pub loop-number-init : goal.loop-number-init
-loop-number-init g c = record {
-  along = λ script t left is. along_none _ script t _ _ _ _ c.requires.begins.0 left is;
-  taken = λ script is. takes_none script _ _ c.requires.begins.0 is;
-  counted = omega arith;
-  few = omega arith;
-  lines = c.requires.begins.1;
-  source = refl;
-  faults = refl;
-  device = device_stays _ _;
-}
+pub gather-ended-requires : goal.gather-ended-requires
+gather-ended-requires g c = record { begins = (c.requires.begins.0, c.requires.begins.1, c.new-waiting.ensures.items) }
 
-pub loop-number-preserved : goal.loop-number-preserved
-loop-number-preserved g c = record {
-  along = λ script t is told.
-      line_on _ script t _ _ _ c.loop-number.reader c.advance.new.self _ _ _ _ c.line.result.now _ _ _ _ (c.loop-number.invariant.along script t is told)
-      (gave_as _ (Ok true) c.loop-number.reader c.advance.new.self (g.S.Source.left c.loop-number.source) (g.S.Source.left c.advance.new.source) (ap Ok c.in-Ok-true.field-0-test) c.in-Ok-true.ensures.lines)
-      (moved_as _ (Ok true) c.loop-number.reader c.advance.new.self (g.S.Source.left c.loop-number.source) (g.S.Source.left c.advance.new.source) (ap Ok c.in-Ok-true.field-0-test) c.in-Ok-true.ensures.moves)
-      (takes_more (Ok true) script c.loop-number.reader c.advance.new.self (g.S.Source.left c.loop-number.source) (g.S.Source.left c.advance.new.source) (moved_as _ (Ok true) c.loop-number.reader c.advance.new.self (g.S.Source.left c.loop-number.source) (g.S.Source.left c.advance.new.source) (ap Ok c.in-Ok-true.field-0-test) c.in-Ok-true.ensures.moves) (c.loop-number.invariant.taken script is))
-      c.line.ensures c.in_ok-take_line-in-Ok-true.ensures.takes.0 c.in_ok-take_line-in-Ok-true.ensures.takes.1.told c.in_ok-take_line-in-Ok-true.ensures.takes.1.stops c.in_ok-take_line-in-Ok-true.ensures.takes.1.leads;
-  taken = λ script is. (takes_more (Ok true) script c.loop-number.reader c.advance.new.self (g.S.Source.left c.loop-number.source) (g.S.Source.left c.advance.new.source) (moved_as _ (Ok true) c.loop-number.reader c.advance.new.self (g.S.Source.left c.loop-number.source) (g.S.Source.left c.advance.new.source) (ap Ok c.in-Ok-true.field-0-test) c.in-Ok-true.ensures.moves) (c.loop-number.invariant.taken script is));
-  counted = (let more = c.in-Ok-true.ensures.given (ap Ok c.in-Ok-true.field-0-test) in let so_far = c.loop-number.invariant.counted in omega arith);
-  few = (let more = c.in-Ok-true.ensures.given (ap Ok c.in-Ok-true.field-0-test) in let so_far = c.loop-number.invariant.counted in let few = c.in-Ok-true.ensures.few in omega arith);
-  lines = c.in_ok-take_line-in-Ok-true.ensures.taken.0 ∙ ap (λ n. n + 1) c.loop-number.invariant.lines;
-  source = c.in-Ok-true.ensures.cause ∙ c.loop-number.invariant.source;
-  faults = c.in_ok-take_line-in-Ok-true.ensures.faults ∙ c.loop-number.invariant.faults;
-  device = device_goes_on _ _ _ _ _ _ c.loop-number.invariant.device c.in_ok-take_line-in-Ok-true.ensures.device;
-}
+-- ---- a call failed
 
-pub returns-in_err-take_line-in-Ok-true-clause-ends :
-    goal.returns-in_err-take_line-in-Ok-true-clause-ends
-returns-in_err-take_line-in-Ok-true-clause-ends g c = λ script t is told.
-    let p = err_from_is_err_and c.from_residual.result c.from_residual.ensures.1 in
-    rw (p.1, p.2)
-    (stops_on (looks g.B.Board.told g.B.Board.clock g.B.Board.faults) _ script t _ _ _ _ c.loop-number.reader c.advance.new.self _ _ _ _ c.line.result.now _ _ (c.loop-number.invariant.along script t is told)
-    (gave_as _ (Ok true) c.loop-number.reader c.advance.new.self (g.S.Source.left c.loop-number.source) (g.S.Source.left c.advance.new.source) (ap Ok c.in-Ok-true.field-0-test) c.in-Ok-true.ensures.lines)
-    (moved_as _ (Ok true) c.loop-number.reader c.advance.new.self (g.S.Source.left c.loop-number.source) (g.S.Source.left c.advance.new.source) (ap Ok c.in-Ok-true.field-0-test) c.in-Ok-true.ensures.moves)
-    (takes_more (Ok true) script c.loop-number.reader c.advance.new.self (g.S.Source.left c.loop-number.source) (g.S.Source.left c.advance.new.source) (moved_as _ (Ok true) c.loop-number.reader c.advance.new.self (g.S.Source.left c.loop-number.source) (g.S.Source.left c.advance.new.source) (ap Ok c.in-Ok-true.field-0-test) c.in-Ok-true.ensures.moves) (c.loop-number.invariant.taken script is))
-    c.in-Ok-true.ensures.ahead c.line.ensures c.in_err-take_line-in-Ok-true.ensures.takes)
+pub returns-then-has_failed-clause-ends : goal.returns-then-has_failed-clause-ends
+returns-then-has_failed-clause-ends g c = λ script t left told.
+    failed_both (g.F.LineFilter.makes c.args.filter.now) script t (g.B.Board.clock c.args.board.now) c.exit_of-exit.result (g.F.LineFilter.makes c.gather-ended.new.filter) c.gather-ended.new.waiting.items c.gather-ended.new.lines.reader (g.S.Source.left c.gather-ended.new.source) (g.B.Board.told c.gather-ended.new.board) (g.B.Board.clock c.gather-ended.new.board) (sym c.has_failed.ensures ∙ c.if-has_failed.true) (rw c.exit_of-exit.ensures (c.gather-ended.ensures.ends script t left told))
 
-pub returns-in_err-take_line-in-Ok-true-clause-takes :
-    goal.returns-in_err-take_line-in-Ok-true-clause-takes
-returns-in_err-take_line-in-Ok-true-clause-takes g c = λ script is. (takes_more (Ok true) script c.loop-number.reader c.advance.new.self (g.S.Source.left c.loop-number.source) (g.S.Source.left c.advance.new.source) (moved_as _ (Ok true) c.loop-number.reader c.advance.new.self (g.S.Source.left c.loop-number.source) (g.S.Source.left c.advance.new.source) (ap Ok c.in-Ok-true.field-0-test) c.in-Ok-true.ensures.moves) (c.loop-number.invariant.taken script is))
+pub returns-then-has_failed-clause-takes : goal.returns-then-has_failed-clause-takes
+returns-then-has_failed-clause-takes g c = rw c.exit_of-exit.ensures c.gather-ended.ensures.takes
 
-pub returns-in_err-take_line-in-Ok-true-clause-device :
-    goal.returns-in_err-take_line-in-Ok-true-clause-device
-returns-in_err-take_line-in-Ok-true-clause-device g c = device_goes_on _ _ _ _ _ _ c.loop-number.invariant.device c.in_err-take_line-in-Ok-true.ensures.device
+pub returns-then-has_failed-clause-few : goal.returns-then-has_failed-clause-few
+returns-then-has_failed-clause-few g c = rw c.exit_of-exit.ensures c.gather-ended.ensures.few
 
-pub returns-in-Ok-false-clause-ends : goal.returns-in-Ok-false-clause-ends
-returns-in-Ok-false-clause-ends g c = λ script t is told.
-    none_on _ script t c.loop-number.number _ c.loop-number.reader c.advance.new.self _ _ _ _ _ script_ended _ (c.loop-number.invariant.along script t is told)
-    (takes_more (Ok false) script c.loop-number.reader c.advance.new.self (g.S.Source.left c.loop-number.source) (g.S.Source.left c.advance.new.source) (moved_as _ (Ok false) c.loop-number.reader c.advance.new.self (g.S.Source.left c.loop-number.source) (g.S.Source.left c.advance.new.source) (ap Ok c.in-Ok-false.field-0-test) c.in-Ok-false.ensures.moves) (c.loop-number.invariant.taken script is))
-    (g.met.F.LineFilter.none c.loop-number.filter)
-    (gave_as _ (Ok false) c.loop-number.reader c.advance.new.self (g.S.Source.left c.loop-number.source) (g.S.Source.left c.advance.new.source) (ap Ok c.in-Ok-false.field-0-test) c.in-Ok-false.ensures.lines)
-    refl
+pub returns-then-has_failed-clause-causes : goal.returns-then-has_failed-clause-causes
+returns-then-has_failed-clause-causes g c = rw c.exit_of-exit.ensures (causes_of c.gather-ended.result _ _ _ _ c.gather-ended.ensures.causes)
 
-pub returns-in-Ok-false-clause-takes : goal.returns-in-Ok-false-clause-takes
-returns-in-Ok-false-clause-takes g c = λ script is. (takes_more (Ok false) script c.loop-number.reader c.advance.new.self (g.S.Source.left c.loop-number.source) (g.S.Source.left c.advance.new.source) (moved_as _ (Ok false) c.loop-number.reader c.advance.new.self (g.S.Source.left c.loop-number.source) (g.S.Source.left c.advance.new.source) (ap Ok c.in-Ok-false.field-0-test) c.in-Ok-false.ensures.moves) (c.loop-number.invariant.taken script is))
+-- ---- what waits was printed
 
-pub returns-in-Err-TooLong-clause-ends : goal.returns-in-Err-TooLong-clause-ends
-returns-in-Err-TooLong-clause-ends g c = λ script t is told.
-    none_on _ script t c.loop-number.number _ c.loop-number.reader c.advance.new.self _ _ _ _ _ script_too_long _ (c.loop-number.invariant.along script t is told)
-    (takes_more (Err refused.TooLong) script c.loop-number.reader c.advance.new.self (g.S.Source.left c.loop-number.source) (g.S.Source.left c.advance.new.source) (moved_as _ (Err refused.TooLong) c.loop-number.reader c.advance.new.self (g.S.Source.left c.loop-number.source) (g.S.Source.left c.advance.new.source) (ap Err c.in-Err-TooLong.field-0-is) c.in-Err-TooLong.ensures.moves) (c.loop-number.invariant.taken script is))
-    (g.met.F.LineFilter.none c.loop-number.filter)
-    (gave_as _ (Err refused.TooLong) c.loop-number.reader c.advance.new.self (g.S.Source.left c.loop-number.source) (g.S.Source.left c.advance.new.source) (ap Err c.in-Err-TooLong.field-0-is) c.in-Err-TooLong.ensures.lines)
-    refl
+pub returns-in-Ok-clause-ends : goal.returns-in-Ok-clause-ends
+returns-in-Ok-clause-ends g c = λ script t left told.
+    printed_both (g.F.LineFilter.makes c.args.filter.now) script t (g.B.Board.clock c.args.board.now) c.exit_of-exit.result (g.F.LineFilter.makes c.gather-ended.new.filter) c.gather-ended.new.waiting.items c.gather-ended.new.lines.reader (looks g.B.Board.told g.B.Board.clock g.B.Board.faults) c.gather-ended.new.board c.print.new.board (g.S.Source.left c.gather-ended.new.source) (sym c.has_failed.ensures ∙ c.if-has_failed.false) (rw c.exit_of-exit.ensures (c.gather-ended.ensures.ends script t left told))
+    (text_printed (looks g.B.Board.told g.B.Board.clock g.B.Board.faults) c.gather-ended.new.board c.print.new.board c.gather-ended.new.waiting.items
+    (rw (← c.deref.ensures.value) c.in-Ok.ensures.does) (rw (← c.deref.ensures.value) c.in-Ok.ensures.stops) (rw (← c.deref.ensures.value) c.in-Ok.ensures.printed))
 
-pub returns-in-Err-TooLong-clause-takes : goal.returns-in-Err-TooLong-clause-takes
-returns-in-Err-TooLong-clause-takes g c = λ script is. (takes_more (Err refused.TooLong) script c.loop-number.reader c.advance.new.self (g.S.Source.left c.loop-number.source) (g.S.Source.left c.advance.new.source) (moved_as _ (Err refused.TooLong) c.loop-number.reader c.advance.new.self (g.S.Source.left c.loop-number.source) (g.S.Source.left c.advance.new.source) (ap Err c.in-Err-TooLong.field-0-is) c.in-Err-TooLong.ensures.moves) (c.loop-number.invariant.taken script is))
+pub returns-in-Ok-clause-takes : goal.returns-in-Ok-clause-takes
+returns-in-Ok-clause-takes g c = rw c.exit_of-exit.ensures c.gather-ended.ensures.takes
 
-pub returns-in-Err-LineTooLong-clause-ends : goal.returns-in-Err-LineTooLong-clause-ends
-returns-in-Err-LineTooLong-clause-ends g c = λ script t is told.
-    none_on _ script t c.loop-number.number _ c.loop-number.reader c.advance.new.self _ _ _ _ _ line_too_long _ (c.loop-number.invariant.along script t is told)
-    (takes_more (Err refused.LineTooLong) script c.loop-number.reader c.advance.new.self (g.S.Source.left c.loop-number.source) (g.S.Source.left c.advance.new.source) (moved_as _ (Err refused.LineTooLong) c.loop-number.reader c.advance.new.self (g.S.Source.left c.loop-number.source) (g.S.Source.left c.advance.new.source) (ap Err c.in-Err-LineTooLong.field-0-is) c.in-Err-LineTooLong.ensures.moves) (c.loop-number.invariant.taken script is))
-    (g.met.F.LineFilter.none c.loop-number.filter)
-    (gave_as _ (Err refused.LineTooLong) c.loop-number.reader c.advance.new.self (g.S.Source.left c.loop-number.source) (g.S.Source.left c.advance.new.source) (ap Err c.in-Err-LineTooLong.field-0-is) c.in-Err-LineTooLong.ensures.lines)
-    refl
+pub returns-in-Ok-clause-few : goal.returns-in-Ok-clause-few
+returns-in-Ok-clause-few g c = rw c.exit_of-exit.ensures c.gather-ended.ensures.few
 
-pub returns-in-Err-LineTooLong-clause-takes : goal.returns-in-Err-LineTooLong-clause-takes
-returns-in-Err-LineTooLong-clause-takes g c = λ script is. (takes_more (Err refused.LineTooLong) script c.loop-number.reader c.advance.new.self (g.S.Source.left c.loop-number.source) (g.S.Source.left c.advance.new.source) (moved_as _ (Err refused.LineTooLong) c.loop-number.reader c.advance.new.self (g.S.Source.left c.loop-number.source) (g.S.Source.left c.advance.new.source) (ap Err c.in-Err-LineTooLong.field-0-is) c.in-Err-LineTooLong.ensures.moves) (c.loop-number.invariant.taken script is))
+pub returns-in-Ok-clause-causes : goal.returns-in-Ok-clause-causes
+returns-in-Ok-clause-causes g c =
+    rw c.exit_of-exit.ensures (causes_printed c.gather-ended.result _ _ _ _ _ c.gather-ended.ensures.causes c.in-Ok.ensures.does.faults)
 
-pub returns-in-Ok-false-clause-ended : goal.returns-in-Ok-false-clause-ended
-returns-in-Ok-false-clause-ended g c = λ done. if_known _ _ (λ script is.
-    took_all script c.advance.new.self _ (takes_more (Ok false) script c.loop-number.reader c.advance.new.self (g.S.Source.left c.loop-number.source) (g.S.Source.left c.advance.new.source) (moved_as _ (Ok false) c.loop-number.reader c.advance.new.self (g.S.Source.left c.loop-number.source) (g.S.Source.left c.advance.new.source) (ap Ok c.in-Ok-false.field-0-test) c.in-Ok-false.ensures.moves) (c.loop-number.invariant.taken script is))
-    (moved_as _ (Ok false) c.loop-number.reader c.advance.new.self (g.S.Source.left c.loop-number.source) (g.S.Source.left c.advance.new.source) (ap Ok c.in-Ok-false.field-0-test) c.in-Ok-false.ensures.moves).1.1)
+pub returns-in-Ok-clause-device : goal.returns-in-Ok-clause-device
+returns-in-Ok-clause-device g c = device_goes_on _ _ _ _ _ _ c.gather-ended.ensures.device c.in-Ok.ensures.device
 
-pub returns-in-Err-Source-clause-ends : goal.returns-in-Err-Source-clause-ends
-returns-in-Err-Source-clause-ends g c = λ script t is told.
-    failed_on _ script t _ _ c.loop-number.reader c.advance.new.self _ _ _ _ _ (c.loop-number.invariant.along script t is told) c.in-Err-Source.ensures.moves c.in-Err-Source.ensures.ahead
+-- ---- printing it failed
 
-pub returns-in-Err-Source-clause-takes : goal.returns-in-Err-Source-clause-takes
-returns-in-Err-Source-clause-takes g c = λ script is. (takes_more (Err refused.Source) script c.loop-number.reader c.advance.new.self (g.S.Source.left c.loop-number.source) (g.S.Source.left c.advance.new.source) c.in-Err-Source.ensures.moves (c.loop-number.invariant.taken script is))
+pub returns-clause-ends : goal.returns-clause-ends
+returns-clause-ends g c = λ script t left told.
+    unprinted_both (g.F.LineFilter.makes c.args.filter.now) script t (g.B.Board.clock c.args.board.now) c.exit_of-exit.result (g.F.LineFilter.makes c.gather-ended.new.filter) c.gather-ended.new.waiting.items c.gather-ended.new.lines.reader (looks g.B.Board.told g.B.Board.clock g.B.Board.faults) c.in-Err.fault c.gather-ended.new.board c.print.new.board (g.S.Source.left c.gather-ended.new.source) (sym c.has_failed.ensures ∙ c.if-has_failed.false) (rw c.exit_of-exit.ensures (c.gather-ended.ensures.ends script t left told))
+    (let same : c.in-Err.fault ≡ PrintFault = (let e = c.in-Err.ensures.exit in cc) in same)
+    (not_all_printed (looks g.B.Board.told g.B.Board.clock g.B.Board.faults) c.gather-ended.new.board c.print.new.board c.in-Err.fault c.gather-ended.new.waiting.items (rw (← c.deref.ensures.value) c.in-Err.ensures.does) (rw (← c.deref.ensures.value) c.in-Err.ensures.stops))
+
+pub returns-clause-takes : goal.returns-clause-takes
+returns-clause-takes g c = takes_fault c.in-Err.fault _ _ _ (let same : c.in-Err.fault ≡ PrintFault = (let e = c.in-Err.ensures.exit in cc) in same) c.gather-ended.ensures.takes
+
+pub returns-clause-few : goal.returns-clause-few
+returns-clause-few g c =
+    let same : c.in-Err.fault ≡ PrintFault = (let e = c.in-Err.ensures.exit in cc) in
+    (c.gather-ended.ensures.few.0, rw same tt)
+
+pub returns-clause-causes : goal.returns-clause-causes
+returns-clause-causes g c =
+    let same : c.in-Err.fault ≡ PrintFault = (let e = c.in-Err.ensures.exit in cc) in
+    rw same
+    (causes_unprinted c.gather-ended.result _ _ _ _ _ (sym (ap has_failed c.exit_of-exit.ensures) ∙ sym c.has_failed.ensures ∙ c.if-has_failed.false) c.gather-ended.ensures.few.1 c.gather-ended.ensures.causes c.in-Err.ensures.does.faults)
+
+pub returns-clause-device : goal.returns-clause-device
+returns-clause-device g c = device_goes_on _ _ _ _ _ _ c.gather-ended.ensures.device c.in-Err.ensures.device

@@ -2,14 +2,15 @@
 use Rattle.std.proofs.Common.{◌≡◌, Some, ap, refl, sym, ◌∙◌}
 use Rattle.board_core.specs.Doing.{looks}
 use Rattle.ras_exit.specs.StopLine.{stop_line}
-use Rattle.ras_exit.specs.declared.exit.Exit.TheVariants.{Usage}
+use Rattle.ras_exit.specs.declared.exit.Exit.TheVariants.{Done, Usage}
+use Rattle.ras_daemon.specs.Help.{help_text, version_line}
 use Rattle.ras_daemon.specs.Promises.{Ran, RunStops, StillTell}
 use Rattle.ras_daemon.specs.Task.{task_of}
 use Rattle.ras_daemon.proofs.CallLemmas.{run-ran, run-stops}
 use Rattle.ras_daemon.proofs.FilterLemmas.{filters_as, stops_as}
 use Rattle.ras_daemon.proofs.RunLemmas.{over_comes}
 use Rattle.ras_daemon.proofs.SaidLemmas.{says_causes, says_printed}
-use Rattle.ras_daemon.proofs.TellingLemmas.{usage_commands}
+use Rattle.ras_daemon.proofs.TellingLemmas.{printed_commands}
 use Rattle.ras_daemon.proofs.daemon.rasd.Goals as goal
 
 pub returns-in-Some-Run-clause-ran : goal.returns-in-Some-Run-clause-ran
@@ -63,12 +64,55 @@ returns-in-Some-Klog-clause-commands g c =
       device = c.filter_lines-in-Some-Klog.ensures.device;
     })
 
+pub returns-in-Some-TraceLines-clause-commands : goal.returns-in-Some-TraceLines-clause-commands
+returns-in-Some-TraceLines-clause-commands g c =
+    let exit = c.filter_lines-in-Some-TraceLines.result in
+    rw (sym c.task_of.ensures.task ∙ c.in-Some-TraceLines.is ∙ ap Some c.in-Some-TraceLines.field-0-is)
+    (record {
+      tells = filters_as _ _ exit _ _ _ _ c.new-filter-in-Some-TraceLines.ensures.makes c.filter_lines-in-Some-TraceLines.ensures.filters;
+      stops = stops_as _ _ _ _ _ _ c.new-filter-in-Some-TraceLines.ensures.makes c.filter_lines-in-Some-TraceLines.ensures.stops;
+      device = c.filter_lines-in-Some-TraceLines.ensures.device;
+    })
+
+pub returns-in-Some-KlogLines-clause-commands : goal.returns-in-Some-KlogLines-clause-commands
+returns-in-Some-KlogLines-clause-commands g c =
+    let exit = c.filter_lines-in-Some-KlogLines.result in
+    rw (sym c.task_of.ensures.task ∙ c.in-Some-KlogLines.is ∙ ap Some c.in-Some-KlogLines.field-0-is)
+    (record {
+      tells = filters_as _ _ exit _ _ _ _ c.new-filter-in-Some-KlogLines.ensures.makes c.filter_lines-in-Some-KlogLines.ensures.filters;
+      stops = stops_as _ _ _ _ _ _ c.new-filter-in-Some-KlogLines.ensures.makes c.filter_lines-in-Some-KlogLines.ensures.stops;
+      device = c.filter_lines-in-Some-KlogLines.ensures.device;
+    })
+
+pub returns-in-Some-Help-clause-commands : goal.returns-in-Some-Help-clause-commands
+returns-in-Some-Help-clause-commands g c =
+    rw (sym c.task_of.ensures.task ∙ c.in-Some-Help.is ∙ ap Some c.in-Some-Help.field-0-is)
+    (printed_commands Done c.last_line.result help_text _ _ _ _
+    (says_printed (looks g.B.Board.told g.B.Board.clock g.B.Board.faults) Done c.last_line.result help_text c.args.board.now c.last_line.new.board (rw c.help_text.ensures at c.last_line.ensures.says))
+    (rw c.help_text.ensures at c.last_line.ensures.stops) c.last_line.ensures.device)
+
+pub returns-in-Some-Help-clause-causes : goal.returns-in-Some-Help-clause-causes
+returns-in-Some-Help-clause-causes g c =
+    says_causes (looks g.B.Board.told g.B.Board.clock g.B.Board.faults) Done c.last_line.result help_text c.args.board.now c.last_line.new.board _ refl (rw c.help_text.ensures at c.last_line.ensures.says)
+
+pub returns-in-Some-Version-clause-commands : goal.returns-in-Some-Version-clause-commands
+returns-in-Some-Version-clause-commands g c =
+    rw (sym c.task_of.ensures.task ∙ c.in-Some-Version.is ∙ ap Some c.in-Some-Version.field-0-is)
+    (printed_commands Done c.last_line-in-Some-Version.result version_line _ _ _ _
+    (says_printed (looks g.B.Board.told g.B.Board.clock g.B.Board.faults) Done c.last_line-in-Some-Version.result version_line c.args.board.now c.last_line-in-Some-Version.new.board (rw c.version_line.ensures at c.last_line-in-Some-Version.ensures.says))
+    (rw c.version_line.ensures at c.last_line-in-Some-Version.ensures.stops) c.last_line-in-Some-Version.ensures.device)
+
+pub returns-in-Some-Version-clause-causes : goal.returns-in-Some-Version-clause-causes
+returns-in-Some-Version-clause-causes g c =
+    says_causes (looks g.B.Board.told g.B.Board.clock g.B.Board.faults) Done c.last_line-in-Some-Version.result version_line c.args.board.now c.last_line-in-Some-Version.new.board _ refl (rw c.version_line.ensures at c.last_line-in-Some-Version.ensures.says)
+
 pub returns-in-None-clause-commands : goal.returns-in-None-clause-commands
 returns-in-None-clause-commands g c =
-    usage_commands c.last_line.result _ _ _ _ _ _ _ (sym c.task_of.ensures.task ∙ c.in-None.is)
-    (says_printed (looks g.B.Board.told g.B.Board.clock g.B.Board.faults) Usage c.last_line.result (stop_line Usage) c.args.board.now c.last_line.new.board (rw c.usage_line.ensures at c.last_line.ensures.says))
-    (rw c.usage_line.ensures at c.last_line.ensures.stops) c.last_line.ensures.device
+    rw (sym c.task_of.ensures.task ∙ c.in-None.is)
+    (printed_commands Usage c.last_line-in-None.result (stop_line Usage) _ _ _ _
+    (says_printed (looks g.B.Board.told g.B.Board.clock g.B.Board.faults) Usage c.last_line-in-None.result (stop_line Usage) c.args.board.now c.last_line-in-None.new.board (rw c.usage_line.ensures at c.last_line-in-None.ensures.says))
+    (rw c.usage_line.ensures at c.last_line-in-None.ensures.stops) c.last_line-in-None.ensures.device)
 
 pub returns-in-None-clause-causes : goal.returns-in-None-clause-causes
 returns-in-None-clause-causes g c =
-    says_causes (looks g.B.Board.told g.B.Board.clock g.B.Board.faults) Usage c.last_line.result (stop_line Usage) c.args.board.now c.last_line.new.board _ refl (rw c.usage_line.ensures at c.last_line.ensures.says)
+    says_causes (looks g.B.Board.told g.B.Board.clock g.B.Board.faults) Usage c.last_line-in-None.result (stop_line Usage) c.args.board.now c.last_line-in-None.new.board _ refl (rw c.usage_line.ensures at c.last_line-in-None.ensures.says)

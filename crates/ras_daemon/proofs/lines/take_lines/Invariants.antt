@@ -12,17 +12,16 @@ use Rattle.ras_daemon.proofs.lines.take_lines.Given as goal
 
 -- The first lines were taken and did their acts, and the others are to come. Each has at least one
 -- byte of the script.
-abbrev pub invariant-loop-number : goal.invariant-loop-number
-invariant-loop-number g l = record {
+abbrev pub invariant-loop-alloc : goal.invariant-loop-alloc
+invariant-loop-alloc g l = record {
   took : (start : Start) (script : List ℕ) (t : Told) → IsRunAfter start [] l.fn.run → g.S.Source.left l.fn.source ≡ Some script → g.B.Board.told l.fn.board ≡ Some t → HoldsAfter start [] t
-      → Took (looks g.B.Board.told g.B.Board.clock g.B.Board.faults) start script t l.number l.reader (g.S.Source.left l.source) l.run l.fn.board l.board;
+      → Took (looks g.B.Board.told g.B.Board.clock g.B.Board.faults) start script t l.lines.number l.lines.reader (g.S.Source.left l.source) l.run l.fn.board l.board;
   tells : IfSome (g.S.Source.left l.fn.source) (λ script. (now : List ℕ) × (g.S.Source.left l.source ≡ Some now));
-  few : TakesOf l.reader.taken (g.S.Source.left l.fn.source) (g.S.Source.left l.source);
+  few : TakesOf l.lines.reader.taken (g.S.Source.left l.fn.source) (g.S.Source.left l.source);
   ready : IsReady l.run.ledger (g.B.Board.told l.board) (g.B.Board.clock l.board);
-  counted : l.number ≤ given_count l.reader;
   source : g.S.Source.faults l.source ≡ g.S.Source.faults l.fn.source;
   faults : g.B.Board.faults l.board ≡ g.B.Board.faults l.fn.board;
 }
 
-abbrev pub decreases-loop-number : goal.decreases-loop-number
-decreases-loop-number g l = LONGEST_SCRIPT + 1 - given_count l.reader
+abbrev pub decreases-loop-alloc : goal.decreases-loop-alloc
+decreases-loop-alloc g l = LONGEST_SCRIPT + 1 - given_count l.lines.reader

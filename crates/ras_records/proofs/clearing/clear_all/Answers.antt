@@ -12,16 +12,16 @@ pub returns-in_err-clear-clause-does : goal.returns-in_err-clear-clause-does
 returns-in_err-clear-clause-does g c =
     let p = err_from_is_err_and c.from_residual.result c.from_residual.ensures.1 in
     rw (p.1, p.2) (each_refused (looks g.B.Board.told g.B.Board.clock g.B.Board.faults) (clear_calls c.args.driver.now) c.args.ids.now c.loop-id.id-index _ _ _
-    c.loop-id-test.true 0 c.loop-id.invariant.done c.in_err-clear.field-0.0 c.in_err-clear.ensures.does c.in_err-clear.ensures.answers c.in_err-clear.ensures.ends.refused)
+    c.loop-id-test.true 0 c.loop-id.invariant.done c.in_err-clear.field-0.0 c.in_err-clear.ensures.clears.does c.in_err-clear.ensures.clears.answers c.in_err-clear.ensures.clears.ends.refused)
 
 pub returns-in_err-clear-clause-kept : goal.returns-in_err-clear-clause-kept
-returns-in_err-clear-clause-kept g c = kept_both _ _ _ c.loop-id.invariant.kept c.in_err-clear.ensures.kept
+returns-in_err-clear-clause-kept g c = kept_both _ _ _ c.loop-id.invariant.kept c.in_err-clear.ensures.clears.kept
 
 pub loop-id-preserved : goal.loop-id-preserved
 loop-id-preserved g c = record {
   done = each_more (looks g.B.Board.told g.B.Board.clock g.B.Board.faults) (clear_calls c.args.driver.now) c.args.ids.now c.loop-id.id-index _ _ _
-      c.loop-id-test.true 0 c.loop-id.invariant.done c.in_ok-clear.ensures.does c.in_ok-clear.ensures.answers;
-  kept = kept_both _ _ _ c.loop-id.invariant.kept c.in_ok-clear.ensures.kept;
-  faults = c.in_ok-clear.ensures.ends.cause ∙ c.loop-id.invariant.faults;
-  device = inr (called_once (λ x. IfSome (g.B.Board.told x) (λ t. IsDevice (device_of t))) c.args.board.now c.loop-id.board c.loop-id.invariant.device c.in_ok-clear.ensures.device);
+      c.loop-id-test.true 0 c.loop-id.invariant.done c.in_ok-clear.ensures.clears.does c.in_ok-clear.ensures.clears.answers;
+  kept = kept_both _ _ _ c.loop-id.invariant.kept c.in_ok-clear.ensures.clears.kept;
+  faults = c.in_ok-clear.ensures.clears.ends.cause ∙ c.loop-id.invariant.faults;
+  device = inr (called_once (λ x. IfSome (g.B.Board.told x) (λ t. IsDevice (device_of t))) c.args.board.now c.loop-id.board c.loop-id.invariant.device c.in_ok-clear.ensures.clears.device);
 }

@@ -18,32 +18,33 @@ pub returns-in_err-read-clause-does : goal.returns-in_err-read-clause-does
 returns-in_err-read-clause-does g c =
     let p = err_from_is_err_and c.from_residual.result c.from_residual.ensures.1 in
     rw (p.1, p.2) (read_refused (looks g.B.Board.told g.B.Board.clock g.B.Board.faults) c.args.driver.now c.args.topology.now c.args.seconds c.args.ids.now c.loop-id.id-index c.loop-id-test.true _ _ _ _ c.loop-id.invariant.read
-    c.in_err-read.field-0.0 c.in_err-read.ensures.does c.in_err-read.ensures.answers c.in_err-read.ensures.ends.refused)
+    c.in_err-read.field-0.0 c.in_err-read.ensures.reads.does c.in_err-read.ensures.reads.answers c.in_err-read.ensures.reads.ends.refused)
 
 pub returns-in_err-read-clause-looked : goal.returns-in_err-read-clause-looked
 returns-in_err-read-clause-looked g c =
     let p = err_from_is_err_and c.from_residual.result c.from_residual.ensures.1 in
     rw (p.1, p.2) (refused_looks (looks g.B.Board.told g.B.Board.clock g.B.Board.faults) c.args.driver.now c.args.topology.now c.args.seconds c.args.ids.now c.loop-id.id-index c.loop-id-test.true _ _ c.read.new.board _ c.loop-id.invariant.read
-    c.in_err-read.field-0.0 c.in_err-read.ensures.answers c.in_err-read.ensures.ends.refused)
+    c.in_err-read.field-0.0 c.in_err-read.ensures.reads.answers c.in_err-read.ensures.reads.ends.refused)
 
 pub returns-in_err-read-clause-kept : goal.returns-in_err-read-clause-kept
-returns-in_err-read-clause-kept g c = kept_both _ _ _ c.loop-id.invariant.kept c.in_err-read.ensures.kept
+returns-in_err-read-clause-kept g c = kept_both _ _ _ c.loop-id.invariant.kept c.in_err-read.ensures.reads.kept
 
-pub returns-in-Err-clause-kept : goal.returns-in-Err-clause-kept
-returns-in-Err-clause-kept g c = kept_both _ _ _ c.loop-id.invariant.kept c.in_ok-read.ensures.kept
+pub returns-in_err-push-clause-kept : goal.returns-in_err-push-clause-kept
+returns-in_err-push-clause-kept g c = kept_both _ _ _ c.loop-id.invariant.kept c.in_ok-read.ensures.reads.kept
 
-pub returns-in-Err-clause-does : goal.returns-in-Err-clause-does
-returns-in-Err-clause-does g c =
-    read_starved (looks g.B.Board.told g.B.Board.clock g.B.Board.faults) c.args.driver.now c.args.topology.now c.args.seconds c.args.ids.now c.loop-id.id-index c.loop-id-test.true _ _ _ _ c.loop-id.invariant.read
-    c.in_ok-read.ensures.does c.in_ok-read.ensures.answers
+pub returns-in_err-push-clause-does : goal.returns-in_err-push-clause-does
+returns-in_err-push-clause-does g c =
+    let p = err_from_is_err_and c.from_residual-in_err-push.result c.from_residual-in_err-push.ensures.1 in
+    rw (p.1, p.2) (read_starved (looks g.B.Board.told g.B.Board.clock g.B.Board.faults) c.args.driver.now c.args.topology.now c.args.seconds c.args.ids.now c.loop-id.id-index c.loop-id-test.true _ _ _ _ c.loop-id.invariant.read
+    c.in_ok-read.ensures.reads.does c.in_ok-read.ensures.reads.answers)
 
 pub loop-id-preserved : goal.loop-id-preserved
 loop-id-preserved g c = record {
   read = read_more (looks g.B.Board.told g.B.Board.clock g.B.Board.faults) c.args.driver.now c.args.topology.now c.args.seconds c.args.ids.now c.loop-id.id-index c.loop-id-test.true _ _ _ _ c.loop-id.invariant.read _ c.read.new.buf
-      c.in_ok-read.ensures.does c.in_ok-read.ensures.answers c.in_ok-read.ensures.record_read c.in_ok-read.ensures.device c.in-Ok.ensures.made c.in-Ok.ensures.readable;
-  kept = kept_both _ _ _ c.loop-id.invariant.kept c.in_ok-read.ensures.kept;
-  faults = c.in_ok-read.ensures.ends.cause ∙ c.loop-id.invariant.faults;
-  reaches = c.in-Ok.ensures.reaches c.loop-id.id-index c.loop-id.invariant.reaches;
+      c.in_ok-read.ensures.reads.does c.in_ok-read.ensures.reads.answers c.in_ok-read.ensures.record_read c.in_ok-read.ensures.reads.device c.in_ok-push.ensures.made c.in_ok-push.ensures.readable;
+  kept = kept_both _ _ _ c.loop-id.invariant.kept c.in_ok-read.ensures.reads.kept;
+  faults = c.in_ok-read.ensures.reads.ends.cause ∙ c.loop-id.invariant.faults;
+  reaches = c.in_ok-push.ensures.reaches c.loop-id.id-index c.loop-id.invariant.reaches;
 }
 
 pub returns-clause-looked : goal.returns-clause-looked

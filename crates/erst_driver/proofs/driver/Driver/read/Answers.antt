@@ -1,46 +1,73 @@
-use Rattle.std.proofs.Common.{arith}
-use Rattle.board_core.specs.Doing.{looks}
-use Rattle.board_core.specs.Told.{device_of}
-use Rattle.erst_driver.specs.Answers.{answer_on_found, read_calls}
-use Rattle.erst_driver.specs.Operations.{actions_of, device_calls, fetch_calls, read_steps}
-use Rattle.erst_driver.proofs.DoesLemmas.{at_told, does_quietly, has_call, more_calls, over_each}
-use Rattle.erst_driver.proofs.ToldLemmas.{read_inside}
-use Rattle.erst_driver.proofs.ReadLemmas.{read_gives, read_found, read_told, read_kept, read_cause, read_stays}
-use Rattle.erst_driver.proofs.DeviceLemmas.{over_told}
+use Rattle.std.proofs.Common.{◌≡◌, ℕ, List, arith, subst, take, drop}
+use Rattle.std.specs.Prelude.{Ok, Err, IfSome}
+use Rattle.std.proofs.lemmas.Result.{err_from_is_err_and}
+use Rattle.board_core.specs.declared.board.Access.TheVariants.{RangeRead}
+use Rattle.board_core.specs.Doing.{looks, range_read}
+use Rattle.board_core.specs.Told.{Relates, Steps, MayListAccess, device_of, with_access}
+use Rattle.erst_store.specs.Actions.{range_length}
+use Rattle.erst_interp.proofs.BreakLemmas.{one_fails}
+use Rattle.erst_interp.proofs.CallLemmas.{quiet_fails, quiet_well}
+use Rattle.erst_driver.specs.declared.refusals.DriverRefused.TheVariants.{Register}
+use Rattle.erst_driver.specs.declared.step.Step.{Step}
+use Rattle.erst_driver.specs.Answers.{answer_of}
+use Rattle.erst_driver.specs.Operations.{actions_of, read_steps}
+use Rattle.erst_driver.specs.Steps.Operating.{Operates}
+use Rattle.erst_driver.proofs.ClauseLemmas.{reads}
+use Rattle.erst_driver.proofs.ReadLemmas.{fetch_failed, fetched, operate_refused, read_found}
 use Rattle.erst_driver.proofs.driver.Driver.read.Goals as goal
 
-pub returns-clause-answers : goal.returns-clause-answers
-returns-clause-answers g c = over_told c.args.self.now _ _ c.operate_and_fetch.ensures.device (read_gives c.args.self.now c.args.id c.operate_and_fetch.new.buf _ _ c.operate_and_fetch.result (rw c.read_steps-steps.ensures at c.operate_and_fetch.ensures.reads))
-
-pub returns-clause-record_read : goal.returns-clause-record_read
-returns-clause-record_read g c = read_found c.args.self.now c.args.id c.operate_and_fetch.new.buf _ _ c.operate_and_fetch.result c.operate_and_fetch.ensures.device (rw c.read_steps-steps.ensures at c.operate_and_fetch.ensures.reads)
-
-pub returns-clause-kept : goal.returns-clause-kept
-returns-clause-kept g c = read_kept c.args.self.now c.args.id c.operate_and_fetch.new.buf _ _ c.operate_and_fetch.result (rw c.read_steps-steps.ensures at c.operate_and_fetch.ensures.reads)
-
-pub returns-clause-ends : goal.returns-clause-ends
-returns-clause-ends g c = record {
-  cause = read_cause c.args.self.now c.args.id c.operate_and_fetch.new.buf _ _ c.operate_and_fetch.result (rw c.read_steps-steps.ensures at c.operate_and_fetch.ensures.reads);
-  refused = c.operate_and_fetch.ensures.refused;
-}
-
-pub returns-clause-does : goal.returns-clause-does
-returns-clause-does g c =
-    let id = c.args.id in
+pub returns-in_err-operate : goal.returns-in_err-operate
+returns-in_err-operate g c =
+    let see = looks g.B.Board.told g.B.Board.clock g.B.Board.faults in
     let lists = c.args.self.now in
-    let told = g.B.Board.told c.args.board.now in
-    let has = c.operate_and_fetch.ensures.device in
-    let result = c.operate_and_fetch.result in
-    let reads = rw c.read_steps-steps.ensures at c.operate_and_fetch.ensures.reads in
-    let leaves = over_told lists _ _ has (read_told lists id c.operate_and_fetch.new.buf _ _ result reads) in
-    let stops = read_stays lists id c.operate_and_fetch.new.buf _ _ result has reads (λ t left. g.met.B.Board.store_is_left c.args.board.now t left) in
-    over_each _ told (λ t is.
-    (let d = device_of t in
-    let some = has_call lists _ _ d has.admitted (read_inside id (omega (arith, c.ranges.id.fits))).0 in
-    does_quietly (looks g.B.Board.told g.B.Board.clock g.B.Board.faults) c.args.board.now c.operate_and_fetch.new.board (λ n left. g.met.B.Board.store_is_left c.operate_and_fetch.new.board n left)
-    (read_calls lists id d) t is (more_calls (device_calls lists (actions_of (read_steps id) d) d) (fetch_calls (answer_on_found id d)) some) stops
-    result (at_told _ told t leaves is) (read_cause lists id c.operate_and_fetch.new.buf _ _ result reads) c.operate_and_fetch.ensures.refused))
+    let id = c.args.id in
+    let a = c.args.board.now in
+    let b = c.operate.new.board in
+    let why = c.in_err-operate.field-0.0 in
+    let done = operate_refused lists (read_steps id) c.args.buf.now (see a) (see b) why
+    (subst (λ (steps : List Step). Operates lists (actions_of steps) (answer_of steps) (Err why) (see a) (see b)) c.read_steps-steps.ensures c.in_err-operate.ensures.operates) in
+    let p = err_from_is_err_and c.from_residual.result c.from_residual.ensures.1 in
+    rw (p.1, p.2) (record {
+      reads = reads see lists a b (λ t left. g.met.B.Board.store_is_left a t left) (λ t left. g.met.B.Board.store_is_left b t left) id (omega (arith, c.ranges.id.fits)) c.args.buf.now (Err why) done
+          c.in_err-operate.ensures.refused c.in_err-operate.ensures.device;
+      record_read = tt;
+    })
 
-pub returns-clause-stops : goal.returns-clause-stops
-returns-clause-stops g c = read_stays c.args.self.now c.args.id c.operate_and_fetch.new.buf _ _ c.operate_and_fetch.result c.operate_and_fetch.ensures.device
-    (rw c.read_steps-steps.ensures at c.operate_and_fetch.ensures.reads) (λ t left. g.met.B.Board.store_is_left c.args.board.now t left)
+pub returns-in_err-range_read : goal.returns-in_err-range_read
+returns-in_err-range_read g c =
+    let see = looks g.B.Board.told g.B.Board.clock g.B.Board.faults in
+    let lists = c.args.self.now in
+    let id = c.args.id in
+    let a = c.args.board.now in
+    let m = c.operate.new.board in
+    let b = c.range_read.new.self in
+    let read = c.in_err-range_read.ensures in
+    let failed = subst (λ (n : ℕ). Relates (MayListAccess (RangeRead 0 n)) (g.B.Board.told m) (g.B.Board.told b)) c.requires read.failed in
+    let done = fetch_failed lists (read_steps id) (see a) (see m) (see b) (rw c.read_steps-steps.ensures at c.in_ok-operate.ensures.operates)
+    (one_fails (range_read 0 range_length) (g.B.Board.told m) (g.B.Board.told b) failed) (quiet_fails (range_read 0 range_length) (see m) (see b) read.stops failed read.cause) in
+    let p = err_from_is_err_and c.from_residual-in_err-range_read.result c.from_residual-in_err-range_read.ensures.1 in
+    rw (p.1, p.2) (record {
+      reads = reads see lists a b (λ t left. g.met.B.Board.store_is_left a t left) (λ t left. g.met.B.Board.store_is_left b t left) id (omega (arith, c.ranges.id.fits)) c.range_read.new.buf (Err Register) done
+          tt c.in_ok-operate.ensures.device;
+      record_read = tt;
+    })
+
+pub returns : goal.returns
+returns g c =
+    let see = looks g.B.Board.told g.B.Board.clock g.B.Board.faults in
+    let lists = c.args.self.now in
+    let id = c.args.id in
+    let a = c.args.board.now in
+    let m = c.operate.new.board in
+    let b = c.range_read.new.self in
+    let buffer = c.range_read.new.buf in
+    let read = c.in_ok-range_read.ensures in
+    let told = subst (λ (n : ℕ). Steps (with_access (RangeRead 0 n)) (g.B.Board.told m) (g.B.Board.told b)) c.requires read.told in
+    let bytes = subst (λ (n : ℕ). IfSome (g.B.Board.told m) (λ t. buffer ≡ take n (drop 0 (device_of t).range))) c.requires read.read in
+    let done = fetched lists (read_steps id) buffer (see a) (see m) (see b) (rw c.read_steps-steps.ensures at c.in_ok-operate.ensures.operates) bytes told
+    (quiet_well (range_read 0 range_length) (see m) (see b) read.stops told read.cause) in
+    record {
+      reads = reads see lists a b (λ t left. g.met.B.Board.store_is_left a t left) (λ t left. g.met.B.Board.store_is_left b t left) id (omega (arith, c.ranges.id.fits)) buffer (Ok tt) done
+          tt c.in_ok-operate.ensures.device;
+      record_read = read_found lists id buffer (see a) (see b) (Ok tt) c.in_ok-operate.ensures.device done;
+    }

@@ -1,0 +1,17 @@
+mod LogHeadLemmas
+mod LogGroupLemmas
+mod LogFilterLemmas
+mod LogRangeLemmas
+mod LogFoundLemmas
+mod LogLawLemmas
+mod NumeralLemmas
+mod ReadBackLemmas
+mod PartsLemmas
+mod MarkLemmas
+mod TextLemmas
+mod RangeLemmas
+mod TraceLawLemmas
+mod KernelLemmas
+mod KernelLawLemmas
+mod KernelMarkLemmas
+mod LogLineLemmas

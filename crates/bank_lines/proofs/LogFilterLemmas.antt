@@ -1,0 +1,167 @@
+-- The filter by the report in work makes what the groups of the lines tell.
+use Rattle.std.proofs.Common.{◌≡◌, ℕ, ◌+◌, ◌==◌, Bool, true, false, not, List, [], ◌∷◌, ◌++◌, length, map, drop, refl, sym, ap, ◌∙◌, arith, Ok, Option, None, if◌then◌else◌}
+use Rattle.std.proofs.Math.Path.{fun_ext}
+use Rattle.std.proofs.lemmas.List.{append-nil, drop_at, length-append}
+use Rattle.std.proofs.lemmas.Grind.{flat_map-append}
+use Rattle.std.specs.List.{flat_map}
+use Rattle.mca_status.specs.Registers.{valid}
+use Rattle.ras_facts.specs.Facts.{status_in}
+use Rattle.ras_klog.specs.Klog.{added}
+use Rattle.ras_klog.specs.Stages.{at_start, has_place, out_at, stage_after}
+use Rattle.ras_klog.specs.declared.line.KlogLine.TheVariants.{Other}
+use Rattle.ras_klog.specs.declared.state.KlogOut.{KlogOut}
+use Rattle.ras_klog.specs.declared.state.KlogOut.TheVariants as Told
+use Rattle.ras_klog.specs.declared.state.Stage.{Stage}
+use Rattle.ras_klog.specs.declared.state.Stage.TheVariants.{Idle, Begun, Timed}
+use Rattle.bank_lines.specs.LogAlong.{answers_along, log_found_at, found_at_end, log_at_start, rest_along, state_after, state_over}
+use Rattle.bank_lines.specs.LogFilter.{log_answers_after, early_lines, founds_of, founds_text, is_passed, log_answers, log_filter, log_rest, passed_text, work_after}
+use Rattle.bank_lines.specs.LogGroups.{found_told, klog_part, with_counter}
+use Rattle.bank_lines.specs.LogLines.{log_line_of}
+use Rattle.bank_lines.specs.Texts.{found_text}
+use Rattle.bank_lines.specs.declared.found.Finding.{Finding}
+use Rattle.bank_lines.specs.declared.log_line.LogLine.{LogLine}
+use Rattle.bank_lines.specs.declared.log_line.LogLine.TheVariants.{Nothing, Unread, Part}
+use Rattle.bank_lines.specs.declared.log_state.LogState.{LogState}
+use Rattle.bank_lines.proofs.LogGroupLemmas.{along, at_once, ends, group_found, to_end}
+
+-- what a text adds to its beginning
+added_is : (begun more text : List ℕ) → text ≡ begun ++ more → added begun text ≡ more
+added_is begun more text is = ap (drop (length begun)) is ∙ drop_at begun more (length begun) refl
+
+-- ---- one line
+
+-- the number of a line matters to nothing that is found in a group
+number_free : (n count : ℕ) (stamp : Option ℕ) (vendor : ℕ) (out : KlogOut)
+    → found_text n (found_told count stamp vendor out) ≡ found_text 0 (found_told count stamp vendor out)
+number_free n count stamp vendor Told.Nothing = refl
+number_free n count stamp vendor (Told.Partial cpu bank) = refl
+number_free n count stamp vendor (Told.Whole report) = by (vendor == 0) (valid (status_in (with_counter count stamp report)))
+  where
+    by : (intel is_valid : Bool)
+        → found_text n (if intel then (if is_valid then Finding.Whole (with_counter count stamp report) else Finding.Nothing) else Finding.Foreign vendor report.cpu report.bank)
+        ≡ found_text 0 (if intel then (if is_valid then Finding.Whole (with_counter count stamp report) else Finding.Nothing) else Finding.Foreign vendor report.cpu report.bank)
+    by true true = refl
+    by true false = refl
+    by false true = refl
+    by false false = refl
+
+-- a line is told as passed over, or by what is found in its group
+one_line : (boot cap n : ℕ) (state : LogState) (line : LogLine)
+    → found_text n (log_found_at boot cap state line)
+    ≡ (if is_passed state.work line then found_text n Finding.Unread else []) ++ found_text 0 (group_found boot cap state line)
+one_line boot cap n state Nothing = refl
+one_line boot cap n state Unread = sym (append-nil (found_text n Finding.Unread))
+one_line boot cap n state (Part line stamp vendor) = by (has_place state.work line)
+  where
+    by : (place : Bool)
+        → found_text n (if place then found_told state.count state.stamp vendor (out_at boot cap state.work line) else Finding.Unread)
+        ≡ (if not place then found_text n Finding.Unread else [])
+        ++ found_text 0 (if place then found_told state.count state.stamp vendor (out_at boot cap state.work line) else Finding.Nothing)
+    by true = number_free n state.count state.stamp vendor (out_at boot cap state.work line)
+    by false = sym (append-nil (found_text n Finding.Unread))
+
+-- ---- the stage after lines
+
+stays : (stage : Stage) → stage ≡ stage_after stage Other
+stays Idle = refl
+stays (Begun head) = refl
+stays (Timed head tsc addr misc) = refl
+
+work_is : (boot cap : ℕ) (state : LogState) (line : LogLine) → (state_after boot cap state line).work ≡ stage_after state.work (klog_part line)
+work_is boot cap state (Part line stamp vendor) = refl
+work_is boot cap state Nothing = stays state.work
+work_is boot cap state Unread = stays state.work
+
+over_work : (boot cap : ℕ) (state : LogState) (stage : Stage) (lines : List (List ℕ)) → state.work ≡ stage
+    → (state_over boot cap state lines).work ≡ work_after stage lines
+over_work boot cap state stage [] is = is
+over_work boot cap state stage (line ∷ lines) is =
+    over_work boot cap (state_after boot cap state (log_line_of line)) (stage_after stage (klog_part (log_line_of line))) lines
+    (work_is boot cap state (log_line_of line) ∙ ap (λ (s : Stage). stage_after s (klog_part (log_line_of line))) is)
+
+-- ---- lines
+
+module _ (boot cap : ℕ) where
+  along-push : (state : LogState) (before : List (List ℕ)) (line : List ℕ)
+      → along boot cap state (map log_line_of (before ++ line ∷ []))
+      ≡ along boot cap state (map log_line_of before) ++ group_found boot cap (state_over boot cap state before) (log_line_of line) ∷ []
+  along-push state [] line = refl
+  along-push state (b ∷ before) line =
+      ap (λ (founds : List Finding). group_found boot cap state (log_line_of b) ∷ founds) (along-push (state_after boot cap state (log_line_of b)) before line)
+
+  state-push : (state : LogState) (before : List (List ℕ)) (line : List ℕ)
+      → state_over boot cap state (before ++ line ∷ []) ≡ state_after boot cap (state_over boot cap state before) (log_line_of line)
+  state-push state [] line = refl
+  state-push state (b ∷ before) line = state-push (state_after boot cap state (log_line_of b)) before line
+
+  to_end-is : (state : LogState) (lines : List (List ℕ))
+      → to_end boot cap state (map log_line_of lines)
+      ≡ along boot cap state (map log_line_of lines) ++ found_at_end (state_over boot cap state lines) ∷ []
+  to_end-is state [] = refl
+  to_end-is state (line ∷ lines) =
+      ap (λ (founds : List Finding). group_found boot cap state (log_line_of line) ∷ founds) (to_end-is (state_after boot cap state (log_line_of line)) lines)
+
+  -- the texts of what is found along lines, and of one more
+  early_is : (lines : List (List ℕ)) → early_lines boot cap lines ≡ flat_map (found_text 0) (along boot cap log_at_start (map log_line_of lines))
+  early_is lines = sym (at_once boot cap (found_text 0) refl at_start None 0 (map log_line_of lines))
+
+  text_is : (lines : List (List ℕ)) → founds_text (founds_of boot cap lines) ≡ flat_map (found_text 0) (to_end boot cap log_at_start (map log_line_of lines))
+  text_is lines = sym (ends boot cap (found_text 0) refl at_start None 0 (map log_line_of lines))
+
+  one_text : (found : Finding) → flat_map (found_text 0) (found ∷ []) ≡ found_text 0 found
+  one_text found = append-nil (found_text 0 found)
+
+  pub early-push : (before : List (List ℕ)) (line : List ℕ)
+      → early_lines boot cap (before ++ line ∷ [])
+      ≡ early_lines boot cap before ++ found_text 0 (group_found boot cap (state_over boot cap log_at_start before) (log_line_of line))
+  early-push before line =
+      let found : Finding = group_found boot cap (state_over boot cap log_at_start before) (log_line_of line) in
+      early_is (before ++ line ∷ [])
+      ∙ ap (flat_map (found_text 0)) (along-push log_at_start before line)
+      ∙ flat_map-append (found_text 0) (along boot cap log_at_start (map log_line_of before)) (found ∷ [])
+      ∙ ap (λ (text : List ℕ). text ++ flat_map (found_text 0) (found ∷ [])) (sym (early_is before))
+      ∙ ap (λ (text : List ℕ). early_lines boot cap before ++ text) (one_text found)
+
+  text_ends : (lines : List (List ℕ)) → founds_text (founds_of boot cap lines) ≡ early_lines boot cap lines ++ rest_along boot cap log_at_start lines
+  text_ends lines =
+      let found : Finding = found_at_end (state_over boot cap log_at_start lines) in
+      text_is lines
+      ∙ ap (flat_map (found_text 0)) (to_end-is log_at_start lines)
+      ∙ flat_map-append (found_text 0) (along boot cap log_at_start (map log_line_of lines)) (found ∷ [])
+      ∙ ap (λ (text : List ℕ). text ++ flat_map (found_text 0) (found ∷ [])) (sym (early_is lines))
+      ∙ ap (λ (text : List ℕ). early_lines boot cap lines ++ text) (one_text found)
+
+  -- a line's text is that it is passed over, or what it adds
+  line_is : (before : List (List ℕ)) (line : List ℕ)
+      → found_text (length before + 1) (log_found_at boot cap (state_over boot cap log_at_start before) (log_line_of line))
+      ≡ passed_text before line ++ added (early_lines boot cap before) (early_lines boot cap (before ++ line ∷ []))
+  line_is before line =
+      let state : LogState = state_over boot cap log_at_start before in
+      let found : Finding = group_found boot cap state (log_line_of line) in
+      one_line boot cap (length before + 1) state (log_line_of line)
+      ∙ ap (λ (stage : Stage). (if is_passed stage (log_line_of line) then found_text (length before + 1) Finding.Unread else []) ++ found_text 0 found) (over_work boot cap log_at_start at_start before refl)
+      ∙ ap (λ (text : List ℕ). passed_text before line ++ text) (sym (added_is (early_lines boot cap before) (found_text 0 found) _ (early-push before line)))
+
+  pub answers_are : (before lines : List (List ℕ))
+      → answers_along boot cap (state_over boot cap log_at_start before) (length before) lines ≡ log_answers_after boot cap before lines
+  answers_are before [] = refl
+  answers_are before (line ∷ lines) = by (answers_are (before ++ line ∷ []) lines)
+    where
+      by : answers_along boot cap (state_over boot cap log_at_start (before ++ line ∷ [])) (length (before ++ line ∷ [])) lines ≡ log_answers_after boot cap (before ++ line ∷ []) lines
+          → answers_along boot cap (state_over boot cap log_at_start before) (length before) (line ∷ lines) ≡ log_answers_after boot cap before (line ∷ lines)
+      by ih =
+          let state : LogState = state_over boot cap log_at_start before in
+          let text : List ℕ = found_text (length before + 1) (log_found_at boot cap state (log_line_of line)) in
+          let longer : length before + 1 ≡ length (before ++ line ∷ []) = omega (arith, length-append before (line ∷ [])) in
+          ap (λ (s : LogState). Ok text ∷ answers_along boot cap s (length before + 1) lines) (sym (state-push log_at_start before line))
+          ∙ ap (λ (n : ℕ). Ok text ∷ answers_along boot cap (state_over boot cap log_at_start (before ++ line ∷ [])) n lines) longer
+          ∙ ap (λ rest. Ok text ∷ rest) ih
+          ∙ ap (λ (t : List ℕ). Ok t ∷ log_answers_after boot cap (before ++ line ∷ []) lines) (line_is before line)
+
+  pub rest_is : (lines : List (List ℕ)) → rest_along boot cap log_at_start lines ≡ log_rest boot cap lines
+  rest_is lines = sym (added_is (early_lines boot cap lines) (rest_along boot cap log_at_start lines) (founds_text (founds_of boot cap lines)) (text_ends lines))
+
+  pub filter_is : record { answers = answers_along boot cap log_at_start 0; rest = rest_along boot cap log_at_start; last = λ lines. [] } ≡ log_filter boot cap
+  filter_is =
+      ap (λ answers. record { answers = answers; rest = rest_along boot cap log_at_start; last = λ lines. [] }) (fun_ext (λ lines. answers_are [] lines))
+      ∙ ap (λ rest. record { answers = log_answers boot cap; rest = rest; last = λ lines. [] }) (fun_ext rest_is)

@@ -1,0 +1,159 @@
+-- What is found along the lines of a log is what is found in its groups.
+use Rattle.std.proofs.Common.{◌≡◌, ℕ, ◌==◌, Bool, true, false, List, [], ◌∷◌, ◌++◌, map, refl, sym, ap, ◌∙◌, Option, if◌then◌else◌}
+use Rattle.std.specs.List.{flat_map}
+use Rattle.mca_status.specs.Registers.{valid}
+use Rattle.ras_facts.specs.Facts.{status_in}
+use Rattle.ras_facts.specs.declared.bank.BankReport.{BankReport}
+use Rattle.ras_klog.specs.Groups.{bank_of_group, told_of, told_of_groups, told_seconds, up_to_start, with_seconds}
+use Rattle.ras_klog.specs.declared.line.KlogLine.{KlogLine}
+use Rattle.ras_klog.specs.declared.line.KlogLine.TheVariants.{Start, Tsc, Processor, Other}
+use Rattle.ras_klog.specs.declared.state.Head.{Head}
+use Rattle.ras_klog.specs.declared.state.KlogOut.{KlogOut}
+use Rattle.ras_klog.specs.declared.state.KlogOut.TheVariants as Told
+use Rattle.ras_klog.specs.declared.state.Stage.{Stage}
+use Rattle.ras_klog.specs.declared.state.Stage.TheVariants.{Idle, Begun, Timed}
+use Rattle.ras_klog.specs.Stages.{has_place, out_at}
+use Rattle.bank_lines.specs.LogAlong.{found_at_end, state_after}
+use Rattle.bank_lines.specs.LogGroups.{before_end, count_after, found_told, group_founds_from, group_vendor, klog_part, log_groups, log_up_to_start, timed_vendor, told_in, with_counter}
+use Rattle.bank_lines.specs.declared.found.Finding.{Finding}
+use Rattle.bank_lines.specs.declared.log_line.LogLine.{LogLine}
+use Rattle.bank_lines.specs.declared.log_line.LogLine.TheVariants.{Nothing, Unread, Part}
+use Rattle.bank_lines.specs.declared.log_state.LogState.{LogState}
+
+-- ---- the groups are those of `klog`
+
+up_is : (lines : List LogLine) → map klog_part (log_up_to_start lines) ≡ up_to_start (map klog_part lines)
+up_is [] = refl
+up_is (Part (Start c m b s) stamp vendor ∷ lines) = refl
+up_is (Part (Tsc t a m) stamp vendor ∷ lines) = ap (λ (rest : List KlogLine). Tsc t a m ∷ rest) (up_is lines)
+up_is (Part (Processor seconds) stamp vendor ∷ lines) = ap (λ (rest : List KlogLine). Processor seconds ∷ rest) (up_is lines)
+up_is (Part Other stamp vendor ∷ lines) = ap (λ (rest : List KlogLine). Other ∷ rest) (up_is lines)
+up_is (Nothing ∷ lines) = ap (λ (rest : List KlogLine). Other ∷ rest) (up_is lines)
+up_is (Unread ∷ lines) = ap (λ (rest : List KlogLine). Other ∷ rest) (up_is lines)
+
+module _ (boot cap : ℕ) where
+  pub groups_are : (lines : List LogLine) → map (told_in boot cap) (log_groups lines) ≡ told_of_groups boot cap (map klog_part lines)
+  groups_are [] = refl
+  groups_are (Part (Start c m b s) stamp vendor ∷ lines) =
+      ap (λ (rest : List KlogLine). told_of boot cap (record { cpu = c; mcg = m; bank = b; status = s }) rest ∷ map (told_in boot cap) (log_groups lines)) (up_is lines)
+      ∙ ap (λ (outs : List KlogOut). told_of boot cap (record { cpu = c; mcg = m; bank = b; status = s }) (up_to_start (map klog_part lines)) ∷ outs) (groups_are lines)
+  groups_are (Part (Tsc t a m) stamp vendor ∷ lines) = groups_are lines
+  groups_are (Part (Processor seconds) stamp vendor ∷ lines) = groups_are lines
+  groups_are (Part Other stamp vendor ∷ lines) = groups_are lines
+  groups_are (Nothing ∷ lines) = groups_are lines
+  groups_are (Unread ∷ lines) = groups_are lines
+
+-- ---- along the lines
+
+-- what is found in the groups at a line: nothing if it is passed over
+abbrev pub group_found : ℕ → ℕ → LogState → LogLine → Finding
+group_found boot cap state (Part line stamp vendor) =
+    if has_place state.work line
+    then found_told state.count state.stamp vendor (out_at boot cap state.work line) else Finding.Nothing
+group_found boot cap state line = Finding.Nothing
+
+abbrev pub found_group : ℕ → ℕ → ℕ → Option ℕ → Head → List LogLine → Finding
+found_group boot cap count stamp head rest = found_told count stamp (group_vendor rest) (told_of boot cap head (map klog_part rest))
+
+abbrev pub work : Stage → Option ℕ → ℕ → LogState
+work stage stamp count = record { work = stage; stamp = stamp; count = count }
+
+-- a whole report is none that isn't whole
+whole_goes : (count : ℕ) (stamp : Option ℕ) (vendor : ℕ) (report : BankReport) (founds : List Finding)
+    → before_end (found_told count stamp vendor (Told.Whole report) ∷ founds) ≡ found_told count stamp vendor (Told.Whole report) ∷ before_end founds
+whole_goes count stamp vendor report founds = by (vendor == 0) (valid (status_in (with_counter count stamp report)))
+  where
+    by : (intel is_valid : Bool)
+        → before_end ((if intel then (if is_valid then Finding.Whole (with_counter count stamp report) else Finding.Nothing) else Finding.Foreign vendor report.cpu report.bank) ∷ founds)
+        ≡ (if intel then (if is_valid then Finding.Whole (with_counter count stamp report) else Finding.Nothing) else Finding.Foreign vendor report.cpu report.bank) ∷ before_end founds
+    by true true = refl
+    by true false = refl
+    by false true = refl
+    by false false = refl
+
+module _ (boot cap : ℕ) where
+  -- what is found in the groups of a report in work and of the lines after it
+  abbrev pub founds_in : Stage → Option ℕ → ℕ → List LogLine → List Finding
+  founds_in Idle stamp count lines = group_founds_from boot cap count (log_groups lines)
+  founds_in (Begun head) stamp count lines =
+      let told : KlogOut = told_of boot cap head (map klog_part (log_up_to_start lines)) in
+      found_told count stamp (group_vendor (log_up_to_start lines)) told
+      ∷ group_founds_from boot cap (count_after count stamp told) (log_groups lines)
+  founds_in (Timed head tsc addr misc) stamp count lines =
+      let told : KlogOut = with_seconds boot cap head tsc addr misc (told_seconds (map klog_part (log_up_to_start lines))) in
+      found_told count stamp (timed_vendor (log_up_to_start lines)) told
+      ∷ group_founds_from boot cap (count_after count stamp told) (log_groups lines)
+
+  -- what is found at each line
+  abbrev pub along : LogState → List LogLine → List Finding
+  along state [] = []
+  along state (line ∷ lines) = group_found boot cap state line ∷ along (state_after boot cap state line) lines
+
+  -- and at the end
+  abbrev pub to_end : LogState → List LogLine → List Finding
+  to_end state [] = found_at_end state ∷ []
+  to_end state (line ∷ lines) = group_found boot cap state line ∷ to_end (state_after boot cap state line) lines
+
+  module _ {A : Type 0} (f : Finding → List A) (none : f Finding.Nothing ≡ []) where
+    skip : (xs ys : List A) → xs ≡ ys → f Finding.Nothing ++ xs ≡ ys
+    skip xs ys h = ap (λ (front : List A). front ++ xs) none ∙ h
+
+    pub ends : (stage : Stage) (stamp : Option ℕ) (count : ℕ) (lines : List LogLine)
+        → flat_map f (to_end (work stage stamp count) lines) ≡ flat_map f (founds_in stage stamp count lines)
+    ends Idle stamp count [] = skip [] [] refl
+    ends (Begun head) stamp count [] = refl
+    ends (Timed head tsc addr misc) stamp count [] = refl
+    ends Idle stamp count (Part (Start c m b s) new v ∷ lines) =
+        skip _ _ (ends (Begun (record { cpu = c; mcg = m; bank = b; status = s })) new count lines)
+    ends Idle stamp count (Part (Tsc t a m) new v ∷ lines) = skip _ _ (ends Idle stamp count lines)
+    ends Idle stamp count (Part (Processor seconds) new v ∷ lines) = skip _ _ (ends Idle stamp count lines)
+    ends Idle stamp count (Part Other new v ∷ lines) = skip _ _ (ends Idle stamp count lines)
+    ends Idle stamp count (Nothing ∷ lines) = skip _ _ (ends Idle stamp count lines)
+    ends Idle stamp count (Unread ∷ lines) = skip _ _ (ends Idle stamp count lines)
+    ends (Begun head) stamp count (Part (Start c m b s) new v ∷ lines) =
+        ap (λ (rest : List A). f (Finding.Partial head.cpu head.bank) ++ rest) (ends (Begun (record { cpu = c; mcg = m; bank = b; status = s })) new count lines)
+    ends (Begun head) stamp count (Part (Tsc t a m) new v ∷ lines) = skip _ _ (ends (Timed head t a m) stamp count lines)
+    ends (Begun head) stamp count (Part (Processor seconds) new v ∷ lines) = skip _ _ (ends (Begun head) stamp count lines)
+    ends (Begun head) stamp count (Part Other new v ∷ lines) = skip _ _ (ends (Begun head) stamp count lines)
+    ends (Begun head) stamp count (Nothing ∷ lines) = skip _ _ (ends (Begun head) stamp count lines)
+    ends (Begun head) stamp count (Unread ∷ lines) = skip _ _ (ends (Begun head) stamp count lines)
+    ends (Timed head tsc addr misc) stamp count (Part (Start c m b s) new v ∷ lines) =
+        ap (λ (rest : List A). f (Finding.Partial head.cpu head.bank) ++ rest) (ends (Begun (record { cpu = c; mcg = m; bank = b; status = s })) new count lines)
+    ends (Timed head tsc addr misc) stamp count (Part (Tsc t a m) new v ∷ lines) = skip _ _ (ends (Timed head tsc addr misc) stamp count lines)
+    ends (Timed head tsc addr misc) stamp count (Part (Processor seconds) new v ∷ lines) =
+        let out : KlogOut = Told.Whole (bank_of_group boot cap head tsc addr misc seconds) in
+        ap (λ (rest : List A). f (found_told count stamp v out) ++ rest) (ends Idle stamp (count_after count stamp out) lines)
+    ends (Timed head tsc addr misc) stamp count (Part Other new v ∷ lines) = skip _ _ (ends (Timed head tsc addr misc) stamp count lines)
+    ends (Timed head tsc addr misc) stamp count (Nothing ∷ lines) = skip _ _ (ends (Timed head tsc addr misc) stamp count lines)
+    ends (Timed head tsc addr misc) stamp count (Unread ∷ lines) = skip _ _ (ends (Timed head tsc addr misc) stamp count lines)
+
+    pub at_once : (stage : Stage) (stamp : Option ℕ) (count : ℕ) (lines : List LogLine)
+        → flat_map f (along (work stage stamp count) lines) ≡ flat_map f (before_end (founds_in stage stamp count lines))
+    at_once Idle stamp count [] = refl
+    at_once (Begun head) stamp count [] = refl
+    at_once (Timed head tsc addr misc) stamp count [] = refl
+    at_once Idle stamp count (Part (Start c m b s) new v ∷ lines) =
+        skip _ _ (at_once (Begun (record { cpu = c; mcg = m; bank = b; status = s })) new count lines)
+    at_once Idle stamp count (Part (Tsc t a m) new v ∷ lines) = skip _ _ (at_once Idle stamp count lines)
+    at_once Idle stamp count (Part (Processor seconds) new v ∷ lines) = skip _ _ (at_once Idle stamp count lines)
+    at_once Idle stamp count (Part Other new v ∷ lines) = skip _ _ (at_once Idle stamp count lines)
+    at_once Idle stamp count (Nothing ∷ lines) = skip _ _ (at_once Idle stamp count lines)
+    at_once Idle stamp count (Unread ∷ lines) = skip _ _ (at_once Idle stamp count lines)
+    at_once (Begun head) stamp count (Part (Start c m b s) new v ∷ lines) =
+        ap (λ (rest : List A). f (Finding.Partial head.cpu head.bank) ++ rest) (at_once (Begun (record { cpu = c; mcg = m; bank = b; status = s })) new count lines)
+    at_once (Begun head) stamp count (Part (Tsc t a m) new v ∷ lines) = skip _ _ (at_once (Timed head t a m) stamp count lines)
+    at_once (Begun head) stamp count (Part (Processor seconds) new v ∷ lines) = skip _ _ (at_once (Begun head) stamp count lines)
+    at_once (Begun head) stamp count (Part Other new v ∷ lines) = skip _ _ (at_once (Begun head) stamp count lines)
+    at_once (Begun head) stamp count (Nothing ∷ lines) = skip _ _ (at_once (Begun head) stamp count lines)
+    at_once (Begun head) stamp count (Unread ∷ lines) = skip _ _ (at_once (Begun head) stamp count lines)
+    at_once (Timed head tsc addr misc) stamp count (Part (Start c m b s) new v ∷ lines) =
+        ap (λ (rest : List A). f (Finding.Partial head.cpu head.bank) ++ rest) (at_once (Begun (record { cpu = c; mcg = m; bank = b; status = s })) new count lines)
+    at_once (Timed head tsc addr misc) stamp count (Part (Tsc t a m) new v ∷ lines) = skip _ _ (at_once (Timed head tsc addr misc) stamp count lines)
+    at_once (Timed head tsc addr misc) stamp count (Part (Processor seconds) new v ∷ lines) =
+        let out : KlogOut = Told.Whole (bank_of_group boot cap head tsc addr misc seconds) in
+        let rest : List Finding = founds_in Idle stamp (count_after count stamp out) lines in
+        ap (λ (more : List A). f (found_told count stamp v out) ++ more) (at_once Idle stamp (count_after count stamp out) lines)
+        ∙ sym (ap (flat_map f) (whole_goes count stamp v (bank_of_group boot cap head tsc addr misc seconds) rest))
+    at_once (Timed head tsc addr misc) stamp count (Part Other new v ∷ lines) = skip _ _ (at_once (Timed head tsc addr misc) stamp count lines)
+    at_once (Timed head tsc addr misc) stamp count (Nothing ∷ lines) = skip _ _ (at_once (Timed head tsc addr misc) stamp count lines)
+    at_once (Timed head tsc addr misc) stamp count (Unread ∷ lines) = skip _ _ (at_once (Timed head tsc addr misc) stamp count lines)

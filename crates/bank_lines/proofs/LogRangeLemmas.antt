@@ -1,0 +1,188 @@
+-- The numbers of the lines of `klog` are those of their types.
+use Rattle.std.proofs.Common.{◌≡◌, ℕ, ◌-◌, ◌^◌, ◌<◌, ◌≤◌, ◌==◌, ◌&&◌, Bool, true, false, List, refl, arith, Option, None, Some, if◌then◌else◌, nat_eq, nat_le, unwrap_or, codes, drop, length, take}
+use Rattle.std.specs.Prelude.{⊤}
+use Rattle.std.proofs.lemmas.Bool.Decides.{nat_tests}
+use Rattle.std.specs.List.{ends_with, list_all}
+use Rattle.std.specs.Str.{bytes_eq}
+use Rattle.std.specs.Str.Parse.{digits_value}
+use Rattle.ras_klog.specs.Reading.{after_marker, bank_of, check_of, colon_number, is_empty, is_vendor_and_model, klog_line_of, named, parts_of, processor_line_of, provided, read_then, start_line_of, told_by_words, tsc_of, word}
+use Rattle.ras_klog.specs.declared.line.KlogLine.{KlogLine}
+use Rattle.ras_klog.specs.declared.line.KlogLine.TheVariants.{Start, Tsc, Processor, Other}
+use Rattle.ras_script.specs.Number.{decimal_of, hexadecimal_of, is_numeral, numeral_value}
+use Rattle.bank_lines.specs.LogHeads.{after, is_own, mark_place, up_to, without_spaces}
+use Rattle.bank_lines.specs.LogLines.{is_of_report, log_line_after, log_line_by, log_line_of, log_mark, micros_of, log_stamp_of, line_told_by, vendor_of, with_vendor}
+use Rattle.bank_lines.specs.declared.log_line.LogLine.{LogLine}
+use Rattle.bank_lines.specs.declared.log_line.LogLine.TheVariants.{Nothing, Unread, Part}
+
+-- something that holds of what an option has
+abbrev pub Each : {A : Type 0} → (A → Type 0) → Option A → Type 0
+Each P None = ⊤
+Each P (Some x) = P x
+
+-- the numbers of a line of `klog`
+abbrev pub IsLineInRange : KlogLine → Type 0
+IsLineInRange (Start cpu mcg bank status) = (cpu < 2 ^ 16) × (mcg < 2 ^ 64) × (bank < 2 ^ 8) × (status < 2 ^ 64)
+IsLineInRange (Tsc tsc addr misc) = (tsc < 2 ^ 64) × (addr < 2 ^ 64) × (misc < 2 ^ 64)
+IsLineInRange (Processor seconds) = seconds < 2 ^ 64
+IsLineInRange Other = ⊤
+
+-- the numbers of a line of a log
+abbrev pub IsLogLineInRange : LogLine → Type 0
+IsLogLineInRange (Part line stamp vendor) = IsLineInRange line × Each (λ s. s < 2 ^ 64) stamp × (vendor < 2 ^ 64)
+IsLogLineInRange line = ⊤
+
+-- ---- numbers
+
+numeral_within : (radix longest most : ℕ) (w : List ℕ) → Each (λ n. n ≤ most) (numeral_value radix longest most w)
+numeral_within radix longest most w = by (is_numeral radix longest w) (nat_le (digits_value radix w) most) refl
+  where
+    by : (numeral fits : Bool) → nat_le (digits_value radix w) most ≡ fits
+        → Each (λ n. n ≤ most) (if numeral && fits then Some (digits_value radix w) else None)
+    by true true h = grind (arith, nat_tests, h)
+    by true false h = tt
+    by false fits h = tt
+
+each_then : {A B : Type 0} (P : A → Type 0) (Q : B → Type 0) (o : Option A) (next : A → Option B)
+    → Each P o → ((x : A) → P x → Each Q (next x)) → Each Q (read_then o next)
+each_then P Q None next h step = tt
+each_then P Q (Some x) next h step = step x h
+
+each_provided : {A : Type 0} (Q : A → Type 0) (holds : Bool) (o : Option A) → Each Q o → Each Q (provided holds o)
+each_provided Q true o h = h
+each_provided Q false o h = tt
+
+each_if : {A : Type 0} (Q : A → Type 0) (test : Bool) (o p : Option A) → Each Q o → Each Q p → Each Q (if test then o else p)
+each_if Q true o p h k = h
+each_if Q false o p h k = k
+
+each_wider : {A : Type 0} (P Q : A → Type 0) (o : Option A) → ((x : A) → P x → Q x) → Each P o → Each Q o
+each_wider P Q None wider h = tt
+each_wider P Q (Some x) wider h = wider x h
+
+decimal_in : (most : ℕ) (w : List ℕ) → Each (λ n. n ≤ most) (decimal_of most w)
+decimal_in most w = numeral_within 10 20 most w
+
+hexadecimal_in : (w : List ℕ) → Each (λ n. n < 2 ^ 64) (hexadecimal_of w)
+hexadecimal_in w = each_wider (λ n. n ≤ 2 ^ 64 - 1) (λ n. n < 2 ^ 64) (hexadecimal_of w) (λ n h. omega (arith, h)) (numeral_within 16 16 (2 ^ 64 - 1) w)
+
+colon_in : (most : ℕ) (w : List ℕ) → Each (λ n. n ≤ most) (colon_number most w)
+colon_in most w =
+    each_if (λ n. n ≤ most) (ends_with nat_eq w (codes ":")) (decimal_of most (take (length w - 1) w)) None (decimal_in most (take (length w - 1) w)) tt
+
+-- ---- lines of `klog`
+
+bank_in : (cpu : ℕ) (words : List (List ℕ)) → cpu < 2 ^ 16 → Each IsLineInRange (bank_of cpu words)
+unfolding bank_of
+bank_in cpu words small =
+    let ended : ℕ → ℕ → ℕ → Option KlogLine = λ mcg bank status. provided (list_all is_empty (drop 4 words)) (Some (Start cpu mcg bank status)) in
+    let stated : ℕ → ℕ → Option KlogLine = λ mcg bank. read_then (hexadecimal_of (word words 3)) (λ status. ended mcg bank status) in
+    let banked : ℕ → Option KlogLine = λ mcg. read_then (colon_number 255 (word words 2)) (λ bank. stated mcg bank) in
+    each_then (λ n. n < 2 ^ 64) IsLineInRange (hexadecimal_of (word words 0)) (λ mcg. provided (bytes_eq (word words 1) (codes "Bank")) (banked mcg)) (hexadecimal_in (word words 0)) (λ mcg m.
+    each_provided IsLineInRange (bytes_eq (word words 1) (codes "Bank")) (banked mcg) (
+    each_then (λ n. n ≤ 255) IsLineInRange (colon_number 255 (word words 2)) (λ bank. stated mcg bank) (colon_in 255 (word words 2)) (λ bank b.
+    each_then (λ n. n < 2 ^ 64) IsLineInRange (hexadecimal_of (word words 3)) (λ status. ended mcg bank status) (hexadecimal_in (word words 3)) (λ status s.
+    each_provided IsLineInRange (list_all is_empty (drop 4 words)) (Some (Start cpu mcg bank status)) (small, m, omega (arith, b), s)))))
+
+check_in : (cpu : ℕ) (words : List (List ℕ)) → cpu < 2 ^ 16 → Each IsLineInRange (check_of cpu words)
+unfolding check_of
+check_in cpu words small =
+    let exception : Option KlogLine = provided (bytes_eq (word words 1) (codes "Exception:")) (bank_of cpu (drop 2 words)) in
+    each_if IsLineInRange (bytes_eq (word words 0) (codes "Check:")) (bank_of cpu (drop 1 words)) (provided (bytes_eq (word words 0) (codes "Check")) exception) (bank_in cpu (drop 1 words) small) (
+    each_provided IsLineInRange (bytes_eq (word words 0) (codes "Check")) exception (
+    each_provided IsLineInRange (bytes_eq (word words 1) (codes "Exception:")) (bank_of cpu (drop 2 words)) (bank_in cpu (drop 2 words) small)))
+
+start_in : (words : List (List ℕ)) → Each IsLineInRange (start_line_of words)
+unfolding start_line_of
+start_in words =
+    each_then (λ n. n ≤ 65535) IsLineInRange (colon_number 65535 (word words 0)) (λ cpu. provided (bytes_eq (word words 1) (codes "Machine")) (check_of cpu (drop 2 words))) (colon_in 65535 (word words 0)) (λ cpu c.
+    each_provided IsLineInRange (bytes_eq (word words 1) (codes "Machine")) (check_of cpu (drop 2 words)) (check_in cpu (drop 2 words) (omega (arith, c))))
+
+named_in : (name : List ℕ) (words : List (List ℕ)) → (named name words).0 < 2 ^ 64
+unfolding named
+named_in name words =
+    by (bytes_eq (word words 0) name) refl (hexadecimal_of (word words 1)) refl (hexadecimal_in (word words 1))
+  where
+    by : (is : Bool) → bytes_eq (word words 0) name ≡ is
+        → (number : Option ℕ) → hexadecimal_of (word words 1) ≡ number → Each (λ n. n < 2 ^ 64) number
+        → (named name words).0 < 2 ^ 64
+    by false is number reads small = rw is (omega arith)
+    by true is None reads small = rw is (rw reads (omega arith))
+    by true is (Some n) reads small = rw is (rw reads small)
+
+tsc_in : (words : List (List ℕ)) → Each IsLineInRange (tsc_of words)
+unfolding tsc_of
+tsc_in words =
+    each_then (λ n. n < 2 ^ 64) IsLineInRange (hexadecimal_of (word words 0)) _ (hexadecimal_in (word words 0)) (λ tsc t.
+    (t, named_in (codes "ADDR") (drop 1 words), named_in (codes "MISC") (named (codes "ADDR") (drop 1 words)).1))
+
+processor_in : (words : List (List ℕ)) → Each IsLineInRange (processor_line_of words)
+unfolding processor_line_of
+processor_in words =
+    let read : Option KlogLine = read_then (decimal_of (2 ^ 64 - 1) (word words 2)) (λ seconds. Some (Processor seconds)) in
+    let small : Each IsLineInRange read =
+    each_then (λ n. n ≤ 2 ^ 64 - 1) IsLineInRange (decimal_of (2 ^ 64 - 1) (word words 2)) (λ seconds. Some (Processor seconds)) (decimal_in (2 ^ 64 - 1) (word words 2)) (λ seconds s. omega (arith, s)) in
+    each_provided IsLineInRange (is_vendor_and_model (word words 0)) (provided (bytes_eq (word words 1) (codes "TIME")) read) (
+    each_provided IsLineInRange (bytes_eq (word words 1) (codes "TIME")) read small)
+
+words_in : (words : List (List ℕ)) → Each IsLineInRange (told_by_words words)
+words_in words =
+    let timed : Option KlogLine = provided (bytes_eq (word words 0) (codes "PROCESSOR")) (processor_line_of (drop 1 words)) in
+    let counted : Option KlogLine = if bytes_eq (word words 0) (codes "TSC") then tsc_of (drop 1 words) else timed in
+    each_if IsLineInRange (bytes_eq (word words 0) (codes "CPU")) (start_line_of (drop 1 words)) counted (start_in (drop 1 words)) (
+    each_if IsLineInRange (bytes_eq (word words 0) (codes "TSC")) (tsc_of (drop 1 words)) timed (tsc_in (drop 1 words)) (
+    each_provided IsLineInRange (bytes_eq (word words 0) (codes "PROCESSOR")) (processor_line_of (drop 1 words)) (processor_in (drop 1 words))))
+
+line_or_other : (o : Option KlogLine) → Each IsLineInRange o → IsLineInRange (unwrap_or o Other)
+line_or_other None h = tt
+line_or_other (Some line) h = h
+
+klog_in : (bytes : List ℕ) → IsLineInRange (klog_line_of bytes)
+klog_in bytes =
+    line_or_other _ (each_then (λ text. ⊤) IsLineInRange (after_marker bytes) (λ text. told_by_words (parts_of text)) (all (after_marker bytes)) (λ text t. words_in (parts_of text)))
+  where
+    all : (o : Option (List ℕ)) → Each (λ text. ⊤) o
+    all None = tt
+    all (Some text) = tt
+
+-- ---- lines of a log
+
+micros_in : (w : List ℕ) → Each (λ n. n ≤ 999999) (micros_of w)
+micros_in w = each_if (λ n. n ≤ 999999) (length w == 6) (decimal_of 999999 w) None (decimal_in 999999 w) tt
+
+stamp_in : (head : List ℕ) → Each (λ s. s < 2 ^ 64) (log_stamp_of head)
+stamp_in head =
+    let text : List ℕ = without_spaces (up_to 93 (after 91 head)) in
+    each_then (λ n. n ≤ 999999999999) (λ s. s < 2 ^ 64) (decimal_of 999999999999 (up_to 46 text)) _ (decimal_in 999999999999 (up_to 46 text)) (λ seconds s.
+    each_then (λ n. n ≤ 999999) (λ s. s < 2 ^ 64) (micros_of (after 46 text)) _ (micros_in (after 46 text)) (λ micros m. omega (arith, s, m)))
+
+vendor_in : (text : List ℕ) → Each (λ n. n ≤ 2 ^ 64 - 1) (vendor_of text)
+vendor_in text = decimal_in (2 ^ 64 - 1) (up_to 58 (after 32 text))
+
+timed_in : (stamp : Option ℕ) (seconds : ℕ) (vendor : Option ℕ) → Each (λ s. s < 2 ^ 64) stamp → seconds < 2 ^ 64 → Each (λ n. n ≤ 2 ^ 64 - 1) vendor
+    → IsLogLineInRange (with_vendor stamp seconds vendor)
+timed_in stamp seconds None s t v = tt
+timed_in stamp seconds (Some vendor) s t v = (t, s, omega (arith, v))
+
+unread_or_nothing : (is : Bool) → IsLogLineInRange (if is then Unread else Nothing)
+unread_or_nothing true = tt
+unread_or_nothing false = tt
+
+told_in : (stamp : Option ℕ) (text : List ℕ) (line : KlogLine) → Each (λ s. s < 2 ^ 64) stamp → IsLineInRange line → IsLogLineInRange (line_told_by stamp text line)
+told_in stamp text Other s h = unread_or_nothing (is_of_report text)
+told_in stamp text (Processor seconds) s h = timed_in stamp seconds (vendor_of text) s h (vendor_in text)
+told_in stamp text (Start cpu mcg bank status) s h = (h, s, omega arith)
+told_in stamp text (Tsc tsc addr misc) s h = (h, s, omega arith)
+
+own_or_nothing : (is : Bool) (line : LogLine) → IsLogLineInRange line → IsLogLineInRange (if is then line else Nothing)
+own_or_nothing true line h = h
+own_or_nothing false line h = tt
+
+after_in : (head marked : List ℕ) → IsLogLineInRange (log_line_after head marked)
+after_in head marked = own_or_nothing (is_own head) _ (told_in (log_stamp_of head) (drop (length log_mark) marked) (klog_line_of marked) (stamp_in head) (klog_in marked))
+
+by_in : (line : List ℕ) (place : Option ℕ) → IsLogLineInRange (log_line_by line place)
+by_in line None = tt
+by_in line (Some place) = after_in (take place line) (drop place line)
+
+pub log_line_in : (line : List ℕ) → IsLogLineInRange (log_line_of line)
+log_line_in line = by_in line (mark_place log_mark line)

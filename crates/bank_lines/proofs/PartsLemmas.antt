@@ -1,0 +1,33 @@
+-- Parts by the places of their separators.
+use Rattle.std.proofs.Common.{◌≡◌, ℕ, ◌+◌, ◌-◌, ◌<◌, ◌≤◌, ◌==◌, false, cond, nat_lt, List, [], ◌∷◌, length, take, drop, sym, ap, ◌∙◌, arith, Some, None, length-drop}
+use Rattle.std.proofs.Math.Seq.{take-length}
+use Rattle.std.proofs.lemmas.Bool.Decides.{nat_tests}
+use Rattle.std.proofs.lemmas.List.Splits.{slice_split_first, slice_split_none}
+use Rattle.std.proofs.lemmas.List.Sums.{fails_before_first}
+use Rattle.std.specs.List.{All, position, position_or_len, slice_split}
+use Rattle.bank_lines.specs.Parts.{cut_at}
+
+-- the place that a search tells
+found_place : (place size end : ℕ) → Some end ≡ cond (nat_lt place size) (Some place) None → (end ≡ place) × (place < size)
+found_place place size end h = (grind (arith, nat_tests, h), grind (arith, nat_tests, h))
+
+no_place : (place size : ℕ) → None ≡ cond (nat_lt place size) (Some place) None → size ≤ place
+no_place place size h = grind (arith, nat_tests, h)
+
+-- the rest as the code cuts it
+pub rest_is : (n : ℕ) (text : List ℕ) → take (length text - n) (drop n text) ≡ drop n text
+rest_is n text = ap (λ k. take k (drop n text)) (sym (length-drop n text)) ∙ take-length (drop n text)
+
+-- a text with a separator: the first part ends at the first one
+pub parts_cut : (byte : ℕ) (text : List ℕ) (end : ℕ) → Some end ≡ position (λ b. b == byte) text → cut_at byte text ≡ take end text ∷ cut_at byte (take (length text - (end + 1)) (drop (end + 1) text))
+parts_cut byte text end h =
+    let found : (end ≡ position_or_len (λ b. b == byte) text) × (position_or_len (λ b. b == byte) text < length text) = found_place _ _ _ h in
+    let parts : slice_split (λ b. b == byte) text ≡ take (position_or_len (λ b. b == byte) text) text ∷ slice_split (λ b. b == byte) (drop (position_or_len (λ b. b == byte) text + 1) text) = slice_split_first (λ b. b == byte) text 0 found.1 in
+    (rw (← found.0) at parts) ∙ ap (λ rest. take end text ∷ cut_at byte rest) (sym (rest_is (end + 1) text))
+
+-- a text without one is its only part
+pub parts_whole : (byte : ℕ) (text : List ℕ) → None ≡ position (λ b. b == byte) text → cut_at byte text ≡ text ∷ []
+parts_whole byte text h =
+    let late : length text ≤ position_or_len (λ b. b == byte) text = no_place _ _ h in
+    let none : All (λ b. (b == byte) ≡ false) text = λ k d inside. fails_before_first (λ b. b == byte) text k d (omega arith) in
+    slice_split_none (λ b. b == byte) text none

@@ -1,0 +1,22 @@
+use Rattle.std.proofs.Common.{ap, map, arith, ◌∙◌, Ok}
+use Rattle.ras_facts.specs.declared.bank.BankReport.{BankReport}
+use Rattle.ras_script.specs.Splitting.{lines_of}
+use Rattle.ras_script.specs.declared.line.ErrorReport.TheVariants.{Bank}
+use Rattle.ras_script.specs.declared.line.Line.TheVariants.{Report}
+use Rattle.bank_lines.specs.LogAlong.{log_at_start}
+use Rattle.bank_lines.specs.Texts.{asks_in}
+use Rattle.bank_lines.proofs.LogFoundLemmas.{numbered, numbered_in}
+use Rattle.bank_lines.proofs.LogGroupLemmas.{groups_are}
+use Rattle.bank_lines.proofs.LogLawLemmas.{reports_are, same_stamp, script_is}
+use Rattle.bank_lines.proofs.log_laws.logs_are_made_lines.Goals as goal
+
+pub returns : goal.returns
+returns c = record {
+  groups = λ boot cap lines. groups_are boot cap lines;
+  reports = λ boot cap lines b m few.
+      ap (λ text. asks_in (lines_of text)) (script_is boot cap lines)
+      ∙ c.printed_lines_are_read_back.ensures.asks (numbered boot cap log_at_start 0 lines)
+      (numbered_in boot cap b m log_at_start 0 lines (tt, tt, omega arith) (omega (arith, few)))
+      ∙ ap (map (λ (r : BankReport). Ok (Report (Bank r)))) (reports_are boot cap lines);
+  names = λ count next stamp other first second one two differ same. differ (same_stamp count next stamp other first second one two same);
+}

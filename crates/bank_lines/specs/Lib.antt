@@ -1,0 +1,14 @@
+pub mod Finding
+pub mod Texts
+pub mod LogHeads
+pub mod LogLines
+pub mod LogGroups
+pub mod LogFilter
+pub mod LogAlong
+pub mod Parts
+pub mod TraceEvent
+pub mod Stamp
+pub mod Trace
+pub mod Kernel
+pub mod Steps
+pub mod Filter

@@ -1,0 +1,70 @@
+-- The lines that are printed of what was found, and what they ask for as lines of a script.
+use Rattle.std.specs.Prelude.{ℕ, Bool, true, false, List, [], ◌∷◌, ◌++◌, codes, decimal, filter, map, Result, Ok}
+use Rattle.std.specs.List.{flat_map}
+use Rattle.ras_facts.specs.declared.bank.BankReport.{BankReport}
+use Rattle.ras_script.specs.Line.{line_of}
+use Rattle.ras_script.specs.LineLaws.{line_text}
+use Rattle.ras_script.specs.SplittingLaws.{script_of}
+use Rattle.ras_script.specs.declared.line.ErrorReport.TheVariants.{Bank}
+use Rattle.ras_script.specs.declared.line.Line.{Line}
+use Rattle.ras_script.specs.declared.line.Line.TheVariants as asks
+use Rattle.ras_script.specs.declared.line.LineRefused.{LineRefused}
+use Rattle.bank_lines.specs.declared.found.Finding.{Finding}
+use Rattle.bank_lines.specs.declared.found.Finding.TheVariants.{Nothing, Whole, Partial, Foreign, Unread}
+use Rattle.bank_lines.specs.Finding.{Numbered, report_in}
+
+-- ---- lines, without their line feeds
+
+-- the line of a report: `bank` and its ten numbers, as a script has them
+abbrev pub asking_line : BankReport → List ℕ
+asking_line report = line_text (asks.Report (Bank report))
+
+-- the comments: of a report that isn't whole, of another vendor's, and of a line that can't be read
+abbrev pub partial_comment : ℕ → ℕ → List ℕ
+partial_comment cpu bank = codes "# partial cpu=" ++ decimal cpu ++ codes " bank=" ++ decimal bank
+
+abbrev pub vendor_line : ℕ → ℕ → ℕ → List ℕ
+vendor_line vendor cpu bank =
+    codes "# vendor=" ++ decimal vendor ++ codes " cpu=" ++ decimal cpu ++ codes " bank=" ++ decimal bank
+
+abbrev pub unread_line : ℕ → List ℕ
+unread_line number = codes "# unread " ++ decimal number
+
+-- the line of what was found in the line of this number, if it has one
+abbrev pub lines_at : ℕ → Finding → List (List ℕ)
+lines_at number Nothing = []
+lines_at number (Whole report) = asking_line report ∷ []
+lines_at number (Partial cpu bank) = partial_comment cpu bank ∷ []
+lines_at number (Foreign vendor cpu bank) = vendor_line vendor cpu bank ∷ []
+lines_at number Unread = unread_line number ∷ []
+
+-- ---- texts
+
+-- the text of it: a line feed ends the line
+abbrev pub found_text : ℕ → Finding → List ℕ
+found_text number found = script_of (lines_at number found)
+
+abbrev pub found_lines : Numbered → List (List ℕ)
+found_lines numbered = lines_at numbered.number numbered.found
+
+-- all lines and the whole text, of all that was found
+abbrev pub printed_lines : List Numbered → List (List ℕ)
+printed_lines founds = flat_map found_lines founds
+
+abbrev pub printed : List Numbered → List ℕ
+printed founds = flat_map (λ (numbered : Numbered). found_text numbered.number numbered.found) founds
+
+-- ---- what they ask for
+
+-- whether a line asks for something, or is refused
+abbrev pub is_asking : Result Line LineRefused → Bool
+is_asking (Ok asks.Nothing) = false
+is_asking asked = true
+
+-- what the lines ask for that ask for something
+abbrev pub asks_in : List (List ℕ) → List (Result Line LineRefused)
+asks_in lines = filter is_asking (map line_of lines)
+
+-- what is asked for of what was found: its report, if it is a whole one
+abbrev pub asks_of : Numbered → List (Result Line LineRefused)
+asks_of numbered = map (λ (report : BankReport). Ok (asks.Report (Bank report))) (report_in numbered.found)

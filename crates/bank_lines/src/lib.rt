@@ -1,0 +1,30 @@
+//! Lines of script of the machine checks in what the kernel tells: what is found in each line, and
+//! the lines that are printed of it.
+#![tactic(auto)]
+
+mod event;
+mod filter;
+mod found;
+mod kernel_laws;
+mod laws;
+mod log_filter;
+mod log_heads;
+mod log_laws;
+mod log_line;
+mod log_state;
+mod parts;
+mod stamp;
+mod text;
+mod trace;
+mod trace_laws;
+
+pub use event::{TraceEvent, event_in};
+pub use filter::TraceFilter;
+pub use found::Finding;
+pub use kernel_laws::printed_events_are_read;
+pub use laws::printed_lines_are_read_back;
+pub use log_filter::LogFilter;
+pub use log_laws::logs_are_made_lines;
+pub use stamp::MOST_SECONDS;
+pub use trace::trace_found;
+pub use trace_laws::{stamps_tell_polled_errors_apart, traces_are_read_back};

@@ -1,0 +1,85 @@
+//! The command `lines klog` as a filter of lines.
+
+ghost use Rattle.std.specs.Prelude.{◌≡◌};
+ghost use Rattle.bank_lines.specs.LogAlong.{log_makes};
+ghost use Rattle.bank_lines.specs.LogFilter.{log_filter};
+
+use crate::log_line::log_line;
+use crate::log_state::LogState;
+use crate::text::push_found;
+use line_filters::LineFilter;
+use ras_base::NoMemory;
+use ras_script::LineRefused;
+use std::alloc::Global;
+use std::marker::Model;
+
+/// Makes of the lines of a kernel log lines of script: one of each machine check of an Intel
+/// processor whose bank holds an error.
+///
+/// A report that isn't whole, one of another vendor's processor, and each line that begins as one of
+/// a report and is in none, is told by a comment. A report is told at the line that makes it whole,
+/// and one that isn't whole at the line that begins the next one, or after all lines. Only lines
+/// that are the kernel's own count. No line is refused.
+#[derive(Drop)]
+pub struct LogFilter {
+    state: LogState,
+    boot: u64,
+    cap: u64,
+    taken: u64,
+}
+
+impl Model for LogFilter {
+    ghost use Rattle.std.specs.Prelude.{◌<◌};
+    ghost use Rattle.bank_lines.specs.LogAlong.{LogProgress};
+    ghost use Rattle.bank_lines.specs.declared.log_line.TheConstants.{MICROSECONDS};
+
+    ghost Value = { LogProgress };
+
+    ghost view = { λ f. record { boot = f.boot; cap = f.cap; state = f.state; taken = f.taken } };
+
+    ghost invariant = { λ f. f.state.count < MICROSECONDS };
+}
+
+impl LogFilter {
+    /// Before the first line of a log of this boot and of processors with this IA32_MCG_CAP.
+    pub fn new(boot: u64, cap: u64) -> LogFilter
+        ensures makes { log_makes result ≡ log_filter boot cap }
+        ensures taken { result.taken ≡ 0 }
+    {
+        LogFilter {
+            state: LogState::new(),
+            boot,
+            cap,
+            taken: 0,
+        }
+    }
+}
+
+impl LineFilter for LogFilter {
+    ghost use Rattle.std.specs.Prelude.{refl};
+
+    ghost makes = { λ f. log_makes f };
+
+    ghost taken = { λ f. f.taken };
+
+    ghost none = { λ _. refl };
+
+    fn take(&mut self, _: Global, line: &[u8], text: &mut Vec<u8>) -> Result<(), LineRefused> {
+        let found = self.state.step(log_line(line), self.boot, self.cap);
+        match push_found(text, &found, self.taken + 1) {
+            Ok(()) => {
+                self.taken += 1;
+                Ok(())
+            }
+            Err(NoMemory) => Err(LineRefused::NoMemory),
+        }
+    }
+
+    fn push_rest(&self, _: Global, text: &mut Vec<u8>) -> Result<(), NoMemory> {
+        push_found(text, &self.state.end(), 0)
+    }
+
+    fn push_last(&self, _: Global, _: &mut Vec<u8>) -> Result<(), NoMemory> {
+        Ok(())
+    }
+}

@@ -1,0 +1,36 @@
+//! What is printed of a kernel log, by its reports.
+
+ghost use Rattle.std.specs.Prelude.{◌≡◌, ◌<◌, ◌^◌, ℕ, List, length, map, Ok, Some};
+ghost use Rattle.ras_facts.specs.Facts.{bank_name};
+ghost use Rattle.ras_facts.specs.declared.bank.BankReport.{BankReport};
+ghost use Rattle.ras_klog.specs.Groups.{told_of_groups};
+ghost use Rattle.ras_script.specs.Splitting.{lines_of};
+ghost use Rattle.ras_script.specs.declared.line.ErrorReport.TheVariants.{Bank};
+ghost use Rattle.ras_script.specs.declared.line.Line.TheVariants.{Report};
+ghost use Rattle.bank_lines.specs.LogFilter.{log_reports, log_script};
+ghost use Rattle.bank_lines.specs.LogGroups.{klog_part, log_groups, told_in, with_counter};
+ghost use Rattle.bank_lines.specs.Texts.{asks_in};
+ghost use Rattle.bank_lines.specs.declared.log_line.LogLine.{LogLine};
+
+use crate::laws::printed_lines_are_read_back;
+
+/// What is printed of a kernel log asks, as a script, for the whole reports of Intel processors
+/// whose banks hold errors, in order, and for nothing else. Its clauses are what the function is
+/// for.
+pub fn logs_are_made_lines()
+    // The groups are those of `klog`, over the lines of reports that are the kernel's own.
+    ensures groups { (boot cap : ℕ) (lines : List LogLine)
+        → map (told_in boot cap) (log_groups lines)
+        ≡ told_of_groups boot cap (map klog_part lines) }
+    ensures reports { (boot cap : ℕ) (lines : List (List ℕ)) → boot < 2 ^ 64 → cap < 2 ^ 64
+        → length lines < 2 ^ 63
+        → asks_in (lines_of (log_script boot cap lines))
+        ≡ map (λ (r : BankReport). Ok (Report (Bank r))) (log_reports boot cap lines) }
+    // Errors that were found by polling, and printed at other times, have other names.
+    ensures names { (count next stamp other : ℕ) (first second : BankReport)
+        → first.tsc ≡ 0 → second.tsc ≡ 0 → ¬ (stamp ≡ other)
+        → ¬ (bank_name (with_counter count (Some stamp) first)
+        ≡ bank_name (with_counter next (Some other) second)) }
+{
+    printed_lines_are_read_back();
+}

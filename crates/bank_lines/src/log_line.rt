@@ -1,0 +1,121 @@
+//! What the lines of a kernel log tell of machine checks.
+
+ghost use Rattle.std.specs.Prelude.{◌≡◌, ◌≤◌, length, IfSome};
+ghost use Rattle.bank_lines.specs.LogLines.{is_of_report, log_line_after, log_line_of, log_mark};
+ghost use Rattle.bank_lines.specs.LogLines.{micros_of, log_stamp_of, line_told_by, vendor_of};
+
+use crate::log_heads::{cut, is_own, mark_place, without_spaces};
+use ras_klog::{KlogLine, klog_line};
+use ras_script::decimal;
+
+/// The last second that a stamp may have, and the greatest time that an error without a stamp has
+/// in its counter: 12 digits.
+pub const LAST_SECOND: u64 = 999_999_999_999;
+
+/// The microseconds of a second.
+pub const MICROSECONDS: u64 = 1_000_000;
+
+// What begins the text of a machine check.
+const MARK: &[u8] = b"mce: [Hardware Error]: ";
+
+/// What a line of a kernel log tells of machine checks.
+#[derive(Clone, Copy, Debug, PartialEq, Eq)]
+pub(crate) enum LogLine {
+    // Nothing, or it isn't the kernel's own.
+    Nothing,
+    // It begins as a line of a report, and can't be read as one.
+    Unread,
+    // A line of a report, the stamp before it in microseconds, and the vendor's number, which only
+    // a `Processor` has.
+    Part {
+        line: KlogLine,
+        stamp: Option<u64>,
+        vendor: u64,
+    },
+}
+
+// What a line of a kernel log tells. It takes no memory.
+pub(crate) fn log_line(line: &[u8]) -> LogLine
+    ensures { result ≡ log_line_of line.now }
+{
+    match mark_place(MARK, line) {
+        Some(place) => log_line_after(&line[..place], &line[place..]),
+        None => LogLine::Nothing,
+    }
+}
+
+// What a line with this head tells from its mark on.
+fn log_line_after(head: &[u8], marked: &[u8]) -> LogLine
+    requires { length log_mark ≤ length marked.now }
+    ensures { result ≡ log_line_after head.now marked.now }
+{
+    if is_own(head) {
+        line_told_by(log_stamp_of(head), &marked[MARK.len()..], klog_line(marked))
+    } else {
+        LogLine::Nothing
+    }
+}
+
+// What a text after a mark tells, by what `klog` reads of it.
+fn line_told_by(stamp: Option<u64>, text: &[u8], line: KlogLine) -> LogLine
+    ensures { result ≡ line_told_by stamp text.now line }
+{
+    match line {
+        KlogLine::Other if is_of_report(text) => LogLine::Unread,
+        KlogLine::Other => LogLine::Nothing,
+        KlogLine::Processor { .. } => match vendor_of(text) {
+            Some(vendor) => LogLine::Part {
+                line,
+                stamp,
+                vendor,
+            },
+            None => LogLine::Unread,
+        },
+        KlogLine::Start { .. } | KlogLine::Tsc { .. } => LogLine::Part {
+            line,
+            stamp,
+            vendor: 0,
+        },
+    }
+}
+
+// Whether a text begins as a line of a report.
+fn is_of_report(text: &[u8]) -> bool
+    ensures { result ≡ is_of_report text.now }
+{
+    let (word, _) = cut(b' ', text);
+    word == b"CPU".as_slice() || word == b"TSC".as_slice() || word == b"PROCESSOR".as_slice()
+}
+
+// The vendor's number: the second word up to its colon.
+fn vendor_of(text: &[u8]) -> Option<u64>
+    ensures { result ≡ vendor_of text.now }
+{
+    let (_, rest) = cut(b' ', text);
+    let (number, _) = cut(b':', rest);
+    decimal(number, u64::MAX)
+}
+
+// The microseconds in the first brackets of a head.
+fn log_stamp_of(head: &[u8]) -> Option<u64>
+    ensures { result ≡ log_stamp_of head.now }
+{
+    let (_, rest) = cut(b'[', head);
+    let (inner, _) = cut(b']', rest);
+    let (seconds, micros) = cut(b'.', without_spaces(inner));
+    let seconds = decimal(seconds, LAST_SECOND)?;
+    let micros = micros_of(micros)?;
+    Some(seconds * MICROSECONDS + micros)
+}
+
+// A number of 6 digits.
+fn micros_of(word: &[u8]) -> Option<u64>
+    ensures value { result ≡ micros_of word.now }
+    ensures within { IfSome result (λ micros. micros ≤ MICROSECONDS) }
+{
+    if word.len() == 6 {
+        decimal(word, MICROSECONDS - 1)
+    } else {
+        None
+    }
+}

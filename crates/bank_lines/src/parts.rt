@@ -1,0 +1,76 @@
+//! The parts of a text, in turn.
+
+ghost use Rattle.std.specs.Prelude.{◌≡◌, ◌<◌, ◌==◌, [], ◌∷◌, length, IfSome, MatchOption};
+ghost use Rattle.std.specs.List.{position};
+ghost use Rattle.std.specs.Option.{option_map, option_map_or};
+ghost use Rattle.bank_lines.specs.Parts.{after_spaces, cut_at, value_after};
+ghost use Rattle.bank_lines.specs.Steps.PartsLeft.{parts_in};
+
+// The parts of a text that are left: what stands between the separators, empty parts too.
+#[derive(Clone, Copy)]
+pub(crate) struct Parts<'a> {
+    separator: u8,
+    rest: Option<&'a [u8]>,
+}
+
+impl<'a> Parts<'a> {
+    // All parts of a text.
+    pub(crate) fn new(separator: u8, text: &'a [u8]) -> Parts<'a>
+        ensures { parts_in result ≡ cut_at separator text.now }
+    {
+        Parts {
+            separator,
+            rest: Some(text),
+        }
+    }
+
+    // The next part.
+    pub(crate) fn next(&mut self) -> Option<&'a [u8]>
+        ensures { MatchOption result ((parts_in self.old ≡ []) × (parts_in self.new ≡ []))
+            (λ part. parts_in self.old ≡ part.now ∷ parts_in self.new) }
+    {
+        let text = self.rest?;
+        let (part, rest) = cut(self.separator, text);
+        self.rest = rest;
+        Some(part)
+    }
+}
+
+// The first place of a byte in a text.
+pub(crate) fn position_of(byte: u8, text: &[u8]) -> Option<usize>
+    ensures place { result ≡ position (λ b. b == byte) text.now }
+    ensures within { IfSome result (λ place. place < length text.now) }
+{
+    text.iter().position(|b| *b == byte)
+}
+
+// The first part of a text, and what follows the separator after it.
+#[tactic(auto, using(crate::proofs::PartsLemmas::parts_cut, crate::proofs::PartsLemmas::parts_whole))]
+fn cut(separator: u8, text: &[u8]) -> (&[u8], Option<&[u8]>)
+    ensures parts { cut_at separator text.now
+        ≡ result.0.now ∷ option_map_or (λ rest. cut_at separator rest.now) result.1 [] }
+    ensures shorter { IfSome result.1 (λ rest. length rest.now < length text.now) }
+{
+    match position_of(separator, text) {
+        Some(end) => (&text[..end], Some(&text[end + 1..])),
+        None => (text, None),
+    }
+}
+
+// What follows the spaces that a text begins with.
+pub(crate) fn after_spaces(text: &[u8]) -> &[u8]
+    ensures { result.now ≡ after_spaces text.now }
+{
+    let mut rest = text;
+    while let [b' ', more @ ..] = rest {
+        rest = more;
+    }
+    rest
+}
+
+// What follows a name that a text begins with.
+pub(crate) fn value_after<'a>(name: &[u8], text: &'a [u8]) -> Option<&'a [u8]>
+    ensures { option_map (λ value. value.now) result ≡ value_after name.now text.now }
+{
+    text.strip_prefix(name)
+}

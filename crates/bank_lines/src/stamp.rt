@@ -1,0 +1,43 @@
+//! The time that a line of the kernel is stamped with.
+
+ghost use Rattle.std.specs.Prelude.{◌≡◌, None};
+ghost use Rattle.bank_lines.specs.Parts.{cut_at};
+ghost use Rattle.bank_lines.specs.Stamp.{last_stamp, stamp_of};
+
+use crate::parts::Parts;
+use ras_script::decimal;
+
+/// The most seconds of a stamp. So many, and any microseconds, are a number of 64 bits.
+pub const MOST_SECONDS: u64 = 18_446_744_073_708;
+
+// The microseconds of the last word of a text that is a stamp.
+pub(crate) fn last_stamp(text: &[u8]) -> Option<u64>
+    ensures { result ≡ last_stamp None (cut_at 32 text.now) }
+{
+    let mut stamp = None;
+    let mut words = Parts::new(b' ', text);
+    while let Some(word) = words.next() {
+        let here = stamp_of(word);
+        if here.is_some() {
+            stamp = here;
+        }
+    }
+    stamp
+}
+
+// The microseconds of a stamp, `<seconds>.<microseconds>:`. These have six digits.
+fn stamp_of(word: &[u8]) -> Option<u64>
+    ensures { result ≡ stamp_of word.now }
+{
+    if word.len() <= 8 {
+        return None;
+    }
+    let point = word.len() - 8;
+    if word[point] != b'.' || word[point + 7] != b':' {
+        return None;
+    }
+    let seconds = decimal(&word[..point], MOST_SECONDS)?;
+    let (micros, _) = word[point + 1..].split_at(6);
+    let micros = decimal(micros, 999_999)?;
+    Some(1_000_000 * seconds + micros)
+}

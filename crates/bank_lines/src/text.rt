@@ -1,0 +1,111 @@
+//! The lines that are printed of what was found.
+
+ghost use Rattle.std.specs.Prelude.{◌≡◌, ◌<◌, ◌≤◌, ◌∷◌, ◌++◌, drop, false, OnOk};
+ghost use Rattle.std.specs.Fmt.{decimal, digit_glyph};
+ghost use Rattle.ras_script.specs.LineLaws.{hexadecimal};
+ghost use Rattle.bank_lines.specs.Texts.{asking_line, found_text, partial_comment, unread_line, vendor_line};
+
+use crate::Finding;
+use ras_base::NoMemory;
+use ras_facts::BankReport;
+use ras_texts::push_number;
+
+// Room for the digits of a number in any radix: the definition of digits takes as many steps.
+const MOST_DIGITS: usize = 64;
+
+// Adds the text of what was found in the line of this number.
+pub(crate) fn push_found(text: &mut Vec<u8>, found: &Finding, number: u64) -> Result<(), NoMemory>
+    ensures { OnOk result (text.new.items ≡ text.old.items ++ found_text number found.now) }
+{
+    match found {
+        Finding::Nothing => return Ok(()),
+        Finding::Whole(report) => push_bank(text, report)?,
+        Finding::Partial { cpu, bank } => push_partial(text, *cpu, *bank)?,
+        Finding::Foreign { vendor, cpu, bank } => push_foreign(text, *vendor, *cpu, *bank)?,
+        Finding::Unread => push_named(text, b"# unread ", number)?,
+    }
+    text.push(b'\n')?;
+    Ok(())
+}
+
+// Adds the line of a report.
+fn push_bank(text: &mut Vec<u8>, report: &BankReport) -> Result<(), NoMemory>
+    ensures { OnOk result (text.new.items ≡ text.old.items ++ asking_line report.now) }
+{
+    push_named(text, b"bank ", report.boot)?;
+    push_named(text, b" ", report.seconds)?;
+    push_named(text, b" ", u64::from(report.cpu))?;
+    push_named(text, b" ", u64::from(report.bank))?;
+    push_named(text, b" ", report.tsc)?;
+    push_register(text, report.cap)?;
+    push_register(text, report.mcg)?;
+    push_register(text, report.status)?;
+    push_register(text, report.addr)?;
+    push_register(text, report.misc)
+}
+
+// Adds the comment of a report that isn't whole.
+fn push_partial(text: &mut Vec<u8>, cpu: u16, bank: u8) -> Result<(), NoMemory>
+    ensures { OnOk result (text.new.items ≡ text.old.items ++ partial_comment cpu bank) }
+{
+    push_named(text, b"# partial cpu=", u64::from(cpu))?;
+    push_named(text, b" bank=", u64::from(bank))
+}
+
+// Adds the comment of another vendor's report.
+fn push_foreign(text: &mut Vec<u8>, vendor: u64, cpu: u16, bank: u8) -> Result<(), NoMemory>
+    ensures { OnOk result (text.new.items ≡ text.old.items ++ vendor_line vendor cpu bank) }
+{
+    push_named(text, b"# vendor=", vendor)?;
+    push_named(text, b" cpu=", u64::from(cpu))?;
+    push_named(text, b" bank=", u64::from(bank))
+}
+
+// Adds a number in decimal after a name.
+fn push_named(text: &mut Vec<u8>, name: &[u8], number: u64) -> Result<(), NoMemory>
+    ensures { OnOk result (text.new.items ≡ text.old.items ++ name.now ++ decimal number) }
+{
+    text.extend_from_slice(name)?;
+    push_number(text, number)
+}
+
+// Adds a register in hexadecimal, after a space.
+fn push_register(text: &mut Vec<u8>, register: u64) -> Result<(), NoMemory>
+    ensures { OnOk result (text.new.items ≡ text.old.items ++ 32 ∷ hexadecimal register) }
+{
+    let mut digits = [0u8; MOST_DIGITS];
+    let start = write_digits(register, &mut digits);
+    text.push(b' ')?;
+    text.extend_from_slice(&digits[start..])?;
+    Ok(())
+}
+
+// Writes the digits of a number to the end of a buffer, and tells where they begin.
+fn write_digits(number: u64, digits: &mut [u8; MOST_DIGITS]) -> usize
+    ensures within { result ≤ 64 }
+    ensures digits { drop result digits.new ≡ hexadecimal number }
+{
+    let mut place = MOST_DIGITS;
+    let mut rest = number;
+    while place > 0 {
+        place -= 1;
+        digits[place] = digit_of(rest % 16);
+        rest /= 16;
+        if rest == 0 {
+            break;
+        }
+    }
+    place
+}
+
+// The hexadecimal digit of a value.
+fn digit_of(value: u64) -> u8
+    requires { value < 16 }
+    ensures { result ≡ digit_glyph false value }
+{
+    if value < 10 {
+        b'0' + value as u8
+    } else {
+        b'a' - 10 + value as u8
+    }
+}

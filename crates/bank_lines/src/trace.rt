@@ -1,0 +1,84 @@
+//! What is found in a line of the text of the kernel's trace.
+
+ghost use Rattle.std.specs.Prelude.{◌≡◌, ◌+◌, ◌≤◌, length, IfSome};
+ghost use Rattle.bank_lines.specs.Trace.{counter_of, event_found, last_mark, event_report, trace_found};
+
+use crate::Finding;
+use crate::event::{TraceEvent, event_in};
+use crate::stamp::last_stamp;
+use memchr::memmem;
+use ras_facts::BankReport;
+
+// What stands before the text of an event.
+const MARK: &[u8] = b"mce_record: ";
+
+/// What is found in a line of the text of the kernel's trace, in this boot. It takes no memory.
+///
+/// What follows the last `mce_record: ` of the line counts, and the stamp before it for an error
+/// that was found by polling.
+pub fn trace_found(boot: u64, line: &[u8]) -> Finding
+    ensures { result ≡ trace_found boot line.now }
+{
+    let Some(place) = last_mark(line) else {
+        return Finding::Nothing;
+    };
+    match event_in(&line[place + MARK.len()..]) {
+        Some(event) => event_found(boot, &line[..place], event),
+        None => Finding::Unread,
+    }
+}
+
+// Where the last mark of a line stands.
+fn last_mark(line: &[u8]) -> Option<usize>
+    ensures place { result ≡ last_mark line.now }
+    ensures within { IfSome result (λ place. place + 12 ≤ length line.now) }
+{
+    memmem::rfind(line, MARK)
+}
+
+// What is found of an event with this text before its mark.
+fn event_found(boot: u64, before: &[u8], event: TraceEvent) -> Finding
+    ensures { result ≡ event_found boot before.now event }
+{
+    if event.vendor != 0 {
+        return Finding::Foreign {
+            vendor: event.vendor,
+            cpu: event.cpu,
+            bank: event.bank,
+        };
+    }
+    match counter_of(event.tsc, before) {
+        Some(tsc) => Finding::of_report(event_report(boot, event, tsc)),
+        None => Finding::Unread,
+    }
+}
+
+// The counter by which the report is named: an error that was found by polling has none, and gets
+// the microseconds of its line's stamp.
+fn counter_of(tsc: u64, before: &[u8]) -> Option<u64>
+    ensures { result ≡ counter_of tsc before.now }
+{
+    if tsc == 0 {
+        last_stamp(before)
+    } else {
+        Some(tsc)
+    }
+}
+
+// The report of an event of this boot, by this counter.
+fn event_report(boot: u64, event: TraceEvent, tsc: u64) -> BankReport
+    ensures { result ≡ event_report boot event tsc }
+{
+    BankReport {
+        boot,
+        seconds: event.seconds,
+        cpu: event.cpu,
+        bank: event.bank,
+        tsc,
+        cap: event.cap,
+        mcg: event.mcg,
+        status: event.status,
+        addr: event.addr,
+        misc: event.misc,
+    }
+}

@@ -1,0 +1,37 @@
+//! What holds of the lines of a trace.
+
+ghost use Rattle.std.specs.Prelude.{◌≡◌, ℕ, ◌^◌, ◌<◌, List, length, map, Ok};
+ghost use Rattle.std.specs.List.{AllByRecursion};
+ghost use Rattle.ras_facts.specs.Facts.{bank_name};
+ghost use Rattle.ras_facts.specs.declared.bank.BankReport.{BankReport};
+ghost use Rattle.ras_script.specs.Splitting.{lines_of};
+ghost use Rattle.ras_script.specs.declared.line.ErrorReport.TheVariants.{Bank};
+ghost use Rattle.ras_script.specs.declared.line.Line.TheVariants.{Report};
+ghost use Rattle.bank_lines.specs.declared.found.Finding.TheVariants.{Whole};
+ghost use Rattle.bank_lines.specs.Filter.{trace_filter, trace_founds};
+ghost use Rattle.bank_lines.specs.Finding.{IsFoundInRange, Numbered, reports_in};
+ghost use Rattle.bank_lines.specs.Texts.{asks_in, found_text, printed};
+ghost use Rattle.bank_lines.specs.Trace.{IsPolled, stamp_before, trace_found};
+
+/// All that is found in the lines of a trace fits its types, so it is read back: what the printed
+/// lines ask for is the whole reports of the trace, in order. The function does nothing: its
+/// clauses are what it is for.
+pub fn traces_are_read_back()
+    ensures range { (boot : ℕ) (lines : List (List ℕ)) → boot < 2 ^ 64 → length lines < 2 ^ 64
+        → AllByRecursion IsFoundInRange (trace_founds boot lines) }
+
+    // The filter prints the text of each, and refuses no line.
+    ensures answers { (boot : ℕ) (lines : List (List ℕ)) → (trace_filter boot).answers lines
+        ≡ map (λ (n : Numbered). Ok (found_text n.number n.found)) (trace_founds boot lines) }
+    ensures asks { (boot : ℕ) (lines : List (List ℕ)) → boot < 2 ^ 64 → length lines < 2 ^ 64
+        → asks_in (lines_of (printed (trace_founds boot lines)))
+        ≡ map (λ (r : BankReport). Ok (Report (Bank r))) (reports_in (trace_founds boot lines)) }
+{}
+
+/// Two errors that were found by polling have different names if the stamps of their lines differ.
+/// The function does nothing: its clause is what it is for.
+pub fn stamps_tell_polled_errors_apart()
+    ensures { (boot : ℕ) (one other : List ℕ) (r s : BankReport) → IsPolled one → IsPolled other
+        → trace_found boot one ≡ Whole r → trace_found boot other ≡ Whole s
+        → ¬ (stamp_before one ≡ stamp_before other) → ¬ (bank_name r ≡ bank_name s) }
+{}

@@ -1,0 +1,170 @@
+-- Calls of the device one after another, each with what is told of it, what stops leave and which
+-- counts rose.
+use Rattle.std.proofs.Common.{◌≡◌, ◌∙◌, ℕ, List, [], ◌∷◌, ◌++◌, Option, Some, None, refl, sym, ap, subst, inl, inr}
+use Rattle.std.specs.Prelude.{IfSome, Ok, Err}
+use Rattle.std.specs.Option.{option_map}
+use Rattle.erst_store.specs.Store.{Stored}
+use Rattle.board_core.specs.declared.board.Reg.{Reg}
+use Rattle.board_core.specs.declared.board.Access.TheVariants.{Read, Write}
+use Rattle.board_core.specs.Cause.{FailsAs, device_call}
+use Rattle.board_core.specs.Clock.{After, Clock, Passes}
+use Rattle.board_core.specs.Doing.{Act, DeviceCall, FailsDevice, Moment, Raises, Seen, after_acts, after_device, reg_read, reg_write}
+use Rattle.board_core.specs.Stop.{InStore, Left, Same}
+use Rattle.board_core.specs.Told.{FailsAccess, Relates, Steps, StoreBy, Told, after_reg_write, device_of, on_device, register_in, with_access}
+use Rattle.board_core.proofs.DoingLemmas.{broke_faults, moment_first, moment_then, steps_as, steps_then, well_faults}
+use Rattle.erst_interp.specs.Run.{IsCutShort, acts_of}
+use Rattle.erst_interp.specs.Steps.Running.{Cut, Fails, GoesWell, Made, Stays, StoreIn}
+use Rattle.erst_interp.proofs.BreakLemmas.{acts_both, after_both, here_after, off_after, off_more, one_fails}
+use Rattle.erst_interp.proofs.SlowLemmas.{call_keeps, call_fails_keeps}
+use Rattle.erst_interp.proofs.TouchLemmas.{fails_more, none_made, passes_more, well_both, well_fails, well_more}
+
+-- ---- the record store
+
+pub stays_in : (calls : List DeviceCall) (told : Option Told) (x : List Stored) → StoreIn calls told x x
+stays_in calls None x = tt
+stays_in calls (Some t) x = inl refl
+
+first_in : (xs ys : List DeviceCall) (told : Option Told) (x y : List Stored) → StoreIn xs told x y → StoreIn (xs ++ ys) told x y
+first_in xs ys None x y is = tt
+first_in xs ys (Some t) x y is = elim is [
+  | inl same ↦ inl same
+  | inr torn ↦ inr (subst (λ (acts : List Act). Moment acts t (record t.here { store = y })) (sym (acts_both xs ys)) (moment_first (acts_of xs) (acts_of ys) t (record t.here { store = y }) torn))
+]
+
+then_in : (xs ys : List DeviceCall) (old mid : Option Told) → mid ≡ option_map (λ t. after_acts (acts_of xs) t) old → (x y z : List Stored) → StoreIn xs old x y → StoreIn ys mid y z → StoreIn (xs ++ ys) old x z
+then_in xs ys None mid is x y z first second = tt
+then_in xs ys (Some t) mid is x y z first second = by (subst (λ (o : Option Told). StoreIn ys o y z) is second)
+  where
+    here : (record (after_acts (acts_of xs) t).here { store = z }) ≡ (record t.here { store = z })
+    here = ap (λ (left : Left). record left { store = z }) (here_after xs t)
+
+    by : StoreIn ys (Some (after_acts (acts_of xs) t)) y z → StoreIn (xs ++ ys) (Some t) x z
+    by (inl same) = first_in xs ys (Some t) x z (subst (λ (s : List Stored). StoreIn xs (Some t) x s) (sym same) first)
+    by (inr torn) = inr (subst (λ (acts : List Act). Moment acts t (record t.here { store = z })) (sym (acts_both xs ys))
+        (moment_then (acts_of xs) (acts_of ys) t (record t.here { store = z }) (subst (λ (left : Left). Moment (acts_of ys) (after_acts (acts_of xs) t) left) here torn)))
+
+passes_same : (S : List Stored → List Stored → Type 0) → ((x : List Stored) → S x x) → (a b : Clock) → Passes Same a b → Passes (InStore S) a b
+passes_same S same a b passes = record {
+  later = passes.later;
+  kept = passes.kept;
+  each = λ t left within may. elim (passes.each t left within may) [ inl before ↦ inl before | inr after ↦ inr (stays left after) ];
+  ends = λ left now. stays left (passes.ends left now);
+}
+  where
+    stays : (left : Left) → After a Same left → After a (InStore S) left
+    stays left after = record { from = after.from; was = after.was; by = record { store = after.from.store; step = same after.from.store; rest = after.by } }
+
+-- ---- one call
+
+one_made : (call : DeviceCall) (a b : Seen) → Steps (λ t. after_device call t) a.told b.told → Passes (InStore (StoreIn (call ∷ []) a.told)) a.clock b.clock → b.faults ≡ a.faults → Made (call ∷ []) a b
+one_made call a b told stops faults = record { told = told; well = record { kept = call_keeps call a.told b.told told; stops = stops; faults = faults } }
+
+one_cut : (call : DeviceCall) (a b : Seen) → Relates (FailsDevice call) a.told b.told → Passes (InStore (StoreIn (call ∷ []) a.told)) a.clock b.clock → Raises device_call a.faults b.faults → Cut (call ∷ []) a b
+one_cut call a b failed stops raises = record { told = one_fails call a.told b.told failed; fails = record { kept = call_fails_keeps call a.told b.told failed; stops = stops; raises = raises } }
+
+-- a call that leaves the store
+module _ (call : DeviceCall) (a b : Seen) (stops : Passes Same a.clock b.clock) where
+  still : Passes (InStore (StoreIn (call ∷ []) a.told)) a.clock b.clock
+  still = passes_same (StoreIn (call ∷ []) a.told) (stays_in (call ∷ []) a.told) a.clock b.clock stops
+
+  pub quiet_made : {T E : Type 0} {x : T} → Steps (λ t. after_device call t) a.told b.told → FailsAs {T = T} {E = E} device_call a.faults b.faults (Ok x) → Made (call ∷ []) a b
+  quiet_made told cause = one_made call a b told still (well_faults device_call a.faults b.faults cause)
+
+  pub quiet_cut : {T E : Type 0} {e : E} → Relates (FailsDevice call) a.told b.told → FailsAs {T = T} {E = E} device_call a.faults b.faults (Err e) → Cut (call ∷ []) a b
+  quiet_cut failed cause = one_cut call a b failed still (broke_faults device_call a.faults b.faults cause)
+
+-- the same, with the store left as it was
+module _ (call : DeviceCall) (a b : Seen) (stops : Passes Same a.clock b.clock) where
+  pub quiet_well : {T E : Type 0} {x : T} → Steps (λ t. after_device call t) a.told b.told → FailsAs {T = T} {E = E} device_call a.faults b.faults (Ok x) → GoesWell Stays a b
+  quiet_well told cause = record { kept = call_keeps call a.told b.told told; stops = passes_same Stays (λ x. refl) a.clock b.clock stops; faults = well_faults device_call a.faults b.faults cause }
+
+  pub quiet_fails : {T E : Type 0} {e : E} → Relates (FailsDevice call) a.told b.told → FailsAs {T = T} {E = E} device_call a.faults b.faults (Err e) → Fails Stays a b
+  quiet_fails failed cause = record { kept = call_fails_keeps call a.told b.told failed; stops = passes_same Stays (λ x. refl) a.clock b.clock stops; raises = broke_faults device_call a.faults b.faults cause }
+
+-- a register was read
+abbrev pub IsRead : Reg → ℕ → Option Told → Type 0
+IsRead reg n told = IfSome told (λ t. n ≡ register_in reg (device_of t))
+
+read_steps : (reg : Reg) (n : ℕ) (old new : Option Told) → IsRead reg n old → Steps (with_access (Read reg n)) old new → Steps (λ t. after_device (reg_read reg) t) old new
+read_steps reg n None new value told = told
+read_steps reg n (Some t) new value told = told ∙ ap (λ (k : ℕ). Some (with_access (Read reg k) t)) value
+
+pub read_made : {E : Type 0} (reg : Reg) (n : ℕ) (a b : Seen) → IsRead reg n a.told → Steps (with_access (Read reg n)) a.told b.told → Passes Same a.clock b.clock
+    → FailsAs {T = ℕ} {E = E} device_call a.faults b.faults (Ok n) → Made (reg_read reg ∷ []) a b
+read_made reg n a b value told stops cause = quiet_made (reg_read reg) a b stops (read_steps reg n a.told b.told value told) cause
+
+-- one was written
+written : (reg : Reg) (n : ℕ) (told : Option Told) (x y : List Stored) → StoreBy (after_reg_write reg n) told x y → StoreIn (reg_write reg n ∷ []) told x y
+written reg n None x y is = tt
+written reg n (Some t) x y is = elim is [ inl same ↦ inl same | inr new ↦ inr (inl (record { store = y; step = inr new; rest = refl })) ]
+
+module _ (reg : Reg) (n : ℕ) (a b : Seen) (stops : Passes (InStore (StoreBy (after_reg_write reg n) a.told)) a.clock b.clock) where
+  acted : Passes (InStore (StoreIn (reg_write reg n ∷ []) a.told)) a.clock b.clock
+  acted = passes_more (StoreBy (after_reg_write reg n) a.told) (StoreIn (reg_write reg n ∷ []) a.told) (written reg n a.told) a.clock b.clock stops
+
+  pub write_made : {T E : Type 0} {x : T} → Steps (λ t. with_access (Write reg n) (on_device (after_reg_write reg n) t)) a.told b.told → FailsAs {T = T} {E = E} device_call a.faults b.faults (Ok x)
+      → Made (reg_write reg n ∷ []) a b
+  write_made told cause = one_made (reg_write reg n) a b told acted (well_faults device_call a.faults b.faults cause)
+
+  pub write_cut : {T E : Type 0} {e : E} → Relates (FailsAccess (Write reg n) (after_reg_write reg n)) a.told b.told → FailsAs {T = T} {E = E} device_call a.faults b.faults (Err e) → Cut (reg_write reg n ∷ []) a b
+  write_cut failed cause = one_cut (reg_write reg n) a b failed acted (broke_faults device_call a.faults b.faults cause)
+
+-- ---- none, and one after another
+
+pub nothing_made : (a : Seen) → Made [] a a
+nothing_made a = record { told = same a.told; well = none_made (StoreIn [] a.told) (stays_in [] a.told) a }
+  where
+    same : (told : Option Told) → told ≡ option_map (λ t. t) told
+    same None = refl
+    same (Some t) = refl
+
+module _ (xs ys : List DeviceCall) (a b c : Seen) (first : Made xs a b) where
+  pub both_made : Made ys b c → Made (xs ++ ys) a c
+  both_made second = record {
+    told = steps_as (λ t. after_acts (acts_of ys) (after_acts (acts_of xs) t)) (λ t. after_acts (acts_of (xs ++ ys)) t) (λ t. sym (after_both xs ys t)) a.told c.told
+        (steps_then (λ t. after_acts (acts_of xs) t) (λ t. after_acts (acts_of ys) t) a.told b.told c.told first.told second.told);
+    well = well_both (StoreIn xs a.told) (StoreIn (xs ++ ys) a.told) (first_in xs ys a.told) (StoreIn ys b.told) (then_in xs ys a.told b.told first.told) a b c first.well second.well;
+  }
+
+  cut_after : (old mid : Option Told) → mid ≡ option_map (λ t. after_acts (acts_of xs) t) old → IfSome mid (λ t. IsCutShort ys t c.told) → IfSome old (λ t. IsCutShort (xs ++ ys) t c.told)
+  cut_after None mid is cut = tt
+  cut_after (Some t) mid is cut =
+      off_after xs ys t (after_acts (acts_of xs) t) c.told refl (subst (λ (o : Option Told). IfSome o (λ u. IsCutShort ys u c.told)) is cut)
+
+  pub both_cut : Cut ys b c → Cut (xs ++ ys) a c
+  both_cut second = record {
+    told = cut_after a.told b.told first.told second.told;
+    fails = well_fails (StoreIn xs a.told) (StoreIn (xs ++ ys) a.told) (first_in xs ys a.told) (StoreIn ys b.told) (then_in xs ys a.told b.told first.told) a b c first.well second.fails;
+  }
+
+-- others would have come after them
+pub more_cut : (xs ys : List DeviceCall) (a b : Seen) → Cut xs a b → Cut (xs ++ ys) a b
+more_cut xs ys a b cut = record { told = by a.told cut.told; fails = fails_more (StoreIn xs a.told) (StoreIn (xs ++ ys) a.told) (first_in xs ys a.told) a b cut.fails }
+  where
+    by : (told : Option Told) → IfSome told (λ t. IsCutShort xs t b.told) → IfSome told (λ t. IsCutShort (xs ++ ys) t b.told)
+    by None is = tt
+    by (Some t) is = off_more xs ys t b.told is
+
+-- ---- calls that depend on what is told
+
+module _ (xs : List DeviceCall) (calls : Option Told → List DeviceCall) (a b : Seen) where
+  pub made_for : ((t : Told) → a.told ≡ Some t → xs ≡ calls (Some t)) → Made xs a b → Made (calls a.told) a b
+  made_for same made = by a.told refl
+    where
+      by : (told : Option Told) → a.told ≡ told → Made (calls told) a b
+      by (Some t) is = subst (λ (l : List DeviceCall). Made l a b) (same t is) made
+      by None is = record {
+        told = made.told ∙ (ap (λ (o : Option Told). option_map (λ t. after_acts (acts_of xs) t) o) is ∙ sym (ap (λ (o : Option Told). option_map (λ t. after_acts (acts_of (calls None)) t) o) is));
+        well = well_more (StoreIn xs a.told) (StoreIn (calls None) a.told) (λ x y step. subst (λ (o : Option Told). StoreIn (calls None) o x y) (sym is) tt) a b made.well;
+      }
+
+  -- of which the first are these
+  pub cut_for : ((t : Told) → a.told ≡ Some t → (more : List DeviceCall) × (calls (Some t) ≡ xs ++ more)) → Cut xs a b → Cut (calls a.told) a b
+  cut_for begins cut = by a.told refl
+    where
+      by : (told : Option Told) → a.told ≡ told → Cut (calls told) a b
+      by (Some t) is = (let more = begins t is in subst (λ (l : List DeviceCall). Cut l a b) (sym more.1) (more_cut xs more.0 a b cut))
+      by None is = record {
+        told = subst (λ (o : Option Told). IfSome o (λ t. IsCutShort (calls None) t b.told)) (sym is) tt;
+        fails = fails_more (StoreIn xs a.told) (StoreIn (calls None) a.told) (λ x y step. subst (λ (o : Option Told). StoreIn (calls None) o x y) (sym is) tt) a b cut.fails;
+      }

@@ -1,0 +1,37 @@
+-- A script of what the kernel told: the rows of the machine, and then what `lines` prints.
+use Rattle.std.specs.Prelude.{◌≡◌, List, [], ◌++◌, ℕ, map, Result, Ok}
+use Rattle.std.specs.List.{filter_map}
+use Rattle.bank_lines.specs.Texts.{asks_in}
+use Rattle.dimm_topology.specs.declared.row.Row.{Row}
+use Rattle.erst_store.specs.Store.{Stored}
+use Rattle.ras_facts.specs.Facts.{bank_fact}
+use Rattle.ras_facts.specs.declared.bank.BankReport.{BankReport}
+use Rattle.ras_facts.specs.declared.entry.Entry.{Entry}
+use Rattle.ras_facts.specs.declared.entry.Entry.TheVariants.{Fact}
+use Rattle.ras_events.specs.Reports.{Place, reports}
+use Rattle.ras_script.specs.Lines.{script_lines}
+use Rattle.ras_script.specs.declared.line.ErrorReport.TheVariants.{Bank}
+use Rattle.ras_script.specs.declared.line.Line.{Line}
+use Rattle.ras_script.specs.declared.line.Line.TheVariants.{Report}
+use Rattle.ras_script.specs.declared.line.LineRefused.{LineRefused}
+use Rattle.ras_daemon.specs.Script.{reads_in}
+
+-- what the line of a bank asks for
+abbrev pub asks_bank : BankReport → Result Line LineRefused
+asks_bank bank = Ok (Report (Bank bank))
+
+-- Such a script has first lines that report nothing, as the rows of a machine, and then lines that ask
+-- for what these banks report, and for nothing else.
+pub record IsFed (store : List Stored) (rows : List (List ℕ)) (banks : List BankReport) (script : List ℕ) : Type 0 where
+  pub fed : List (List ℕ)
+  pub lines : (script_lines script).whole ≡ rows ++ fed
+  pub asks : asks_in fed ≡ map asks_bank banks
+  pub silent : reports store (reads_in rows) ≡ []
+
+-- what the events of a script ask for
+abbrev pub asked_by : List Place → List (Result Line LineRefused)
+asked_by places = map (λ (place : Place). place.1.1) places
+
+-- what banks report by the rows of a machine: an entry each, but for a bank that holds no error
+abbrev pub bank_entries : List Row → List BankReport → List Entry
+bank_entries rows banks = map Fact (filter_map (λ bank. bank_fact bank rows) banks)

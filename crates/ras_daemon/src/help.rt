@@ -1,0 +1,59 @@
+//! The program's own help and version.
+
+ghost use Rattle.std.specs.Prelude.{◌≡◌};
+ghost use Rattle.ras_daemon.specs.Help.{help_text, version_line};
+
+/// The forms of words, where the account is, and the statuses, a line each.
+pub const HELP: &[u8] = b"\
+    rasd keeps the account of a machine's hardware errors.\n\
+    \n\
+    rasd run < SCRIPT              count what a script reports, and print orders\n\
+    rasd report counts             the sums of each module, by class\n\
+    rasd report pages              the pages with errors, and their states\n\
+    rasd report names              the names of the errors that were counted\n\
+    rasd report modules            the modules, and which are to be replaced\n\
+    rasd report metrics            the account in the text format of Prometheus\n\
+    rasd lines trace BOOT < TRACE  make a script of a trace of the kernel\n\
+    rasd lines klog BOOT CAP < LOG make a script of a log of the kernel\n\
+    rasd klog BOOT CAP < LOG       print the machine checks of a log, decoded\n\
+    rasd pcie < SCRIPT             print the PCI Express errors of a script\n\
+    rasd load N                    try the machine with N reports, in memory\n\
+    rasd --help                    print this\n\
+    rasd --version                 print the version\n\
+    \n\
+    BOOT is the boot's number, decimal; CAP is IA32_MCG_CAP, hexadecimal.\n\
+    The account is in the working folder: the journal rasd.0 and rasd.1, and the\n\
+    record store rasd.store. The installed command goes to /var/lib/rasd, or to\n\
+    the folder that RASD_FOLDER names. Only run and report use files.\n\
+    \n\
+    Statuses:\n\
+    \x200 the input was read to its end, or what was asked for was printed\n\
+    \x201 the words are none of the above\n\
+    \x202 a line can't be taken; the last line says which one, and why\n\
+    \x203 standard input can't be read\n\
+    \x204 a disk call failed, or another run has the folder\n\
+    \x205 the record store can't be read or replaced, or is no store\n\
+    \x206 standard output can't be written\n\
+    \x207 a journal file is damaged\n\
+    \x208 the account or its journal is full\n\
+    \x209 a panic or poll has no table before it, or a table isn't rasd's\n\
+    10 the record store stays busy\n\
+    11 the record store refuses an operation\n\
+    12 memory ran out\n\
+    13 the input or a journal file has more than 67,108,864 bytes\n\
+    man rasd and docs/OPERATOR.md say more, and what to do about each.\n";
+
+/// What `--help` prints. It takes no memory.
+pub fn help_text() -> &'static [u8]
+    ensures { result.now ≡ help_text }
+{
+    HELP
+}
+
+/// What `--version` prints: the program's name, and its version as `report metrics` gives it. It
+/// takes no memory.
+pub fn version_line() -> &'static [u8]
+    ensures { result.now ≡ version_line }
+{
+    b"rasd 0.1.0\n"
+}

@@ -1,0 +1,282 @@
+"""What the kernel tells of machine checks: its log and its trace, told as log lines and as lines of a script."""
+import re
+
+from reference import reports
+from reference.base import Stop, Unreadable, check
+from reference.reports import bit, digits
+from reference.script import lines_of
+
+MOST = 2**64 - 1
+HEX, DECIMAL = rb"([0-9a-fA-F]{1,16})", rb"([0-9]{1,20})"
+SECOND = 1_000_000
+
+
+def decimal_of(digits, most=MOST):
+    """A decimal word, or None where it is above the most."""
+    return int(digits) if int(digits) <= most else None
+
+
+# ---- the log
+
+MARKER = b"[Hardware Error]: "
+WORD_ENDS = rb"(?= |\Z)"
+START = re.compile(rb"CPU %s: Machine Check(?:| Exception): %s Bank %s: %s *" % (DECIMAL, HEX, DECIMAL, HEX))
+TSC = re.compile(rb"TSC %s(?: ADDR %s)?(?: MISC %s)?(?: .*)?" % (3 * (HEX + WORD_ENDS,)), re.S)
+PROCESSOR = re.compile(rb"PROCESSOR %s:%s TIME %s(?: .*)?" % (DECIMAL, HEX, DECIMAL), re.S)
+
+
+def told_by(text):
+    """What the words of a log's line tell: their kind and their numbers; None where they tell nothing."""
+    if found := START.fullmatch(text):
+        cpu, mcg, bank, status = found.groups()
+        numbers = (decimal_of(cpu, 65_535), int(mcg, 16), decimal_of(bank, 255), int(status, 16))
+        return None if None in numbers else ("start", *numbers)
+    if found := TSC.fullmatch(text):
+        return ("tsc", *(int(it or b"0", 16) for it in found.groups()))
+    if found := PROCESSOR.fullmatch(text):
+        numbers = (decimal_of(found[1]), decimal_of(found[3]))
+        return None if None in numbers else ("processor", *numbers)
+    return None
+
+
+def klog_line(line):
+    """What a line of a kernel log tells, by what follows its first marker."""
+    _, marker, text = line.partition(MARKER)
+    return told_by(text) if marker else None
+
+
+def group_text(group, boot, cap):
+    """What is printed of a group of lines, of which the first one starts a report."""
+    (_, cpu, mcg, bank, status), *rest = group
+    kinds = [it[0] for it in rest]
+    stamp = kinds.index("tsc") if "tsc" in kinds else len(kinds)
+    if "processor" not in kinds[stamp:]:
+        return f"partial cpu={cpu} bank={bank}\n"
+    if not bit(status, reports.VAL):
+        return ""
+    _, tsc, addr, misc = rest[stamp]
+    *_, seconds = rest[kinds.index("processor", stamp)]
+    address = reports.address_of(cap, status, addr, misc)
+    page = "-" if address is None else digits(address // 4096 * 4096)
+    what = f"class={reports.class_of(cap, status)} weight={reports.weight_of(cap, status)} label=- page={page}"
+    return f"log bank={boot}/{cpu}/{bank}/{tsc} t={seconds} {what} {reports.bank_detail(cap, mcg, status)}\n"
+
+
+def klog(boot, cap, log):
+    """What is printed of the machine checks of a kernel log, and the status."""
+    groups, end = [], None
+    try:
+        for _, line in lines_of([log]):
+            told = klog_line(line)
+            if told and told[0] == "start":
+                groups.append([told])
+            elif told and groups:
+                groups[-1].append(told)
+    except Stop as refusal:
+        end = refusal
+    texts = [group_text(it, boot, cap) for it in groups]
+    counts = [sum(it.startswith(word) for it in texts) for word in ("log", "partial")]
+    last = f"stop {end.status} {end.text}\n" if end else "end reports={} partial={}\n".format(*counts)
+    return "".join(texts) + last, end.status if end else 0
+
+
+# ---- lines of a script
+
+VENDOR, PARTIAL, UNREAD = "# vendor={} cpu={} bank={}\n", "# partial cpu={} bank={}\n", "# unread {}\n"
+
+
+def bank_line(boot, seconds, cpu, bank, tsc, cap, mcg, status, addr, misc):
+    """The line of a report, as a script writes its numbers."""
+    return f"bank {boot} {seconds} {cpu} {bank} {tsc} {cap:x} {mcg:x} {status:x} {addr:x} {misc:x}\n"
+
+
+def printed(source, text_of):
+    """What a filter prints of each line of a source and of its end, and the status."""
+    texts, status = [], 0
+    try:
+        for number, line in lines_of([source]):
+            texts.append(text_of(number, line))
+        texts.append(text_of(None, b""))
+    except Stop as end:
+        texts += [text_of(None, b""), f"stop {end.status} {end.text}\n"]
+        status = end.status
+    return "".join(texts), status
+
+
+# ---- the trace
+
+MARK = b"mce_record: "
+STAMP = re.compile(rb"([0-9]{1,20})\.([0-9]{6}):")
+LAST_SECOND_OF_TRACE = MOST // SECOND - 1
+# The names by which each version of the kernel tells a thing, and how it is read.
+NAMED = {
+    b"CPU": "cpu", b"MCGc/s": "global", b"TSC": "tsc", b"PROCESSOR": "processor", b"vendor": "vendor",
+    b"TIME": "time", b"time": "time", b"ADDR/MISC/SYND": "registers", b"ADDR": "addr", b"MISC": "misc",
+}  # fmt: skip
+FORMS = {
+    "cpu": DECIMAL, "global": HEX + b"/" + HEX, "tsc": HEX, "processor": DECIMAL + b":[^:]*", "vendor": DECIMAL,
+    "time": DECIMAL, "registers": HEX + b"/" + HEX + b"/[^/]*", "addr": HEX, "misc": HEX, "status": HEX,
+}  # fmt: skip
+# Which things are told by one name of several: each of these sets has to be there once.
+ONE_OF = ({"processor", "vendor"}, {"registers", "addr"}, {"registers", "misc"}, {"cpu"}, {"global"}, {"tsc"}, {"time"})
+
+
+def number_of(word, most=MOST):
+    """A decimal word of a field."""
+    check(len(word) <= 20 and int(word) <= most)
+    return int(word)
+
+
+def bank_of(name):
+    """The number of the bank that a field of this name is of; None where it is of none."""
+    found = re.fullmatch(rb"MC([0-9]{1,20})", name)
+    return decimal_of(found[1], 255) if found else None
+
+
+def fields_of(text):
+    """The fields of an event that are wanted: the words that each has, and the bank's number."""
+    found = {}
+    for part in text.split(b","):
+        name, colon, value = part.lstrip(b" ").partition(b": ")
+        bank = bank_of(name)
+        thing = "status" if bank is not None else NAMED.get(name)
+        if thing is None or not colon:
+            continue
+        matched = re.fullmatch(FORMS[thing], value, re.S)
+        check(matched and thing not in found)
+        found[thing] = matched.groups()
+        if thing == "status":
+            found["bank"] = bank
+    check("status" in found and all(len(it & found.keys()) == 1 for it in ONE_OF))
+    return found
+
+
+def microseconds(front):
+    """The last stamp among the words that stand before an event."""
+    for word in reversed(front.split(b" ")):
+        stamp = STAMP.fullmatch(word)
+        if stamp and int(stamp[1]) <= LAST_SECOND_OF_TRACE:
+            return int(stamp[1]) * SECOND + int(stamp[2])
+    raise Unreadable
+
+
+def event_text(boot, front, text):
+    """What is printed of an event that stands after such a front."""
+    found = fields_of(text)
+    cpu, seconds = number_of(found["cpu"][0], 65_535), number_of(found["time"][0])
+    vendor = number_of((found.get("vendor") or found["processor"])[0])
+    cap, mcg, status, tsc = (int(it, 16) for it in (*found["global"], *found["status"], *found["tsc"]))
+    registers = found.get("registers") or (found["addr"][0], found["misc"][0])
+    addr, misc = (int(it, 16) for it in registers)
+    if vendor:
+        return VENDOR.format(vendor, cpu, found["bank"])
+    tsc = tsc or microseconds(front)
+    if not bit(status, reports.VAL):
+        return ""
+    return bank_line(boot, seconds, cpu, found["bank"], tsc, cap, mcg, status, addr, misc)
+
+
+def trace_text(boot, number, line):
+    """What is printed of a line of a trace."""
+    front, mark, text = line.rpartition(MARK)
+    if not mark:
+        return ""
+    try:
+        return event_text(boot, front, text)
+    except Unreadable:
+        return UNREAD.format(number)
+
+
+def lines_trace(boot, trace):
+    """What `lines trace` prints, and its status."""
+    return printed(trace, lambda number, line: trace_text(boot, number, line))
+
+
+# ---- the log as lines of a script
+
+LOG_MARK = b"mce: " + MARKER
+KINDS = (b"CPU", b"TSC", b"PROCESSOR")
+LAST_SECOND = 10**12 - 1
+TIME = rb"[0-9:.,+TZ-]+"
+BRACKETS = rb"\[(?=[^\]]*[0-9])[^\]]*\](?: | ?\[ *[TC][0-9]*\] )"
+# What may stand right before a message: nothing, brackets, a level and brackets, or a time by ISO 8601.
+ALONE = re.compile(rb"(?:(?:<[^>]*>)?%s)?|[0-9:.,+TZ-]{10}T[0-9:.,+TZ-]* ?" % BRACKETS)
+# What may stand before ` kernel: `, so that the line is of a log that others pass on.
+DATED = re.compile(rb"\[[^\]]*(?:\](?:.[^ ]*)?)?|(?!\[)(?:%s(?: .*)?|(?! )[^ ]* +%s(?: .*)?)" % (TIME, TIME), re.S)
+
+
+def is_own(head):
+    """Whether this before the mark says that the line is the kernel's own."""
+    logger, colon, rest = head.partition(b": ")
+    if not colon:
+        return bool(ALONE.fullmatch(head))
+    is_logger = logger.startswith(b"kern  :") or logger.endswith(b" kernel") and DATED.fullmatch(logger[:-7])
+    return bool(is_logger and ALONE.fullmatch(rest))
+
+
+def stamp_in(head):
+    """The microseconds in the first brackets of a head, or none."""
+    _, _, text = head.partition(b"[")
+    stamp = re.fullmatch(rb" *([0-9]{1,20})\.([0-9]{6})", text.partition(b"]")[0])
+    return int(stamp[1]) * SECOND + int(stamp[2]) if stamp and int(stamp[1]) <= LAST_SECOND else None
+
+
+class LogLines:
+    """The report in work, and how many had neither counter nor stamp."""
+
+    def __init__(self, boot, cap):
+        self.boot, self.cap, self.counted = boot, cap, 0
+        self.start = self.tsc = self.stamp = None
+
+    def begin(self, start, stamp):
+        """Begins a report, or none; what is told of the one before, if that isn't whole."""
+        text = PARTIAL.format(self.start[1], self.start[3]) if self.start else ""
+        self.start, self.tsc, self.stamp = start, None, stamp
+        return text
+
+    def counter(self, seconds):
+        """The counter of a report that the kernel found by polling."""
+        if self.stamp is not None:
+            return self.stamp
+        self.counted += 1
+        return seconds % (LAST_SECOND + 1) * SECOND + (self.counted - 1) % SECOND
+
+    def whole(self, vendor, seconds):
+        """What is told of a report that is whole."""
+        (_, cpu, mcg, bank, status), (_, tsc, addr, misc) = self.start, self.tsc
+        self.start, tsc = None, tsc or self.counter(seconds)
+        if vendor:
+            return VENDOR.format(vendor, cpu, bank)
+        if not bit(status, reports.VAL):
+            return ""
+        return bank_line(self.boot, seconds, cpu, bank, tsc, self.cap, mcg, status, addr, misc)
+
+    def take(self, told, stamp):
+        """What is told as a line of a report is read; one for which the report has no place can't be read."""
+        kind, *numbers = told
+        if kind == "start":
+            return self.begin(told, stamp)
+        check(self.start and (self.tsc is None) == (kind == "tsc"))
+        if kind == "tsc":
+            self.tsc = told
+            return ""
+        return self.whole(*numbers)
+
+    def text(self, number, line):
+        """What is printed of a line, and of the log's end, which has no number."""
+        if number is None:
+            return self.begin(None, None)
+        head, mark, text = line.partition(LOG_MARK)
+        if not mark or not is_own(head) or text.split(b" ")[0] not in KINDS:
+            return ""
+        told = told_by(text)
+        try:
+            check(told)
+            return self.take(told, stamp_in(head))
+        except Unreadable:
+            return UNREAD.format(number)
+
+
+def lines_klog(boot, cap, log):
+    """What `lines klog` prints, and its status."""
+    return printed(log, LogLines(boot, cap).text)
