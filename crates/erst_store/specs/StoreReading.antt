@@ -1,6 +1,7 @@
 -- Reading a store file from left to right.
 use Rattle.std.specs.Prelude.{◌≡◌, ℕ, zero, suc, Bool, ◌&&◌, not, nat_eq, nat_lt, List, [], ◌∷◌, ◌++◌, if◌then◌else◌, length, take, drop, codes, Result, Ok, Err}
 use Rattle.std.specs.Option.{is_none}
+use Rattle.std.specs.Result.{result_unwrap_or}
 use Rattle.std.specs.Cmp.Lexicographic.{pointwise}
 use Rattle.ras_base.specs.Chaining.{◌>>=◌}
 use Rattle.ras_base.specs.LittleEndian.{number_at}
@@ -49,8 +50,12 @@ records_at (suc count) before bytes = do
 unfoldable pub count_at : List ℕ → Result (ℕ × List ℕ) StoreRefused
 count_at bytes = if pointwise nat_eq (take 8 bytes) (codes "RASERST1") then front_number 4 (drop 8 bytes) else Err Malformed
 
--- all of the bytes
+-- the store whose file these bytes are
 unfoldable pub file_at : List ℕ → Result (List Stored) StoreRefused
 file_at bytes = do
   n ← count_at bytes
   records_at n.0 [] n.1
+
+-- the same, where bytes that are no store file stand for the store that holds nothing
+abbrev pub store_at : List ℕ → List Stored
+store_at bytes = result_unwrap_or (file_at bytes) []
